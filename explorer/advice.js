@@ -34,7 +34,7 @@ function adviceFor(text) {
     if (typeof row === "string") return [{ words: `\`${text}\` ${row}` }];
     if (row !== undefined) {
         const [cannot, , instead] = [...find("limits").querySelectorAll("td")].slice(3 * row).map((it) => it.textContent);
-        return [{ words: `In \`${text}\`: a format cannot ${cannot}. Instead, ${instead}.`, row }];
+        return [{ words: `A format cannot ${cannot}. Instead, ${instead}.`, row }];
     }
     return UNREADABLE.flatMap(([pattern, told, other]) => {
         const [found] = text.match(pattern) ?? [];

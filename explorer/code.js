@@ -1,9 +1,7 @@
 /* The code of a list, with numbers as a test. If nothing can be read, it is the word, and says why. */
 
 /* Returns a byte as a character of Rust or C. */
-function character(byte, prefix) {
-    return quoted(byte, prefix).replace(/'(['\\])'/, "'\\$1'");
-}
+const character = (byte, prefix) => quoted(byte, prefix).replace(/'(['\\])'/, "'\\$1'");
 
 /* Comments with the reader of all forms of a language. */
 const COMMENTS = {
@@ -45,7 +43,7 @@ class Code {
         const quoted = this.library.value(forms[0], "no_special") ? [] : specials.map((it) => JSON.stringify(it));
         // The normal form is the same format, and a builder makes it.
         const built = forms.map((form) => ({ ...form, word: form.isBuilt ? form.word : form.normal }));
-        if (tab === "settings") return this.settings(shown);
+        if (tab === "settings") return this.settings(shown, forms);
         if (bad) return this.problem(tab, `Nothing can be read: ${bad.problems[0].text}.`, bad.word);
         return this[tab](built, quoted, tests);
     }
@@ -203,10 +201,11 @@ ${tests.length ? test : ""}`;
         return this.library.differences(form).filter(({ isKind }) => !isKind).map(({ text }) => text);
     }
 
-    settings(form) {
+    settings(form, forms) {
+        const place = forms.length > 1 ? ` form ${forms.indexOf(form) + 1} of ${forms.length},` : "";
         const lines = this.library.differences(form).map(({ text }) => text);
         const { word } = this.library.read(`#\n${lines.join("\n")}`);
         const nearest = form.isBuilt ? [] : [`# No builder makes this word. These settings build the nearest one, ${wordText(word)}.`];
-        return [`# ${wordText(form.word)}${form.name && ` ${form.name}`}`, ...nearest, ...lines, ""].join("\n");
+        return [`# ${wordText(form.word)}${place}${form.name && ` ${form.name}`}`, ...nearest, ...lines, ""].join("\n");
     }
 }

@@ -15,14 +15,10 @@ function element(tag, attributes = {}, ...children) {
 }
 
 /* Returns a button of a class with a text. */
-function button(kind, text, click, attributes = {}) {
-    return element("button", { type: "button", class: kind, click, ...attributes }, text);
-}
+const button = (kind, text, click, attributes = {}) => element("button", { type: "button", class: kind, click, ...attributes }, text);
 
 /* Returns the nodes of a text in which code is between two `. */
-function withCode(text) {
-    return text.split("`").map((part, index) => (index % 2 ? element("code", {}, part) : part));
-}
+const withCode = (text) => text.split("`").map((part, index) => (index % 2 ? element("code", {}, part) : part));
 
 /* Replaces the children of a node. In place of a button with the focus, the one at its place has it then, or another node. */
 function refill(node, children, other) {
@@ -32,9 +28,7 @@ function refill(node, children, other) {
     if (place >= 0) (buttons()[place] ?? buttons().at(-1) ?? other).focus();
 }
 
-function find(id) {
-    return document.getElementById(id);
-}
+const find = (id) => document.getElementById(id);
 
 /* Writes a text, if it is another one. */
 function setText(node, text) {
@@ -48,14 +42,10 @@ function tell(box, text, isBad = Boolean(text)) {
 }
 
 /* Returns whether the text of an input is refused. */
-function isRefused(box) {
-    return box.getAttribute("aria-invalid") === "true";
-}
+const isRefused = (box) => box.getAttribute("aria-invalid") === "true";
 
 /* Returns a byte as a character, its name or its number. */
-function byteText(byte) {
-    return byte > 32 && byte < 127 ? String.fromCharCode(byte) : (NAMES[byte] ?? String(byte));
-}
+const byteText = (byte) => byte > 32 && byte < 127 ? String.fromCharCode(byte) : (NAMES[byte] ?? String(byte));
 
 /* Makes the children of a node these. Those that it has already stay. */
 function keep(node, children) {
@@ -71,14 +61,10 @@ function named(names) {
 }
 
 /* Returns a text in which characters that cannot be seen have their numbers. */
-function visible(text) {
-    return text.replace(/[\p{Cf}\p{Cc}\p{Zl}\p{Zp}]|(?! )\p{Zs}/gu, numberOf);
-}
+const visible = (text) => text.replace(/[\p{Cf}\p{Cc}\p{Zl}\p{Zp}]|(?! )\p{Zs}/gu, numberOf);
 
 /* Returns the number of a character as Unicode writes it. */
-function numberOf(character) {
-    return `U+${character.codePointAt().toString(16).toUpperCase().padStart(4, "0")}`;
-}
+const numberOf = (character) => `U+${character.codePointAt().toString(16).toUpperCase().padStart(4, "0")}`;
 
 /* Of the buttons of a group and of tabs, one is a tab stop. Arrows lead to the others, and open tabs. */
 const ROVERS = ".rover, [role=tab]";

@@ -224,9 +224,7 @@ function passed({ forms, specials = SPECIALS }) {
 }
 
 /* Returns a form without its name. */
-function stateOf({ word, exponent, point, conditions }) {
-    return { word, exponent, point, conditions };
-}
+const stateOf = ({ word, exponent, point, conditions }) => ({ word, exponent, point, conditions });
 
 /* Returns whether two lists have the same forms with the same names. */
 function isSame(forms, others) {
@@ -242,11 +240,7 @@ function valueText({ integer, float, unknown, refused }) {
 }
 
 /* Returns a word as text. */
-function wordText(word) {
-    return `0x${word.toString(16).toUpperCase().padStart(32, "0")}`;
-}
+const wordText = (word) => `0x${word.toString(16).toUpperCase().padStart(32, "0")}`;
 
 /* Returns a byte as a character in single quotes, as in Rust or a setting, or as a number if it is not visible. */
-function quoted(byte, prefix) {
-    return byte > 32 && byte < 127 ? `${prefix}'${String.fromCharCode(byte)}'` : String(byte);
-}
+const quoted = (byte, prefix) => byte > 32 && byte < 127 ? `${prefix}'${String.fromCharCode(byte)}'` : String(byte);

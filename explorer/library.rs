@@ -182,16 +182,14 @@ fn numbers(states: &'static str, lines: &[u8]) -> String {
 }
 
 /// Returns what can be done for a line that is not as expected, which is the first one, and again among the others:
-/// `{"offers", "tokens"}`, the states of its form that are offered, each with what it reads and how many lines are as
-/// expected then; and the languages of which the text is a token, with its suffix.
+/// `{"offers", "tokens"}`, the states of its form that are offered, and the languages of which the text is a token, with its
+/// suffix.
 fn offered(states: &'static str, lines: &[u8]) -> String {
     let (Some(all), Some(line)) = (List::new(states), lines_of(lines).next()) else { return "{}".to_string() };
     let lines = &lines[line.text.len() + usize::from(line.is_refused)..];
     let form = all.forms().read(line.text).map_or_else(|error| error.form, |number| number.form().unwrap_or(0));
-    let offers = offers(all.states[form], &all.lines(form, lines), line).into_iter().filter_map(|(state, expected)| {
-        let reading = reading(all.with(form, Some(state))?.forms(), line.text);
-        Some(format!(r#"{{{},"expected":{expected},{reading}}}"#, parts_of(state)))
-    });
+    let offers = offers(all.states[form], &all.lines(form, lines), line);
+    let offers = offers.into_iter().map(|(state, _)| format!("{{{}}}", parts_of(state)));
     let token = |(index, language)| {
         let suffix = quoted(suffix_of(language, line.text)?);
         Some(format!(r#"{{"language":{index},"suffix":{suffix}}}"#))

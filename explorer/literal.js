@@ -19,10 +19,12 @@ const PARTS = {
 const DIGITS = ["integer", "fraction", "exponent"];
 /* How many lines are read, how many have details, how many texts languages read, and how many characters each of them has. */
 const [MOST_LINES, MOST_OPEN, MOST_READ, MOST_CHARACTERS] = [100, 4, 20, 1000];
+const BUTTON = ", which a button below changes.";
 const WELCOME = "Type numbers of your language or file: the page finds their format, and the code that reads them.";
 
 /* Returns the line of a number, which has a `!` if it must be refused. */
 const lineOf = ({ isRefused, text }) => (isRefused ? "!" : "") + text;
+const inCode = ({ text }) => `\`${visible(text.slice(0, 40))}\``;
 
 class Trial {
     constructor(library, calls) {
@@ -38,7 +40,8 @@ class Trial {
         let size = 0;
         const hasRoom = ({ text }) => (size += new TextEncoder().encode(text).length + 1) <= MOST_TEXT;
         const lines = all.slice(0, MOST_LINES).filter(hasRoom);
-        this.answers = this.read(lines);
+        this.lines = lines;
+        this.answers = this.read();
         const unexpected = this.answers.filter(({ isExpected }) => !isExpected);
         const [first] = unexpected;
         this.expected = this.answers.length - unexpected.length;
@@ -57,13 +60,13 @@ class Trial {
 
     /* Returns what the library returns for lines, with what each line expects, and of each part the runs of digits and between
      * them of separators. A value that is refused is not expected. */
-    read(lines) {
-        const answers = this.library.call("numbers", this.list, lines.map(({ text }) => text).join("\n"));
+    read(lines = this.lines, list = this.list) {
+        const answers = this.library.call("numbers", list, lines.map(({ text }) => text).join("\n"));
         return answers.map((answer, index) => {
             const isRefused = lines[index].text.startsWith("!");
             const text = lines[index].text.slice(Number(isRefused));
             const isExpected = isRefused === Boolean(answer.error) && !(answer.refused && !isRefused);
-            const mark = this.library.value(this.forms[answer.form], "digit_separator");
+            const mark = this.library.value(list.forms[answer.form], "digit_separator");
             const separators = new RegExp(`(\\x${mark.toString(16).padStart(2, "0")}+)`);
             const runsOf = ({ kind, text }) => (DIGITS.includes(kind) ? text.split(separators) : [text]);
             const parts = answer.parts.map((part) => ({ ...part, runs: runsOf(part) }));
@@ -71,21 +74,39 @@ class Trial {
         });
     }
 
-    /* Returns the answer with what is offered in words: up to three states, and advice. */
+    /* Returns the answer with what is offered in words: up to three states, those last that change other numbers, and advice. */
     withOffers(answer) {
         if (answer.isExpected || (answer.refused && !answer.isRefused)) return { ...answer, offers: [], advice: [] };
-        const form = this.forms[answer.form];
         const lines = [answer, ...this.answers].map(lineOf).join("\n");
         const { offers, tokens } = this.library.call("offered", this.list, lines);
-        const worded = offers.map((offer) => {
-            const changes = this.library.differences(offer, form).sort((a, b) => Number(!a.isByte) - Number(!b.isByte));
-            const count = this.answers.length > 1 ? `; ${offer.expected} of ${this.answers.length} as expected` : "";
-            const place = this.forms.length > 1 ? ` in ${form.name}` : "";
-            const told = this.told({ ...offer, text: answer.text, isRefused: answer.isRefused });
-            const label = changes.map((it) => it.text).join(", ");
-            return { ...offer, changes, label, words: changeWords(this.library, offer, changes) + place, then: `${told}${count}` };
-        });
+        const worded = offers.map((it) => this.worded(answer, it)).sort((a, b) => Number(Boolean(a.lost)) - Number(Boolean(b.lost)));
         return { ...answer, offers: worded, advice: answer.isRefused ? [] : this.adviceOf(answer, worded, tokens) };
+    }
+
+    /* Returns an offer in words, with its ways into the state: in the form that it changes, or as one of its own, whose prefix
+     * is required. This is the first way if the other one changes what is read of a number. */
+    worded(answer, offer) {
+        const [{ forms }, { library, answers }, at] = [this.state, this, answer.form];
+        const differences = (it) => library.differences(it, forms[at]).sort((a, b) => Number(!a.isByte) - Number(!b.isByte));
+        const changes = differences(offer);
+        const affixes = changes.filter(({ name, value }) => value && name.startsWith("base_"));
+        const own = affixes.reduce((all, { name }) => library.with(all, `required_${name}`, 1), stateOf(offer));
+        const one = { at, forms: forms.with(at, { ...forms[at], ...stateOf(offer) }) };
+        const other = { at: forms.length, forms: [...forms, { ...own, name: "" }] };
+        const readings = (part) => this.read(this.lines, { ...this.list, ...part });
+        const expected = (all) => all.filter(({ isExpected }) => isExpected).length;
+        const read = readings(one);
+        const index = answers.findIndex((it, place) => it.isExpected && !it.isRefused && valueText(it) !== valueText(read[place]));
+        const lost = index >= 0 && `${inCode(answers[index])} ${read[index].error ? "is refused" : `becomes ${valueText(read[index])}`}`;
+        const isOwn = lost && !answer.isRefused;
+        const isWorse = expected(read) <= this.expected || changes.some(({ name }) => name === "mantissa_radix");
+        const [words, place] = [changeWords(library, offer, changes), forms.length > 1 ? ` in ${this.forms[at].name}` : ""];
+        const ways = isOwn ? [[`${words}, as a form of its own`, other], [`or${place || " in the one form"}: ${lost}`, one]]
+            : [[words + place, one], ...(isWorse && !answer.isRefused ? [["or as a form of its own", other]] : [])];
+        const then = isOwn ? readings(other) : read;
+        const count = answers.length > 1 ? `${expected(then)} of ${answers.length} as expected` : "";
+        const told = [this.told(then.find((it) => it.place === answer.place)), count, !isOwn && lost].filter(Boolean).join("; ");
+        return { ways, lost, changes, label: differences(isOwn ? own : offer).map((it) => it.text).join(", "), then: told };
     }
 
     /* Returns what else can be done for a text, each with words and, at most, the text or the language that a button takes. */
@@ -146,7 +167,8 @@ class Trial {
     /* Returns the row of a number with its details. */
     row(answer) {
         const { text, place, isRefused, isExpected, mask = 0n, form, offers, advice } = answer;
-        const attributes = { change: () => this.turn(place), id: `refuse-${place}`, "aria-label": `${text} must be refused` };
+        const change = () => (this.replace(place, lineOf({ text, isRefused: !isRefused })), find(`refuse-${place}`)?.focus());
+        const attributes = { change, id: `refuse-${place}`, "aria-label": `${text} must be refused` };
         const box = element("input", { type: "checkbox", ...attributes });
         box.checked = isRefused;
         const told = element("p", { class: isExpected ? "good" : "bad" }, visible(this.told(answer)));
@@ -159,7 +181,7 @@ class Trial {
         const refuse = element("label", { class: "refuse", title: "must be refused" }, box, "refuse");
         const nothing = isRefused ? "No flag alone refuses it." : "No change of a few fields was found that accepts it.";
         const none = isExpected || answer.refused || offers.length || advice.length ? [] : [element("li", {}, nothing)];
-        const all = [...offers.map((it) => this.offer(answer, it)), ...advice.map((it) => this.advice(place, it)), ...none];
+        const all = [...offers.map((it) => this.offer(it)), ...advice.map((it) => this.advice(place, it)), ...none];
         const row = { class: isExpected ? "" : "unexpected", "data-field": fields.join(" ") };
         return element("li", row, line, refuse, this.legend(answer), element("ul", {}, all));
     }
@@ -183,23 +205,25 @@ class Trial {
         const sentences = [...groups].sort(([a], [b]) => a - b).map(([form, answers]) => {
             const titles = this.readersOf(answers).sort((a, b) => isOther(a) - isOther(b)).map(({ title }) => title);
             const end = `${named(titles) || "no language"} read${titles.length > 1 ? "" : "s"} ${answers.length > 1 ? "them" : "it"}`;
-            const words = this.forms[form] ? numberWords(this.library, this.forms[form], answers) : "special values";
-            return `${words[0].toUpperCase()}${words.slice(1)}: ${end}.`;
+            const special = answers.length > 1 ? "special values" : "a special value";
+            const words = this.forms[form] ? numberWords(this.library, this.forms[form], answers) : special;
+            return `${answers.length > 1 ? words[0].toUpperCase() + words.slice(1) : `${inCode(answers[0])} is ${words}`}: ${end}.`;
         });
-        const [first] = unexpected;
-        const more = unexpected.length > 1 ? ` and ${unexpected.length - 1} more are` : " is";
-        if (first) sentences.push(`\`${visible(first.text.slice(0, 40))}\`${more} not as expected${this.way(first)}`);
+        const ways = Map.groupBy(unexpected, (it, index) => (index < MOST_OPEN ? this.way(it) : "."));
+        for (const [way, [first, ...more]] of ways) {
+            sentences.push(`${inCode(first)}${more.length ? ` and ${more.length} more are` : " is"} not as expected${way}`);
+        }
         if (isBad) sentences.push("Nothing is read, since the format is not valid.");
         if (!this.answers.length && !isBad) sentences.push(WELCOME);
-        find("summary").replaceChildren(...sentences.map((it) => element("p", {}, withCode(it))));
+        find("summary").replaceChildren(...sentences.map((it) => element("p", { class: it.endsWith(BUTTON) ? "screen" : "" }, withCode(it))));
     }
 
-    /* Returns how the first number that is not as expected becomes so, as the end of a sentence. */
+    /* Returns how a number that is not as expected becomes so, as the end of a sentence. */
     way(answer) {
         const { offers, advice } = this.withOffers(answer);
         if (answer.refused && !answer.isRefused) return `: ${answer.refused}.`;
         if (advice.length) return `: ${advice[0].words}`;
-        return offers.length ? ", which a button below changes." : ".";
+        return offers.length ? BUTTON : ".";
     }
 
     /* Returns answers, each with the languages that read its text. */
@@ -221,6 +245,7 @@ class Trial {
         const { languages } = this;
         const answers = this.answers.filter(({ text }) => text.length <= MOST_CHARACTERS).slice(0, MOST_READ);
         const all = this.withReaders(answers);
+        const unsigned = this.withReaders(answers.map((it) => ({ ...it, text: it.text.replace(/^-(?=.)/, "") })));
         const reader = ({ language, form }) => {
             const { name, title } = languages[language];
             return button("link rover", title, () => this.start(name, form), { title: `starts from ${title}` });
@@ -228,14 +253,16 @@ class Trial {
         const line = (title, all) => element("p", {}, element("span", { class: "meaning" }, title), all.map(reader));
         const common = all.length < 2 ? [] : this.readersOf(all).map((it) => ({ language: languages.indexOf(it) }));
         const first = common.length ? [line(`All ${all.length}, as expected:`, common)] : [];
-        const nodes = all.flatMap(({ text, readers }) => {
+        const nodes = all.flatMap(({ text, readers }, index) => {
             const name = (it) => languages[it.language].forms[it.form]?.name ?? "special value";
             const title = (it) => `${it.refused ? "refused, " : ""}${valueText(it)}, ${name(it)}:`;
             const good = readers.filter(({ refused }) => !refused);
             const groups = Map.groupBy([...good, ...readers.filter(({ refused }) => refused)], title);
             const count = `Read by ${good.length || "none"} of ${languages.length} languages`;
             const head = element("h3", {}, element("code", {}, visible(text)), ` ${count}`);
-            return [head, ...[...groups].map(([title, group]) => line(title, group))];
+            const others = unsigned[index].readers.filter((it) => !it.refused && !readers.some(({ language }) => language === it.language));
+            const told = others.length ? [element("p", { class: "meaning" }, `In ${others.length} others, - is an operator before the number.`)] : [];
+            return [head, ...told, ...[...groups].map(([title, group]) => line(title, group))];
         });
         const others = all.length ? [] : languages.map((_, language) => reader({ language }));
         refill(find("readers"), [...first, ...nodes, ...others], find("tab-languages"));
@@ -247,7 +274,7 @@ class Trial {
     told({ text, error, start, isRefused, form, is, ...answer }) {
         const { unknown, refused } = answer;
         const where = start < text.length ? `at index ${start}` : "at the end";
-        const name = this.forms.length > 1 ? `, ${this.forms[form].name}` : "";
+        const name = this.forms.length > 1 ? `, ${this.forms[form]?.name ?? "the new form"}` : "";
         const value = unknown ? `: ${unknown}` : refused ? `, but its value is refused: ${refused}` : ` = ${valueText(answer)}`;
         if (error) return `${isRefused ? "refused: " : ""}${where}: ${error}`;
         return `accepted${isRefused ? " as" : ":"} ${is}${value}${name}${isRefused ? ", but it must be refused" : ""}`;
@@ -270,18 +297,12 @@ class Trial {
         return [...cut(0, start), marked, ...cut(end, text.length)];
     }
 
-    /* Returns a form that is offered, as a button in words, with what the number is then and the settings. */
-    offer(answer, offer) {
-        const { label, words, then, changes, expected } = offer;
-        const click = (change) => () => (change(), (find("read").querySelector(".use") ?? find("literal")).focus());
-        const use = click(() => this.put(stateOf(offer), "", answer.form));
-        const add = click(() => this.add([{ ...stateOf(offer), name: "" }]));
-        const isBetter = expected > this.expected;
-        const isOther = !answer.isRefused && (!isBetter || changes.some(({ name }) => name === "mantissa_radix"));
+    /* Returns a form that is offered, as buttons in words, with what the number is then and the settings. */
+    offer({ label, ways, then, changes }) {
+        const take = (part) => () => (this.enter(part), (find("read").querySelector(".use") ?? find("literal")).focus());
         const attributes = { "data-field": changes.map((it) => it.name).join(" "), title: changes.map((it) => it.meaning).join("; ") };
-        const buttons = [button("use", "", use, attributes), ...(isOther ? [button("use", "or as a form of its own", add)] : [])];
-        buttons[0].append(...withCode(words));
-        return element("li", {}, buttons, element("span", { class: "then" }, visible(then)), element("span", { class: "name" }, label));
+        const buttons = ways.map(([words, part], index) => button("use", withCode(words), take(part), index ? {} : attributes));
+        return element("li", {}, buttons, element("span", { class: "then" }, withCode(visible(then))), element("span", { class: "name" }, label));
     }
 
     /* Returns what must be replaced in a number, with a button that does, or one to a language or to what no format can. */
@@ -291,12 +312,6 @@ class Trial {
             : text !== undefined ? [button("use", `try ${text}`, () => this.replace(place, text))]
             : language !== undefined ? [button("use", `start from ${this.languages[language].title}`, () => this.start(this.languages[language].name, 0))] : [];
         return element("li", {}, element("span", {}, withCode(words)), made);
-    }
-
-    /* Makes an accepted number of a line one that must be refused, or the other way round. */
-    turn(place) {
-        this.replace(place, this.state.numbers.split("\n")[place].replace(/^!?/, (mark) => (mark ? "" : "!")));
-        find(`refuse-${place}`)?.focus();
     }
 
     /* Replaces the text of a line. */

@@ -23,7 +23,7 @@ class Page {
         const bound = (...names) => Object.fromEntries(names.map((name) => [name, this[name].bind(this)]));
         this.controls = new Controls(library, bound("edit"));
         this.report = new Report(library, bound("use", "edit", "open"));
-        this.trial = new Trial(library, bound("change", "put", "add", "start", "open", "languageOf"));
+        this.trial = new Trial(library, bound("change", "enter", "start", "open", "languageOf"));
         this.code = new Code(library);
         setText(find("version"), data.version);
         const own = element("option", { value: "own", hidden: "" }, "your own format");
@@ -44,7 +44,8 @@ class Page {
         find("language").addEventListener("change", ({ target }) => this.start(target.value));
         find("form-name").addEventListener("input", ({ target }) => this.put({ name: target.value }, "form-name"));
         find("add").addEventListener("change", ({ target }) => {
-            this.add(target.value === "copy" ? [{ ...this.form, name: "" }] : this.report.listOf(target.value).forms);
+            const added = target.value === "copy" ? [{ ...this.form, name: "" }] : this.report.listOf(target.value).forms;
+            this.jump({ forms: [...this.state.forms, ...added], at: this.state.forms.length });
             this.open("edit");
             target.value = "";
         });
@@ -128,11 +129,6 @@ class Page {
         this.put(form);
         this.showAnew();
         (find("reasons").querySelector(".use") ?? find("tab-edit")).focus();
-    }
-
-    /* Puts forms behind the last one, and shows the first of them. */
-    add(added) {
-        this.jump({ forms: [...this.state.forms, ...added], at: this.state.forms.length });
     }
 
     /* Takes Ctrl+Z, Ctrl+Y and Ctrl+Shift+Z, except in the field for numbers, which has steps of its own. */
@@ -251,10 +247,10 @@ class Page {
         return this.state.forms[this.state.at];
     }
 
-    /* Changes parts of a form, by default of the shown one, and shows it. */
-    put(part, key, at = this.state.at) {
-        const { forms } = this.state;
-        this.change({ at, forms: forms.with(at, { ...forms[at], ...part }) }, key);
+    /* Changes parts of the shown form. */
+    put(part, key) {
+        const { forms, at } = this.state;
+        this.change({ forms: forms.with(at, { ...forms[at], ...part }) }, key);
     }
 
     /* Changes the state. What is typed into one control is undone at once. */
@@ -296,8 +292,8 @@ class Page {
         const conditions = this.library.conditionsText(form);
         const isOwn = !this.languageOf(this.state) && (list.length > 1 || language || form.name);
         const lines = list.map((it, index) => (index === at ? `:${it.name}` : this.library.formText(it)));
-        const [forms, tab] = [isOwn ? lines.join("\n") : "", this.tab === "languages" ? "" : this.tab];
-        const others = Object.entries({ conditions, forms, language, numbers: this.linked(), compare: find("compare").value, tab });
+        const forms = isOwn ? lines.join("\n") : "";
+        const others = Object.entries({ conditions, forms, language, numbers: this.linked(), compare: find("compare").value, tab: this.tab });
         const all = others.map(([name, text]) => text && `&${name}=${encodeURIComponent(text)}`).join("");
         return `#word=${wordText(form.word)}&exponent=${form.exponent}&point=${form.point}${all}`;
     }
@@ -414,9 +410,12 @@ class Page {
     }
 
     showWords() {
-        const numbers = this.list.forms.length > 1 ? `Numbers of the form ${this.shown.name}` : "Numbers";
-        const { sentence } = this.shown;
-        find("sentence").replaceChildren(...withCode(sentence ? `${numbers} are ${sentence}.` : ""));
+        const { forms, specials = SPECIALS } = this.list;
+        const lawful = forms.filter(({ sentence }) => sentence);
+        const sentences = lawful.map(({ name, sentence }) => `Numbers${forms[1] ? ` of the form ${name}` : ""} are ${sentence}.`);
+        const words = this.library.value(forms[0], "no_special") ? [] : specials.filter(Boolean).map((it) => `\`${it}\``);
+        if (words[0] && sentences[0]) sentences.push(`The grammar and the regular expression are without ${words.join(", ")}, which are read, too.`);
+        find("sentence").replaceChildren(...sentences.map((it) => element("p", {}, withCode(it))));
         for (const name of ["grammar", "regex"]) setText(find(name), this.code.text(name, this.list, this.shown, []));
     }
 

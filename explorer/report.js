@@ -61,11 +61,12 @@ class Report {
 
     /* Returns lists of the texts that tell two formats apart, as `differ` of library.rs returns them. */
     texts(lists) {
-        const titles = ["Accepted here and refused there", "Refused here and accepted there", "With another value"];
+        const [here, there] = ["language", "compare"].map((id) => find(id).selectedOptions[0].textContent);
+        const titles = [`Accepted by ${here} and refused by ${there}`, `Refused by ${here} and accepted by ${there}`, "With another value"];
         return lists.flatMap((texts, index) => {
-            const rows = texts.map(({ text, error, here, there }) => {
-                const told = error ?? `is ${valueText(here)} here, and ${valueText(there)} there`;
-                return element("li", {}, element("code", {}, text), ` ${told}`);
+            const rows = texts.map((it) => {
+                const told = it.error ?? `is ${valueText(it.here)} in ${here}, and ${valueText(it.there)} in ${there}`;
+                return element("li", {}, element("code", {}, it.text), ` ${told}`);
             });
             const rest = element("details", {}, element("summary", {}, `${rows.length - MOST_TEXTS} more`), rows.slice(MOST_TEXTS));
             const all = [...rows.slice(0, MOST_TEXTS), ...(rows.length > MOST_TEXTS ? [element("li", {}, rest)] : [])];

@@ -3,9 +3,7 @@
 /* Where the flags of separators allow these, by the second word of their names. */
 const POSITIONS = { internal: "between digits", leading: "before digits", trailing: "behind digits", consecutive: "several in a row" };
 
-function radixWord(radix) {
-    return RADIXES[radix] ?? `radix ${radix}`;
-}
+const radixWord = (radix) => RADIXES[radix] ?? `radix ${radix}`;
 
 /* Returns where flags of separators allow these, without the parts if the integer is among them. */
 function placesOf(flags) {

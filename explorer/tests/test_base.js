@@ -4,14 +4,10 @@
 const range = (least, most) => Array.from({ length: most - least + 1 }, (_, it) => least + it);
 
 /* Returns texts and the numbers of all languages, each once. */
-function textsAndNumbers(texts = []) {
-    return [...new Set([...texts, ...page.data.languages.flatMap((it) => it.numbers.replaceAll("!", "").split("\n"))])];
-}
+const textsAndNumbers = (texts = []) => [...new Set([...texts, ...page.data.languages.flatMap((it) => it.numbers.replaceAll("!", "").split("\n"))])];
 
 /* Shows forms and numbers in place of those of the page. */
-function show(forms, numbers = "", language = "") {
-    page.jump({ forms, at: 0, language, numbers });
-}
+const show = (forms, numbers = "", language = "") => page.jump({ forms, at: 0, language, numbers });
 
 function follow(link) {
     history.replaceState(null, "", link);
@@ -31,20 +27,12 @@ function codeOf(tab) {
 }
 
 /* Returns the usual form with settings. */
-function formOf(...settings) {
-    return { ...page.library.usual, word: page.library.call("build", ...settings).word };
-}
+const formOf = (...settings) => ({ ...page.library.usual, word: page.library.call("build", ...settings).word });
 
 /* Returns the form of a word with its options, as of `STATES`. */
-function stateOfWord([word, exponent, point]) {
-    return { ...page.library.usual, word: BigInt(word), exponent, point };
-}
+const stateOfWord = ([word, exponent, point]) => ({ ...page.library.usual, word: BigInt(word), exponent, point });
 
 /* Returns the texts of what a selector finds in a node. */
-function textsOf(selector, node = document) {
-    return [...node.querySelectorAll(selector)].map((it) => it.textContent);
-}
+const textsOf = (selector, node = document) => [...node.querySelectorAll(selector)].map((it) => it.textContent);
 
-function json(value) {
-    return JSON.stringify(value, (_, it) => (typeof it === "bigint" ? String(it) : it));
-}
+const json = (value) => JSON.stringify(value, (_, it) => (typeof it === "bigint" ? String(it) : it));

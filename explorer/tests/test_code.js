@@ -4,18 +4,19 @@
 function test_the_sentence_the_grammar_and_the_expression_are_those_of_all_forms() {
     const { library, data: { languages } } = page;
     const texts = textsAndNumbers();
-    return languages.flatMap(({ name, forms }) => {
+    return languages.flatMap(({ name, forms, specials }) => {
         show(forms, "", name);
         page.chooseTab("words");
         const [grammar, expression] = [find("grammar").textContent, new RegExp(`^(?:${find("regex").textContent})$`)];
         const answers = library.call("numbers", { forms, specials: ["", "", ""] }, texts.join("\n"));
+        const [sentences, count] = [textsOf("#sentence p"), forms.length];
         const isShown = (form, at) => {
-            page.jump({ at });
-            const [told, count] = [library.explain(form), forms.length];
+            const told = library.explain(form);
             const sentence = `Numbers${count > 1 ? ` of the form ${form.name}` : ""} are ${told.sentence.replaceAll("`", "")}.`;
-            return grammar.includes(count > 1 ? `/* ${form.name} */\n${told.grammar}` : told.grammar) && find("sentence").textContent === sentence;
+            return grammar.includes(count > 1 ? `/* ${form.name} */\n${told.grammar}` : told.grammar) && sentences[at] === sentence;
         };
-        const lost = forms.filter((form, at) => !isShown(form, at)).map((it) => it.name);
+        const hasSpecials = library.call("numbers", { forms, specials }, specials.join("\n")).some((it) => it.is === "special value");
+        const lost = forms.filter((form, at) => !isShown(form, at) || sentences.length !== count + hasSpecials).map((it) => it.name);
         return [...lost, ...texts.filter((text, index) => expression.test(text) === Boolean(answers[index].error))].map((it) => `${name} ${it}`);
     });
 }

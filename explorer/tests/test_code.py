@@ -85,7 +85,7 @@ class Code(Walk):
 
     def test_each_tab_shows_what_it_names(self):
         """By its button, and by keys in both directions. The link that the page makes shows it again."""
-        self.load(f"#word={MIXED}&exponent=112&point=44&tab=rust")
+        self.load(f"#word={MIXED}&exponent=112&point=44&compare=JSON&tab=rust")
         heads = {"rust": "use peltzivar::", "c": '#include "peltzivar.h"', "python": "from peltzivar import", "settings": f"# {MIXED}"}
         panes = {it: it for it in ("languages", "code", "compare", "edit", "words")}
         for group, tabs in (("tabs", heads), ("panes", panes)):

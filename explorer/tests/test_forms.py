@@ -48,7 +48,8 @@ class Forms(Walk):
 
     def test_forms_of_a_language_are_read_together(self):
         self.type("#literal", "0x1F\n0b12\n1_000\n!1u")
-        self.select("#language", "RUST")
+        for name in ("", "RUST"):
+            self.select("#language", name)
         self.assertEqual(self.texts("#read p"), [
             "accepted: integer = 31, hexadecimal", "at index 3: unexpected character '2' binary",
             "accepted: integer = 1000, decimal", "refused: at index 1: unexpected character 'u' decimal"])

@@ -1,18 +1,10 @@
 """Tests of the page: languages."""
 import re
 
-from test_base import Walk, STANDARD, TOP
+from test_base import Walk, TOP
 
 
 class Languages(Walk):
-    def test_own_numbers_are_kept(self):
-        self.type("#literal", "7")
-        for name, word in (("JSON", "0x0A0A0A0000000000000000000000341F"), ("", STANDARD)):
-            self.select("#language", name)
-            self.assertEqual((self.value(), self.value("#literal")), (word, "7"))
-        self.click("#no_special")
-        self.assertEqual(self.value("#language"), "own")
-
     def test_languages_are_shown_for_each_number(self):
         self.load("#numbers=0x1F%0A1_0%0A!010")
         self.click("#readers p:first-child button")
@@ -60,9 +52,9 @@ class Languages(Walk):
     def test_texts_tell_two_languages_apart(self):
         """In each part, the first text is told with why it is refused, or with both values."""
         for here, there, rows in (
-                ("JSON", "C", {"Accepted here and refused there": "-1 unexpected minus sign, which no_negative_mantissa_sign forbids",
-                               "Refused here and accepted there": "0x1 unexpected character 'x'"}),
-                ("CSV_EN", "CSV_DE", {"With another value": "1,000 is 1000 here, and 1 there"})):
+                ("JSON", "C", {"Accepted by JSON and refused by C": "-1 unexpected minus sign, which no_negative_mantissa_sign forbids",
+                               "Refused by JSON and accepted by C": "0x1 unexpected character 'x'"}),
+                ("CSV_EN", "CSV_DE", {"With another value": "1,000 is 1000 in CSV (English), and 1 in CSV (German)"})):
             self.select("#language", here)
             self.select("#compare", there)
             self.run_script("document.querySelectorAll('#texts details').forEach((it) => { it.open = true; })")

@@ -82,13 +82,17 @@ class Look(Walk):
             self.assertLessEqual(stops := stops + 1, 15)
 
     def test_numbers_and_code_are_printed_whole(self):
-        self.load("#language=JULIA&tab=rust")
+        """So is the tab that is open, without buttons."""
         self.emulate(780, 1000)
         self.media("print")
-        self.assertEqual(self.run_script("""return ["literal", "code"].filter((id) => {
-            const { scrollWidth, clientWidth, scrollHeight, clientHeight } = find(id);
-            return scrollWidth > clientWidth || scrollHeight > clientHeight + 1 || !clientHeight; })"""), [])
-        self.assertFalse(self.run_script("return [...document.querySelectorAll('button, select, #pane-edit')].some((it) => it.checkVisibility())"))
+        for tab, pane in {"languages": "languages", "rust": "code", "compare": "compare", "edit": "edit", "words": "words"}.items():
+            self.load(f"#language=JULIA&tab={tab}&numbers=1%271{'%0A1' * 99}")
+            self.assertEqual(self.run_script("""return ["literal", "code"].filter((id) => {
+                const { scrollWidth, clientWidth, scrollHeight, clientHeight } = find(id);
+                return scrollWidth > clientWidth || scrollHeight > clientHeight + 1 || !clientHeight; })"""), [])
+            shown = "[...document.querySelectorAll('button, #pane > *')].filter((it) => it.checkVisibility()).map((it) => it.id)"
+            self.assertEqual(set(self.run_script(f"return {shown}")), {"pane-code", f"pane-{pane}"})
+            self.assertNotIn("button", self.find("body").text)
 
     def test_nothing_is_requested_and_the_policy_allows_the_page_alone(self):
         self.assertEqual(self.run_script("return performance.getEntriesByType('resource').map((it) => it.name)"), [])

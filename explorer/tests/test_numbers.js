@@ -41,7 +41,8 @@ function test_the_sentence_tells_what_the_numbers_are() {
             const ends = `: ${titles} read${others.length ? "" : "s"} ${group.length > 1 ? "them" : "it"}.`;
             const has = (kind) => group.some(({ is, parts }) => is === kind || parts.some((it) => it.kind === kind || (it.runs[1] && kind === "runs")));
             const isTold = ([kind, words]) => place === forms.length || has(kind) === clauses[index].toLowerCase().includes(words);
-            return clauses[index].endsWith(ends) && Object.entries(names).every(isTold) ? [] : [`${name}: ${clauses[index]} ${ends}`];
+            const isNamed = group.length > 1 || clauses[index].startsWith(`${group[0].text} is a`);
+            return isNamed && clauses[index].endsWith(ends) && Object.entries(names).every(isTold) ? [] : [`${name}: ${clauses[index]} ${ends}`];
         });
     });
 }

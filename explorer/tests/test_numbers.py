@@ -77,7 +77,7 @@ class Numbers(Walk):
     def test_the_sentence_has_a_clause_for_each_form(self):
         self.load("#language=RUST&numbers=0x1_F%0A0xFF%0A-1%0A!5")
         self.assertRegex(self.text("#summary"), r"^Hexadecimal integers with the prefix 0x and _ between digits: Rust, C# and \d+ more read them\.\n"
-            r"-1 and 1 more are not as expected: In Rust, - is an operator, so that numbers have no sign\.$")
+            r"-1 is not as expected: In Rust, - is an operator, so that numbers have no sign\.\n5 is not as expected, which a button below changes\.$")
 
     def test_a_value_that_is_too_large_is_not_as_expected(self):
         self.load("#language=JAVA&numbers=2147483648%0A1%0A!2147483648")

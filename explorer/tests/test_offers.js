@@ -6,9 +6,11 @@ function test_a_minus_that_is_an_operator_is_told() {
     const [readers] = page.library.call("readers", "-5");
     return page.data.languages.filter(({ name, title, forms }, index) => ["-5", "5"].some((number) => {
         show(forms, number, name);
+        page.chooseTab("languages");
+        const isShown = textsOf("#readers .meaning").join().startsWith(`In ${page.data.languages.length - readers.length} others, - is`);
         const told = textsOf("#read li li").filter((it) => it.includes("operator"));
         const isRead = number === "5" || readers.some((it) => it.language === index);
-        return told.join() !== (isRead ? "" : `In ${title}, - is an operator, so that numbers have no sign.`);
+        return isShown !== (number === "-5") || told.join() !== (isRead ? "" : `In ${title}, - is an operator, so that numbers have no sign.`);
     })).map(({ name }) => name);
 }
 
@@ -40,10 +42,24 @@ function offeredFor(text) {
     return [textsOf("#read .then")[0], advice.join(" "), find("summary").textContent, textsOf("#read .use, #read .link")];
 }
 
-function test_a_change_that_loses_as_many_numbers_is_offered_as_a_form() {
-    show([formOf("digit_separator_flags=true", "digit_separator='_'")], "1_0\n1'0");
-    const offers = textsOf("#read .use");
-    return offers.join() === "' separates digits,or as a form of its own" ? [] : offers;
+/* Returns the pairs of samples, behind numbers that are read, of which the first offers change what is read of another one. */
+function lostByOffers(samples) {
+    const values = () => page.trial.answers.map((it) => it.isExpected && valueText(it));
+    const isLost = (place) => {
+        const before = values();
+        if (before[place] === false) find("read").children[place].querySelector("li:has(.then) .use")?.click();
+        return values().some((it, index) => before[index] !== false && before[index] !== it);
+    };
+    page.chooseTab("settings");
+    return samples.flatMap((first) => {
+        show([page.library.usual], `1\n2.5\n${first}`);
+        const isFirst = isLost(2);
+        const { forms } = page.state;
+        return samples.filter((second) => {
+            page.change({ forms, at: 0, numbers: `1\n2.5\n${first}\n${second}` });
+            return isFirst || isLost(3);
+        }).map((second) => [first, second]);
+    });
 }
 
 /* Each offer for a text that a language refuses changes one form, and what it tells of the text is so then. */
@@ -58,15 +74,20 @@ function test_offers_lead_to_what_they_tell() {
             const item = button.closest("li");
             if (!item.querySelector(".then")) return [];
             const [then, counted] = item.querySelector(".then").textContent.split("; ");
-            const isAdded = button.previousSibling;
-            const [label, words] = [item.querySelector(".name"), item.firstChild].map((it) => it.textContent);
+            const [label, words] = [item.querySelector(".name"), button].map((it) => it.textContent);
+            const isAdded = words.endsWith(" a form of its own");
+            const isSecond = button.previousSibling;
             const from = forms[page.trial.answers[0].form];
             button.click();
             const changes = page.library.differences(page.form, from).map((it) => it.text);
             const inOrder = changes.toSorted((a, b) => label.indexOf(a) - label.indexOf(b)).join(", ");
-            const isNamed = label === inOrder && words.length > 3 && words.endsWith(forms.length > 1 ? ` in ${from.name}` : "");
+            const isPlaced = isAdded || words.endsWith(forms.length > 1 ? ` in ${from.name}` : "");
+            const isNamed = isSecond || (label === inOrder && words.length > 3 && isPlaced);
             const kept = forms.filter((form, at) => isSame([form], [page.state.forms[at]])).length;
-            const isAsTold = isAdded || (find("count").textContent === counted && find("read").querySelector("p").textContent === then);
+            const isTold = find("read").querySelector("p").textContent.startsWith(then.replace(", the new form", ""));
+            const rest = page.trial.answers[0].parts.filter(({ kind }) => !/fix$/.test(kind)).map((it) => it.text).join("");
+            const isNeeded = !isAdded || rest === text.slice(1) || page.library.call("numbers", { forms: [page.form] }, rest)[0].error;
+            const isAsTold = isNeeded && (isSecond || (find("count").textContent === counted && isTold));
             const isRight = kept === forms.length - !isAdded && page.state.forms.length === forms.length + Boolean(isAdded);
             const isShown = !forms[page.state.at] || !isSame([forms[page.state.at]], [page.form]);
             return isNamed && isAsTold && isRight && isShown && page.trial.answers[0].isExpected ? [] : [[name, text, label, then, kept]];

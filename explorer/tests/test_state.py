@@ -6,7 +6,7 @@ from test_base import Walk, Keys, STANDARD, MIXED
 
 class State(Walk):
     def test_changes_are_undone_and_done_again(self):
-        """By buttons and keys, also after the page is loaded again. The browser goes back from a language, too."""
+        """By buttons and keys, also after the page is loaded again. The browser goes back from a language and an offer, too."""
         def state():
             return self.run_script("return `${page.library.formText(page.form)} ${page.state.language} ${page.state.numbers}`")
 
@@ -32,10 +32,13 @@ class State(Walk):
         lead([undo], states[-2:-1])
         self.click("#no_exponent_notation")
         self.assertFalse(self.find("#redo").is_enabled())
+        self.load(f"#word={STANDARD}&numbers=1_0&tab=edit")
         before = state()
-        self.select("#language", "JSON")
-        self.driver.back()
-        self.wait(lambda: state() == before)
+        for enter in (lambda: self.select("#language", "JSON"), lambda: self.click("#read .use")):
+            enter()
+            self.assertNotEqual(state(), before)
+            self.driver.back()
+            self.wait(lambda: state() == before)
         self.load(f"#word={STANDARD}&tab=edit")
         for name in self.run_script("return [...page.library.bytes, ...OPTIONS].map(({ name }) => name)"):
             for _ in range(2):
