@@ -31,9 +31,7 @@ function refill(node, children, other) {
 const find = (id) => document.getElementById(id);
 
 /* Writes a text, if it is another one. */
-function setText(node, text) {
-    if (node.textContent !== text) node.textContent = text;
-}
+const setText = (node, text) => node.textContent === text || (node.textContent = text);
 
 /* Shows below an input why its text is refused, or a note on one that is not. */
 function tell(box, text, isBad = Boolean(text)) {

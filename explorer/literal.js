@@ -221,9 +221,8 @@ class Trial {
     /* Returns how a number that is not as expected becomes so, as the end of a sentence. */
     way(answer) {
         const { offers, advice } = this.withOffers(answer);
-        if (answer.refused && !answer.isRefused) return `: ${answer.refused}.`;
-        if (advice.length) return `: ${advice[0].words}`;
-        return offers.length ? BUTTON : ".";
+        const told = answer.refused && !answer.isRefused ? `${answer.refused}.` : advice[0]?.words;
+        return told ? `: ${told}` : offers.length ? BUTTON : ".";
     }
 
     /* Returns answers, each with the languages that read its text. */

@@ -63,6 +63,7 @@ class Page {
         document.addEventListener("keydown", (event) => (rove(event), this.undo(event)));
         addEventListener("hashchange", () => location.hash === this.fragment() || this.read());
         addEventListener("pagehide", () => this.save());
+        addEventListener("beforeprint", () => this.showCode());
     }
 
     /* Returns what clicks of buttons do, by their ids. */
@@ -432,8 +433,8 @@ class Page {
 
     /* Shows the code of all forms, with the numbers as a test. */
     showCode() {
-        const comment = this.languageOf(this.state) && COMMENTS[this.tab]?.(this.state.language);
-        const text = this.code.text(this.tab, this.list, this.shown, this.trial.answers);
+        const comment = this.languageOf(this.state) && COMMENTS[this.language]?.(this.state.language);
+        const text = this.code.text(this.language, this.list, this.shown, this.trial.answers);
         setText(find("code"), (comment ?? "") + text);
     }
 }

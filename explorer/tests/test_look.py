@@ -87,12 +87,13 @@ class Look(Walk):
         self.media("print")
         for tab, pane in {"languages": "languages", "rust": "code", "compare": "compare", "edit": "edit", "words": "words"}.items():
             self.load(f"#language=JULIA&tab={tab}&numbers=1%271{'%0A1' * 99}")
-            self.assertEqual(self.run_script("""return ["literal", "code"].filter((id) => {
+            self.assertEqual(self.run_script("""dispatchEvent(new Event("beforeprint")); return ["literal", "code"].filter((id) => {
                 const { scrollWidth, clientWidth, scrollHeight, clientHeight } = find(id);
-                return scrollWidth > clientWidth || scrollHeight > clientHeight + 1 || !clientHeight; })"""), [])
-            shown = "[...document.querySelectorAll('button, #pane > *')].filter((it) => it.checkVisibility()).map((it) => it.id)"
+                return scrollWidth > clientWidth || scrollHeight > clientHeight + 1 || !find("code").textContent; })"""), [])
+            shown = "[...document.querySelectorAll('button:not(.rover), #pane > *')].filter((it) => it.checkVisibility()).map((it) => it.id)"
             self.assertEqual(set(self.run_script(f"return {shown}")), {"pane-code", f"pane-{pane}"})
-            self.assertNotIn("button", self.find("body").text)
+            text = self.find("body").text
+            self.assertEqual(("button" in text, "GHC2021" in text, "1'1" in text), (False, pane == "languages", True))
 
     def test_nothing_is_requested_and_the_policy_allows_the_page_alone(self):
         self.assertEqual(self.run_script("return performance.getEntriesByType('resource').map((it) => it.name)"), [])

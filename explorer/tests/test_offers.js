@@ -6,7 +6,6 @@ function test_a_minus_that_is_an_operator_is_told() {
     const [readers] = page.library.call("readers", "-5");
     return page.data.languages.filter(({ name, title, forms }, index) => ["-5", "5"].some((number) => {
         show(forms, number, name);
-        page.chooseTab("languages");
         const isShown = textsOf("#readers .meaning").join().startsWith(`In ${page.data.languages.length - readers.length} others, - is`);
         const told = textsOf("#read li li").filter((it) => it.includes("operator"));
         const isRead = number === "5" || readers.some((it) => it.language === index);

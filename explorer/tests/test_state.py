@@ -36,7 +36,6 @@ class State(Walk):
         before = state()
         for enter in (lambda: self.select("#language", "JSON"), lambda: self.click("#read .use")):
             enter()
-            self.assertNotEqual(state(), before)
             self.driver.back()
             self.wait(lambda: state() == before)
         self.load(f"#word={STANDARD}&tab=edit")
