@@ -170,13 +170,11 @@ REPLACED += [
     # A syntax that is not lawful can have any radix.
     ("lexical_number/src/small.rt", "MOST[radix as usize] as usize", "if radix <= 36 { MOST[radix as usize] as usize } else { 0 }"),
     # Programs have one copy of these.
-    ("lexical_forms/src/list.rt", "syntax.begin(false, text, false)", "syntax.begin_small(text, false)"),
     ("lexical_literal/src/stop.rt", "self.begin(false, text, false)", "self.begin_any(text, false)"),
     ("lexical_literal/src/stop.rt", "self.begin(false, text, true)", "self.begin_any(text, true)"),
     ("token.rt", "it.syntax.begin(false, text, true)", "it.syntax.begin_small(text, true)"),
     ("token.rt", "it.syntax.begin(false, front, true)", "it.syntax.begin_small(front, true)"),
     # The library for C has one copy of these.
-    ("lexical_forms/src/list.rt", "#[inline(always)]\n    pub(crate) const fn find", "#[cfg_attr(not(peltzivar_small), inline(always))]\n    pub(crate) const fn find"),
     ("reasons.rt", "#[inline(always)]\n#[tactic(auto, unfolding(lexical_flags::specs::Roles::Disjoint))]\nconst fn clash(", "#[cfg_attr(not(peltzivar_small), inline(always))]\nconst fn clash("),
     ("reasons.rt", "#[inline(always)]\nconst fn reason_for(", "#[cfg_attr(not(peltzivar_small), inline(always))]\nconst fn reason_for("),
     ("lexical_literal/src/stop.rt", "stop.step(syntax, text, last)", "stop.step_any(syntax, text, last)"),

@@ -276,7 +276,7 @@ impl<'a> Forms<'a> {
     // Returns the index of the first form of which `text` is a literal, and the literal, or the form whose error is that of the list.
     // The first form stops at `stop`, if it has been asked. Each form is asked once, but if it has not been asked and no form goes beyond
     // the first byte behind the sign, all are asked again.
-    #[cfg_attr(not(peltzivar_small), inline(always))]
+    #[inline(always)]
     pub(crate) const fn find<'t>(
         &self,
         text: &'t [u8],
@@ -292,7 +292,7 @@ impl<'a> Forms<'a> {
         while form < self.forms.len() {
             let syntax = &self.forms[form].syntax;
             if !is_behind(syntax.as_grammar(), text, sign, furthest) {
-                let begun = syntax.begin_small(text, false);
+                let begun = syntax.begin(false, text, false);
                 if begun.is_whole(syntax, text) {
                     return Ok((form, syntax.literal(text, begun.counts, begun.sums)));
                 }
