@@ -13,6 +13,7 @@ class Forms(Walk):
             lines = [f":{it}" if it == name else f"{word} 112 46 :{it}" for it, word in words.items()]
             self.load(f"#word={words[name]}&exponent=112&forms=" + "%0A".join(lines))
 
+        has_focus = "const it = document.activeElement; return it.matches('button, select') && it.checkVisibility() && !it.disabled"
         for at, name in enumerate(words):
             for step, to in (("#earlier", at - 1), ("#later", at + 1), ("#remove", None)):
                 shows(name)
@@ -25,6 +26,7 @@ class Forms(Walk):
                 if to is not None:
                     names.insert(to, name)
                 self.click(step)
+                self.assertTrue(self.run_script(has_focus))
                 self.assertEqual(self.shown_forms(), (names, shown, words[shown], names))
                 self.click("#undo")
                 self.assertEqual(self.shown_forms(), ([*words], name, words[name], [*words]))
@@ -33,9 +35,9 @@ class Forms(Walk):
             self.assertEqual(self.texts("#forms button"), names)
             self.find("#form-name").send_keys(Keys.CONTROL, "z")
             self.assertEqual((self.texts("#forms button"), self.value("#form-name")), ([*words], name))
-            self.click("#no_special")
-            before, after = self.run_script("return [page.past.at(-1), page.state].map(({ forms }) => forms.map((it) => wordText(it.word)))")
-            self.assertEqual([it for it, old, new in zip(words, before, after) if old != new], [name])
+        for _ in "ba":
+            self.click("#remove")
+            self.assertTrue(self.run_script(has_focus))
 
     def test_links_show_the_form_of_their_word(self):
         """In each order of lines, the one without a syntax is shown, and those that cannot be read are told and left out."""

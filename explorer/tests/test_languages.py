@@ -29,8 +29,7 @@ class Languages(Walk):
             forms = [it.split(" | ")[0][2:] for it in re.findall(r"^\|.*$", section, re.M)[2:] if not it.endswith("required |")]
             numbers = [("!" if mark == "-" else "") + text for language, mark, text, *_ in rows if language == name and mark in "+-"]
             codes, *shown, title = all_shown[name]
-            words = [title, *re.findall(r"\w+", title)]
-            self.assertTrue(title.replace(" ", "_").upper() == name or any(it in about for it in words), (name, title))
+            self.assertTrue(all(it in about for it in re.findall(r"[\w+#]+", title)), (name, title))
             self.assertEqual(shown, [" ".join(about.split()), forms, numbers, []])
             for code, reader in zip(codes, (f"Language::{name}.", f" peltzivar_language_{name.lower()}().", f"languages.{name}.")):
                 self.assertIn(reader, code)
@@ -42,10 +41,6 @@ class Languages(Walk):
         self.assertEqual(shown(), ("", []))
         self.select("#compare", "standard")
         self.assertEqual(shown(), ("Same format.", []))
-        self.type("#exponent", "p")
-        self.assertEqual(shown(), ("Not the same.", ["exponent='p'"]))
-        self.click("#changes button")
-        self.assertEqual((shown(), self.value("#exponent")), (("Same format.", []), "e"))
         self.select("#add", "copy")
         self.assertEqual(shown(), ("None of the texts that were tried tells them apart.", []))
 

@@ -2,6 +2,7 @@
 "use strict";
 
 const PARTS_OF_PAGE = "header, .bar, #trial, #panes, #pane, footer";
+const COPIED = { "Copy the code": "code", "Copy the word": "word", "Copy the grammar": "grammar", "Copy the expression": "regex" };
 
 /* Returns what is out of view at once after a choice of each language, and of each to compare with. */
 function outOfView() {
@@ -116,7 +117,7 @@ function idle() {
             const [button, before] = [buttons()[index], page.fragment()];
             button.click();
             await new Promise((resolve) => setTimeout(resolve));
-            const [beside, hasMoved] = [find(button.dataset.copies), ![document.body, button].includes(document.activeElement)];
+            const [beside, hasMoved] = [find(COPIED[button.ariaLabel]), ![document.body, button].includes(document.activeElement)];
             const isCopied = window.copied === (beside ? beside.value ?? beside.textContent : before);
             if (!(button.id.startsWith("copy") ? isCopied : page.fragment() !== before || hasMoved)) idle.push(button.outerHTML);
         }
@@ -160,10 +161,13 @@ function bare() {
 }
 
 function test_arrows_lead_among_buttons() {
-    const all = [...find("readers").querySelectorAll(".rover")];
-    all[0].focus();
-    return Object.entries({ ArrowRight: 1, ArrowDown: 2, ArrowLeft: 1, ArrowUp: 0 }).filter(([key, place]) => {
-        document.activeElement.dispatchEvent(new KeyboardEvent("keydown", { key, bubbles: true }));
-        return document.activeElement !== all[place] || all.filter((it) => it.tabIndex === 0).length !== 1;
+    page.change({ numbers: range(1, 9).join("\n") });
+    return [...document.querySelectorAll(".roving")].flatMap((group) => {
+        const all = [...group.querySelectorAll(".rover")];
+        all[0].focus();
+        return ["Right 1", "Down 2", "Left 1", "Up 0", "Left -1", "Right 0", "Up -1", "Down 0"].map((it) => it.split(" ")).filter(([key, place]) => {
+            document.activeElement.dispatchEvent(new KeyboardEvent("keydown", { key: `Arrow${key}`, bubbles: true }));
+            return document.activeElement !== all.at(place) || all.filter((it) => it.tabIndex === 0).length !== 1;
+        });
     });
 }

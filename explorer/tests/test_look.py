@@ -53,7 +53,6 @@ class Look(Walk):
                 self.assertAlmostEqual(self.run_script(place), before, delta=2)
             self.type("#word", "nonsense" + Keys.ENTER)
             self.assertEqual(self.call("wordless"), [])
-            self.assertEqual(self.find("#word").get_attribute("aria-invalid"), "true")
 
     def test_the_answer_is_in_view(self):
         """After each choice, the heading of its tab and ten lines are in view, and so are the sentence and the first number."""
@@ -82,14 +81,15 @@ class Look(Walk):
             self.assertLessEqual(stops := stops + 1, 15)
 
     def test_numbers_and_code_are_printed_whole(self):
-        """So is the tab that is open, without buttons."""
-        self.emulate(780, 1000)
+        """So is the tab that is open, without buttons, in both directions of the paper."""
         self.media("print")
         for tab, pane in {"languages": "languages", "rust": "code", "compare": "compare", "edit": "edit", "words": "words"}.items():
             self.load(f"#language=JULIA&tab={tab}&numbers=1%271{'%0A1' * 99}")
-            self.assertEqual(self.run_script("""dispatchEvent(new Event("beforeprint")); return ["literal", "code"].filter((id) => {
-                const { scrollWidth, clientWidth, scrollHeight, clientHeight } = find(id);
-                return scrollWidth > clientWidth || scrollHeight > clientHeight + 1 || !find("code").textContent; })"""), [])
+            for _ in self.screens((780, 1000), (1050, 720)):
+                cut = self.run_script("""dispatchEvent(new Event("beforeprint"));
+                    return [...document.querySelectorAll("body, #trial, #pane, #literal, #code")].filter((it) => !find("code").textContent
+                        || it.scrollWidth > it.clientWidth || it.scrollHeight > it.clientHeight + 1).map((it) => it.outerHTML.slice(0, 50))""")
+                self.assertEqual(cut, [], tab)
             shown = "[...document.querySelectorAll('button:not(.rover), #pane > *')].filter((it) => it.checkVisibility()).map((it) => it.id)"
             self.assertEqual(set(self.run_script(f"return {shown}")), {"pane-code", f"pane-{pane}"})
             text = self.find("body").text

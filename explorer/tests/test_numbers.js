@@ -47,6 +47,15 @@ function test_the_sentence_tells_what_the_numbers_are() {
     });
 }
 
+/* The line that is clicked has details then, also after as many others as can have them. */
+function test_the_number_that_is_clicked_has_details() {
+    page.change({ numbers: range(1, 6).join("\n") });
+    return [5, 4, 3, 2, 6].filter((line) => {
+        find("read").children[line - 1].querySelector(".row").click();
+        return document.activeElement !== find(`refuse-${line - 1}`);
+    });
+}
+
 function test_characters_that_cannot_be_seen_have_their_numbers() {
     return ["1\u061c", "1\u200b2", "1\u00a02"].filter((text) => {
         show([page.library.usual], text);

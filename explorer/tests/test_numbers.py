@@ -21,10 +21,8 @@ class Numbers(Walk):
         self.assertEqual((self.text("#count"), self.text("#first-error").split(" ")[0]), ("2 of 5 as expected", "-1_000"))
         self.find("#refuse-3").send_keys(Keys.SPACE)
         self.assertEqual((self.value("#literal").split("\n")[3], self.focused(), self.text("#count")), ("1", "refuse-3", "3 of 5 as expected"))
-        self.click("#read .row")
-        self.assertEqual((self.focused(), self.texts("#read mark")[-1], len(self.texts("#read .row"))), ("refuse-4", "x", 1))
-        self.load("#word=0x00000A0000000000000000000000101E&numbers=001%0A%2BInfinity%0A1.")
-        self.assertEqual((self.texts("#read mark"), self.texts("#read mark span")), (["001", "+", " "], ["0"]))
+        self.load("#word=0x00000A0000000000000000000000101E&numbers=001%0A%2BInfinity%0A1.%0A1\U0001f6002")
+        self.assertEqual((self.texts("#read mark"), self.texts("#read mark span")), (["001", "+", " ", "\U0001f600"], ["0"]))
         self.assertEqual(self.texts("#read .use"), ["allow 01", "allow +1", "allow 1."])
 
     def test_numbers_are_shown_as_they_are_typed_and_with_the_reason_for_no_value(self):

@@ -41,6 +41,21 @@ function offeredFor(text) {
     return [textsOf("#read .then")[0], advice.join(" "), find("summary").textContent, textsOf("#read .use, #read .link")];
 }
 
+/* An offer that refuses a text does not without any of its flags. The words of sizes of groups differ. */
+function test_offers_that_refuse_are_needed_and_named() {
+    const { library, data: { languages } } = page;
+    const grouped = { forms: [formOf("internal_digit_separator=true", "digit_separator=','")], numbers: "1,23,45,678" };
+    return [grouped, ...languages].flatMap(({ name, forms, specials, numbers }) => numbers.split("\n").filter((text) => {
+        show(forms, `!${text}`, name);
+        const { offers } = page.trial.withOffers(page.trial.answers[0]);
+        const isVain = (list) => library.call("numbers", { forms: list, specials }, text)[0]?.error;
+        const words = offers.map(({ ways: [[it]] }) => it).filter((it) => it.includes("groups of"));
+        return text[0] !== "!" && (new Set(words).size < words.length || offers.some(({ changes, ways: [[, { at, forms }]] }) => changes.some((it) => {
+            return it.holder === "word" && isVain(forms.with(at, library.with(forms[at], it.name, it.before)));
+        })));
+    }));
+}
+
 /* Returns the pairs of samples, behind numbers that are read, of which the first offers change what is read of another one. */
 function lostByOffers(samples) {
     const values = () => page.trial.answers.map((it) => it.isExpected && valueText(it));

@@ -6,18 +6,17 @@ from test_base import Walk, Keys, TOP, STANDARD
 
 class Settings(Walk):
     def test_flags_are_set_by_box_label_and_key(self):
-        self.assertEqual((self.value(), self.text("#verdict")), (STANDARD, ""))
         self.click("#no_special")
         self.click("label[for=no_integer_leading_zeros]")
         self.find("#no_float_leading_zeros").send_keys(Keys.SPACE)
         self.assertEqual(self.value(), "0x00000A0000000000000000000000340C")
         self.select("#compare", "standard")
-        self.assertEqual(self.texts("#changes code"), ["no_special=true", "no_integer_leading_zeros=true", "no_float_leading_zeros=true"])
+        flags = ["no_special=true", "no_integer_leading_zeros=true", "no_float_leading_zeros=true"]
+        self.assertEqual((self.text("#same"), self.texts("#changes code")), ("Not the same.", flags))
         self.click("#changes li:last-child button")
         self.assertEqual(self.run_script("return document.activeElement.ariaLabel"), "set no_integer_leading_zeros=false")
         self.assertEqual(self.value(), "0x00000A0000000000000000000000140C")
         self.type("#digit_separator", "_")
-        self.assertIn("no flag allows the digit separator '_'", self.text("#notes"))
         self.click("#internal_digit_separator")
         self.click("#fraction_internal_digit_separator")
         self.assertTrue(self.find("#internal_digit_separator").get_property("indeterminate"))
@@ -50,20 +49,12 @@ class Settings(Walk):
                 self.type("#point", text + Keys.TAB)
                 self.assertEqual((self.run_script("return page.form.point"), self.value("#point")), (byte, name))
                 self.assertEqual(self.texts(".byte-row .other")[-1], f"{name} {byte} 0x{byte:02X}")
-        word = "#word=0x0A0A0A000000002C000000000000000C&point=44&numbers=1,5"
-        self.load(word)
+        self.load("#word=0x0A0A0A000000002C000000000000000C&point=44&numbers=1,5")
         self.assertEqual((self.text("#verdict"), self.text("#count")), ("", "1 of 1 as expected"))
         self.assertIn("Numbers are read, since no flag allows the separator, but is_valid_options_punctuation refuses this", self.text("#notes"))
-        self.load(f"{word}&conditions=required_base_prefix%3Dtrue")
-        self.assertEqual(self.text("#verdict"), "Not valid: 1 reason")
 
     def test_reasons_lead_to_the_controls_that_they_blame(self):
         self.load("#word=0x000010006200000000000000000000CC&exponent=112")
-        self.assertEqual(self.text("#verdict"), "Not valid: 1 reason")
-        self.assertEqual(self.text("#first-error"), "the base prefix 'b' is a digit in radix 16")
-        self.click("#verdict")
-        self.assertEqual(self.focused(), "report-title")
-        self.assertEqual(self.texts(".reason strong"), ["the base prefix 'b' is a digit in radix 16"])
         self.assertEqual(self.texts(".reason .use"), ["base_prefix=none", "mantissa_radix=10"])
         self.click(".reason .use", "base_prefix=none")
         self.assertEqual((self.focused(), self.text("#verdict")), ("tab-edit", ""))

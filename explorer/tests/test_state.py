@@ -27,9 +27,10 @@ class State(Walk):
         self.assertFalse(self.find("#undo").is_enabled())
         lead([redo, press(Keys.CONTROL, "y"), press(Keys.CONTROL, Keys.SHIFT, "z")], states[1:])
         self.assertFalse(self.find("#redo").is_enabled())
-        self.wait(lambda: "HASKELL" in self.run_script("return location.hash"))
+        self.run_script("for (let step = 1; step < 102; step += 1) page.change({ numbers: String(step) }); page.save();")
         self.refresh()
-        lead([undo], states[-2:-1])
+        undo()
+        self.assertEqual(self.value("#literal"), "100")
         self.click("#no_exponent_notation")
         self.assertFalse(self.find("#redo").is_enabled())
         self.load(f"#word={STANDARD}&numbers=1_0&tab=edit")
@@ -49,8 +50,6 @@ class State(Walk):
         self.type("#word", "digit_separator=95 base_prefix=120" + Keys.ENTER)
         self.assertEqual(self.value("#base_prefix"), "x")
         self.assertIn("no flag allows the digit separator '_'", self.text("#word-problem"))
-        self.load("#word=0x00000A000000005F000000000000000C")
-        self.assertIn(f"No builder makes this word. These settings build the nearest one, {STANDARD}.", self.call("codeOf", "settings"))
         self.run_script("page.change({ numbers: '1\\n'.repeat(130) })")
         self.assertEqual(self.text("#count"), "100 of 100 as expected; 30 lines are not read")
         self.assertEqual(self.texts("#read li")[-1], "30 lines are not read: the page reads up to 100 lines with 60 kB")
@@ -64,12 +63,11 @@ class State(Walk):
         self.wait(lambda: self.run_script("return getSelection().toString() === location.hash && location.hash"))
 
     def test_links_have_the_whole_state(self):
-        self.load("#word=0x0A0A10006200005F000000070001400C&exponent=p&point=44&numbers=+1%0A!2%203")
-        self.assertEqual((self.value(), self.value("#exponent"), self.value("#point")), ("0x0A0A10006200005F000000070001400C", "p", ","))
+        self.load("#word=0x0A0A10006200005F000000070001400C&exponent=p&point=44&compare=JSON&numbers=+1%0A!2%203")
         self.assertEqual(self.value("#literal"), "+1\n!2 3")
         self.click("#no_special")
         self.type("#literal", "1_0 %&")
-        wanted = "#word=0x0A0A10006200005F000000070001440C&exponent=112&point=44&numbers=1_0%20%25%26&tab=edit"
+        wanted = "#word=0x0A0A10006200005F000000070001440C&exponent=112&point=44&numbers=1_0%20%25%26&compare=JSON&tab=edit"
         self.wait(lambda: self.run_script("return location.hash") == wanted)
         for link, word, tab in (("#exponent=112", STANDARD, "Languages"), ("#language=JSON&amp;tab=c", "0x0A0A0A0000000000000000000000341F", "Code")):
             self.load(link)
@@ -94,12 +92,6 @@ class State(Walk):
         self.assertEqual((self.value(), self.value("#exponent"), self.value("#compare")), (MIXED, "p", "JSON"))
         self.click("#undo")
         self.assertEqual(self.value(), STANDARD)
-        self.click("#redo")
-        self.select("#compare", "ADA")
-        self.click("#tab-c")
-        self.wait(lambda: self.run_script("return location.hash").endswith("&compare=ADA&tab=c"))
-        self.refresh()
-        self.assertEqual((self.value("#compare"), self.text("#code")[:8]), ("ADA", "#include"))
 
     def test_a_copied_link_opens_where_it_is_pasted(self):
         """Of many numbers, it has the first ones, which is told."""
