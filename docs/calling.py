@@ -1,5 +1,5 @@
 #!/usr/bin/env python3
-"""Types what CALLING.md tells to type, in a new folder, and ends with the status of `rt ci` of the new crate.
+"""Types what CALLING.md tells to type, in a new folder, and ends with the status of `rt ci` there.
 
 The blocks of the shell run in their order. What `rt ci` kept of the libraries in this repository is not proved again.
 """
@@ -14,5 +14,5 @@ PAGE = (TOP / "docs/CALLING.md").read_text()
 
 script = "set -eu\n" + "".join(re.findall(r"^```sh\n(.*?)^```", PAGE, re.M | re.S)).replace("PELTZIVAR", str(TOP))
 with tempfile.TemporaryDirectory() as folder:
-    script += "rt ci your_crate\n"
+    script += "rt ci\n"
     sys.exit(subprocess.run(["bash", "-c", script], cwd=folder).returncode)

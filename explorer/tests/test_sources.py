@@ -1,4 +1,5 @@
 """Tests of the sources of the page."""
+import shutil
 import sys
 import unittest
 
@@ -8,3 +9,8 @@ from test_base import PAGE, run
 class Sources(unittest.TestCase):
     def test_index_is_up_to_date(self):
         run(sys.executable, PAGE.parent / "build.py", "--check")
+
+    @unittest.skipUnless(shutil.which("node"), "no node")
+    def test_scripts_have_no_errors(self):
+        for path in PAGE.parent.rglob("*.js"):
+            run("node", "--check", path)

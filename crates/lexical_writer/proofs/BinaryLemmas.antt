@@ -23,10 +23,11 @@ IsOdd n t = (n / 2 ^ t * 2 ^ t ≡ n) × (n / 2 ^ t % 2 ≡ 1)
 
 double : (n t : ℕ) → n % 2 ≡ 0 → IsOdd (n / 2) t → IsOdd n (suc t)
 double n t even is =
-    let over : n / 2 ^ suc t ≡ n / 2 / 2 ^ t = ap (λ p. n / p) (pow-suc 2 t ∙ turned (2 ^ t)) ∙ sym (div-div-eq-div-mul n 2 (2 ^ t)) in
-    (ap (λ m. m * 2 ^ suc t) over ∙ ap (λ p. n / 2 / 2 ^ t * p) (pow-suc 2 t) ∙ sym (assoc (n / 2 / 2 ^ t) (2 ^ t) 2) ∙ ap (λ m. m * 2) is.0
-    ∙ omega (arith, even),
-    ap (λ m. m % 2) over ∙ is.1)
+    let over : n / 2 ^ suc t ≡ n / 2 / 2 ^ t = ap (λ p. n / p) (pow-suc 2 t ∙ turned (2 ^ t)) ∙ sym (div-div-eq-div-mul n 2 (2 ^ t)) in (
+      ap (λ m. m * 2 ^ suc t) over ∙ ap (λ p. n / 2 / 2 ^ t * p) (pow-suc 2 t) ∙ sym (assoc (n / 2 / 2 ^ t) (2 ^ t) 2) ∙ ap (λ m. m * 2) is.0
+          ∙ omega (arith, even),
+      ap (λ m. m % 2) over ∙ is.1,
+    )
   where
     turned : (p : ℕ) → p * 2 ≡ 2 * p
     turned p = omega arith
@@ -133,14 +134,18 @@ pub last_bits : (o : Option ℕ) (n k b places least low u R : ℕ) → R ≡ 2 
     → (places ≡ least) ⊎ ((o ≡ None) × (least ≤ places) × (0 < u % R))
 last_bits (Some m) n k b places least low u R radix some enough fixed most odd none needed last = inl (fixed refl)
 last_bits None n k b places least low u R radix some enough fixed most odd none needed last = elim (cases_lt least places) [
-  | inl less ↦ inr (refl, enough, subst (λ r. 0 < u % r) (sym radix) (last (needed refl) (most less) (elim (eq-zero-or-pos n) [
-    | inl z ↦
-        let both = none z in
-        let few = most less in
-        let one : 1 ≤ places = omega (arith, less) in
-        let more = mul-le-mul_left b one in
-        absurd (omega (arith, both.0, both.1, few, more))
-    | inr positive ↦ odd positive
-  ])))
+  | inl less ↦ inr (
+    refl,
+    enough,
+    subst (λ r. 0 < u % r) (sym radix) (last (needed refl) (most less) (elim (eq-zero-or-pos n) [
+      | inl z ↦
+          let both = none z in
+          let few = most less in
+          let one : 1 ≤ places = omega (arith, less) in
+          let more = mul-le-mul_left b one in
+          absurd (omega (arith, both.0, both.1, few, more))
+      | inr positive ↦ odd positive
+    ])),
+  )
   | inr more ↦ inl (omega (arith, enough, more))
 ]

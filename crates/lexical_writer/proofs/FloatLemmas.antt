@@ -217,17 +217,20 @@ some_denominator r l is =
 powers_of : (base radix e : ℕ) (shown negative : Bool) (power : Option Power) → power ≡ power_if shown negative e → (shown ≡ false → e ≡ 0)
     → (raised_up (unwrap_or power no_power).negative base (size_of radix (unwrap_or power no_power).source) ≡ raised_up negative base e)
     × (raised_down (unwrap_or power no_power).negative base (size_of radix (unwrap_or power no_power).source) ≡ raised_down negative base e)
-powers_of base radix e true negative power is hidden =
-    (ap (λ p. raised_up (unwrap_or p no_power).negative base (size_of radix (unwrap_or p no_power).source)) is,
-    ap (λ p. raised_down (unwrap_or p no_power).negative base (size_of radix (unwrap_or p no_power).source)) is)
-powers_of base radix e false true power is hidden =
-    (ap (λ p. raised_up (unwrap_or p no_power).negative base (size_of radix (unwrap_or p no_power).source)) is ∙ pow-zero base,
-    ap (λ p. raised_down (unwrap_or p no_power).negative base (size_of radix (unwrap_or p no_power).source)) is
-    ∙ sym (ap (λ e. base ^ e) (hidden refl) ∙ pow-zero base))
-powers_of base radix e false false power is hidden =
-    (ap (λ p. raised_up (unwrap_or p no_power).negative base (size_of radix (unwrap_or p no_power).source)) is
-    ∙ sym (ap (λ e. base ^ e) (hidden refl)),
-    ap (λ p. raised_down (unwrap_or p no_power).negative base (size_of radix (unwrap_or p no_power).source)) is)
+powers_of base radix e true negative power is hidden = (
+  ap (λ p. raised_up (unwrap_or p no_power).negative base (size_of radix (unwrap_or p no_power).source)) is,
+  ap (λ p. raised_down (unwrap_or p no_power).negative base (size_of radix (unwrap_or p no_power).source)) is,
+)
+powers_of base radix e false true power is hidden = (
+  ap (λ p. raised_up (unwrap_or p no_power).negative base (size_of radix (unwrap_or p no_power).source)) is ∙ pow-zero base,
+  ap (λ p. raised_down (unwrap_or p no_power).negative base (size_of radix (unwrap_or p no_power).source)) is
+      ∙ sym (ap (λ e. base ^ e) (hidden refl) ∙ pow-zero base),
+)
+powers_of base radix e false false power is hidden = (
+  ap (λ p. raised_up (unwrap_or p no_power).negative base (size_of radix (unwrap_or p no_power).source)) is
+      ∙ sym (ap (λ e. base ^ e) (hidden refl)),
+  ap (λ p. raised_down (unwrap_or p no_power).negative base (size_of radix (unwrap_or p no_power).source)) is,
+)
 
 -- The parts of a literal that is written for an amount.
 parts_of : (g : Grammar) (style : Style) (negative : Bool) (num den : ℕ) (l : Literal) → 2 ≤ (raw g.word).byte layout.mantissa_radix
@@ -266,9 +269,11 @@ amount_nearest f g style negative num den l supported some plain it =
 pub rescaled : (x : Float) (s : Bool) (w l num den : ℕ) → 0 < l → num * l ≡ w * den → HasValue x s w l → HasValue x s num den
 rescaled nan s w l num den p h v = v
 rescaled (inf t) s w l num den p h v = v
-rescaled (fin t m e) s w l num den p h v =
-    (v.0, eq_of_mul-eq-mul_right l p (m * up e * den) (num * down e) (mul_right_comm (m * up e) den l ∙ ap (λ x. x * den) v.1
-    ∙ mul_right_comm w (down e) den ∙ ap (λ x. x * down e) (sym h) ∙ mul_right_comm num l (down e)))
+rescaled (fin t m e) s w l num den p h v = (
+  v.0,
+  eq_of_mul-eq-mul_right l p (m * up e * den) (num * down e) (mul_right_comm (m * up e) den l ∙ ap (λ x. x * den) v.1
+      ∙ mul_right_comm w (down e) den ∙ ap (λ x. x * down e) (sym h) ∙ mul_right_comm num l (down e)),
+)
 
 -- The number of decimals is that of the style.
 pub decimals_are : (g : Grammar) (style : Style) (shown : Bool) (n : ℕ) → style.decimals ≡ Some n → least_places g style shown ≡ decimals_in g n

@@ -143,8 +143,11 @@ power_factor p s q k (suc x) prime none is =
 
 -- If a number has factors `p`, what divides `p` divides it, and so does what divides what is left.
 through : (n rest p i q : ℕ) → n ≡ rest * p ^ suc i → Divides q p → Divides q n
-through n rest p i q is d = ((rest * p ^ i) * d.0, is ∙ ap (λ x. rest * x) (pow-suc p i) ∙ sym (grouped rest (p ^ i) p)
-    ∙ ap (λ k. (rest * p ^ i) * k) d.1 ∙ sym (grouped (rest * p ^ i) d.0 q))
+through n rest p i q is d = (
+  (rest * p ^ i) * d.0,
+  is ∙ ap (λ x. rest * x) (pow-suc p i) ∙ sym (grouped rest (p ^ i) p)
+      ∙ ap (λ k. (rest * p ^ i) * k) d.1 ∙ sym (grouped (rest * p ^ i) d.0 q),
+)
 
 pub divides_more : (n rest x q : ℕ) → n ≡ rest * x → Divides q rest → Divides q n
 divides_more n rest x q is d = (d.0 * x, is ∙ ap (λ rest. rest * x) d.1 ∙ swapped d.0 q x)
@@ -179,10 +182,13 @@ module _ (p number radix base r b i j places up down : ℕ) (two : 2 ≤ p) (is_
 
   -- It is a prime, if it divides one of them.
   prime : (x : ℕ) → (x ≡ below - above) ⊎ (x ≡ above - below) → 0 < x → IsPrime p
-  prime x is more = (two, go i j is_radix is_base (elim is [
-    | inl is ↦ (λ none. omega (arith, is, more, none))
-    | inr is ↦ (λ none. omega (arith, is, more, none))
-  ]))
+  prime x is more = (
+    two,
+    go i j is_radix is_base (elim is [
+      | inl is ↦ (λ none. omega (arith, is, more, none))
+      | inr is ↦ (λ none. omega (arith, is, more, none))
+    ]),
+  )
     where
       go : (i j : ℕ) → radix ≡ r * p ^ i → base ≡ b * p ^ j → (((places * i + down * j) + up * j ≡ 0) → ⊥) → (q : ℕ) → 2 ≤ q → q < p → Divides q p → ⊥
       go zero zero is_r is_b more q least less d = more (omega arith)
@@ -248,6 +254,9 @@ module _ (p number radix base r b i j places up down : ℕ) (two : 2 ≤ p) (is_
 
     pub error_is : (error : WriteError) → IsOver (left * b ^ up) rest (Err error) → IsOver (number * base ^ up) (radix ^ places * base ^ down) (Err error)
     error_is errors.Fraction none = not_times none
-    error_is errors.Radix it = (it.0 * p ^ (above - below), times_is it.0 it.1,
-        omega (arith, it.2, le-mul_of_pos_right it.0 (positive (above - below))))
+    error_is errors.Radix it = (
+      it.0 * p ^ (above - below),
+      times_is it.0 it.1,
+      omega (arith, it.2, le-mul_of_pos_right it.0 (positive (above - below))),
+    )
     error_is _ none = absurd none

@@ -58,10 +58,14 @@ short_number d L up down e is few ends nothing one limits = record {
   from = λ some. subst (λ l. 10 ^ (l - 1) ≤ d) (sym is) (digits_from d some);
   below = subst (λ l. d < 10 ^ suc (l - 1)) (sym is) (digits_below d);
   none = λ z. elim ends [
-    | inl both ↦ let no = nothing both.1 in (no.0, no.1, elim (eq-zero-or-pos (length (digits_of 10 d))) [
-      | inl none ↦ omega (arith, is, none)
-      | inr some ↦ let more = some_number 10 d some in absurd (omega (arith, more, z))
-    ])
+    | inl both ↦ let no = nothing both.1 in (
+      no.0,
+      no.1,
+      elim (eq-zero-or-pos (length (digits_of 10 d))) [
+        | inl none ↦ omega (arith, is, none)
+        | inr some ↦ let more = some_number 10 d some in absurd (omega (arith, more, z))
+      ],
+    )
     | inr some ↦ absurd (omega (arith, some, z))
   ];
   ends = elim ends [

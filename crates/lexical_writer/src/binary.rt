@@ -186,11 +186,7 @@ impl Binary {
     }
 
     // Returns the digits of a float, and how they are written.
-    pub(crate) fn digits(
-        &self,
-        syntax: &Syntax,
-        style: Style,
-    ) -> Result<(u64, Shape), WriteError>
+    pub(crate) fn digits(&self, syntax: &Syntax, style: Style) -> Result<(u64, Shape), WriteError>
         requires radix { (raw syntax.now.word).byte layout.mantissa_radix ≡ 2 ^ self.now.bits }
         requires base { effective_exponent_base (raw syntax.now.word) ≡ 2 ^ self.now.base_bits }
         ensures { IfOk result (λ it. HasUnits syntax.now style it.1.shown (self.now.number * 2 ^ self.now.power) (2 ^ 1200) it.1.negative it.1.exponent

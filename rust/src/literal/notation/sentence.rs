@@ -67,11 +67,11 @@ impl Terms {
         [true, self.floats, self.has_exponent]
     }
 
-    /// Returns the parts in which flags allow separators, and not sizes of groups.
+    /// Returns the parts in which flags allow separators, and not sizes of groups. Without a separator, there are none.
     fn places(&self, is_allowed: fn(Separators) -> bool) -> [bool; 3] {
         let [last, _, small] = self.groups;
-        let [integer, fraction, exponent] =
-            [Part::Integer, Part::Fraction, Part::Exponent].map(|part| is_allowed(self.view.separators(part)));
+        let [integer, fraction, exponent] = [Part::Integer, Part::Fraction, Part::Exponent]
+            .map(|part| self.separator != 0 && is_allowed(self.view.separators(part)));
         [integer && last == 0, self.floats && fraction && small == 0, self.has_exponent && exponent]
     }
 
@@ -116,7 +116,7 @@ impl Terms {
             (has_exponent && view.case_sensitive_exponent() && exponent.is_ascii_alphabetic(), "no `%E`"),
             (view.case_sensitive_base_prefix() && prefix.is_ascii_alphabetic(), "no `0%X`"),
             (view.case_sensitive_base_suffix() && suffix.is_ascii_alphabetic(), "no `%H`"),
-            (!view.no_special() && view.special_digit_separator(), "`%s` in NaN"),
+            (!view.no_special() && view.special_digit_separator() && self.separator != 0, "`%s` in NaN"),
         ]
     }
 

@@ -37,9 +37,17 @@ returns-clause-amount g c =
     let value : HasValue x c.args.negative num den =
     rescaled x c.args.negative (exact.number * 2 ^ exact.up) (2 ^ exact.down) num den some (sym c.exact.ensures) (c.if-not-is_exact.ensures.value refl) in
     if_ok (λ layout. IsTextOf s style c.args.negative num den (literal_of layout)) _ c.write_amount.result
-    (λ layout it. (num, den, one-le-pow 1200 2 (omega arith), value, c.if-not-is_exact.ensures.near refl
-    ∙ round_same (format_of g.F.Float.DOUBLE) c.args.negative (exact.number * 2 ^ exact.up) (2 ^ exact.down) num den some (one-le-pow 1200 2 (omega arith))
-    c.exact.ensures, it))
-    (c.write_amount.ensures.amount num den
-    (subst (HasUnits s style form.shown num den form.negative form.exponent form.places) (sym units) c.in_ok-number.ensures,
-    λ ten. absurd (c.requires.radix ten)))
+    (λ layout it. (
+      num,
+      den,
+      one-le-pow 1200 2 (omega arith),
+      value,
+      c.if-not-is_exact.ensures.near refl
+          ∙ round_same (format_of g.F.Float.DOUBLE) c.args.negative (exact.number * 2 ^ exact.up) (2 ^ exact.down) num den some (one-le-pow 1200 2 (omega arith))
+          c.exact.ensures,
+      it,
+    ))
+    (c.write_amount.ensures.amount num den (
+      subst (HasUnits s style form.shown num den form.negative form.exponent form.places) (sym units) c.in_ok-number.ensures,
+      λ ten. absurd (c.requires.radix ten),
+    ))

@@ -14,10 +14,13 @@ moved P d a b m n up down is = subst (λ p. P (d * p) b) (sym up) (subst (P (d *
 ends : (d up down last places least m k : ℕ) → IsShort d up down last → places ≡ max m least → (0 < m → places ≡ m → k ≡ 0) → (d ≡ 0 → m ≡ 0)
     → (places ≡ least) ⊎ ((k ≡ 0) × (0 < d % 10))
 ends d up down last places least m k is most without none = elim (cases_lt least m) [
-  | inl less ↦ inr (without (omega (arith, less)) (omega (arith, most, less)), elim is.ends [
-    | inl z ↦ let nothing = none z in absurd (omega (arith, less, nothing))
-    | inr some ↦ some
-  ])
+  | inl less ↦ inr (
+    without (omega (arith, less)) (omega (arith, most, less)),
+    elim is.ends [
+      | inl z ↦ let nothing = none z in absurd (omega (arith, less, nothing))
+      | inr some ↦ some
+    ],
+  )
   | inr fewer ↦ inl (omega (arith, most, fewer))
 ]
 

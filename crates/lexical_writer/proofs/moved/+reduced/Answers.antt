@@ -61,8 +61,16 @@ reduced-requires t c =
     let most = c.requires.radix.1 in
     let most_base = c.requires.base.1 in (
       omega (arith, c.decreases, fits),
-      ((omega (arith, two), omega (arith, fits)), ((radix.0, omega (arith, radix.1, most)), ((base.0, omega (arith, base.1, most_base)),
-          (rest, c.requires.powers)))),
+      (
+        (omega (arith, two), omega (arith, fits)),
+        (
+          (radix.0, omega (arith, radix.1, most)),
+          (
+            (base.0, omega (arith, base.1, most_base)),
+            (rest, c.requires.powers),
+          ),
+        ),
+      ),
     )
 
 pub returns-in-Err : goal.returns-in-Err
