@@ -98,7 +98,7 @@ impl<'a> Forms<'a> {
     // Returns what `parse` returns, where the first form stops at `stop`, if it has been asked.
     #[inline(never)]
     fn parse_behind<T: FromLiteral>(&self, text: &[u8], stop: Option<Stopped>) -> Result<T, ParseError> {
-        let (error, kind) = match self.find(text, stop) {
+        let (error, kind) = match self.find::<false>(text, stop) {
             Ok((form, literal)) => {
                 let kind = self.as_slice()[form].kind;
                 match T::from_literal(literal.with_kind(kind)) {

@@ -231,7 +231,7 @@ impl<'a> Forms<'a> {
     // Returns what `read` returns, where the first form stops at `stop`, if it has been asked.
     #[inline(never)]
     pub(crate) const fn read_behind<'t>(&self, text: &'t [u8], stop: Option<Stopped>) -> Result<Number<'t>, FormError> {
-        match self.find(text, stop) {
+        match self.find::<false>(text, stop) {
             Ok((form, found)) => {
                 let literal = self.of_form(form, found);
                 Ok(Number::Literal { literal, form })
@@ -277,7 +277,7 @@ impl<'a> Forms<'a> {
     // The first form stops at `stop`, if it has been asked. Each form is asked once, but if it has not been asked and no form goes beyond
     // the first byte behind the sign, all are asked again.
     #[inline(always)]
-    pub(crate) const fn find<'t>(
+    pub(crate) const fn find<'t, const RARE: bool>(
         &self,
         text: &'t [u8],
         stop: Option<Stopped>,
@@ -292,7 +292,7 @@ impl<'a> Forms<'a> {
         while form < self.forms.len() {
             let syntax = &self.forms[form].syntax;
             if !is_behind(syntax.as_grammar(), text, sign, furthest) {
-                let begun = syntax.begin(false, text, false);
+                let begun = if RARE { syntax.begin_any(text, false) } else { syntax.begin(false, text, false) };
                 if begun.is_whole(syntax, text) {
                     return Ok((form, syntax.literal(text, begun.counts, begun.sums)));
                 }
