@@ -83,7 +83,7 @@ followed radix n [] two some all = sym (append-nil (digits_of radix n))
 followed radix n (d ∷ digits) two some all = after radix n d digits two (more n radix d some two) all
 
 -- A number has digits if and only if it is not 0.
-some_number : (radix n : ℕ) → 0 < length (digits_of radix n) → 0 < n
+pub some_number : (radix n : ℕ) → 0 < length (digits_of radix n) → 0 < n
 some_number radix zero some = absurd (omega (arith, some))
 some_number radix (suc n) some = omega arith
 

@@ -4,7 +4,9 @@ use Rattle.lexical_writer.proofs.Common.{true, false, ap, ◌∙◌, arith, sym,
 use Rattle.lexical_writer.proofs.Common.{Ok, Err, IfOk, nat_tests, number_after_append, append_assoc, length-append, one-le-pow, number_from_digits}
 use Rattle.lexical_writer.proofs.Common.{number_from_digits_after, cons_option, digit_of, Record, raw, effective_exponent_base, effective_exponent_radix}
 use Rattle.lexical_writer.proofs.Common.{Literal, is_minus, Grammar, format_of, raised_down, raised_up, digits_in, number, size_of, values_of, Amount}
+use Rattle.std.proofs.Common.{refl}
 use Rattle.std.proofs.lemmas.List.{take-append-drop}
+use Rattle.lexical_literal.specs.Literal.{is_present}
 use Rattle.std.proofs.lemmas.List.Elements.{filter_map-append}
 use lib.Ieee.{Format, emax, low, prec, round}
 use lib.Ieee.Exact.{HasValue, round_exact}
@@ -68,6 +70,20 @@ all_digits radix k bytes all =
     let first = fewer radix (take k bytes) in
     let second = fewer radix (drop k bytes) in
     omega (arith, all, digits, whole, first, second)
+
+-- And up to an index.
+pub first_digits : (radix k : ℕ) (bytes : List ℕ) → length (digits_in radix bytes) ≡ length bytes
+    → length (digits_in radix (take k bytes)) ≡ length (take k bytes)
+first_digits radix k bytes all =
+    let digits = sym (ap length (cut_digits radix k bytes)) ∙ length-append (digits_in radix (take k bytes)) (digits_in radix (drop k bytes)) in
+    let whole = sym (ap length (take-append-drop k bytes)) ∙ length-append (take k bytes) (drop k bytes) in
+    let first = fewer radix (take k bytes) in
+    let second = fewer radix (drop k bytes) in
+    omega (arith, all, digits, whole, first, second)
+
+pub present : (digits : List ℕ) → 0 < length digits → is_present digits ≡ true
+present [] some = absurd (omega (arith, some))
+present (digit ∷ digits) some = refl
 
 -- `HasParts r l n places negative e` holds if the mantissa of `l` is `n` over the radix to the power of `places`, and its exponent is `e`.
 record HasParts (r : Record) (l : Literal) (n places : ℕ) (negative : Bool) (e : ℕ) : Type 0 where

@@ -8,3 +8,6 @@ mod PlainLemmas
 mod WholeLemmas
 mod FloatLemmas
 mod ChoiceLemmas
+mod RoundedLemmas
+mod AmountLemmas
+mod ShortLemmas

@@ -1,12 +1,13 @@
 -- A float as an amount, to which the rules for literals apply then.
-use Rattle.std.specs.Prelude.{ℕ, ◌≡◌, ◌*◌, ◌^◌, ◌<◌, ◌&&◌, ◌||◌, ◌⊎◌, ◌++◌, not, nat_le, nat_lt, if◌then◌else◌, Bool, true, false, is_some, length}
+use Rattle.std.specs.Prelude.{ℕ, ◌≡◌, ◌*◌, ◌%◌, ◌^◌, ◌<◌, ◌≤◌, ◌&&◌, ◌||◌, ◌⊎◌, ◌++◌, not, nat_le, nat_lt, if◌then◌else◌, Bool, true, false, is_some, length}
 use Rattle.std.specs.Prelude.{Option, None, Some}
 use Rattle.std.specs.Float.{Float, Format}
 use Rattle.std.specs.Float.Ieee.{round}
 use Rattle.std.specs.Int.Digits.{number_from_digits}
 use lib.Ieee.Exact.{HasValue}
 use Rattle.lexical_util.specs.Layout as layout
-use Rattle.lexical_util.specs.Record.{bytes_of, effective_exponent_base, raw}
+use Rattle.lexical_util.specs.Record.{Record, bytes_of, effective_exponent_base, raw}
+use Rattle.lexical_literal.specs.Literal.{is_present}
 use Rattle.lexical_literal.specs.Notation.{has, lacks_options}
 use Rattle.lexical_literal.specs.declared.syntax.Condition.TheVariants as conditions
 use Rattle.lexical_literal.specs.declared.syntax.Grammar.{Grammar}
@@ -49,6 +50,67 @@ wished_places (Some n) point = n
 abbrev pub least_places : Grammar → Style → Bool → ℕ
 least_places g style shown = if lacks_options g.options then 0 else wished_places style.decimals (style.point || not shown)
 
+-- `units_in r num den places negative e` is `num` over `den` and over the power of the exponent `e`, in units of the last of `places` digits
+-- behind the point, rounded.
+abbrev pub units_in : Record → ℕ → ℕ → ℕ → Bool → ℕ → ℕ
+units_in r num den places negative e =
+    let base = effective_exponent_base r in
+    rounded (num * r.byte layout.mantissa_radix ^ places * raised_down negative base e) (den * raised_up negative base e)
+
+-- `is_below r decimals num den negative e` is true if `num` over `den` and over the power of `e` is below the exponent base. With a number
+-- of decimals, it is rounded to these first.
+abbrev pub is_below : Record → Option ℕ → ℕ → ℕ → Bool → ℕ → Bool
+is_below r None num den negative e =
+    let base = effective_exponent_base r in nat_lt (num * raised_down negative base e) (den * raised_up negative base e * base)
+is_below r (Some n) num den negative e =
+    nat_lt (units_in r num den n negative e) (effective_exponent_base r * r.byte layout.mantissa_radix ^ n)
+
+-- `IsExponent r decimals num den negative e` holds if `e`, with a minus sign if `negative` is true, is the least exponent with which the
+-- number before it is below the exponent base, or 0 for the number 0.
+pub record IsExponent (r : Record) (decimals : Option ℕ) (num den : ℕ) (negative : Bool) (e : ℕ) : Type 0 where
+  pub below : is_below r decimals num den negative e ≡ true
+  pub least : 0 < num → is_below r decimals (num * effective_exponent_base r) den negative e ≡ false
+  pub zero : num ≡ 0 → e ≡ 0
+  pub plus : e ≡ 0 → negative ≡ false
+
+-- `is_far r num den` is true if `num` over `den` is below `R ^ -4` or at least `R ^ 16`, and not 0, where `R` is the radix.
+abbrev pub is_far : Record → ℕ → ℕ → Bool
+is_far r num den =
+    let radix = r.byte layout.mantissa_radix in nat_lt 0 num && (nat_lt (num * radix ^ 4) den || nat_le (den * radix ^ 16) num)
+
+-- `is_long r places units` is true if so many units of the last of `places` digits behind the point have more than 800 digits.
+abbrev pub is_long : Record → ℕ → ℕ → Bool
+is_long r places units = nat_lt 799 places || nat_le (r.byte layout.mantissa_radix ^ 800) units
+
+-- `HasUnits g style shown num den negative e places units` holds if `units` and `places` are the digits of `num` over `den` and over the
+-- power of `e`: with as many places as are wished or, without a number of decimals, with as many as there are digits, if that is more.
+pub record HasUnits (g : Grammar) (style : Style) (shown : Bool) (num den : ℕ) (negative : Bool) (e places units : ℕ) : Type 0 where
+  pub exact : style.decimals ≡ None → units * (den * raised_up negative (effective_exponent_base (raw g.word)) e)
+      ≡ num * (raw g.word).byte layout.mantissa_radix ^ places * raised_down negative (effective_exponent_base (raw g.word)) e
+  pub rounded : is_some style.decimals ≡ true → units ≡ units_in (raw g.word) num den places negative e
+  pub last : (places ≡ least_places g style shown)
+      ⊎ ((style.decimals ≡ None) × (least_places g style shown ≤ places) × (0 < units % (raw g.word).byte layout.mantissa_radix))
+
+-- `asks wish` is true if a wish asks for the size of the exponent.
+abbrev pub asks : ExponentStyle → Bool
+asks (exponents.From n) = true
+asks _ = false
+
+-- `IsWrittenWith g style num den shown negative e` holds if `num` over `den` is written in `g` by `style` with the exponent `e`, if it is
+-- `shown`, and otherwise with none.
+pub record IsWrittenWith (g : Grammar) (style : Style) (num den : ℕ) (shown negative : Bool) (e : ℕ) : Type 0 where
+  -- The digits without an exponent.
+  pub places : ℕ
+  pub units : ℕ
+  pub plain : HasUnits g style false num den false 0 places units
+  -- The exponent, and whether it is shown.
+  pub sign : Bool
+  pub size : ℕ
+  pub first : allows_exponent g ≡ true → (shown || asks style.exponent) ≡ true → IsExponent (raw g.word) style.decimals num den sign size
+  pub decided : shown ≡ is_shown g style size (is_far (raw g.word) num den) (is_long (raw g.word) places units)
+  pub same : shown ≡ true → (negative ≡ sign) × (e ≡ size)
+  pub hidden : shown ≡ false → e ≡ 0
+
 -- `power_if shown negative e` is the exponent `e`, if it is shown.
 abbrev pub power_if : Bool → Bool → ℕ → Option Power
 power_if shown negative e = if shown then Some (record { negative = negative; source = sources.Number e }) else None
@@ -64,14 +126,14 @@ abbrev pub float_error : Grammar → Style → Bool → Bool → Option WriteErr
 float_error g style negative fraction = first_refusal (negative && has g.conditions conditions.NegativeSign)
     ((lacks_options g.options && not (is_some style.decimals)) && fraction) (not (is_decimal (bytes_of g.word) || is_binary (bytes_of g.word)))
 
--- `IsWorth f decimals x negative num den` holds if `num` over `den`, with a minus sign if `negative` is true, is what is written of the
+-- `IsNearWorth f decimals x negative num den` holds if `num` over `den`, with a minus sign if `negative` is true, is what is written of the
 -- float `x` of `f`: its value or, without a number of decimals, a number that is read as `x`.
-abbrev pub IsWorth : Format → Option ℕ → Float → Bool → ℕ → ℕ → Type 0
-IsWorth f decimals x negative num den = HasValue x negative num den ⊎ ((decimals ≡ None) × (x ≡ round f negative num den))
+abbrev pub IsNearWorth : Format → Option ℕ → Float → Bool → ℕ → ℕ → Type 0
+IsNearWorth f decimals x negative num den = HasValue x negative num den ⊎ ((decimals ≡ None) × (x ≡ round f negative num den))
 
--- `IsAmountOf g style num den amount` holds if `amount` has the digits of `num` over `den`, of which `places` are behind the point: all of
+-- `IsNearAmountOf g style num den amount` holds if `amount` has the digits of `num` over `den`, of which `places` are behind the point: all of
 -- them or, with a number of decimals, as many as these, rounded. It has an exponent if it is `shown`.
-pub record IsAmountOf (g : Grammar) (style : Style) (num den : ℕ) (amount : Amount) : Type 0 where
+pub record IsNearAmountOf (g : Grammar) (style : Style) (num den : ℕ) (amount : Amount) : Type 0 where
   pub negative : Bool
   pub e : ℕ
   pub shown : Bool
@@ -91,8 +153,42 @@ pub record IsAmountOf (g : Grammar) (style : Style) (num den : ℕ) (amount : Am
       (num * (raw g.word).byte layout.mantissa_radix ^ places * raised_down negative (effective_exponent_base (raw g.word)) e)
       (den * raised_up negative (effective_exponent_base (raw g.word)) e)
 
+-- `IsNearFloatOf f x g style layout` holds if `layout` is what is written for the float `x` of `f` by `style`: its amount, by the rules for
+-- literals.
+abbrev pub IsNearFloatOf : Format → Float → Grammar → Style → Layout → Type 0
+IsNearFloatOf f x g style layout = (num : ℕ) × (den : ℕ) × (0 < den) × (amount : Amount) × IsNearWorth f style.decimals x amount.negative num den
+    × IsNearAmountOf g style num den amount × (literal_of layout ≡ laid_out g style amount)
+
+-- `IsWorth f r decimals x negative num den` holds if `num` over `den`, with a minus sign if `negative` is true, is what is written of the
+-- float `x` of `f`: its value or, in radix 10 and without a number of decimals, a number that is read as `x`.
+abbrev pub IsWorth : Format → Record → Option ℕ → Float → Bool → ℕ → ℕ → Type 0
+IsWorth f r decimals x negative num den = HasValue x negative num den
+    ⊎ ((decimals ≡ None) × (r.byte layout.mantissa_radix ≡ 10) × (x ≡ round f negative num den))
+
+-- `HasForm g style num den shown negative e places units` holds if `num` over `den` is written in `g` by `style` with these digits, of which
+-- `places` are behind the point, and with the exponent `e`, if it is `shown`.
+abbrev pub HasForm : Grammar → Style → ℕ → ℕ → Bool → Bool → ℕ → ℕ → ℕ → Type 0
+HasForm g style num den shown negative e places units =
+    HasUnits g style shown num den negative e places units × IsWrittenWith g style num den shown negative e
+
+-- `IsAmountOf g style num den amount` holds if `amount` has the size `num` over `den`, as a literal of `g` has it by `style`.
+pub record IsAmountOf (g : Grammar) (style : Style) (num den : ℕ) (amount : Amount) : Type 0 where
+  pub shown : Bool
+  pub negative : Bool
+  pub e : ℕ
+  pub places : ℕ
+  pub units : ℕ
+  pub form : HasForm g style num den shown negative e places units
+  pub number : number_from_digits ((raw g.word).byte layout.mantissa_radix)
+      (values_of ((raw g.word).byte layout.mantissa_radix) amount.integer ++ values_of ((raw g.word).byte layout.mantissa_radix) (given_fraction amount))
+      ≡ units
+  pub count : length (values_of ((raw g.word).byte layout.mantissa_radix) (given_fraction amount)) ≡ places
+  pub some : is_some amount.fraction ≡ nat_lt 0 places
+  pub integer : is_present (values_of ((raw g.word).byte layout.mantissa_radix) amount.integer) ≡ true
+  pub power : amount.exponent ≡ power_if shown negative e
+
 -- `IsFloatOf f x g style layout` holds if `layout` is what is written for the float `x` of `f` by `style`: its amount, by the rules for
 -- literals.
 abbrev pub IsFloatOf : Format → Float → Grammar → Style → Layout → Type 0
-IsFloatOf f x g style layout = (num : ℕ) × (den : ℕ) × (0 < den) × (amount : Amount) × IsWorth f style.decimals x amount.negative num den
-    × IsAmountOf g style num den amount × (literal_of layout ≡ laid_out g style amount)
+IsFloatOf f x g style layout = (num : ℕ) × (den : ℕ) × (0 < den) × (amount : Amount)
+    × IsWorth f (raw g.word) style.decimals x amount.negative num den × IsAmountOf g style num den amount × (literal_of layout ≡ laid_out g style amount)

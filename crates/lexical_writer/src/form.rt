@@ -1,12 +1,16 @@
 //! How the digits of a float are written.
 
-ghost use Rattle.std.specs.Prelude.{◌≡◌, ◌+◌, ◌*◌, ◌^◌, ◌<◌, ◌≤◌, ◌++◌, ℕ, if◌then◌else◌, false, is_some, length, nat_lt, unwrap_or};
-ghost use Rattle.std.specs.Int.Digits.{number_from_digits};
+ghost use Rattle.std.specs.Prelude.{◌≡◌, ◌+◌, ◌*◌, ◌%◌, ◌^◌, ◌<◌, ◌≤◌, ◌++◌, ◌⊎◌, ℕ, if◌then◌else◌, false, true, is_some, length, length as count, None};
+ghost use Rattle.std.specs.Prelude.{nat_lt, unwrap_or};
+ghost use Rattle.std.specs.Int.Digits.{digits_of, number_from_digits};
 ghost use Rattle.std.specs.Float.Ieee.{hid, ones};
+ghost use Rattle.lexical_util.specs.Layout as layout;
+ghost use Rattle.lexical_util.specs.Record.{effective_exponent_base, raw};
+ghost use Rattle.lexical_literal.specs.Literal.{is_present};
 ghost use Rattle.lexical_number.specs.Float.{format_of, raised_down, raised_up};
 ghost use Rattle.lexical_number.specs.Number.{number, places as digit_count};
 ghost use Rattle.lexical_writer.specs.Digits.{size_of, values_of};
-ghost use Rattle.lexical_writer.specs.Amount.{is_shown, is_wanted, least_places, power_if};
+ghost use Rattle.lexical_writer.specs.Amount.{HasForm, is_shown, is_wanted, least_places, power_if};
 ghost use Rattle.lexical_writer.specs.Layout.{given_fraction, given_power, no_power};
 ghost use Rattle.lexical_writer.specs.declared.run.Source.TheVariants as sources;
 
@@ -92,6 +96,8 @@ pub(crate) fn amount_in<'a>(negative: bool, digits: &'a [u8], form: Form) -> Amo
     ensures down { (radix base : ℕ) → raised_down (given_power result).negative base (size_of radix (given_power result).source)
         ≡ raised_down form.negative base form.exponent }
     ensures some { is_some result.fraction ≡ nat_lt 0 form.places }
+    ensures integer { (radix : ℕ) → 2 ≤ radix → digit_count radix digits.entry.now ≡ length digits.entry.now
+        → is_present (values_of radix result.integer) ≡ true }
     ensures power { result.exponent ≡ power_if form.shown form.negative form.exponent }
 {
     let (integer, fraction) = split(digits, form.after, form.places);
@@ -152,17 +158,33 @@ pub(crate) fn decimal_of(double: bool, size: u64) -> Decimal
     shortest(double, size)
 }
 
+// Returns the exponents of ten above and below the line of a decimal number.
+#[inline(always)]
+const fn tens_of(decimal: Decimal) -> (usize, usize)
+    requires { decimal.exponent ≤ 340 }
+    ensures limit { (result.0 ≤ 340) × (result.1 ≤ 340) }
+    ensures one { (result.0 ≡ 0) ⊎ (result.1 ≡ 0) }
+    ensures none { decimal.exponent ≡ 0 → (result.0 ≡ 0) × (result.1 ≡ 0) }
+{
+    if decimal.negative {
+        (0, decimal.exponent as usize)
+    } else {
+        (decimal.exponent as usize, 0)
+    }
+}
+
 // Returns the form of a decimal number of so many digits, times ten to an exponent.
 #[inline(always)]
 pub(crate) fn decimal_form(length: usize, decimal: Decimal, syntax: &Syntax, style: Style) -> Form
-    requires { (length ≤ 64) × (decimal.exponent ≤ 340) }
+    requires length { length ≡ count (digits_of 10 decimal.digits) }
+    requires limits { (length ≤ 64) × (decimal.exponent ≤ 340) }
+    requires last { ((decimal.digits ≡ 0) × (decimal.exponent ≡ 0)) ⊎ (0 < decimal.digits % 10) }
+    requires radix { ((raw syntax.now.word).byte layout.mantissa_radix ≡ 10) × (effective_exponent_base (raw syntax.now.word) ≡ 10) }
+    requires plain { style.decimals ≡ None }
+    ensures { (num : ℕ) × (den : ℕ) × (0 < den) × HasForm syntax.now style num den result.shown result.negative result.exponent result.places
+        (decimal.digits * (raw syntax.now.word).byte layout.mantissa_radix ^ result.after) }
 {
-    let power = decimal.exponent as usize;
-    let (up, down) = if decimal.negative {
-        (0, power)
-    } else {
-        (power, 0)
-    };
+    let (up, down) = tens_of(decimal);
     let last = length.saturating_sub(1);
     let (negative, exponent) = (up + last < down, (up + last).abs_diff(down) as u64);
     let far = exponent > if negative { 4 } else { 15 };
