@@ -4,7 +4,8 @@ use Rattle.lexical_writer.proofs.Common.{true, false, ap, ◌∙◌, arith, sym,
 use Rattle.lexical_writer.proofs.Common.{Ok, Err, IfOk, nat_tests, number_after_append, append_assoc, length-append, one-le-pow, number_from_digits}
 use Rattle.lexical_writer.proofs.Common.{number_from_digits_after, cons_option, digit_of, Record, raw, effective_exponent_base, effective_exponent_radix}
 use Rattle.lexical_writer.proofs.Common.{Literal, is_minus, Grammar, format_of, raised_down, raised_up, digits_in, number, size_of, values_of, Amount}
-use Rattle.std.proofs.Common.{refl}
+use Rattle.std.proofs.Common.{refl, unwrap_or}
+use Rattle.std.proofs.Math.Nat.{pow-zero}
 use Rattle.std.proofs.lemmas.List.{take-append-drop}
 use Rattle.lexical_literal.specs.Literal.{is_present}
 use Rattle.std.proofs.lemmas.List.Elements.{filter_map-append}
@@ -18,7 +19,9 @@ use Rattle.lexical_literal.specs.Read.{exponent, mantissa}
 use Rattle.lexical_number.specs.Leading.{IsCutTo}
 use Rattle.lexical_value.specs.Float.{is_binary, is_decimal, nearest}
 use Rattle.lexical_value.specs.Value.{denominator, numerator, power, scale}
-use Rattle.lexical_writer.specs.Layout.{HasNumber, IsLaidOut, given_fraction, given_power, laid_out, literal_of}
+use Rattle.lexical_writer.specs.Amount.{IsTextOf, power_if}
+use Rattle.lexical_writer.specs.Layout.{HasNumber, IsLaidOut, given_fraction, given_power, laid_out, literal_of, no_power}
+use Rattle.lexical_writer.specs.declared.layout.Power.{Power}
 use Rattle.lexical_writer.specs.declared.layout.Layout.{Layout}
 use Rattle.lexical_writer.specs.declared.layout.Style.{Style}
 use Rattle.lexical_writer.specs.declared.layout.WriteError.{WriteError}
@@ -290,6 +293,55 @@ same_nearest f r l sign negative num places e is minus same =
     (some_product _ _ (one-le-pow _ _ radixes.0) (some_down negative (effective_exponent_base r) e radixes.1)) (some_denominator r l is) same
     ∙ ap (λ sign. round f sign (numerator r.byte l) (denominator r.byte l)) (sym minus)
 
+-- The power of an exponent that is shown, or of none.
+powers_of : (base radix e : ℕ) (shown negative : Bool) (power : Option Power) → power ≡ power_if shown negative e → (shown ≡ false → e ≡ 0)
+    → (raised_up (unwrap_or power no_power).negative base (size_of radix (unwrap_or power no_power).source) ≡ raised_up negative base e)
+    × (raised_down (unwrap_or power no_power).negative base (size_of radix (unwrap_or power no_power).source) ≡ raised_down negative base e)
+powers_of base radix e true negative power is hidden =
+    (ap (λ p. raised_up (unwrap_or p no_power).negative base (size_of radix (unwrap_or p no_power).source)) is,
+    ap (λ p. raised_down (unwrap_or p no_power).negative base (size_of radix (unwrap_or p no_power).source)) is)
+powers_of base radix e false true power is hidden =
+    (ap (λ p. raised_up (unwrap_or p no_power).negative base (size_of radix (unwrap_or p no_power).source)) is ∙ pow-zero base,
+    ap (λ p. raised_down (unwrap_or p no_power).negative base (size_of radix (unwrap_or p no_power).source)) is
+    ∙ sym (ap (λ e. base ^ e) (hidden refl) ∙ pow-zero base))
+powers_of base radix e false false power is hidden =
+    (ap (λ p. raised_up (unwrap_or p no_power).negative base (size_of radix (unwrap_or p no_power).source)) is
+    ∙ sym (ap (λ e. base ^ e) (hidden refl)),
+    ap (λ p. raised_down (unwrap_or p no_power).negative base (size_of radix (unwrap_or p no_power).source)) is)
+
+-- The parts of a literal that is written for an amount.
+parts_of : (g : Grammar) (style : Style) (negative : Bool) (num den : ℕ) (l : Literal) → 2 ≤ (raw g.word).byte layout.mantissa_radix
+    → (it : IsTextOf g style negative num den l) → HasParts (raw g.word) l it.is.units it.is.places it.is.negative it.is.e
+parts_of g style negative num den l two it =
+    let r = raw g.word in
+    let powers = powers_of (effective_exponent_base r) (effective_exponent_radix r) it.is.e it.is.shown it.is.negative it.amount.exponent it.is.power
+    it.is.form.1.hidden in
+    has_parts g it.amount it.is.units it.is.places it.is.e it.is.negative it.is.number it.is.count powers.0 powers.1 two l it.number
+
+-- A literal that is written for a fraction that is not rounded is read as the float nearest to it.
+pub amount_nearest : (f : Format) (g : Grammar) (style : Style) (negative : Bool) (num den : ℕ) (l : Literal)
+    → 2 ≤ (raw g.word).byte layout.mantissa_radix → (is_decimal (raw g.word).byte || is_binary (raw g.word).byte) ≡ true → 0 < den
+    → style.decimals ≡ None → IsTextOf g style negative num den l → round f negative num den ≡ nearest f (raw g.word).byte l
+amount_nearest f g style negative num den l two supported some plain it =
+    let r = raw g.word in
+    let p = parts_of g style negative num den l two it in
+    let b = effective_exponent_base r in
+    let s = it.is.negative in
+    let e = it.is.e in
+    let exact : it.is.units * (den * raised_up s b e) ≡ num * r.byte layout.mantissa_radix ^ it.is.places * raised_down s b e = it.is.form.0.exact plain in
+    let above : numerator r.byte l ≡ it.is.units * p.factor * raised_up s b e = (λ i. p.mantissa i * p.up i) in
+    let below : denominator r.byte l ≡ r.byte layout.mantissa_radix ^ it.is.places * p.factor * raised_down s b e = (λ i. p.scale i * p.down i) in
+    round_same f negative num den (numerator r.byte l) (denominator r.byte l) some (some_denominator r l supported)
+    (ap (λ n. num * n) below ∙ left num (r.byte layout.mantissa_radix ^ it.is.places) p.factor (raised_down s b e) ∙ ap (λ n. n * p.factor) (sym exact)
+    ∙ right it.is.units den (raised_up s b e) p.factor ∙ ap (λ n. n * den) (sym above))
+    ∙ ap (λ sign. round f sign (numerator r.byte l) (denominator r.byte l)) (sym (it.number.sign ∙ it.sign))
+  where
+    left : (n p q d : ℕ) → n * (p * q * d) ≡ n * p * d * q
+    left n p q d = omega arith
+
+    right : (n d u q : ℕ) → n * (d * u) * q ≡ n * q * u * d
+    right n d u q = omega arith
+
 -- What follows from what holds of a result that is `Ok`.
 pub if_ok : {A E : Type 0} (P Q : A → Type 0) (result : Result A E) → ((x : A) → P x → Q x) → IfOk result P → IfOk result Q
 if_ok P Q (Ok x) follows holds = follows x holds
@@ -300,3 +352,10 @@ pub if_laid : (g : Grammar) (style : Style) (amount : Amount) (P : Layout → Ty
     → ((layout : Layout) → literal_of layout ≡ laid_out g style amount → P layout) → IfOk result P
 if_laid g style amount P (Ok layout) is follows = follows layout is.1
 if_laid g style amount P (Err error) is follows = tt
+
+-- What follows from what a layout is, and from the number that it has.
+pub if_numbered : (g : Grammar) (style : Style) (amount : Amount) (P : Layout → Type 0) (result : Result Layout WriteError)
+    → IsLaidOut g style amount result → IfOk result (λ layout. HasNumber g amount (literal_of layout))
+    → ((layout : Layout) → literal_of layout ≡ laid_out g style amount → HasNumber g amount (literal_of layout) → P layout) → IfOk result P
+if_numbered g style amount P (Ok layout) is has follows = follows layout is.1 has
+if_numbered g style amount P (Err error) is has follows = tt

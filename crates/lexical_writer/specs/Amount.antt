@@ -7,14 +7,14 @@ use Rattle.std.specs.Int.Digits.{number_from_digits}
 use lib.Ieee.Exact.{HasValue}
 use Rattle.lexical_util.specs.Layout as layout
 use Rattle.lexical_util.specs.Record.{Record, bytes_of, effective_exponent_base, raw}
-use Rattle.lexical_literal.specs.Literal.{is_present}
+use Rattle.lexical_literal.specs.Literal.{Literal, is_present}
 use Rattle.lexical_literal.specs.Notation.{has, lacks_options}
 use Rattle.lexical_literal.specs.declared.syntax.Condition.TheVariants as conditions
 use Rattle.lexical_literal.specs.declared.syntax.Grammar.{Grammar}
 use Rattle.lexical_value.specs.Float.{is_binary, is_decimal}
 use Rattle.lexical_number.specs.Float.{raised_down, raised_up}
 use Rattle.lexical_writer.specs.Digits.{values_of}
-use Rattle.lexical_writer.specs.Layout.{allows_exponent, given_fraction, laid_out, literal_of, needs_exponent, one_if}
+use Rattle.lexical_writer.specs.Layout.{HasNumber, allows_exponent, given_fraction, laid_out, literal_of, needs_exponent, one_if}
 use Rattle.lexical_writer.specs.Rounded.{decimals_in, rounded}
 use Rattle.lexical_writer.specs.declared.layout.Amount.{Amount}
 use Rattle.lexical_writer.specs.declared.layout.Layout.{Layout}
@@ -187,8 +187,16 @@ pub record IsAmountOf (g : Grammar) (style : Style) (num den : ℕ) (amount : Am
   pub integer : is_present (values_of ((raw g.word).byte layout.mantissa_radix) amount.integer) ≡ true
   pub power : amount.exponent ≡ power_if shown negative e
 
--- `IsFloatOf f x g style layout` holds if `layout` is what is written for the float `x` of `f` by `style`: its amount, by the rules for
--- literals.
-abbrev pub IsFloatOf : Format → Float → Grammar → Style → Layout → Type 0
-IsFloatOf f x g style layout = (num : ℕ) × (den : ℕ) × (0 < den) × (amount : Amount)
-    × IsWorth f (raw g.word) style.decimals x amount.negative num den × IsAmountOf g style num den amount × (literal_of layout ≡ laid_out g style amount)
+-- `IsTextOf g style negative num den l` holds if the literal `l` is what is written for `num` over `den`, with a minus sign if `negative` is
+-- true: its amount, by the rules for literals.
+pub record IsTextOf (g : Grammar) (style : Style) (negative : Bool) (num den : ℕ) (l : Literal) : Type 0 where
+  pub amount : Amount
+  pub sign : amount.negative ≡ negative
+  pub is : IsAmountOf g style num den amount
+  pub number : HasNumber g amount l
+  pub text : l ≡ laid_out g style amount
+
+-- `IsFloatOf f x g style l` holds if the literal `l` is what is written for the float `x` of `f` by `style`.
+abbrev pub IsFloatOf : Format → Float → Grammar → Style → Literal → Type 0
+IsFloatOf f x g style l = (negative : Bool) × (num : ℕ) × (den : ℕ) × (0 < den) × IsWorth f (raw g.word) style.decimals x negative num den
+    × IsTextOf g style negative num den l

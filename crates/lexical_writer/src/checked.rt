@@ -14,6 +14,7 @@ use lexical_number::decimal::digits_to_float;
 use lexical_number::float::Float;
 use lexical_number::leading::Leading;
 use lexical_number::scaling::{bits_of, raised_bits};
+use lexical_number::shortest::Decimal;
 use lexical_util::format::NumberFormat;
 use lexical_value::float::signed;
 
@@ -63,6 +64,16 @@ fn is_same<F: Float>(size: F, negative: bool, value: F) -> bool
         (Some(read), Some(bits)) => read == bits,
         _ => false,
     }
+}
+
+// Returns whether a decimal number is read as a float.
+#[inline(always)]
+pub(crate) fn is_nearest<F: Float>(value: F, negative: bool, decimal: Decimal) -> bool
+    ensures { result ≡ true → F.value value ≡ round (format_of F.DOUBLE) negative
+        (decimal.digits * raised_up decimal.negative 10 decimal.exponent) (raised_down decimal.negative 10 decimal.exponent) }
+{
+    let size = digits_to_float(decimal.digits, 0, decimal.negative, decimal.exponent);
+    is_same(size, negative, value)
 }
 
 // Returns whether the digits of a number in a form are read as a float.

@@ -165,6 +165,8 @@ const fn tens_of(decimal: Decimal) -> (usize, usize)
     ensures limit { (result.0 ≤ 340) × (result.1 ≤ 340) }
     ensures one { (result.0 ≡ 0) ⊎ (result.1 ≡ 0) }
     ensures none { decimal.exponent ≡ 0 → (result.0 ≡ 0) × (result.1 ≡ 0) }
+    ensures up { raised_up decimal.negative 10 decimal.exponent ≡ 10 ^ result.0 }
+    ensures down { raised_down decimal.negative 10 decimal.exponent ≡ 10 ^ result.1 }
 {
     if decimal.negative {
         (0, decimal.exponent as usize)
@@ -181,8 +183,9 @@ pub(crate) fn decimal_form(length: usize, decimal: Decimal, syntax: &Syntax, sty
     requires last { ((decimal.digits ≡ 0) × (decimal.exponent ≡ 0)) ⊎ (0 < decimal.digits % 10) }
     requires radix { ((raw syntax.now.word).byte layout.mantissa_radix ≡ 10) × (effective_exponent_base (raw syntax.now.word) ≡ 10) }
     requires plain { style.decimals ≡ None }
-    ensures { (num : ℕ) × (den : ℕ) × (0 < den) × HasForm syntax.now style num den result.shown result.negative result.exponent result.places
-        (decimal.digits * (raw syntax.now.word).byte layout.mantissa_radix ^ result.after) }
+    ensures { HasForm syntax.now style (decimal.digits * raised_up decimal.negative 10 decimal.exponent)
+        (raised_down decimal.negative 10 decimal.exponent) result.shown result.negative result.exponent result.places
+        (decimal.digits * 10 ^ result.after) }
 {
     let (up, down) = tens_of(decimal);
     let last = length.saturating_sub(1);

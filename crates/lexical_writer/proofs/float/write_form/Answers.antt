@@ -9,8 +9,7 @@ use Rattle.lexical_writer.specs.Layout.{HasNumber, literal_of}
 use Rattle.lexical_writer.proofs.Common.{ℕ, arith, inr, is_some, one-le-pow, sym}
 use Rattle.std.proofs.Common.{mul-pos}
 use Rattle.std.proofs.lemmas.Bool.{false≢true}
-use lib.Ieee.Scale.{round_same}
-use Rattle.lexical_writer.specs.Amount.{IsFloatOf, IsNearFloatOf}
+use Rattle.lexical_writer.specs.Amount.{IsNearFloatOf}
 use Rattle.lexical_writer.proofs.FloatLemmas.{if_laid, if_ok, same_nearest, same_worth, some_down, some_radixes}
 use Rattle.lexical_writer.proofs.LiteralLemmas.{radixes}
 use Rattle.lexical_writer.proofs.float.write_form.Goals as goal
@@ -97,60 +96,3 @@ returns-clause-amount g c plain =
   where
     turned : (n p d u : ℕ) → n * (p * d * u) ≡ n * u * p * d
     turned n p d u = omega arith
-
-pub returns-clause-decimal : goal.returns-clause-decimal
-returns-clause-decimal g c plain ten =
-    let f = format_of g.F.Float.DOUBLE in
-    let s = c.args.syntax.now in
-    let r = raw s.word in
-    let radix = r.byte layouts.mantissa_radix in
-    let base = effective_exponent_base r in
-    let form = c.args.form in
-    let up = raised_up form.negative base form.exponent in
-    let down = raised_down form.negative base form.exponent in
-    let two = (radixes s.word c.lay_out.ensures.lawful.lawful part.Integer).0 in
-    let all = c.requires.places in
-    let word = c.view-format.ensures.word ∙ c.format.ensures.word in
-    let supported : (is_decimal r.byte || is_binary r.byte) ≡ true =
-    subst (λ w. (is_decimal (raw w).byte || is_binary (raw w).byte) ≡ true) word (c.if-not-is_read.ensures.supported refl) in
-    let value : g.F.Float.value c.args.value ≡ round f c.args.negative (c.args.number * radix ^ form.after * up) (radix ^ form.places * down) =
-    subst (λ w. g.F.Float.value c.args.value ≡ round f c.args.negative
-    (c.args.number * (raw w).byte layouts.mantissa_radix ^ form.after * raised_up form.negative (effective_exponent_base (raw w)) form.exponent)
-    ((raw w).byte layouts.mantissa_radix ^ form.places * raised_down form.negative (effective_exponent_base (raw w)) form.exponent)) word
-    (c.if-not-is_read.ensures.value refl) in
-    let some = some_radixes r supported in
-    let amount = c.amount_in.result in
-    let (num, den, positive, digits) = c.requires.form ten in
-    let same : round f c.args.negative (c.args.number * radix ^ form.after * up) (radix ^ form.places * down) ≡ round f c.args.negative num den =
-    round_same f c.args.negative _ _ num den
-    (mul-pos (one-le-pow form.places radix some.0) (some_down form.negative base form.exponent some.1)) positive
-    (left (c.args.number * radix ^ form.after) up den ∙ digits.0.exact plain ∙ right num (radix ^ form.places) down) in
-    if_laid s c.args.style amount (λ layout. IsFloatOf f (g.F.Float.value c.args.value) s c.args.style layout) c.lay_out.result c.lay_out.ensures.parts
-    (λ layout is. (
-      num,
-      den,
-      positive,
-      amount,
-      inr (plain, ten, value ∙ same ∙ ap (λ sign. round f sign num den) (sym c.amount_in.ensures.sign)),
-      record {
-        shown = form.shown;
-        negative = form.negative;
-        e = form.exponent;
-        places = form.places;
-        units = c.args.number * radix ^ form.after;
-        form = digits;
-        number = c.amount_in.ensures.number radix two all ∙ ap (λ n. n * radix ^ form.after)
-            (ap (number_from_digits radix) c.requires.digits ∙ number_digits_of radix c.args.number two);
-        count = c.amount_in.ensures.places radix all;
-        some = c.amount_in.ensures.some;
-        integer = c.amount_in.ensures.integer radix two all;
-        power = c.amount_in.ensures.power;
-      },
-      is,
-    ))
-  where
-    left : (n u d : ℕ) → n * u * d ≡ n * (d * u)
-    left n u d = omega arith
-
-    right : (n p d : ℕ) → n * p * d ≡ n * (p * d)
-    right n p d = omega arith
