@@ -54,11 +54,11 @@ pub record IsShort (d up down last : ℕ) : Type 0 where
 
 pub short_number : (d L up down e : ℕ) → L ≡ length (digits_of 10 d) → L ≤ 64 → (((d ≡ 0) × (e ≡ 0)) ⊎ (0 < d % 10))
     → (e ≡ 0 → (up ≡ 0) × (down ≡ 0)) → ((up ≡ 0) ⊎ (down ≡ 0)) → (up ≤ 340) × (down ≤ 340) → IsShort d up down (L - 1)
-short_number d L up down e is few ends zero one limits = record {
+short_number d L up down e is few ends nothing one limits = record {
   from = λ some. subst (λ l. 10 ^ (l - 1) ≤ d) (sym is) (digits_from d some);
   below = subst (λ l. d < 10 ^ suc (l - 1)) (sym is) (digits_below d);
   none = λ z. elim ends [
-    | inl both ↦ let no = zero both.1 in (no.0, no.1, elim (eq-zero-or-pos (length (digits_of 10 d))) [
+    | inl both ↦ let no = nothing both.1 in (no.0, no.1, elim (eq-zero-or-pos (length (digits_of 10 d))) [
       | inl none ↦ omega (arith, is, none)
       | inr some ↦ let more = some_number 10 d some in absurd (omega (arith, more, z))
     ])
@@ -91,7 +91,8 @@ far_in r d up down last radix is =
     ∙ elim (eq-zero-or-pos d) [
       | inl z ↦
           let none = is.none z in
-          ap (λ b. b && rest) (ap (λ d. nat_lt 0 (d * 10 ^ up)) z)
+          let nothing = ap (λ d. d * 10 ^ up) z in
+          ap (λ b. b && rest) (lt_false 0 (d * 10 ^ up) (omega (arith, nothing)))
           ∙ sym (λ i. nat_lt (if nat_lt (none.0 i + none.2 i) (none.1 i) then 4 else 15) (size (none.0 i + none.2 i) (none.1 i)))
       | inr some ↦
           let low = compared 10 d (up + 4) last down (omega arith) (is.from some) is.below in
@@ -214,7 +215,7 @@ pub written_with : (g : Grammar) (style : Style) (d up down last e : ℕ) (shown
 written_with g style d up down last e shown negative radix base plain is decided same hidden =
     elim (cases_lt (least_places g style false) down) [
       | inl less ↦
-          let zero : up ≡ 0 = elim is.one [
+          let no_up : up ≡ 0 = elim is.one [
             | inl none ↦ none
             | inr none ↦ absurd (omega (arith, less, none))
           ] in
@@ -223,7 +224,7 @@ written_with g style d up down last e shown negative radix base plain is decided
             | inr some ↦ some
           ] in
           go down is.few.1
-          (plain_units g style d up down down radix plain (omega arith) (omega (arith, less)) (inr (omega (arith, zero), some)))
+          (plain_units g style d up down down radix plain (omega arith) (omega (arith, less)) (inr (omega (arith, no_up), some)))
       | inr most ↦
           let few = least_few style (lacks_options g.options) (style.point || true) plain in
           go (least_places g style false) (omega (arith, few))
