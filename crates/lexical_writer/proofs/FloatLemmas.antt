@@ -4,12 +4,14 @@ use Rattle.lexical_writer.proofs.Common.{true, false, ap, ◌∙◌, arith, sym,
 use Rattle.lexical_writer.proofs.Common.{Ok, Err, IfOk, nat_tests, number_after_append, append_assoc, length-append, one-le-pow, number_from_digits}
 use Rattle.lexical_writer.proofs.Common.{number_from_digits_after, cons_option, digit_of, Record, raw, effective_exponent_base, effective_exponent_radix}
 use Rattle.lexical_writer.proofs.Common.{Literal, is_minus, Grammar, format_of, raised_down, raised_up, digits_in, number, size_of, values_of, Amount}
-use Rattle.std.proofs.Common.{refl, unwrap_or}
+use Rattle.std.proofs.Common.{is_some, not, refl, subst, unwrap_or}
+use Rattle.std.proofs.lemmas.Bool.{false≢true}
+use Rattle.lexical_literal.specs.Notation.{lacks_options}
 use Rattle.std.proofs.Math.Nat.{pow-zero}
 use Rattle.std.proofs.lemmas.List.{take-append-drop}
 use Rattle.lexical_literal.specs.Literal.{is_present}
 use Rattle.std.proofs.lemmas.List.Elements.{filter_map-append}
-use lib.Ieee.{Format, emax, low, prec, round}
+use lib.Ieee.{Float, Format, emax, low, prec, round}
 use lib.Ieee.Exact.{HasValue, round_exact}
 use lib.Ieee.Scale.{round_same}
 use lib.Pow.{pow-add, shl_lt}
@@ -19,13 +21,13 @@ use Rattle.lexical_literal.specs.Read.{exponent, mantissa}
 use Rattle.lexical_number.specs.Leading.{IsCutTo}
 use Rattle.lexical_value.specs.Float.{is_binary, is_decimal, nearest}
 use Rattle.lexical_value.specs.Value.{denominator, numerator, power, scale}
-use Rattle.lexical_writer.specs.Amount.{IsTextOf, power_if}
+use Rattle.lexical_writer.specs.Amount.{IsTextOf, least_places, power_if, wished_places}
 use Rattle.lexical_writer.specs.Layout.{HasNumber, IsLaidOut, given_fraction, given_power, laid_out, literal_of, no_power}
 use Rattle.lexical_writer.specs.declared.layout.Power.{Power}
 use Rattle.lexical_writer.specs.declared.layout.Layout.{Layout}
 use Rattle.lexical_writer.specs.declared.layout.Style.{Style}
 use Rattle.lexical_writer.specs.declared.layout.WriteError.{WriteError}
-use Rattle.lexical_writer.specs.Rounded.{HasDecimals, rounded}
+use Rattle.lexical_writer.specs.Rounded.{HasDecimals, IsRounded, decimals_in, rounded}
 use Rattle.lexical_writer.proofs.ConversionLemmas.{zero_scaled}
 use Rattle.lexical_writer.proofs.DigitLemmas.{zeros_number}
 use Rattle.lexical_writer.proofs.PlainLemmas.{pow_twice, size_values, zeros_after}
@@ -341,6 +343,36 @@ amount_nearest f g style negative num den l two supported some plain it =
 
     right : (n d u q : ℕ) → n * (d * u) * q ≡ n * q * u * d
     right n d u q = omega arith
+
+-- The number of decimals is that of the style.
+pub decimals_are : (g : Grammar) (style : Style) (shown : Bool) (n : ℕ) → style.decimals ≡ Some n → least_places g style shown ≡ decimals_in g n
+decimals_are g style shown n wished = ap (λ o. if lacks_options g.options then 0 else wished_places o (style.point || not shown)) wished
+
+-- A literal that is written for a fraction that is rounded is rounded.
+pub amount_rounded : (g : Grammar) (style : Style) (negative : Bool) (num den n : ℕ) (l : Literal) (x : Float)
+    → 2 ≤ (raw g.word).byte layout.mantissa_radix → 0 < den → style.decimals ≡ Some n → HasValue x negative num den
+    → IsTextOf g style negative num den l → IsRounded x (raw g.word) l (decimals_in g n)
+amount_rounded g style negative num den n l x two some wished value it =
+    let r = raw g.word in
+    let p = parts_of g style negative num den l two it in
+    let unit = r.byte layout.mantissa_radix ^ it.is.places in
+    let places : it.is.places ≡ decimals_in g n = elim it.is.form.0.last [
+      | inl is ↦ is ∙ decimals_are g style it.is.shown n wished
+      | inr other ↦ absurd (false≢true (sym (ap is_some other.0) ∙ ap is_some wished))
+    ] in
+    let rounded_to : HasDecimals r l it.is.places num den =
+    ap (λ m. m * unit) p.mantissa ∙ turned it.is.units p.factor unit ∙ ap (λ m. m * (unit * p.factor)) (it.is.form.0.rounded (ap is_some wished))
+    ∙ sym (λ j. rounded (num * unit * p.down j) (den * p.up j) * p.scale j) in
+    record {
+      num = num;
+      den = den;
+      some = some;
+      value = subst (λ sign. HasValue x sign num den) (sym (it.number.sign ∙ it.sign)) value;
+      decimals = subst (λ k. HasDecimals r l k num den) places rounded_to;
+    }
+  where
+    turned : (n q u : ℕ) → n * q * u ≡ n * (u * q)
+    turned n q u = omega arith
 
 -- What follows from what holds of a result that is `Ok`.
 pub if_ok : {A E : Type 0} (P Q : A → Type 0) (result : Result A E) → ((x : A) → P x → Q x) → IfOk result P → IfOk result Q

@@ -11,3 +11,4 @@ mod ChoiceLemmas
 mod RoundedLemmas
 mod AmountLemmas
 mod ShortLemmas
+mod DecimalLemmas
