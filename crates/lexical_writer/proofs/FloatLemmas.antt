@@ -11,7 +11,8 @@ use Rattle.std.proofs.Math.Nat.{pow-zero}
 use Rattle.std.proofs.lemmas.List.{take-append-drop}
 use Rattle.lexical_literal.specs.Literal.{is_present}
 use Rattle.std.proofs.lemmas.List.Elements.{filter_map-append}
-use lib.Ieee.{Float, Format, emax, low, prec, round}
+use lib.Ieee.{Float, Format, down, emax, fin, inf, low, nan, prec, round, up}
+use native.Mathlib.Nat.{eq_of_mul-eq-mul_right, mul_right_comm}
 use lib.Ieee.Exact.{HasValue, round_exact}
 use lib.Ieee.Scale.{round_same}
 use lib.Pow.{pow-add, shl_lt}
@@ -130,54 +131,6 @@ has_parts g amount n places e negative digits count up down two l has =
       down = (λ j. raised_down (has.exponent_sign j) b (has.exponent j)) ∙ down;
     }
 
--- What has the digits of an amount has its value.
-pub same_worth : (g : Grammar) (amount : Amount) (n places e : ℕ) (negative : Bool)
-    → number_from_digits ((raw g.word).byte layout.mantissa_radix)
-    (values_of ((raw g.word).byte layout.mantissa_radix) amount.integer ++ values_of ((raw g.word).byte layout.mantissa_radix) (given_fraction amount)) ≡ n
-    → length (values_of ((raw g.word).byte layout.mantissa_radix) (given_fraction amount)) ≡ places
-    → raised_up (given_power amount).negative (effective_exponent_base (raw g.word))
-    (size_of (effective_exponent_radix (raw g.word)) (given_power amount).source)
-    ≡ raised_up negative (effective_exponent_base (raw g.word)) e
-    → raised_down (given_power amount).negative (effective_exponent_base (raw g.word))
-    (size_of (effective_exponent_radix (raw g.word)) (given_power amount).source)
-    ≡ raised_down negative (effective_exponent_base (raw g.word)) e
-    → 2 ≤ (raw g.word).byte layout.mantissa_radix → (l : Literal) → HasNumber g amount l
-    → (n * raised_up negative (effective_exponent_base (raw g.word)) e) * denominator (raw g.word).byte l
-    ≡ numerator (raw g.word).byte l * ((raw g.word).byte layout.mantissa_radix ^ places * raised_down negative (effective_exponent_base (raw g.word)) e)
-same_worth g amount n places e negative digits count up down two l has =
-    let p = has_parts g amount n places e negative digits count up down two l has in
-    let unit = (raw g.word).byte layout.mantissa_radix ^ places in
-    let b = effective_exponent_base (raw g.word) in
-    (λ j. (n * raised_up negative b e) * (p.scale j * p.down j)) ∙ crossed n unit p.factor (raised_up negative b e) (raised_down negative b e)
-    ∙ sym (λ j. (p.mantissa j * p.up j) * (unit * raised_down negative b e))
-  where
-    crossed : (m s q u d : ℕ) → (m * u) * ((s * q) * d) ≡ ((m * q) * u) * (s * d)
-    crossed m s q u d = omega arith
-
--- What has the digits of a number that is rounded is rounded.
-pub same_rounded : (g : Grammar) (amount : Amount) (n places e : ℕ) (negative : Bool)
-    → number_from_digits ((raw g.word).byte layout.mantissa_radix)
-    (values_of ((raw g.word).byte layout.mantissa_radix) amount.integer ++ values_of ((raw g.word).byte layout.mantissa_radix) (given_fraction amount)) ≡ n
-    → length (values_of ((raw g.word).byte layout.mantissa_radix) (given_fraction amount)) ≡ places
-    → raised_up (given_power amount).negative (effective_exponent_base (raw g.word))
-    (size_of (effective_exponent_radix (raw g.word)) (given_power amount).source)
-    ≡ raised_up negative (effective_exponent_base (raw g.word)) e
-    → raised_down (given_power amount).negative (effective_exponent_base (raw g.word))
-    (size_of (effective_exponent_radix (raw g.word)) (given_power amount).source)
-    ≡ raised_down negative (effective_exponent_base (raw g.word)) e
-    → 2 ≤ (raw g.word).byte layout.mantissa_radix → (l : Literal) → HasNumber g amount l
-    → (num den : ℕ) → n ≡ rounded (num * (raw g.word).byte layout.mantissa_radix ^ places * raised_down negative (effective_exponent_base (raw g.word)) e)
-    (den * raised_up negative (effective_exponent_base (raw g.word)) e)
-    → HasDecimals (raw g.word) l places num den
-same_rounded g amount n places e negative digits count up down two l has num den is =
-    let p = has_parts g amount n places e negative digits count up down two l has in
-    let unit = (raw g.word).byte layout.mantissa_radix ^ places in
-    ap (λ m. m * unit) p.mantissa ∙ turned n p.factor unit ∙ ap (λ m. m * (unit * p.factor)) is
-    ∙ sym (λ j. rounded (num * unit * p.down j) (den * p.up j) * p.scale j)
-  where
-    turned : (n q u : ℕ) → n * q * u ≡ n * (u * q)
-    turned n q u = omega arith
-
 pub twos : (i j : ℕ) → i ≤ j → 2 ^ i ≤ 2 ^ j
 twos i j less = pow-le-pow_right (omega arith) less
 
@@ -256,45 +209,6 @@ some_denominator r l is =
     some true = one-le-pow _ _ (some_radixes r is).1
     some false = omega arith
 
--- Powers of two numbers are powers of one of which both are powers.
-raised : (x rb bb k e s : ℕ) (none : Bool) → s ≡ k * rb + (if none then 0 else e * bb) → x ^ s ≡ (x ^ rb) ^ k * (if none then 1 else (x ^ bb) ^ e)
-raised x rb bb k e s true is =
-    ap (λ k. x ^ k) {x = s} {y = k * rb} (omega (arith, is)) ∙ sym (pow_twice x rb k) ∙ omega arith
-raised x rb bb k e s false is = ap (λ k. x ^ k) is ∙ pow-add x (k * rb) (e * bb) ∙ (λ i. sym (pow_twice x rb k) i * sym (pow_twice x bb e) i)
-
-lowered : (x rb bb k e s : ℕ) (some : Bool) → s ≡ k * rb + (if some then e * bb else 0) → x ^ s ≡ (x ^ rb) ^ k * (if some then (x ^ bb) ^ e else 1)
-lowered x rb bb k e s true is = raised x rb bb k e s false is
-lowered x rb bb k e s false is = raised x rb bb k e s true is
-
--- A fraction of powers of one number.
-pub same_scales : (f : Format) (x rb bb r b n after places e up down : ℕ) (negative : Bool) → x ^ rb ≡ r → x ^ bb ≡ b
-    → up ≡ after * rb + (if negative then 0 else e * bb) → down ≡ places * rb + (if negative then e * bb else 0)
-    → round f false (n * x ^ up) (x ^ down * 1) ≡ round f false (n * r ^ after * raised_up negative b e) (r ^ places * raised_down negative b e)
-same_scales f x rb bb r b n after places e up down negative radix base above below =
-    let num : n * x ^ up ≡ n * (x ^ rb) ^ after * raised_up negative (x ^ bb) e =
-    ap (λ p. n * p) (raised x rb bb after e up negative above) ∙ regrouped n ((x ^ rb) ^ after) (raised_up negative (x ^ bb) e) in
-    let den : x ^ down * 1 ≡ (x ^ rb) ^ places * raised_down negative (x ^ bb) e = once (x ^ down) ∙ lowered x rb bb places e down negative below in
-    (λ i. round f false (num i) (den i))
-    ∙ (λ i. round f false (n * radix i ^ after * raised_up negative (base i) e) (radix i ^ places * raised_down negative (base i) e))
-  where
-    regrouped : (a b c : ℕ) → a * (b * c) ≡ a * b * c
-    regrouped a b c = omega arith
-
-    once : (a : ℕ) → a * 1 ≡ a
-    once a = omega arith
-
--- A literal that is worth a fraction is read as the float nearest to it.
-pub same_nearest : (f : Format) (r : Record) (l : Literal) (sign negative : Bool) (num places e : ℕ) → (is_decimal r.byte || is_binary r.byte) ≡ true
-    → is_minus l.sign ≡ sign
-    → num * denominator r.byte l ≡ numerator r.byte l * (r.byte layout.mantissa_radix ^ places * raised_down negative (effective_exponent_base r) e)
-    → round f sign num (r.byte layout.mantissa_radix ^ places * raised_down negative (effective_exponent_base r) e) ≡ nearest f r.byte l
-same_nearest f r l sign negative num places e is minus same =
-    let radixes = some_radixes r is in
-    let den = r.byte layout.mantissa_radix ^ places * raised_down negative (effective_exponent_base r) e in
-    round_same f sign num den (numerator r.byte l) (denominator r.byte l)
-    (some_product _ _ (one-le-pow _ _ radixes.0) (some_down negative (effective_exponent_base r) e radixes.1)) (some_denominator r l is) same
-    ∙ ap (λ sign. round f sign (numerator r.byte l) (denominator r.byte l)) (sym minus)
-
 -- The power of an exponent that is shown, or of none.
 powers_of : (base radix e : ℕ) (shown negative : Bool) (power : Option Power) → power ≡ power_if shown negative e → (shown ≡ false → e ≡ 0)
     → (raised_up (unwrap_or power no_power).negative base (size_of radix (unwrap_or power no_power).source) ≡ raised_up negative base e)
@@ -317,7 +231,7 @@ parts_of : (g : Grammar) (style : Style) (negative : Bool) (num den : ℕ) (l : 
 parts_of g style negative num den l two it =
     let r = raw g.word in
     let powers = powers_of (effective_exponent_base r) (effective_exponent_radix r) it.is.e it.is.shown it.is.negative it.amount.exponent it.is.power
-    it.is.form.1.hidden in
+    it.is.hidden in
     has_parts g it.amount it.is.units it.is.places it.is.e it.is.negative it.is.number it.is.count powers.0 powers.1 two l it.number
 
 -- A literal that is written for a fraction that is not rounded is read as the float nearest to it.
@@ -343,6 +257,14 @@ amount_nearest f g style negative num den l two supported some plain it =
 
     right : (n d u q : ℕ) → n * (d * u) * q ≡ n * q * u * d
     right n d u q = omega arith
+
+-- The value of a float is that of each fraction that is equal to it.
+pub rescaled : (x : Float) (s : Bool) (w l num den : ℕ) → 0 < l → num * l ≡ w * den → HasValue x s w l → HasValue x s num den
+rescaled nan s w l num den p h v = v
+rescaled (inf t) s w l num den p h v = v
+rescaled (fin t m e) s w l num den p h v =
+    (v.0, eq_of_mul-eq-mul_right l p (m * up e * den) (num * down e) (mul_right_comm (m * up e) den l ∙ ap (λ x. x * den) v.1
+    ∙ mul_right_comm w (down e) den ∙ ap (λ x. x * down e) (sym h) ∙ mul_right_comm num l (down e)))
 
 -- The number of decimals is that of the style.
 pub decimals_are : (g : Grammar) (style : Style) (shown : Bool) (n : ℕ) → style.decimals ≡ Some n → least_places g style shown ≡ decimals_in g n
@@ -378,12 +300,6 @@ amount_rounded g style negative num den n l x two some wished value it =
 pub if_ok : {A E : Type 0} (P Q : A → Type 0) (result : Result A E) → ((x : A) → P x → Q x) → IfOk result P → IfOk result Q
 if_ok P Q (Ok x) follows holds = follows x holds
 if_ok P Q (Err error) follows holds = holds
-
--- What follows from what a layout is.
-pub if_laid : (g : Grammar) (style : Style) (amount : Amount) (P : Layout → Type 0) (result : Result Layout WriteError) → IsLaidOut g style amount result
-    → ((layout : Layout) → literal_of layout ≡ laid_out g style amount → P layout) → IfOk result P
-if_laid g style amount P (Ok layout) is follows = follows layout is.1
-if_laid g style amount P (Err error) is follows = tt
 
 -- What follows from what a layout is, and from the number that it has.
 pub if_numbered : (g : Grammar) (style : Style) (amount : Amount) (P : Layout → Type 0) (result : Result Layout WriteError)

@@ -12,3 +12,4 @@ mod RoundedLemmas
 mod AmountLemmas
 mod ShortLemmas
 mod DecimalLemmas
+mod BinaryLemmas

@@ -210,9 +210,9 @@ least_few style absent point plain = subst (λ o. (if absent then 0 else wished_
 pub written_with : (g : Grammar) (style : Style) (d up down last e : ℕ) (shown negative : Bool)
     → (raw g.word).byte layout.mantissa_radix ≡ 10 → effective_exponent_base (raw g.word) ≡ 10 → style.decimals ≡ None → IsShort d up down last
     → shown ≡ is_shown g style (size (up + last) down) (nat_lt (if nat_lt (up + last) down then 4 else 15) (size (up + last) down)) false
-    → (shown ≡ true → (negative ≡ nat_lt (up + last) down) × (e ≡ size (up + last) down)) → (shown ≡ false → e ≡ 0)
+    → (shown ≡ true → (negative ≡ nat_lt (up + last) down) × (e ≡ size (up + last) down))
     → IsWrittenWith g style (d * 10 ^ up) (10 ^ down) shown negative e
-written_with g style d up down last e shown negative radix base plain is decided same hidden =
+written_with g style d up down last e shown negative radix base plain is decided same =
     elim (cases_lt (least_places g style false) down) [
       | inl less ↦
           let no_up : up ≡ 0 = elim is.one [
@@ -245,5 +245,4 @@ written_with g style d up down last e shown negative radix base plain is decided
           ∙ sym (λ i. is_shown g style (size (up + last) down) (far_in (raw g.word) d up down last radix is i)
           (not_long (raw g.word) d last (up + places - down) places radix is.below (omega (arith, is.few.0, is.few.2, few)) (omega (arith, few)) i));
       same = same;
-      hidden = hidden;
     }

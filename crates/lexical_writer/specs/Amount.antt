@@ -109,7 +109,6 @@ pub record IsWrittenWith (g : Grammar) (style : Style) (num den : ℕ) (shown ne
   pub first : allows_exponent g ≡ true → (shown || asks style.exponent) ≡ true → IsExponent (raw g.word) style.decimals num den sign size
   pub decided : shown ≡ is_shown g style size (is_far (raw g.word) num den) (is_long (raw g.word) places units)
   pub same : shown ≡ true → (negative ≡ sign) × (e ≡ size)
-  pub hidden : shown ≡ false → e ≡ 0
 
 -- `power_if shown negative e` is the exponent `e`, if it is shown.
 abbrev pub power_if : Bool → Bool → ℕ → Option Power
@@ -126,39 +125,6 @@ abbrev pub float_error : Grammar → Style → Bool → Bool → Option WriteErr
 float_error g style negative fraction = first_refusal (negative && has g.conditions conditions.NegativeSign)
     ((lacks_options g.options && not (is_some style.decimals)) && fraction) (not (is_decimal (bytes_of g.word) || is_binary (bytes_of g.word)))
 
--- `IsNearWorth f decimals x negative num den` holds if `num` over `den`, with a minus sign if `negative` is true, is what is written of the
--- float `x` of `f`: its value or, without a number of decimals, a number that is read as `x`.
-abbrev pub IsNearWorth : Format → Option ℕ → Float → Bool → ℕ → ℕ → Type 0
-IsNearWorth f decimals x negative num den = HasValue x negative num den ⊎ ((decimals ≡ None) × (x ≡ round f negative num den))
-
--- `IsNearAmountOf g style num den amount` holds if `amount` has the digits of `num` over `den`, of which `places` are behind the point: all of
--- them or, with a number of decimals, as many as these, rounded. It has an exponent if it is `shown`.
-pub record IsNearAmountOf (g : Grammar) (style : Style) (num den : ℕ) (amount : Amount) : Type 0 where
-  pub negative : Bool
-  pub e : ℕ
-  pub shown : Bool
-  pub power : amount.exponent ≡ power_if shown negative e
-  pub hidden : shown ≡ false → e ≡ 0
-  pub places : ℕ
-  pub units : ℕ
-  pub number : number_from_digits ((raw g.word).byte layout.mantissa_radix)
-      (values_of ((raw g.word).byte layout.mantissa_radix) amount.integer ++ values_of ((raw g.word).byte layout.mantissa_radix) (given_fraction amount))
-      ≡ units
-  pub count : length (values_of ((raw g.word).byte layout.mantissa_radix) (given_fraction amount)) ≡ places
-  pub some : is_some amount.fraction ≡ nat_lt 0 places
-  pub exact : style.decimals ≡ None → units * (den * raised_up negative (effective_exponent_base (raw g.word)) e)
-      ≡ num * (raw g.word).byte layout.mantissa_radix ^ places * raised_down negative (effective_exponent_base (raw g.word)) e
-  pub decimals : (n : ℕ) → style.decimals ≡ Some n → places ≡ decimals_in g n
-  pub rounded : (n : ℕ) → style.decimals ≡ Some n → units ≡ rounded
-      (num * (raw g.word).byte layout.mantissa_radix ^ places * raised_down negative (effective_exponent_base (raw g.word)) e)
-      (den * raised_up negative (effective_exponent_base (raw g.word)) e)
-
--- `IsNearFloatOf f x g style layout` holds if `layout` is what is written for the float `x` of `f` by `style`: its amount, by the rules for
--- literals.
-abbrev pub IsNearFloatOf : Format → Float → Grammar → Style → Layout → Type 0
-IsNearFloatOf f x g style layout = (num : ℕ) × (den : ℕ) × (0 < den) × (amount : Amount) × IsNearWorth f style.decimals x amount.negative num den
-    × IsNearAmountOf g style num den amount × (literal_of layout ≡ laid_out g style amount)
-
 -- `IsWorth f r decimals x negative num den` holds if `num` over `den`, with a minus sign if `negative` is true, is what is written of the
 -- float `x` of `f`: its value or, in radix 10 and without a number of decimals, a number that is read as `x`.
 abbrev pub IsWorth : Format → Record → Option ℕ → Float → Bool → ℕ → ℕ → Type 0
@@ -166,10 +132,11 @@ IsWorth f r decimals x negative num den = HasValue x negative num den
     ⊎ ((decimals ≡ None) × (r.byte layout.mantissa_radix ≡ 10) × (x ≡ round f negative num den))
 
 -- `HasForm g style num den shown negative e places units` holds if `num` over `den` is written in `g` by `style` with these digits, of which
--- `places` are behind the point, and with the exponent `e`, if it is `shown`.
+-- `places` are behind the point, and in radix 10 with the exponent `e`, if it is `shown`.
 abbrev pub HasForm : Grammar → Style → ℕ → ℕ → Bool → Bool → ℕ → ℕ → ℕ → Type 0
 HasForm g style num den shown negative e places units =
-    HasUnits g style shown num den negative e places units × IsWrittenWith g style num den shown negative e
+    HasUnits g style shown num den negative e places units
+    × ((raw g.word).byte layout.mantissa_radix ≡ 10 → IsWrittenWith g style num den shown negative e)
 
 -- `IsAmountOf g style num den amount` holds if `amount` has the size `num` over `den`, as a literal of `g` has it by `style`.
 pub record IsAmountOf (g : Grammar) (style : Style) (num den : ℕ) (amount : Amount) : Type 0 where
@@ -179,6 +146,7 @@ pub record IsAmountOf (g : Grammar) (style : Style) (num den : ℕ) (amount : Am
   pub places : ℕ
   pub units : ℕ
   pub form : HasForm g style num den shown negative e places units
+  pub hidden : shown ≡ false → e ≡ 0
   pub number : number_from_digits ((raw g.word).byte layout.mantissa_radix)
       (values_of ((raw g.word).byte layout.mantissa_radix) amount.integer ++ values_of ((raw g.word).byte layout.mantissa_radix) (given_fraction amount))
       ≡ units

@@ -1,7 +1,12 @@
 //! How a float is written in a radix that is a power of two.
 
-ghost use Rattle.std.specs.Prelude.{◌<◌, ◌≤◌, ◌^◌, ◌*◌, ◌+◌, IfOk};
+ghost use Rattle.std.specs.Prelude.{ℕ, ◌≡◌, ◌+◌, ◌-◌, ◌*◌, ◌/◌, ◌%◌, ◌^◌, ◌<◌, ◌≤◌, ◌||◌, ◌⊎◌, true, nat_le, nat_lt, is_some, suc, None, IfOk, IfSome};
+ghost use Rattle.lexical_util.specs.Layout as layout;
+ghost use Rattle.lexical_util.specs.Record.{effective_exponent_base, raw};
+ghost use Rattle.lexical_writer.specs.Amount.{HasUnits};
+ghost use Rattle.lexical_writer.specs.Rounded.{rounded};
 
+use crate::checked::Exact;
 use crate::form::{Form, is_shown, least_places};
 use crate::layout::{Style, WriteError, allows_exponent};
 use crate::rounded::rounded;
@@ -12,13 +17,15 @@ use lexical_number::shortest::Units;
 // A float without its sign: an odd number, or 0, times two to the power of `power - 1200`. A digit of its radix has so many bits, and
 // its exponent base is two to the power of `base_bits`.
 #[derive(Debug, Clone, Copy)]
-struct Binary {
-    number: u64,
-    power: u64,
-    bits: u64,
-    base_bits: u64,
+pub(crate) struct Binary {
+    pub(crate) number: u64,
+    pub(crate) power: u64,
+    pub(crate) bits: u64,
+    pub(crate) base_bits: u64,
     ghost limits: { (number < 2 ^ 53) × (power < 4000) },
     ghost radixes: { (1 ≤ bits) × (bits ≤ 5) × (1 ≤ base_bits) × (base_bits ≤ 5) },
+    ghost odd: { 0 < number → number % 2 ≡ 1 },
+    ghost zero: { number ≡ 0 → power ≡ 1200 },
 }
 
 // What is added to the exponent of a power of two. Each number of bits of a digit divides it.
@@ -27,6 +34,7 @@ const RAISED: u64 = 1200;
 // Returns a number over a power of two: the nearest, or the even one if two are as near.
 const fn cut(number: u64, down: u64) -> u64
     requires { number < 2 ^ 53 }
+    ensures { result ≡ rounded number (2 ^ down) }
 {
     if down > 64 {
         return 0;
@@ -36,7 +44,9 @@ const fn cut(number: u64, down: u64) -> u64
 
 // Returns a float as an odd number, or 0, times two to the power of what is returned, less 1200.
 fn odd_of(units: Units) -> (u64, u64)
-    ensures { (result.0 < 2 ^ 53) × (result.1 < 4000) }
+    ensures odd { 0 < result.0 → result.0 % 2 ≡ 1 }
+    ensures zero { result.0 ≡ 0 → result.1 ≡ 1200 }
+    ensures limits { (result.0 < 2 ^ 53) × (result.1 < 4000) }
 {
     if units.size == 0 {
         return (0, RAISED);
@@ -47,7 +57,9 @@ fn odd_of(units: Units) -> (u64, u64)
 
 impl Binary {
     // Returns a float in a radix and with an exponent base, if both are powers of two.
-    fn of(units: Units, radix: u32, base: u32) -> Option<Binary> {
+    pub(crate) fn of(units: Units, radix: u32, base: u32) -> Option<Binary>
+        ensures { IfSome result (λ it. (radix ≡ 2 ^ it.bits) × (base ≡ 2 ^ it.base_bits)) }
+    {
         let Some(bits) = bits_of(radix) else {
             return None;
         };
@@ -63,11 +75,29 @@ impl Binary {
         })
     }
 
+    // Returns the float without 1200.
+    pub(crate) fn exact(&self) -> Exact
+        ensures { result.number * 2 ^ result.up * 2 ^ 1200 ≡ self.now.number * 2 ^ self.now.power * 2 ^ result.down }
+    {
+        Exact {
+            number: self.number,
+            up: self.power.saturating_sub(RAISED),
+            down: RAISED.saturating_sub(self.power),
+        }
+    }
+
     // Returns the number over a power of two, in units of the last of so many digits behind the point, as a number with zeros behind its
     // digits.
     fn units(&self, places: u64, low: u64) -> (u64, u64)
-        requires { places < 4096 }
-        ensures { result.1 < 30000 }
+        requires { (places ≤ 4069) × (low ≤ 4069) }
+        ensures value { result.0 * (2 ^ self.now.bits) ^ result.1
+            ≡ rounded (self.now.number * 2 ^ self.now.power * (2 ^ self.now.bits) ^ places) (2 ^ low) }
+        ensures exact { low ≤ self.now.power + self.now.bits * places → result.0 * (2 ^ self.now.bits) ^ result.1 * 2 ^ low
+            ≡ self.now.number * 2 ^ self.now.power * (2 ^ self.now.bits) ^ places }
+        ensures last { low ≤ self.now.power + self.now.bits * places → self.now.power + self.now.bits * places < low + self.now.bits
+            → self.now.number % 2 ≡ 1 → 0 < result.0 * (2 ^ self.now.bits) ^ result.1 % 2 ^ self.now.bits }
+        ensures zeros { low ≡ 1200 → result.0 ≡ 0 → result.1 ≤ places }
+        ensures limit { result.1 < 30000 }
     {
         let power = self.power + self.bits * places;
         if power < low {
@@ -79,8 +109,12 @@ impl Binary {
 
     // Returns how many digits are behind the point of the number over a power of two, if at least so many are wished.
     fn places(&self, style: Style, least: usize, low: u64) -> u64
-        requires { (least ≤ 255) × (low < 4096) }
-        ensures { result < 4096 }
+        requires { (least ≤ 255) × (low ≤ 4069) }
+        ensures least { least ≤ result }
+        ensures rounded { is_some style.decimals ≡ true → result ≡ least }
+        ensures exact { style.decimals ≡ None → low ≤ self.now.power + self.now.bits * result }
+        ensures last { least < result → self.now.power + self.now.bits * result < low + self.now.bits }
+        ensures limit { result ≤ 4069 }
     {
         let needed = low.saturating_sub(self.power).div_ceil(self.bits);
         if style.decimals.is_some() {
@@ -92,7 +126,8 @@ impl Binary {
 
     // Returns the exponent of two of the first bit.
     fn top(&self) -> u64
-        ensures { result < 4064 }
+        ensures limit { result < 4064 }
+        ensures zero { self.now.number ≡ 0 → result ≡ 1200 }
     {
         if self.number == 0 {
             RAISED
@@ -104,10 +139,11 @@ impl Binary {
     // Returns the exponent, plus that of which `RAISED` is the power of two.
     fn exponent(&self, style: Style, places: u64) -> u64
         requires { places ≤ 255 }
-        ensures { result < 4096 }
+        ensures limit { result * self.now.base_bits ≤ 4069 }
+        ensures zero { self.now.number ≡ 0 → result * self.now.base_bits ≤ 1200 }
     {
         let exponent = self.top() / self.base_bits;
-        if style.decimals.is_none() {
+        if style.decimals.is_none() || self.number == 0 {
             return exponent;
         }
         let (units, after) = self.units(places, exponent * self.base_bits);
@@ -118,44 +154,57 @@ impl Binary {
 
     // Returns whether the number has more than 800 digits without an exponent.
     fn is_long(&self, places: u64) -> bool
-        requires { places < 4096 }
+        requires { places ≤ 4069 }
     {
         let (units, after) = self.units(places, RAISED);
         let size = (64 - units.leading_zeros() as u64 % 65).div_ceil(self.bits);
         places > 799 || size + after > 800
     }
-}
 
-// Returns the digits of a float, and how they are written. If the style has a number of decimals, there are at most so many digits.
-pub(crate) fn binary_form(
-    units: Units,
-    syntax: &Syntax,
-    style: Style,
-) -> Result<(u64, Form), WriteError> {
-    let format = syntax.format().view();
-    let Some(float) = Binary::of(units, format.mantissa_radix(), format.exponent_base()) else {
-        return Err(WriteError::Radix);
-    };
-    let long = float.is_long(float.places(style, least_places(syntax, style, false), RAISED));
-    if long && !allows_exponent(syntax) {
-        return Err(WriteError::Long);
+    // Returns the digits of the number, and how they are written with an exponent, or without one.
+    fn form(&self, syntax: &Syntax, style: Style, shown: bool, exponent: u64) -> (u64, Form)
+        requires radix { (raw syntax.now.word).byte layout.mantissa_radix ≡ 2 ^ self.now.bits }
+        requires base { effective_exponent_base (raw syntax.now.word) ≡ 2 ^ self.now.base_bits }
+        requires exponent { exponent * self.now.base_bits ≤ 4069 }
+        requires zero { self.now.number ≡ 0 → exponent * self.now.base_bits ≤ 1200 }
+        ensures { HasUnits syntax.now style result.1.shown (self.now.number * 2 ^ self.now.power) (2 ^ 1200) result.1.negative result.1.exponent
+            result.1.places (result.0 * (raw syntax.now.word).byte layout.mantissa_radix ^ result.1.after) }
+    {
+        let zero = RAISED / self.base_bits;
+        let power = if shown { exponent } else { zero };
+        let low = power * self.base_bits;
+        let places = self.places(style, least_places(syntax, style, shown), low);
+        let (number, after) = self.units(places, low);
+        let form = Form {
+            after: after as usize,
+            places: places as usize,
+            negative: power < zero,
+            exponent: power.abs_diff(zero),
+            shown,
+        };
+        (number, form)
     }
-    let (bits, top) = (float.bits, float.top());
-    let least = least_places(syntax, style, true);
-    let exponent = float.exponent(style, least as u64);
-    let zero = RAISED / float.base_bits;
-    let far = top + 4 * bits < RAISED || top >= RAISED + 16 * bits;
-    let shown = is_shown(syntax, style, exponent.abs_diff(zero), far, long);
-    let power = if shown { exponent } else { zero };
-    let low = (power * float.base_bits).min(4095);
-    let places = float.places(style, least_places(syntax, style, shown), low);
-    let (number, after) = float.units(places, low);
-    let form = Form {
-        after: after.min(4095) as usize,
-        places: places as usize,
-        negative: power < zero,
-        exponent: power.abs_diff(zero).min(4095),
-        shown,
-    };
-    Ok((number, form))
+
+    // Returns the digits of a float, and how they are written.
+    pub(crate) fn digits(
+        &self,
+        syntax: &Syntax,
+        style: Style,
+    ) -> Result<(u64, Form), WriteError>
+        requires radix { (raw syntax.now.word).byte layout.mantissa_radix ≡ 2 ^ self.now.bits }
+        requires base { effective_exponent_base (raw syntax.now.word) ≡ 2 ^ self.now.base_bits }
+        ensures { IfOk result (λ it. HasUnits syntax.now style it.1.shown (self.now.number * 2 ^ self.now.power) (2 ^ 1200) it.1.negative it.1.exponent
+            it.1.places (it.0 * (raw syntax.now.word).byte layout.mantissa_radix ^ it.1.after)) }
+    {
+        let long = self.is_long(self.places(style, least_places(syntax, style, false), RAISED));
+        if long && !allows_exponent(syntax) {
+            return Err(WriteError::Long);
+        }
+        let top = self.top();
+        let exponent = self.exponent(style, least_places(syntax, style, true) as u64);
+        let size = exponent.abs_diff(RAISED / self.base_bits);
+        let far = top + 4 * self.bits < RAISED || top >= RAISED + 16 * self.bits;
+        let shown = is_shown(syntax, style, size, far, long);
+        Ok(self.form(syntax, style, shown, exponent))
+    }
 }

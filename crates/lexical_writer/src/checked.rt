@@ -1,21 +1,16 @@
 //! Digits are read as a float again, and compared with it.
 
-ghost use Rattle.std.specs.Prelude.{◌≡◌, ◌+◌, ◌*◌, ◌^◌, ◌||◌, ℕ, true, false, IfSome, IsTrue};
+ghost use Rattle.std.specs.Prelude.{◌≡◌, ◌+◌, ◌*◌, ◌^◌, ℕ, true, false};
 ghost use Rattle.std.specs.Float.Ieee.{round};
-ghost use Rattle.lexical_util.specs.Layout as layout;
-ghost use Rattle.lexical_util.specs.Record.{bytes_of, effective_exponent_base, raw};
 ghost use Rattle.lexical_number.specs.Float.{format_of, raised_down, raised_up};
-ghost use Rattle.lexical_value.specs.Float.{is_binary, is_decimal};
 ghost use lib.Ieee.{emax, low, prec};
 ghost use lib.Ieee.Exact.{HasValue};
 
-use crate::form::Form;
 use lexical_number::decimal::digits_to_float;
 use lexical_number::float::Float;
 use lexical_number::leading::Leading;
-use lexical_number::scaling::{bits_of, raised_bits};
+use lexical_number::scaling::raised_bits;
 use lexical_number::shortest::Decimal;
-use lexical_util::format::NumberFormat;
 use lexical_value::float::signed;
 
 // Returns the float nearest to a number times a power of two, over another one.
@@ -29,29 +24,6 @@ fn nearest_binary<F: Float>(number: u64, up: u64, down: u64) -> F
     };
     let bits = raised_bits(F::DOUBLE, leading, 1, down, false, up as u128, 1);
     F::from_magnitude(bits)
-}
-
-// Returns the float nearest to the digits of a number in a form, or `None` if no literal of `format` has a float.
-#[inline(always)]
-fn nearest_to<F: Float>(number: u64, form: Form, format: NumberFormat) -> Option<F>
-    ensures supported { IfSome result (λ _. IsTrue (is_decimal (bytes_of format) || is_binary (bytes_of format))) }
-    ensures value { IfSome result (λ near. F.value near ≡ round (format_of F.DOUBLE) false
-        (number * (raw format).byte layout.mantissa_radix ^ form.after * raised_up form.negative (effective_exponent_base (raw format)) form.exponent)
-        ((raw format).byte layout.mantissa_radix ^ form.places * raised_down form.negative (effective_exponent_base (raw format)) form.exponent)) }
-{
-    let (radix, base) = (format.mantissa_radix(), format.exponent_base());
-    if radix == 10 && base == 10 {
-        let (up, down) = form.scales(1, 1);
-        return Some(digits_to_float(number, down, false, up));
-    }
-    let Some(radix_bits) = bits_of(radix) else {
-        return None;
-    };
-    let Some(base_bits) = bits_of(base) else {
-        return None;
-    };
-    let (up, down) = form.scales(radix_bits as u64, base_bits as u64);
-    Some(nearest_binary(number, up, down))
 }
 
 // Returns whether a float has this size and this sign.
@@ -73,26 +45,6 @@ pub(crate) fn is_nearest<F: Float>(value: F, negative: bool, decimal: Decimal) -
         (decimal.digits * raised_up decimal.negative 10 decimal.exponent) (raised_down decimal.negative 10 decimal.exponent) }
 {
     let size = digits_to_float(decimal.digits, 0, decimal.negative, decimal.exponent);
-    is_same(size, negative, value)
-}
-
-// Returns whether the digits of a number in a form are read as a float.
-#[inline(always)]
-pub(crate) fn is_read<F: Float>(
-    value: F,
-    negative: bool,
-    number: u64,
-    form: Form,
-    format: NumberFormat,
-) -> bool
-    ensures supported { result ≡ true → IsTrue (is_decimal (bytes_of format) || is_binary (bytes_of format)) }
-    ensures value { result ≡ true → F.value value ≡ round (format_of F.DOUBLE) negative
-        (number * (raw format).byte layout.mantissa_radix ^ form.after * raised_up form.negative (effective_exponent_base (raw format)) form.exponent)
-        ((raw format).byte layout.mantissa_radix ^ form.places * raised_down form.negative (effective_exponent_base (raw format)) form.exponent) }
-{
-    let Some(size) = nearest_to::<F>(number, form, format) else {
-        return false;
-    };
     is_same(size, negative, value)
 }
 

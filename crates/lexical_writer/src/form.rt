@@ -9,9 +9,9 @@ ghost use Rattle.lexical_util.specs.Record.{effective_exponent_base, raw};
 ghost use Rattle.lexical_literal.specs.Literal.{is_present};
 ghost use Rattle.lexical_number.specs.Float.{format_of, raised_down, raised_up};
 ghost use Rattle.lexical_number.specs.Number.{number, places as digit_count};
-ghost use Rattle.lexical_writer.specs.Digits.{size_of, values_of};
+ghost use Rattle.lexical_writer.specs.Digits.{values_of};
 ghost use Rattle.lexical_writer.specs.Amount.{HasForm, is_shown, is_wanted, least_places, power_if};
-ghost use Rattle.lexical_writer.specs.Layout.{given_fraction, given_power, no_power};
+ghost use Rattle.lexical_writer.specs.Layout.{given_fraction};
 ghost use Rattle.lexical_writer.specs.declared.run.Source.TheVariants as sources;
 
 use crate::float_digits::split;
@@ -30,28 +30,7 @@ pub(crate) struct Form {
     pub(crate) negative: bool,
     pub(crate) exponent: u64,
     pub(crate) shown: bool,
-    ghost limits: { (after < 4096) × (places < 4096) × (exponent < 4096) },
     ghost hidden: { shown ≡ false → exponent ≡ 0 },
-}
-
-impl Form {
-    // Returns the exponents above and below the line of a fraction, of a number of which the radix and the base are powers with
-    // these exponents.
-    #[inline(always)]
-    pub(crate) const fn scales(self, radix: u64, base: u64) -> (u64, u64)
-        requires { (radix ≤ 5) × (base ≤ 5) }
-        ensures up { result.0 ≡ self.after * radix + (if self.negative then 0 else self.exponent * base) }
-        ensures down { result.1 ≡ self.places * radix + (if self.negative then self.exponent * base else 0) }
-        ensures limits { (result.0 < 2 ^ 20) × (result.1 < 2 ^ 20) }
-    {
-        let (up, down) = (self.after as u64 * radix, self.places as u64 * radix);
-        let exponent = self.exponent * base;
-        if self.negative {
-            (up, down + exponent)
-        } else {
-            (up + exponent, down)
-        }
-    }
 }
 
 // Returns a fraction, if it has digits, of which there are as many as `places`.
@@ -67,10 +46,6 @@ const fn fraction_in<'a>(places: usize, fraction: Source<'a>) -> Option<Source<'
 // Returns the exponent of a form, if it is shown.
 #[inline(always)]
 const fn power_in(form: Form) -> Option<Power<'static>>
-    ensures up { (radix base : ℕ) → raised_up (unwrap_or result no_power).negative base (size_of radix (unwrap_or result no_power).source)
-        ≡ raised_up form.negative base form.exponent }
-    ensures down { (radix base : ℕ) → raised_down (unwrap_or result no_power).negative base (size_of radix (unwrap_or result no_power).source)
-        ≡ raised_down form.negative base form.exponent }
     ensures power { result ≡ power_if form.shown form.negative form.exponent }
 {
     if !form.shown {
@@ -91,10 +66,6 @@ pub(crate) fn amount_in<'a>(negative: bool, digits: &'a [u8], form: Form) -> Amo
         ≡ number radix digits.entry.now * radix ^ form.after }
     ensures places { (radix : ℕ) → digit_count radix digits.entry.now ≡ length digits.entry.now
         → length (values_of radix (given_fraction result)) ≡ form.places }
-    ensures up { (radix base : ℕ) → raised_up (given_power result).negative base (size_of radix (given_power result).source)
-        ≡ raised_up form.negative base form.exponent }
-    ensures down { (radix base : ℕ) → raised_down (given_power result).negative base (size_of radix (given_power result).source)
-        ≡ raised_down form.negative base form.exponent }
     ensures some { is_some result.fraction ≡ nat_lt 0 form.places }
     ensures integer { (radix : ℕ) → 2 ≤ radix → digit_count radix digits.entry.now ≡ length digits.entry.now
         → is_present (values_of radix result.integer) ≡ true }

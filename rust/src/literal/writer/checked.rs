@@ -7,6 +7,7 @@ use crate::literal::value::number::decimal::digits_to_float;
 use crate::literal::value::number::float::Float;
 use crate::literal::value::number::leading::Leading;
 use crate::literal::value::number::scaling::{bits_of, raised_bits};
+use crate::literal::value::number::shortest::Decimal;
 use crate::literal::writer::form::Form;
 use crate::word::FormatView;
 
@@ -43,6 +44,13 @@ fn is_same<F: Float>(size: F, negative: bool, value: F) -> bool {
         (Some(read), Some(bits)) => read == bits,
         _ => false,
     }
+}
+
+// Returns whether a decimal number is read as a float.
+#[inline(always)]
+pub(crate) fn is_nearest<F: Float>(value: F, negative: bool, decimal: Decimal) -> bool {
+    let size = digits_to_float(decimal.digits, 0, decimal.negative, decimal.exponent);
+    is_same(size, negative, value)
 }
 
 // Returns whether the digits of a number in a form are read as a float.

@@ -98,11 +98,20 @@ pub(crate) fn decimal_of(double: bool, size: u64) -> Decimal {
     shortest(double, size)
 }
 
+// Returns the exponents of ten above and below the line of a decimal number.
+#[inline(always)]
+const fn tens_of(decimal: Decimal) -> (usize, usize) {
+    if decimal.negative {
+        (0, decimal.exponent as usize)
+    } else {
+        (decimal.exponent as usize, 0)
+    }
+}
+
 // Returns the form of a decimal number of so many digits, times ten to an exponent.
 #[inline(always)]
 pub(crate) fn decimal_form(length: usize, decimal: Decimal, syntax: &Syntax, style: Style) -> Form {
-    let power = decimal.exponent as usize;
-    let (up, down) = if decimal.negative { (0, power) } else { (power, 0) };
+    let (up, down) = tens_of(decimal);
     let last = length.saturating_sub(1);
     let (negative, exponent) = (up + last < down, (up + last).abs_diff(down) as u64);
     let far = exponent > if negative { 4 } else { 15 };

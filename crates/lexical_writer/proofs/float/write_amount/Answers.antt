@@ -26,6 +26,7 @@ returns-clause-amount c num den form =
         places = c.args.form.places;
         units = _;
         form = form;
+        hidden = c.args.form.hidden;
         number = c.amount_in.ensures.number radix two c.requires;
         count = c.amount_in.ensures.places radix c.requires;
         some = c.amount_in.ensures.some;

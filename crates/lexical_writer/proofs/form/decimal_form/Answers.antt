@@ -42,11 +42,10 @@ returns-then-is_shown c =
     let units = shown_units g style d up down last places c.requires.radix.0 c.requires.radix.1 c.requires.plain (omega (arith, most)) (omega (arith, most))
     (ends d up down last places (least_places g style true) last (places - last) short most (λ _ same. omega (arith, same)) (λ z. (short.none z).2)) in
     let written = written_with g style d up down last c.abs_diff.result true (nat_lt (up + last) down) c.requires.radix.0 c.requires.radix.1 c.requires.plain
-    short (sym c.if-is_shown.true ∙ c.is_shown.ensures ∙ (λ i. is_shown g style (e i) (nat_lt (far i) (e i)) false)) (λ _. (refl, e))
-    (λ is. absurd (false≢true (sym is))) in
+    short (sym c.if-is_shown.true ∙ c.is_shown.ensures ∙ (λ i. is_shown g style (e i) (nat_lt (far i) (e i)) false)) (λ _. (refl, e)) in
     moved (λ num den. HasForm g style num den true (nat_lt (up + last) down) c.abs_diff.result places (d * 10 ^ (places - last))) d _ _ (10 ^ up) (10 ^ down)
     c.tens_of-up.ensures.up c.tens_of-up.ensures.down
-    (subst (λ e. HasUnits g style true (d * 10 ^ up) (10 ^ down) (nat_lt (up + last) down) e places (d * 10 ^ (places - last))) (sym e) units, written)
+    (subst (λ e. HasUnits g style true (d * 10 ^ up) (10 ^ down) (nat_lt (up + last) down) e places (d * 10 ^ (places - last))) (sym e) units, λ _. written)
 
 pub returns : goal.returns
 returns c =
@@ -74,7 +73,6 @@ returns c =
       | inr none ↦ absurd (omega (arith, some, none))
     ]) (λ z. (short.none z).1)) in
     let written = written_with g style d up down last 0 false false c.requires.radix.0 c.requires.radix.1 c.requires.plain
-    short (sym c.if-is_shown.false ∙ c.is_shown.ensures ∙ (λ i. is_shown g style (e i) (nat_lt (far i) (e i)) false)) (λ yes. absurd (false≢true yes))
-    (λ _. refl) in
+    short (sym c.if-is_shown.false ∙ c.is_shown.ensures ∙ (λ i. is_shown g style (e i) (nat_lt (far i) (e i)) false)) (λ yes. absurd (false≢true yes)) in
     moved (λ num den. HasForm g style num den false false 0 places (d * 10 ^ (up + places - down))) d _ _ (10 ^ up) (10 ^ down)
-    c.tens_of-up.ensures.up c.tens_of-up.ensures.down (units, written)
+    c.tens_of-up.ensures.up c.tens_of-up.ensures.down (units, λ _. written)
