@@ -192,9 +192,13 @@ halved num den q more cut = elim (eq-zero-or-pos (q % 2)) [
 some_product : (m n : ℕ) → 0 < m → 0 < n → 0 < m * n
 some_product m n some more = grind arith
 
--- Radixes in which floats are written are not 0.
-pub some_radixes : (r : Record) → (is_decimal r.byte || is_binary r.byte) ≡ true → (0 < r.byte layout.mantissa_radix) × (0 < effective_exponent_base r)
+-- Radixes in which floats are written are at least 2, and their bases are not 0.
+some_radixes : (r : Record) → (is_decimal r.byte || is_binary r.byte) ≡ true → (2 ≤ r.byte layout.mantissa_radix) × (0 < effective_exponent_base r)
 some_radixes r is = grind (arith, nat_tests)
+
+-- The base of radix 10 is 10.
+pub base_ten : (r : Record) → (is_decimal r.byte || is_binary r.byte) ≡ true → r.byte layout.mantissa_radix ≡ 10 → effective_exponent_base r ≡ 10
+base_ten r is ten = grind (arith, nat_tests, is, ten)
 
 pub some_down : (negative : Bool) (b e : ℕ) → 0 < b → 0 < raised_down negative b e
 some_down true b e some = one-le-pow e b some
@@ -203,7 +207,7 @@ some_down false b e some = omega arith
 some_denominator : (r : Record) (l : Literal) → (is_decimal r.byte || is_binary r.byte) ≡ true → 0 < denominator r.byte l
 some_denominator r l is =
     let radixes = some_radixes r is in
-    some_product (scale r.byte l) _ (one-le-pow _ _ radixes.0) (some (is_minus l.exponent_sign))
+    some_product (scale r.byte l) _ (one-le-pow _ _ (let two = radixes.0 in omega (arith, two))) (some (is_minus l.exponent_sign))
   where
     some : (b : Bool) → 0 < (if b then power r.byte l else 1)
     some true = one-le-pow _ _ (some_radixes r is).1
@@ -236,11 +240,11 @@ parts_of g style negative num den l two it =
 
 -- A literal that is written for a fraction that is not rounded is read as the float nearest to it.
 pub amount_nearest : (f : Format) (g : Grammar) (style : Style) (negative : Bool) (num den : ℕ) (l : Literal)
-    → 2 ≤ (raw g.word).byte layout.mantissa_radix → (is_decimal (raw g.word).byte || is_binary (raw g.word).byte) ≡ true → 0 < den
+    → (is_decimal (raw g.word).byte || is_binary (raw g.word).byte) ≡ true → 0 < den
     → style.decimals ≡ None → IsTextOf g style negative num den l → round f negative num den ≡ nearest f (raw g.word).byte l
-amount_nearest f g style negative num den l two supported some plain it =
+amount_nearest f g style negative num den l supported some plain it =
     let r = raw g.word in
-    let p = parts_of g style negative num den l two it in
+    let p = parts_of g style negative num den l (some_radixes r supported).0 it in
     let b = effective_exponent_base r in
     let s = it.is.negative in
     let e = it.is.e in
@@ -272,11 +276,11 @@ decimals_are g style shown n wished = ap (λ o. if lacks_options g.options then 
 
 -- A literal that is written for a fraction that is rounded is rounded.
 pub amount_rounded : (g : Grammar) (style : Style) (negative : Bool) (num den n : ℕ) (l : Literal) (x : Float)
-    → 2 ≤ (raw g.word).byte layout.mantissa_radix → 0 < den → style.decimals ≡ Some n → HasValue x negative num den
+    → (is_decimal (raw g.word).byte || is_binary (raw g.word).byte) ≡ true → 0 < den → style.decimals ≡ Some n → HasValue x negative num den
     → IsTextOf g style negative num den l → IsRounded x (raw g.word) l (decimals_in g n)
-amount_rounded g style negative num den n l x two some wished value it =
+amount_rounded g style negative num den n l x supported some wished value it =
     let r = raw g.word in
-    let p = parts_of g style negative num den l two it in
+    let p = parts_of g style negative num den l (some_radixes r supported).0 it in
     let unit = r.byte layout.mantissa_radix ^ it.is.places in
     let places : it.is.places ≡ decimals_in g n = elim it.is.form.0.last [
       | inl is ↦ is ∙ decimals_are g style it.is.shown n wished

@@ -72,7 +72,8 @@ const fn limits_of(double: bool) -> (u64, u64, u64)
 
 // Returns whether a number times a power of two, over another one, is a float, without rounding.
 pub(crate) fn is_exact<F: Float>(value: F, negative: bool, exact: Exact) -> bool
-    ensures { result ≡ true → HasValue (F.value value) negative (exact.number * 2 ^ exact.up) (2 ^ exact.down) }
+    ensures value { result ≡ true → HasValue (F.value value) negative (exact.number * 2 ^ exact.up) (2 ^ exact.down) }
+    ensures near { result ≡ true → F.value value ≡ round (format_of F.DOUBLE) negative (exact.number * 2 ^ exact.up) (2 ^ exact.down) }
 {
     let (limit, least, most) = limits_of(F::DOUBLE);
     if exact.number >= limit || exact.up > most || exact.down > least {

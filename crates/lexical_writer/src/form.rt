@@ -30,6 +30,7 @@ pub(crate) struct Form {
     pub(crate) negative: bool,
     pub(crate) exponent: u64,
     pub(crate) shown: bool,
+    ghost limit: { places < 4096 },
     ghost hidden: { shown ≡ false → exponent ≡ 0 },
 }
 

@@ -5,6 +5,7 @@
 use crate::literal::syntax::Syntax;
 use crate::literal::value::number::scaling::bits_of;
 use crate::literal::value::number::shortest::Units;
+use crate::literal::writer::checked::Exact;
 use crate::literal::writer::form::{is_shown, least_places, Form};
 use crate::literal::writer::layout::{allows_exponent, Style, WriteError};
 use crate::literal::writer::rounded::rounded;
@@ -12,11 +13,11 @@ use crate::literal::writer::rounded::rounded;
 // A float without its sign: an odd number, or 0, times two to the power of `power - 1200`. A digit of its radix has so many bits, and
 // its exponent base is two to the power of `base_bits`.
 #[derive(Debug, Clone, Copy)]
-struct Binary {
-    number: u64,
-    power: u64,
-    bits: u64,
-    base_bits: u64,
+pub(crate) struct Binary {
+    pub(crate) number: u64,
+    pub(crate) power: u64,
+    pub(crate) bits: u64,
+    pub(crate) base_bits: u64,
 }
 
 // What is added to the exponent of a power of two. Each number of bits of a digit divides it.
@@ -41,7 +42,7 @@ fn odd_of(units: Units) -> (u64, u64) {
 
 impl Binary {
     // Returns a float in a radix and with an exponent base, if both are powers of two.
-    fn of(units: Units, radix: u32, base: u32) -> Option<Binary> {
+    pub(crate) fn of(units: Units, radix: u32, base: u32) -> Option<Binary> {
         let Some(bits) = bits_of(radix) else {
             return None;
         };
@@ -50,6 +51,11 @@ impl Binary {
         };
         let (number, power) = odd_of(units);
         Some(Binary { number, power, bits: bits as u64, base_bits: base_bits as u64 })
+    }
+
+    // Returns the float without 1200.
+    pub(crate) fn exact(&self) -> Exact {
+        Exact { number: self.number, up: self.power.saturating_sub(RAISED), down: RAISED.saturating_sub(self.power) }
     }
 
     // Returns the number over a power of two, in units of the last of so many digits behind the point, as a number with zeros behind its
@@ -85,7 +91,7 @@ impl Binary {
     // Returns the exponent, plus that of which `RAISED` is the power of two.
     fn exponent(&self, style: Style, places: u64) -> u64 {
         let exponent = self.top() / self.base_bits;
-        if style.decimals.is_none() {
+        if style.decimals.is_none() || self.number == 0 {
             return exponent;
         }
         let (units, after) = self.units(places, exponent * self.base_bits);
@@ -100,34 +106,35 @@ impl Binary {
         let size = (64 - units.leading_zeros() as u64 % 65).div_ceil(self.bits);
         places > 799 || size + after > 800
     }
-}
 
-// Returns the digits of a float, and how they are written. If the style has a number of decimals, there are at most so many digits.
-pub(crate) fn binary_form(units: Units, syntax: &Syntax, style: Style) -> Result<(u64, Form), WriteError> {
-    let format = syntax.format().view();
-    let Some(float) = Binary::of(units, format.mantissa_radix(), format.exponent_base()) else {
-        return Err(WriteError::Radix);
-    };
-    let long = float.is_long(float.places(style, least_places(syntax, style, false), RAISED));
-    if long && !allows_exponent(syntax) {
-        return Err(WriteError::Long);
+    // Returns the digits of the number, and how they are written with an exponent, or without one.
+    fn form(&self, syntax: &Syntax, style: Style, shown: bool, exponent: u64) -> (u64, Form) {
+        let zero = RAISED / self.base_bits;
+        let power = if shown { exponent } else { zero };
+        let low = power * self.base_bits;
+        let places = self.places(style, least_places(syntax, style, shown), low);
+        let (number, after) = self.units(places, low);
+        let form = Form {
+            after: after as usize,
+            places: places as usize,
+            negative: power < zero,
+            exponent: power.abs_diff(zero),
+            shown,
+        };
+        (number, form)
     }
-    let (bits, top) = (float.bits, float.top());
-    let least = least_places(syntax, style, true);
-    let exponent = float.exponent(style, least as u64);
-    let zero = RAISED / float.base_bits;
-    let far = top + 4 * bits < RAISED || top >= RAISED + 16 * bits;
-    let shown = is_shown(syntax, style, exponent.abs_diff(zero), far, long);
-    let power = if shown { exponent } else { zero };
-    let low = (power * float.base_bits).min(4095);
-    let places = float.places(style, least_places(syntax, style, shown), low);
-    let (number, after) = float.units(places, low);
-    let form = Form {
-        after: after.min(4095) as usize,
-        places: places as usize,
-        negative: power < zero,
-        exponent: power.abs_diff(zero).min(4095),
-        shown,
-    };
-    Ok((number, form))
+
+    // Returns the digits of a float, and how they are written.
+    pub(crate) fn digits(&self, syntax: &Syntax, style: Style) -> Result<(u64, Form), WriteError> {
+        let long = self.is_long(self.places(style, least_places(syntax, style, false), RAISED));
+        if long && !allows_exponent(syntax) {
+            return Err(WriteError::Long);
+        }
+        let top = self.top();
+        let exponent = self.exponent(style, least_places(syntax, style, true) as u64);
+        let size = exponent.abs_diff(RAISED / self.base_bits);
+        let far = top + 4 * self.bits < RAISED || top >= RAISED + 16 * self.bits;
+        let shown = is_shown(syntax, style, size, far, long);
+        Ok(self.form(syntax, style, shown, exponent))
+    }
 }

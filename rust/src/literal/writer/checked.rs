@@ -6,10 +6,8 @@ use crate::literal::value::float::signed;
 use crate::literal::value::number::decimal::digits_to_float;
 use crate::literal::value::number::float::Float;
 use crate::literal::value::number::leading::Leading;
-use crate::literal::value::number::scaling::{bits_of, raised_bits};
+use crate::literal::value::number::scaling::raised_bits;
 use crate::literal::value::number::shortest::Decimal;
-use crate::literal::writer::form::Form;
-use crate::word::FormatView;
 
 // Returns the float nearest to a number times a power of two, over another one.
 #[inline(always)]
@@ -17,24 +15,6 @@ fn nearest_binary<F: Float>(number: u64, up: u64, down: u64) -> F {
     let leading = Leading { digits: number as u128, ..Leading::ZERO };
     let bits = raised_bits(F::DOUBLE, leading, 1, down, false, up as u128, 1);
     F::from_magnitude(bits)
-}
-
-// Returns the float nearest to the digits of a number in a form, or `None` if no literal of `format` has a float.
-#[inline(always)]
-fn nearest_to<F: Float>(number: u64, form: Form, format: FormatView) -> Option<F> {
-    let (radix, base) = (format.mantissa_radix(), format.exponent_base());
-    if radix == 10 && base == 10 {
-        let (up, down) = form.scales(1, 1);
-        return Some(digits_to_float(number, down, false, up));
-    }
-    let Some(radix_bits) = bits_of(radix) else {
-        return None;
-    };
-    let Some(base_bits) = bits_of(base) else {
-        return None;
-    };
-    let (up, down) = form.scales(radix_bits as u64, base_bits as u64);
-    Some(nearest_binary(number, up, down))
 }
 
 // Returns whether a float has this size and this sign.
@@ -50,15 +30,6 @@ fn is_same<F: Float>(size: F, negative: bool, value: F) -> bool {
 #[inline(always)]
 pub(crate) fn is_nearest<F: Float>(value: F, negative: bool, decimal: Decimal) -> bool {
     let size = digits_to_float(decimal.digits, 0, decimal.negative, decimal.exponent);
-    is_same(size, negative, value)
-}
-
-// Returns whether the digits of a number in a form are read as a float.
-#[inline(always)]
-pub(crate) fn is_read<F: Float>(value: F, negative: bool, number: u64, form: Form, format: FormatView) -> bool {
-    let Some(size) = nearest_to::<F>(number, form, format) else {
-        return false;
-    };
     is_same(size, negative, value)
 }
 

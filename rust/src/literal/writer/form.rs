@@ -20,21 +20,6 @@ pub(crate) struct Form {
     pub(crate) shown: bool,
 }
 
-impl Form {
-    // Returns the exponents above and below the line of a fraction, of a number of which the radix and the base are powers with
-    // these exponents.
-    #[inline(always)]
-    pub(crate) const fn scales(self, radix: u64, base: u64) -> (u64, u64) {
-        let (up, down) = (self.after as u64 * radix, self.places as u64 * radix);
-        let exponent = self.exponent * base;
-        if self.negative {
-            (up, down + exponent)
-        } else {
-            (up + exponent, down)
-        }
-    }
-}
-
 // Returns a fraction, if it has digits, of which there are as many as `places`.
 #[inline(always)]
 const fn fraction_in<'a>(places: usize, fraction: Source<'a>) -> Option<Source<'a>> {

@@ -8,8 +8,8 @@ use Rattle.lexical_writer.proofs.checked.is_exact.Goals as goal
 once : (a : ℕ) → a * 1 ≡ a
 once a = omega arith
 
-pub returns : goal.returns
-returns g c same =
+pub returns-clause-value : goal.returns-clause-value
+returns-clause-value g c same =
     let d = g.F.Float.DOUBLE in
     let f = format_of d in
     let n = c.args.exact.number in
@@ -24,3 +24,8 @@ returns g c same =
     subst (λ x. HasValue x c.args.negative (n * 2 ^ up) (2 ^ down)) (sym value)
     (exact d c.args.negative n up down (omega (arith, limit, c.if-exact-limit.false)) (omega (arith, most, bits, c.if-exact-most.false))
     (omega (arith, least, c.if-exact-least.false)))
+
+pub returns-clause-near : goal.returns-clause-near
+returns-clause-near g c same =
+    c.is_same.ensures same _ _ c.nearest_binary-size.ensures
+    ∙ ap (round (format_of g.F.Float.DOUBLE) c.args.negative (c.args.exact.number * 2 ^ c.args.exact.up)) (once (2 ^ c.args.exact.down))
