@@ -135,15 +135,15 @@ pub twos : (i j : ℕ) → i ≤ j → 2 ^ i ≤ 2 ^ j
 twos i j less = pow-le-pow_right (omega arith) less
 
 -- A number of few bits times a power of two, over another one, is a float.
-pub exact : (double : Bool) (s : Bool) (n up down : ℕ) → n < 2 ^ prec (format_of double) → prec (format_of double) + up ≤ suc (emax (format_of double))
+pub exact : (double : Bool) (s : Bool) (n bits up down : ℕ) → n < 2 ^ prec (format_of double) → n < 2 ^ bits → bits + up ≤ suc (emax (format_of double))
     → down ≤ low (format_of double)
     → HasValue (round (format_of double) s (n * 2 ^ up) (2 ^ down)) s (n * 2 ^ up) (2 ^ down)
-exact double s n up down small few fits =
+exact double s n bits up down small short few fits =
     let f = format_of double in
     let j = up + low f - down in
     let fine : n * 2 ^ j < 2 ^ (low f + suc (emax f)) =
-    let below = shl_lt (prec f) j small in
-    let more = twos (prec f + j) (low f + suc (emax f)) (omega (arith, few)) in
+    let below = shl_lt bits j short in
+    let more = twos (bits + j) (low f + suc (emax f)) (omega (arith, few)) in
     omega (arith, below, more) in
     let same : n * 2 ^ up * 2 ^ low f ≡ n * 2 ^ j * 2 ^ down =
     assoc n (2 ^ up) (2 ^ low f) ∙ ap (λ p. n * p) (sym (pow-add 2 up (low f)) ∙ ap (λ k. 2 ^ k) {x = up + low f} {y = j + down} (omega (arith, fits))

@@ -1,6 +1,6 @@
 //! Digits are read as a float again, and compared with it.
 
-ghost use Rattle.std.specs.Prelude.{◌≡◌, ◌+◌, ◌*◌, ◌^◌, ℕ, true, false};
+ghost use Rattle.std.specs.Prelude.{◌≡◌, ◌+◌, ◌*◌, ◌^◌, ◌≤◌, ℕ, true, false};
 ghost use Rattle.std.specs.Float.Ieee.{round};
 ghost use Rattle.lexical_number.specs.Float.{format_of, raised_down, raised_up};
 ghost use lib.Ieee.{emax, low, prec};
@@ -56,17 +56,17 @@ pub(crate) struct Exact {
     pub(crate) down: u64,
 }
 
-// Returns the number up to which all numbers are floats, the exponent of the power of two that the least float is one over, and that
-// of the power of two that the largest float has.
+// Returns the number up to which all numbers are floats, the exponent of the power of two that the least float is one over, and that of
+// the least power of two that is above all floats.
 const fn limits_of(double: bool) -> (u64, u64, u64)
     ensures limit { result.0 ≡ 2 ^ prec (format_of double) }
     ensures least { result.1 ≡ low (format_of double) }
-    ensures most { prec (format_of double) + result.2 ≡ emax (format_of double) + 1 }
+    ensures most { (result.2 ≡ emax (format_of double) + 1) × (64 ≤ result.2) }
 {
     if double {
-        (1 << 53, 1074, 971)
+        (1 << 53, 1074, 1024)
     } else {
-        (1 << 24, 149, 104)
+        (1 << 24, 149, 128)
     }
 }
 
@@ -76,7 +76,8 @@ pub(crate) fn is_exact<F: Float>(value: F, negative: bool, exact: Exact) -> bool
     ensures near { result ≡ true → F.value value ≡ round (format_of F.DOUBLE) negative (exact.number * 2 ^ exact.up) (2 ^ exact.down) }
 {
     let (limit, least, most) = limits_of(F::DOUBLE);
-    if exact.number >= limit || exact.up > most || exact.down > least {
+    let bits = 64 - exact.number.leading_zeros() as u64 % 65;
+    if exact.number >= limit || exact.up > most - bits || exact.down > least {
         return false;
     }
     let size: F = nearest_binary(exact.number, exact.up, exact.down);

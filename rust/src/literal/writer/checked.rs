@@ -41,20 +41,21 @@ pub(crate) struct Exact {
     pub(crate) down: u64,
 }
 
-// Returns the number up to which all numbers are floats, the exponent of the power of two that the least float is one over, and that
-// of the power of two that the largest float has.
+// Returns the number up to which all numbers are floats, the exponent of the power of two that the least float is one over, and that of
+// the least power of two that is above all floats.
 const fn limits_of(double: bool) -> (u64, u64, u64) {
     if double {
-        (1 << 53, 1074, 971)
+        (1 << 53, 1074, 1024)
     } else {
-        (1 << 24, 149, 104)
+        (1 << 24, 149, 128)
     }
 }
 
 // Returns whether a number times a power of two, over another one, is a float, without rounding.
 pub(crate) fn is_exact<F: Float>(value: F, negative: bool, exact: Exact) -> bool {
     let (limit, least, most) = limits_of(F::DOUBLE);
-    if exact.number >= limit || exact.up > most || exact.down > least {
+    let bits = 64 - exact.number.leading_zeros() as u64 % 65;
+    if exact.number >= limit || exact.up > most - bits || exact.down > least {
         return false;
     }
     let size: F = nearest_binary(exact.number, exact.up, exact.down);
