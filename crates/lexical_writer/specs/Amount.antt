@@ -131,10 +131,10 @@ abbrev pub IsWorth : Format → Record → Option ℕ → Float → Bool → ℕ
 IsWorth f r decimals x negative num den = HasValue x negative num den
     ⊎ ((decimals ≡ None) × (r.byte layout.mantissa_radix ≡ 10) × (x ≡ round f negative num den))
 
--- `HasForm g style num den shown negative e places units` holds if `num` over `den` is written in `g` by `style` with these digits, of which
+-- `HasShape g style num den shown negative e places units` holds if `num` over `den` is written in `g` by `style` with these digits, of which
 -- `places` are behind the point, and in radix 10 with the exponent `e`, if it is `shown`.
-abbrev pub HasForm : Grammar → Style → ℕ → ℕ → Bool → Bool → ℕ → ℕ → ℕ → Type 0
-HasForm g style num den shown negative e places units =
+abbrev pub HasShape : Grammar → Style → ℕ → ℕ → Bool → Bool → ℕ → ℕ → ℕ → Type 0
+HasShape g style num den shown negative e places units =
     HasUnits g style shown num den negative e places units
     × ((raw g.word).byte layout.mantissa_radix ≡ 10 → IsWrittenWith g style num den shown negative e)
 
@@ -145,7 +145,7 @@ pub record IsAmountOf (g : Grammar) (style : Style) (num den : ℕ) (amount : Am
   pub e : ℕ
   pub places : ℕ
   pub units : ℕ
-  pub form : HasForm g style num den shown negative e places units
+  pub form : HasShape g style num den shown negative e places units
   pub hidden : shown ≡ false → e ≡ 0
   pub number : number_from_digits ((raw g.word).byte layout.mantissa_radix)
       (values_of ((raw g.word).byte layout.mantissa_radix) amount.integer ++ values_of ((raw g.word).byte layout.mantissa_radix) (given_fraction amount))

@@ -7,7 +7,7 @@ ghost use Rattle.lexical_writer.specs.Amount.{HasUnits};
 ghost use Rattle.lexical_writer.specs.Rounded.{rounded};
 
 use crate::checked::Exact;
-use crate::form::{Form, is_shown, least_places};
+use crate::form::{Shape, is_shown, least_places};
 use crate::layout::{Style, WriteError, allows_exponent};
 use crate::rounded::rounded;
 use lexical_literal::syntax::Syntax;
@@ -32,7 +32,7 @@ pub(crate) struct Binary {
 const RAISED: u64 = 1200;
 
 // Returns a number over a power of two: the nearest, or the even one if two are as near.
-const fn cut(number: u64, down: u64) -> u64
+const fn over_power(number: u64, down: u64) -> u64
     requires { number < 2 ^ 53 }
     ensures { result ≡ rounded number (2 ^ down) }
 {
@@ -101,7 +101,7 @@ impl Binary {
     {
         let power = self.power + self.bits * places;
         if power < low {
-            return (cut(self.number, low - power), 0);
+            return (over_power(self.number, low - power), 0);
         }
         let up = power - low;
         (self.number << (up % self.bits), up / self.bits)
@@ -162,7 +162,7 @@ impl Binary {
     }
 
     // Returns the digits of the number, and how they are written with an exponent, or without one.
-    fn form(&self, syntax: &Syntax, style: Style, shown: bool, exponent: u64) -> (u64, Form)
+    fn form(&self, syntax: &Syntax, style: Style, shown: bool, exponent: u64) -> (u64, Shape)
         requires radix { (raw syntax.now.word).byte layout.mantissa_radix ≡ 2 ^ self.now.bits }
         requires base { effective_exponent_base (raw syntax.now.word) ≡ 2 ^ self.now.base_bits }
         requires exponent { exponent * self.now.base_bits ≤ 4069 }
@@ -175,7 +175,7 @@ impl Binary {
         let low = power * self.base_bits;
         let places = self.places(style, least_places(syntax, style, shown), low);
         let (number, after) = self.units(places, low);
-        let form = Form {
+        let form = Shape {
             after: after as usize,
             places: places as usize,
             negative: power < zero,
@@ -190,7 +190,7 @@ impl Binary {
         &self,
         syntax: &Syntax,
         style: Style,
-    ) -> Result<(u64, Form), WriteError>
+    ) -> Result<(u64, Shape), WriteError>
         requires radix { (raw syntax.now.word).byte layout.mantissa_radix ≡ 2 ^ self.now.bits }
         requires base { effective_exponent_base (raw syntax.now.word) ≡ 2 ^ self.now.base_bits }
         ensures { IfOk result (λ it. HasUnits syntax.now style it.1.shown (self.now.number * 2 ^ self.now.power) (2 ^ 1200) it.1.negative it.1.exponent

@@ -10,7 +10,7 @@ ghost use Rattle.lexical_literal.specs.Literal.{is_present};
 ghost use Rattle.lexical_number.specs.Float.{format_of, raised_down, raised_up};
 ghost use Rattle.lexical_number.specs.Number.{number, places as digit_count};
 ghost use Rattle.lexical_writer.specs.Digits.{values_of};
-ghost use Rattle.lexical_writer.specs.Amount.{HasForm, is_shown, is_wanted, least_places, power_if};
+ghost use Rattle.lexical_writer.specs.Amount.{HasShape, is_shown, is_wanted, least_places, power_if};
 ghost use Rattle.lexical_writer.specs.Layout.{given_fraction};
 ghost use Rattle.lexical_writer.specs.declared.run.Source.TheVariants as sources;
 
@@ -23,7 +23,7 @@ use lexical_number::shortest::{Decimal, shortest};
 // How the digits of a number are written: with zeros behind them, with a point before the last of all these digits, and with an
 // exponent, if it is shown.
 #[derive(Debug, Clone, Copy)]
-pub(crate) struct Form {
+pub(crate) struct Shape {
     pub(crate) after: usize,
     pub(crate) places: usize,
     // Whether the sign of the exponent is `-`.
@@ -46,7 +46,7 @@ const fn fraction_in<'a>(places: usize, fraction: Source<'a>) -> Option<Source<'
 
 // Returns the exponent of a form, if it is shown.
 #[inline(always)]
-const fn power_in(form: Form) -> Option<Power<'static>>
+const fn power_in(form: Shape) -> Option<Power<'static>>
     ensures power { result ≡ power_if form.shown form.negative form.exponent }
 {
     if !form.shown {
@@ -60,7 +60,7 @@ const fn power_in(form: Form) -> Option<Power<'static>>
 
 // Returns digits in a form, as a number that is to be written.
 #[inline(always)]
-pub(crate) fn amount_in<'a>(negative: bool, digits: &'a [u8], form: Form) -> Amount<'a>
+pub(crate) fn amount_in<'a>(negative: bool, digits: &'a [u8], form: Shape) -> Amount<'a>
     ensures sign { result.negative ≡ negative }
     ensures number { (radix : ℕ) → 2 ≤ radix → digit_count radix digits.entry.now ≡ length digits.entry.now
         → number_from_digits radix (values_of radix result.integer ++ values_of radix (given_fraction result))
@@ -149,13 +149,13 @@ const fn tens_of(decimal: Decimal) -> (usize, usize)
 
 // Returns the form of a decimal number of so many digits, times ten to an exponent.
 #[inline(always)]
-pub(crate) fn decimal_form(length: usize, decimal: Decimal, syntax: &Syntax, style: Style) -> Form
+pub(crate) fn decimal_form(length: usize, decimal: Decimal, syntax: &Syntax, style: Style) -> Shape
     requires length { length ≡ count (digits_of 10 decimal.digits) }
     requires limits { (length ≤ 64) × (decimal.exponent ≤ 340) }
     requires last { ((decimal.digits ≡ 0) × (decimal.exponent ≡ 0)) ⊎ (0 < decimal.digits % 10) }
     requires radix { ((raw syntax.now.word).byte layout.mantissa_radix ≡ 10) × (effective_exponent_base (raw syntax.now.word) ≡ 10) }
     requires plain { style.decimals ≡ None }
-    ensures { HasForm syntax.now style (decimal.digits * raised_up decimal.negative 10 decimal.exponent)
+    ensures { HasShape syntax.now style (decimal.digits * raised_up decimal.negative 10 decimal.exponent)
         (raised_down decimal.negative 10 decimal.exponent) result.shown result.negative result.exponent result.places
         (decimal.digits * 10 ^ result.after) }
 {
@@ -165,7 +165,7 @@ pub(crate) fn decimal_form(length: usize, decimal: Decimal, syntax: &Syntax, sty
     let far = exponent > if negative { 4 } else { 15 };
     if is_shown(syntax, style, exponent, far, false) {
         let places = last.max(least_places(syntax, style, true));
-        return Form {
+        return Shape {
             after: places - last,
             places,
             negative,
@@ -174,7 +174,7 @@ pub(crate) fn decimal_form(length: usize, decimal: Decimal, syntax: &Syntax, sty
         };
     }
     let places = down.max(least_places(syntax, style, false));
-    Form {
+    Shape {
         after: up + places - down,
         places,
         negative: false,

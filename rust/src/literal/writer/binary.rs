@@ -6,7 +6,7 @@ use crate::literal::syntax::Syntax;
 use crate::literal::value::number::scaling::bits_of;
 use crate::literal::value::number::shortest::Units;
 use crate::literal::writer::checked::Exact;
-use crate::literal::writer::form::{is_shown, least_places, Form};
+use crate::literal::writer::form::{is_shown, least_places, Shape};
 use crate::literal::writer::layout::{allows_exponent, Style, WriteError};
 use crate::literal::writer::rounded::rounded;
 
@@ -24,7 +24,7 @@ pub(crate) struct Binary {
 const RAISED: u64 = 1200;
 
 // Returns a number over a power of two: the nearest, or the even one if two are as near.
-const fn cut(number: u64, down: u64) -> u64 {
+const fn over_power(number: u64, down: u64) -> u64 {
     if down > 64 {
         return 0;
     }
@@ -63,7 +63,7 @@ impl Binary {
     fn units(&self, places: u64, low: u64) -> (u64, u64) {
         let power = self.power + self.bits * places;
         if power < low {
-            return (cut(self.number, low - power), 0);
+            return (over_power(self.number, low - power), 0);
         }
         let up = power - low;
         (self.number << (up % self.bits), up / self.bits)
@@ -108,13 +108,13 @@ impl Binary {
     }
 
     // Returns the digits of the number, and how they are written with an exponent, or without one.
-    fn form(&self, syntax: &Syntax, style: Style, shown: bool, exponent: u64) -> (u64, Form) {
+    fn form(&self, syntax: &Syntax, style: Style, shown: bool, exponent: u64) -> (u64, Shape) {
         let zero = RAISED / self.base_bits;
         let power = if shown { exponent } else { zero };
         let low = power * self.base_bits;
         let places = self.places(style, least_places(syntax, style, shown), low);
         let (number, after) = self.units(places, low);
-        let form = Form {
+        let form = Shape {
             after: after as usize,
             places: places as usize,
             negative: power < zero,
@@ -125,7 +125,7 @@ impl Binary {
     }
 
     // Returns the digits of a float, and how they are written.
-    pub(crate) fn digits(&self, syntax: &Syntax, style: Style) -> Result<(u64, Form), WriteError> {
+    pub(crate) fn digits(&self, syntax: &Syntax, style: Style) -> Result<(u64, Shape), WriteError> {
         let long = self.is_long(self.places(style, least_places(syntax, style, false), RAISED));
         if long && !allows_exponent(syntax) {
             return Err(WriteError::Long);

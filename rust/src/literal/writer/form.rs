@@ -11,7 +11,7 @@ use crate::literal::writer::run::Source;
 // How the digits of a number are written: with zeros behind them, with a point before the last of all these digits, and with an
 // exponent, if it is shown.
 #[derive(Debug, Clone, Copy)]
-pub(crate) struct Form {
+pub(crate) struct Shape {
     pub(crate) after: usize,
     pub(crate) places: usize,
     // Whether the sign of the exponent is `-`.
@@ -32,7 +32,7 @@ const fn fraction_in<'a>(places: usize, fraction: Source<'a>) -> Option<Source<'
 
 // Returns the exponent of a form, if it is shown.
 #[inline(always)]
-const fn power_in(form: Form) -> Option<Power<'static>> {
+const fn power_in(form: Shape) -> Option<Power<'static>> {
     if !form.shown {
         return None;
     }
@@ -41,7 +41,7 @@ const fn power_in(form: Form) -> Option<Power<'static>> {
 
 // Returns digits in a form, as a number that is to be written.
 #[inline(always)]
-pub(crate) fn amount_in<'a>(negative: bool, digits: &'a [u8], form: Form) -> Amount<'a> {
+pub(crate) fn amount_in<'a>(negative: bool, digits: &'a [u8], form: Shape) -> Amount<'a> {
     let (integer, fraction) = split(digits, form.after, form.places);
     Amount { negative, integer, fraction: fraction_in(form.places, fraction), exponent: power_in(form) }
 }
@@ -95,15 +95,15 @@ const fn tens_of(decimal: Decimal) -> (usize, usize) {
 
 // Returns the form of a decimal number of so many digits, times ten to an exponent.
 #[inline(always)]
-pub(crate) fn decimal_form(length: usize, decimal: Decimal, syntax: &Syntax, style: Style) -> Form {
+pub(crate) fn decimal_form(length: usize, decimal: Decimal, syntax: &Syntax, style: Style) -> Shape {
     let (up, down) = tens_of(decimal);
     let last = length.saturating_sub(1);
     let (negative, exponent) = (up + last < down, (up + last).abs_diff(down) as u64);
     let far = exponent > if negative { 4 } else { 15 };
     if is_shown(syntax, style, exponent, far, false) {
         let places = last.max(least_places(syntax, style, true));
-        return Form { after: places - last, places, negative, exponent, shown: true };
+        return Shape { after: places - last, places, negative, exponent, shown: true };
     }
     let places = down.max(least_places(syntax, style, false));
-    Form { after: up + places - down, places, negative: false, exponent: 0, shown: false }
+    Shape { after: up + places - down, places, negative: false, exponent: 0, shown: false }
 }

@@ -2,7 +2,7 @@
 use Rattle.lexical_writer.proofs.Common.{ℕ, ◌≡◌, ◌*◌, ◌^◌, ◌<◌, ◌∙◌, ap, arith, length, refl, sym, subst, raw, number, number_digits_of, number_from_digits, places}
 use Rattle.lexical_writer.proofs.Common.{raised_down, raised_up}
 use Rattle.lexical_util.specs.Layout as layouts
-use Rattle.lexical_writer.specs.Amount.{HasForm, IsTextOf}
+use Rattle.lexical_writer.specs.Amount.{HasShape, IsTextOf}
 use Rattle.lexical_writer.specs.Layout.{literal_of}
 use Rattle.lexical_writer.proofs.FloatLemmas.{if_ok, some_down}
 use Rattle.lexical_writer.proofs.float.write_decimal.Goals as goal
@@ -25,4 +25,4 @@ returns-clause-amount g c =
     if_ok (λ layout. IsTextOf s c.args.style c.args.negative num den (literal_of layout)) _ c.write_amount.result
     (λ layout is. (num, den, some_down c.args.decimal.negative 10 c.args.decimal.exponent (omega arith), c.if-not-is_nearest.ensures refl, is))
     (c.write_amount.ensures.amount num den
-    (subst (HasForm s c.args.style num den form.shown form.negative form.exponent form.places) (sym units) c.decimal_form-form.ensures))
+    (subst (HasShape s c.args.style num den form.shown form.negative form.exponent form.places) (sym units) c.decimal_form-form.ensures))

@@ -1,7 +1,7 @@
 -- The form has the digits of the decimal number.
 use Rattle.lexical_writer.proofs.Common.{ℕ, ◌≡◌, ◌+◌, ◌-◌, ◌*◌, ◌%◌, ◌<◌, ◌≤◌, ◌^◌, ◌⊎◌, true, false, false≢true, nat_lt, max, if◌then◌else◌, ap, arith}
 use Rattle.lexical_writer.proofs.Common.{cases_lt, inl, inr, refl, subst, sym, ◌∙◌, Grammar, Style}
-use Rattle.lexical_writer.specs.Amount.{HasForm, HasUnits, is_shown, least_places}
+use Rattle.lexical_writer.specs.Amount.{HasShape, HasUnits, is_shown, least_places}
 use Rattle.lexical_writer.proofs.AmountLemmas.{lt_false, lt_true, size}
 use Rattle.lexical_writer.proofs.ShortLemmas.{IsShort, plain_units, short_number, shown_units, written_with}
 use Rattle.lexical_writer.proofs.form.decimal_form.Goals as goal
@@ -43,7 +43,7 @@ returns-then-is_shown c =
     (ends d up down last places (least_places g style true) last (places - last) short most (λ _ same. omega (arith, same)) (λ z. (short.none z).2)) in
     let written = written_with g style d up down last c.abs_diff.result true (nat_lt (up + last) down) c.requires.radix.0 c.requires.radix.1 c.requires.plain
     short (sym c.if-is_shown.true ∙ c.is_shown.ensures ∙ (λ i. is_shown g style (e i) (nat_lt (far i) (e i)) false)) (λ _. (refl, e)) in
-    moved (λ num den. HasForm g style num den true (nat_lt (up + last) down) c.abs_diff.result places (d * 10 ^ (places - last))) d _ _ (10 ^ up) (10 ^ down)
+    moved (λ num den. HasShape g style num den true (nat_lt (up + last) down) c.abs_diff.result places (d * 10 ^ (places - last))) d _ _ (10 ^ up) (10 ^ down)
     c.tens_of-up.ensures.up c.tens_of-up.ensures.down
     (subst (λ e. HasUnits g style true (d * 10 ^ up) (10 ^ down) (nat_lt (up + last) down) e places (d * 10 ^ (places - last))) (sym e) units, λ _. written)
 
@@ -74,5 +74,5 @@ returns c =
     ]) (λ z. (short.none z).1)) in
     let written = written_with g style d up down last 0 false false c.requires.radix.0 c.requires.radix.1 c.requires.plain
     short (sym c.if-is_shown.false ∙ c.is_shown.ensures ∙ (λ i. is_shown g style (e i) (nat_lt (far i) (e i)) false)) (λ yes. absurd (false≢true yes)) in
-    moved (λ num den. HasForm g style num den false false 0 places (d * 10 ^ (up + places - down))) d _ _ (10 ^ up) (10 ^ down)
+    moved (λ num den. HasShape g style num den false false 0 places (d * 10 ^ (up + places - down))) d _ _ (10 ^ up) (10 ^ down)
     c.tens_of-up.ensures.up c.tens_of-up.ensures.down (units, λ _. written)

@@ -17,7 +17,7 @@ shifted n up b small some few =
 pub returns-then-power-low-clause-value : goal.returns-then-power-low-clause-value
 returns-then-power-low-clause-value c =
     let it = c.args.self.now in
-    ap (λ p. c.cut.result * p) (pow-zero (2 ^ it.bits)) ∙ once c.cut.result ∙ c.cut.ensures
+    ap (λ p. c.over_power.result * p) (pow-zero (2 ^ it.bits)) ∙ once c.over_power.result ∙ c.over_power.ensures
     ∙ cut_units it.number it.power it.bits c.args.places c.args.low (omega (arith, c.if-power-low.true))
 
 pub returns-clause-value : goal.returns-clause-value
