@@ -1,9 +1,10 @@
 -- A float as an odd number times a power of two, and its digits in a radix that is a power of two.
-use Rattle.lexical_writer.proofs.Common.{ℕ, suc, zero, ◌≡◌, ◌+◌, ◌-◌, ◌*◌, ◌/◌, ◌%◌, ◌<◌, ◌≤◌, ◌^◌, ◌⊎◌, ap, arith, inl, inr, refl, sym, subst, ◌∙◌, one-le-pow}
+use Rattle.lexical_writer.proofs.Common.{ℕ, suc, zero, ◌≡◌, ◌+◌, ◌-◌, ◌*◌, ◌/◌, ◌%◌, ◌<◌, ◌≤◌, ◌^◌, ◌⊎◌, ap, arith, inl, inr, refl, sym, subst, ◌∙◌}
+use Rattle.lexical_writer.proofs.Common.{one-le-pow}
 use Rattle.lexical_writer.proofs.Common.{pow-suc, pow-zero, mod-lt, cases_lt, nat_lt, is_some, true, Option, Some, None, raised_down, raised_up}
 use Rattle.std.proofs.Common.{div-add-mod', eq-zero-or-pos, mul-le-mul_left, mul-pos}
 use native.Mathlib.Nat.{div-div-eq-div-mul, eq_of_mul-eq-mul_right}
-use lib.Count.{count_trailing_zeros, leading_top, under}
+use lib.Count.{count_trailing_zeros, under}
 use lib.Pow.{pow-add}
 use Rattle.lexical_writer.specs.Rounded.{rounded}
 use Rattle.lexical_writer.proofs.AmountLemmas.{crossed, size}
@@ -48,7 +49,8 @@ pub cut_units : (n k b p low : ℕ) → k + b * p < low → rounded n (2 ^ (low 
 cut_units n k b p low less =
     let down = low - (k + b * p) in
     rounded_same n (2 ^ down) (n * 2 ^ k * (2 ^ b) ^ p) (2 ^ low) (one-le-pow down 2 (omega arith)) (one-le-pow low 2 (omega arith))
-    (ap (λ q. n * q) (sym (powers (k + b * p) down low (omega (arith, less))) ∙ ap (λ q. q * 2 ^ down) (raised k b p)) ∙ regrouped n (2 ^ k) ((2 ^ b) ^ p) (2 ^ down))
+    (ap (λ q. n * q) (sym (powers (k + b * p) down low (omega (arith, less))) ∙ ap (λ q. q * 2 ^ down) (raised k b p))
+    ∙ regrouped n (2 ^ k) ((2 ^ b) ^ p) (2 ^ down))
   where
     raised : (k b p : ℕ) → 2 ^ (k + b * p) ≡ 2 ^ k * (2 ^ b) ^ p
     raised k b p =
@@ -85,7 +87,8 @@ odd_left n u b odd less = elim (eq-zero-or-pos (n * 2 ^ u % 2 ^ b)) [
   | inl none ↦
       let q = n * 2 ^ u / 2 ^ b in
       let whole : n * 2 ^ u ≡ q * 2 ^ b = omega (arith, div-add-mod' (n * 2 ^ u) (2 ^ b), none) in
-      let parts : q * 2 ^ b ≡ q * 2 ^ (b - u) * 2 ^ u = ap (λ p. q * p) (sym (powers (b - u) u b (omega (arith, less)))) ∙ sym (assoc q (2 ^ (b - u)) (2 ^ u)) in
+      let parts : q * 2 ^ b ≡ q * 2 ^ (b - u) * 2 ^ u = ap (λ p. q * p) (sym (powers (b - u) u b (omega (arith, less))))
+      ∙ sym (assoc q (2 ^ (b - u)) (2 ^ u)) in
       let even : n ≡ q * 2 ^ (b - u) = eq_of_mul-eq-mul_right (2 ^ u) (one-le-pow u 2 (omega arith)) n (q * 2 ^ (b - u)) (whole ∙ parts) in
       let half : 2 ^ (b - u) ≡ 2 ^ (b - u - 1) * 2 = ap (λ e. 2 ^ e) {x = b - u} {y = suc (b - u - 1)} (omega (arith, less)) ∙ pow-suc 2 (b - u - 1) in
       let twice : q * 2 ^ (b - u) ≡ q * 2 ^ (b - u - 1) * 2 = ap (λ p. q * p) half ∙ sym (assoc q (2 ^ (b - u - 1)) 2) in

@@ -1,8 +1,8 @@
 -- The exponent, the places and the digits of a decimal number: `d` times ten to the power of `up` over ten to that of `down`.
 use Rattle.lexical_writer.proofs.Common.{ℕ, suc, zero, ◌≡◌, ◌+◌, ◌-◌, ◌*◌, ◌%◌, ◌<◌, ◌≤◌, ◌^◌, ◌&&◌, ◌||◌, ◌⊎◌, nat_le, nat_lt, if◌then◌else◌, Bool}
-use Rattle.lexical_writer.proofs.Common.{true, false, ap, arith, inl, inr, refl, sym, subst, ◌∙◌, Option, Some, None, one-le-pow, cases_lt, nat_tests}
-use Rattle.lexical_writer.proofs.Common.{Record, Grammar, Style, raw, effective_exponent_base, raised_down, raised_up, length, digits_of, length-digits_of_step}
-use Rattle.lexical_writer.proofs.Common.{all_below_base_digits_of, number_digits_of, number_from_digits, false≢true, is_some, lacks_options, pow-suc, pow-zero}
+use Rattle.lexical_writer.proofs.Common.{true, false, ap, arith, inl, inr, refl, sym, subst, ◌∙◌, Option, None, one-le-pow, cases_lt, nat_tests}
+use Rattle.lexical_writer.proofs.Common.{Record, Grammar, Style, raw, effective_exponent_base, length, digits_of, length-digits_of_step}
+use Rattle.lexical_writer.proofs.Common.{all_below_base_digits_of, number_digits_of, false≢true, is_some, lacks_options, pow-suc, pow-zero}
 use Rattle.std.proofs.Common.{eq-zero-or-pos, mul-pos}
 use Rattle.std.proofs.Math.Nat.{pow-le-pow_right}
 use Rattle.std.proofs.lemmas.Int.Digits.{length-digits_of-le, number_lt}
@@ -11,7 +11,7 @@ use Rattle.lexical_util.specs.Layout as layout
 use Rattle.lexical_writer.specs.Amount.{HasUnits, IsExponent, IsWrittenWith, is_far, is_long, is_shown, least_places, wished_places}
 use Rattle.lexical_writer.specs.Layout.{one_if}
 use Rattle.lexical_writer.proofs.DigitLemmas.{some_number}
-use Rattle.lexical_writer.proofs.AmountLemmas.{above, compared, exact_crossed, le_false, le_true, lt_false, lt_true, plain_exponent, size, under}
+use Rattle.lexical_writer.proofs.AmountLemmas.{above, compared, exact_crossed, le_false, lt_false, lt_true, plain_exponent, size, under}
 
 tens : (m n k : ℕ) → m + n ≡ k → 10 ^ m * 10 ^ n ≡ 10 ^ k
 tens m n k is = sym (pow-add 10 m n) ∙ ap (λ n. 10 ^ n) is

@@ -1,5 +1,5 @@
 -- The number has all its twos in the power.
-use Rattle.lexical_writer.proofs.Common.{ℕ, ◌≡◌, ◌+◌, ◌*◌, ◌/◌, ◌%◌, ◌^◌, ◌<◌, ap, arith, sym, ◌∙◌}
+use Rattle.lexical_writer.proofs.Common.{ℕ, ◌≡◌, ◌/◌, ◌%◌, ◌^◌, ◌<◌, ap, arith, ◌∙◌}
 use lib.Count.{count_trailing_zeros}
 use Rattle.std.proofs.Math.Nat.{mod-eq_of_lt}
 use Rattle.lexical_writer.proofs.BinaryLemmas.{trailing}

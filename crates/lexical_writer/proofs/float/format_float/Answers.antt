@@ -1,8 +1,6 @@
 -- What is not refused is supported, and each literal is that of an amount.
-use Rattle.lexical_writer.proofs.Common.{ℕ, ◌≡◌, ◌||◌, ◌∙◌, Bool, true, false, not, ap, inl, inr, sym, raw, format_of, None, Some, Option, WriteError, false≢true, is_some, refl}
+use Rattle.lexical_writer.proofs.Common.{◌≡◌, ◌∙◌, Bool, true, false, not, ap, inl, inr, sym, raw, format_of, None, false≢true, is_some, refl}
 use Rattle.lexical_util.specs.Layout as layouts
-use Rattle.lexical_util.specs.Record.{bytes_of}
-use Rattle.lexical_value.specs.Float.{is_binary, is_decimal}
 use Rattle.lexical_writer.specs.Amount.{first_refusal}
 use Rattle.lexical_writer.specs.Layout.{literal_of}
 use Rattle.lexical_writer.proofs.FloatLemmas.{amount_nearest, amount_rounded, base_ten, if_ok}

@@ -1,5 +1,5 @@
 -- The parts of the amount are those of the form.
-use Rattle.lexical_writer.proofs.Common.{ℕ, IfOk, raw}
+use Rattle.lexical_writer.proofs.Common.{raw}
 use Rattle.lexical_util.specs.Layout as layouts
 use Rattle.lexical_util.specs.declared.format_flags.Part.TheVariants as part
 use Rattle.lexical_writer.specs.Amount.{IsTextOf}

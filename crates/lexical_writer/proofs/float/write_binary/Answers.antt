@@ -1,5 +1,6 @@
 -- The digits are those of the float, which has the value of its bits.
-use Rattle.lexical_writer.proofs.Common.{ℕ, ◌≡◌, ◌*◌, ◌^◌, ◌<◌, ◌≤◌, ◌∙◌, ap, arith, refl, sym, subst, length, one-le-pow, raw, number, number_digits_of, number_from_digits}
+use Rattle.lexical_writer.proofs.Common.{ℕ, ◌≡◌, ◌*◌, ◌^◌, ◌≤◌, ◌∙◌, ap, arith, refl, sym, subst, one-le-pow, raw, number, number_digits_of}
+use Rattle.lexical_writer.proofs.Common.{number_from_digits}
 use Rattle.lexical_writer.proofs.Common.{digits_in, digits_of, format_of}
 use lib.Ieee.Exact.{HasValue}
 use lib.Ieee.Scale.{round_same}

@@ -1,5 +1,5 @@
 -- The digits are those of the decimal number, which is read as the float.
-use Rattle.lexical_writer.proofs.Common.{ℕ, ◌≡◌, ◌*◌, ◌^◌, ◌<◌, ◌∙◌, ap, arith, length, refl, sym, subst, raw, number, number_digits_of, number_from_digits, places}
+use Rattle.lexical_writer.proofs.Common.{◌≡◌, ◌*◌, ◌^◌, ◌∙◌, ap, arith, length, refl, sym, subst, raw, number, number_digits_of, number_from_digits, places}
 use Rattle.lexical_writer.proofs.Common.{raised_down, raised_up}
 use Rattle.lexical_util.specs.Layout as layouts
 use Rattle.lexical_writer.specs.Amount.{HasShape, IsTextOf}
@@ -8,7 +8,9 @@ use Rattle.lexical_writer.proofs.FloatLemmas.{if_ok, some_down}
 use Rattle.lexical_writer.proofs.float.write_decimal.Goals as goal
 
 pub write_amount-requires : goal.write_amount-requires
-write_amount-requires g c = subst (λ r. places r c.put_word-bytes.result.now ≡ length c.put_word-bytes.result.now) (sym c.requires.radix.0) c.put_word-bytes.ensures.places
+write_amount-requires g c =
+    subst (λ r. places r c.put_word-bytes.result.now ≡ length c.put_word-bytes.result.now) (sym c.requires.radix.0)
+    c.put_word-bytes.ensures.places
 
 pub returns-clause-amount : goal.returns-clause-amount
 returns-clause-amount g c =

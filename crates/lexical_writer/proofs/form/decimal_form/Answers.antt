@@ -1,6 +1,6 @@
 -- The form has the digits of the decimal number.
-use Rattle.lexical_writer.proofs.Common.{ℕ, ◌≡◌, ◌+◌, ◌-◌, ◌*◌, ◌%◌, ◌<◌, ◌≤◌, ◌^◌, ◌⊎◌, true, false, false≢true, nat_lt, max, if◌then◌else◌, ap, arith}
-use Rattle.lexical_writer.proofs.Common.{cases_lt, inl, inr, refl, subst, sym, ◌∙◌, Grammar, Style}
+use Rattle.lexical_writer.proofs.Common.{ℕ, ◌≡◌, ◌+◌, ◌-◌, ◌*◌, ◌%◌, ◌<◌, ◌^◌, ◌⊎◌, true, false, false≢true, nat_lt, max, if◌then◌else◌, ap, arith}
+use Rattle.lexical_writer.proofs.Common.{cases_lt, inl, inr, refl, subst, sym, ◌∙◌}
 use Rattle.lexical_writer.specs.Amount.{HasShape, HasUnits, is_shown, least_places}
 use Rattle.lexical_writer.proofs.AmountLemmas.{lt_false, lt_true, size}
 use Rattle.lexical_writer.proofs.ShortLemmas.{IsShort, plain_units, short_number, shown_units, written_with}

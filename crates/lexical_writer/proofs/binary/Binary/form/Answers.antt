@@ -1,5 +1,6 @@
 -- The digits are those of the number over the power of its exponent.
-use Rattle.lexical_writer.proofs.Common.{ℕ, ◌≡◌, ◌+◌, ◌-◌, ◌*◌, ◌/◌, ◌%◌, ◌^◌, ◌<◌, ◌≤◌, ap, arith, nat_lt, sym, subst, ◌∙◌, raw, effective_exponent_base, one-le-pow, raised_down, raised_up}
+use Rattle.lexical_writer.proofs.Common.{◌≡◌, ◌-◌, ◌*◌, ◌/◌, ◌%◌, ◌^◌, ◌<◌, ◌≤◌, ap, arith, nat_lt, sym, subst, ◌∙◌, raw, effective_exponent_base, one-le-pow}
+use Rattle.lexical_writer.proofs.Common.{raised_down, raised_up}
 use Rattle.lexical_util.specs.Layout as layouts
 use Rattle.lexical_writer.specs.Amount.{HasUnits, least_places}
 use Rattle.lexical_writer.specs.Rounded.{rounded}
@@ -35,12 +36,15 @@ returns c =
       exact = λ none. exact_power U (num * R ^ places) up down (E * it.base_bits) power
           (subst (λ r. c.units-number.result.0 * r ^ c.units-number.result.1 * 2 ^ (E * it.base_bits) ≡ num * r ^ places) (sym radix)
           (c.units-number.ensures.exact (c.places-places.ensures.exact none)));
-      rounded = λ _. subst (λ r. c.units-number.result.0 * r ^ c.units-number.result.1 ≡ rounded (num * r ^ places) (2 ^ (E * it.base_bits))) (sym radix) c.units-number.ensures.value
+      rounded = λ _. subst (λ r. c.units-number.result.0 * r ^ c.units-number.result.1 ≡ rounded (num * r ^ places) (2 ^ (E * it.base_bits))) (sym radix)
+          c.units-number.ensures.value
           ∙ over_power (num * R ^ places) up down (E * it.base_bits) some power;
       last = last_bits style.decimals it.number it.power it.bits places (least_places g style c.args.shown) (E * it.base_bits) U R radix it.radixes.0
           (subst (λ n. n ≤ places) c.least_places.ensures.value c.places-places.ensures.least)
           (λ wish. c.places-places.ensures.rounded wish ∙ c.least_places.ensures.value)
-          (λ less. c.places-places.ensures.last (subst (λ n. n < places) (sym c.least_places.ensures.value) less)) it.odd (λ z. (it.zero z, low z)) c.places-places.ensures.exact
-          (λ least less odd. subst (λ r. 0 < c.units-number.result.0 * r ^ c.units-number.result.1 % 2 ^ it.bits) (sym radix) (c.units-number.ensures.last least less odd));
+          (λ less. c.places-places.ensures.last (subst (λ n. n < places) (sym c.least_places.ensures.value) less)) it.odd (λ z. (it.zero z, low z))
+          c.places-places.ensures.exact
+          (λ least less odd. subst (λ r. 0 < c.units-number.result.0 * r ^ c.units-number.result.1 % 2 ^ it.bits) (sym radix)
+          (c.units-number.ensures.last least less odd));
     } in
     subst (λ e. HasUnits g style c.args.shown num (2 ^ 1200) (nat_lt E Z) e places U) (sym e) units
