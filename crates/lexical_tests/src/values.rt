@@ -427,6 +427,9 @@ const EXPONENT: u128 = 0x0A0A0A00_00000000_00000000_00004000;
 
 const NO_EXPONENT: u128 = 0x0A0A0A00_00000000_00000000_00000040;
 
+// Hexadecimal, without exponents.
+const FIXED: u128 = 0x0A021000_00000000_00000000_00000040;
+
 const PREFIX: u128 = 0x0A101000_78000000_00000000_00003000;
 
 // A sign and an exponent with a sign are required.
@@ -480,6 +483,7 @@ const WRITTEN: [(&str, u128, bool, Style, &[u8]); 43] = [
     ("1^", BARE, true, PLAIN, b"1^0"),
     ("5", SIGNS, true, PLAIN, b"+5^+0"),
     ("0X1^3", BARE, true, PLAIN, b"8"),
+    ("0X1^3", HEXADECIMAL, false, PLAIN, b"8"),
     ("0X1.8^1", BARE, false, PLAIN, b"3"),
     ("0X18^-3", BARE, false, PLAIN, b"3"),
     ("0X3^126", BARE, true, PLAIN, b"255211775190703847597530955573826158592"),
@@ -548,7 +552,7 @@ fn what_is_not_whole_or_too_long_is_refused(rt: HostRuntime) {
             Err(WriteError::Long)
         )
     );
-    // Where the point does not move by whole digits, a number that is not whole has this error first.
+    // Where the point cannot move, a number that is not whole has this error.
     assert!(rt;
         matches!(
             converted("0X1^-3", HEXADECIMAL, false, PLAIN, &mut buffer),
@@ -557,7 +561,7 @@ fn what_is_not_whole_or_too_long_is_refused(rt: HostRuntime) {
     );
     assert!(rt;
         matches!(
-            converted("0X1^3", HEXADECIMAL, false, PLAIN, &mut buffer),
+            converted("0X1^-3", FIXED, true, PLAIN, &mut buffer),
             Err(WriteError::Exponent)
         )
     );
