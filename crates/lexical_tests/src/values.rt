@@ -469,7 +469,7 @@ const FROM_3: Style = Style {
 
 // A text, a format, whether its literals can be floats, a style, and what is written.
 #[rattlefmt::skip]
-const WRITTEN: [(&str, u128, bool, Style, &[u8]); 43] = [
+const WRITTEN: [(&str, u128, bool, Style, &[u8]); 44] = [
     ("-12.50^2", NO_EXPONENT, true, PLAIN, b"-1250"),
     ("1.50", NO_EXPONENT, true, PLAIN, b"1.50"),
     ("1.0", BARE, false, PLAIN, b"1"),
