@@ -43,7 +43,8 @@ returns-clause-amount g c =
       one-le-pow 1200 2 (omega arith),
       value,
       c.if-not-is_exact.ensures.near refl
-          ∙ round_same (format_of g.F.Float.DOUBLE) c.args.negative (exact.number * 2 ^ exact.up) (2 ^ exact.down) num den some (one-le-pow 1200 2 (omega arith))
+          ∙ round_same (format_of g.F.Float.DOUBLE) c.args.negative (exact.number * 2 ^ exact.up) (2 ^ exact.down) num den some
+          (one-le-pow 1200 2 (omega arith))
           c.exact.ensures,
       it,
     ))

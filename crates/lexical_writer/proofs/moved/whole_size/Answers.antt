@@ -152,5 +152,6 @@ returns-then-places-eq0 c =
     let number_is : it.0 ≡ whole r parts =
     sym (it.1 ∙ (let none = it.2 in omega (arith, none)))
     ∙ ap (λ q. number_from_digits q (digits_in q parts.integer.now ++ (digits_in q parts.fraction.now ++ []))) v ∙ whole_all r parts in
-    integer_size r parts c.over.result.size it.0 c.ok_or.result c.ok_or.ensures.value it.3 number_is (no_number _ parts.exponent.now (absent parts.exponent.now _ c.is_empty.ensures c.if-is_empty.true))
+    integer_size r parts c.over.result.size it.0 c.ok_or.result c.ok_or.ensures.value it.3 number_is
+    (no_number _ parts.exponent.now (absent parts.exponent.now _ c.is_empty.ensures c.if-is_empty.true))
     (sym (c.count-places.ensures.value ∙ ap (λ q. length (digits_in q parts.fraction.now)) v) ∙ c.if-places-eq0.true)
