@@ -199,28 +199,6 @@ fn a_syntax_is_written_as_its_normal_form_and_its_options() {
 }
 
 #[test]
-fn a_syntax_of_a_builder_has_its_notes() {
-    const DECIMAL: &str = "0x0A0A0A0000000000000000000000000C";
-    const NOTE: &str = "no flag allows the digit separator '_'";
-    let separated = NumberFormatBuilder::new().digit_separator(NonZeroU8::new(b'_'));
-    let rows: [(_, _, &[&str]); 3] = [
-        (NumberFormatBuilder::new(), DECIMAL, &[]),
-        (separated, DECIMAL, &[NOTE]),
-        (separated.internal_digit_separator(true), "0x0A0A0A000000005F000000070000000C", &[]),
-    ];
-    for (builder, word, wanted) in rows {
-        for (options, text) in [(None, word.into()), (Some((b'e', b'.')), format!("{word} 101 46"))] {
-            let (syntax, notes) = Syntax::of(&builder, options).unwrap();
-            assert_eq!(syntax.to_string(), text);
-            assert_eq!(notes.map(|it| it.to_string()).collect::<Vec<_>>(), wanted, "{text}");
-        }
-        let refused = [(builder, Some((b'5', b'.'))), (builder.mantissa_radix(37), None)];
-        let codes = refused.map(|(builder, options)| Syntax::of(&builder, options).err().map(|error| error.code()));
-        assert_eq!(codes, [Some(Error::InvalidExponentSymbol), Some(Error::InvalidMantissaRadix)]);
-    }
-}
-
-#[test]
 fn syntaxes_are_parsed() {
     const OPTION: &str = "each of the two options is a character such as 'e', a number from 0 to 255, or `none`";
     const INTEGERS: &str = "0x0A0A0A0000000000000000000000000C";
@@ -277,10 +255,6 @@ fn syntaxes_are_parsed() {
         assert_eq!(found, wanted, "{text}");
     }
     let refused = |text: &str| text.parse::<Syntax>().err().map(|error| (error.code(), error.to_string()));
-    for setting in CONDITIONS.split(' ').skip(1) {
-        let wanted = (Error::InvalidDigit(35), format!("{} is set twice", setting.split('=').next().unwrap()));
-        assert_eq!(refused(&CONDITIONS.replacen(' ', &format!(" {setting} "), 1)), Some(wanted));
-    }
     for size in 0..1000 {
         let sentence = "integer_group_size takes a number from 2 to 8, or `none`".to_string();
         let wanted = (!matches!(size, 0 | 2..=8)).then_some((Error::InvalidDigit(35), sentence));

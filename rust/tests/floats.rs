@@ -3,7 +3,7 @@
 #[path = "../../compare/rust/src/random.rs"]
 mod random;
 
-use peltzivar::format::{FLAG_MASK, STANDARD};
+use peltzivar::format::FLAG_MASK;
 use peltzivar::literal::{
     Condition, Conditions, ExponentStyle, FromLiteral, Language, Style, Syntax, WriteError, WriteFloat,
 };
@@ -108,81 +108,6 @@ fn is_read_back<F: Bits>(value: F, syntax: &Syntax, style: Style) {
     }
 }
 
-#[test]
-fn floats_are_read_back_in_the_decimal_form_of_each_language() {
-    let state = &mut Random::new(20_261_128);
-    for _ in 0..count() {
-        for language in Language::ALL {
-            let syntax = language.forms()[0].syntax();
-            is_read_back::<f64>(float(state), &syntax, Style::PLAIN);
-            is_read_back::<f32>(float(state), &syntax, Style::PLAIN);
-        }
-    }
-}
-
-/// Returns the text of a float in a syntax.
-fn text<F: Bits>(value: F, syntax: &Syntax) -> Result<String, WriteError> {
-    syntax.format_float(value, Style::PLAIN).map(|text| text.to_string())
-}
-
-#[test]
-fn floats_have_an_exponent_where_one_is_allowed() {
-    let form = |language: Language, name| {
-        language.forms().as_slice().iter().find(|form| form.name() == name).unwrap().syntax()
-    };
-    let german = Language::CSV_DE.forms()[0].syntax();
-    let (json, ada) = (Language::JSON.forms()[0].syntax(), Language::ADA.forms()[0].syntax());
-    let (c, swift) = (form(Language::C, "hexadecimal float"), form(Language::SWIFT, "hexadecimal float"));
-    let digits = |value: f64| Ok(format!("{value}").replace('.', ","));
-    for (value, syntax, wanted) in [
-        (-0.3, german, Ok("-0,3".into())),
-        (1e16, german, Ok("10.000.000.000.000.000,0".into())),
-        (1e-7, german, Ok("0,0000001".into())),
-        (5e-324, german, digits(5e-324)),
-        (1234.56, german, Ok("1.234,56".into())),
-        (f64::NAN, german, Err(WriteError::Special)),
-        (f64::NEG_INFINITY, german, Err(WriteError::Special)),
-        (1e16, json, Ok("1e16".into())),
-        (1e-7, json, Ok("1e-7".into())),
-        (-0.0, json, Ok("-0.0".into())),
-        (0.5, ada, Ok("0.5".into())),
-        (12.0, c, Ok("0x1.8p3".into())),
-        (0.1, swift, Ok("0x1.999999999999Ap-4".into())),
-        (5e-324, swift, Ok("0x1p-1074".into())),
-    ] {
-        assert_eq!(text(value, &syntax), wanted, "{value:e} in {syntax}");
-    }
-    assert_eq!(text(1e300, &german).unwrap().replace('.', ""), format!("{},0", 1e300));
-}
-
-#[test]
-fn a_style_decides_on_the_exponent() {
-    let json = Language::JSON.forms()[0].syntax();
-    let swift =
-        Language::SWIFT.forms().as_slice().iter().find(|form| form.name() == "hexadecimal float").unwrap().syntax();
-    // The point moves by digits of 3 bits, though the exponent base has 2.
-    let odd = Format::new(0xC | 8 << 104 | 4 << 112 | 10 << 120).unwrap();
-    let odd = Syntax::new(odd, b'e', b'.').unwrap();
-    let [always, never, from] = [ExponentStyle::Always, ExponentStyle::Never, ExponentStyle::From(21)];
-    for (value, syntax, wish, wanted) in [
-        (1234.5, json, always, "1.2345e3"),
-        (1.5, json, always, "1.5e0"),
-        (0.0, json, always, "0e0"),
-        (1e22, json, never, "10000000000000000000000.0"),
-        (1e-7, json, never, "0.0000001"),
-        (1.5, json, never, "1.5"),
-        (1e20, json, from, "100000000000000000000.0"),
-        (1.5e21, json, from, "1.5e21"),
-        (12.0, swift, always, "0x1.8p3"),
-        (12.0, swift, never, "0x1.8p3"),
-        (12.0, odd, never, "14.0"),
-        (0.5, odd, never, "0.4"),
-    ] {
-        let text = syntax.format_float(value, Style::PLAIN.exponent(wish)).unwrap();
-        assert_eq!(text.to_string(), wanted);
-    }
-}
-
 /// Writes a float with the exponent of the number, with one and with none, as std does.
 #[test]
 fn floats_are_written_as_std_writes_them() {
@@ -249,37 +174,8 @@ fn floats_are_rounded_as_std_rounds_them() {
 }
 
 #[test]
-fn floats_are_rounded_where_a_style_wishes() {
-    let form = |language: Language, name| {
-        language.forms().as_slice().iter().find(|form| form.name() == name).unwrap().syntax()
-    };
-    let (json, german) = (Language::JSON.forms()[0].syntax(), Language::CSV_DE.forms()[0].syntax());
-    let (c, whole) = (form(Language::C, "hexadecimal float"), Syntax::integers(Format::of::<STANDARD>()));
-    let [two, none] = [Style::PLAIN.decimals(2), Style::PLAIN.decimals(0)];
-    for (value, syntax, style, wanted) in [
-        (1234.5, german, two, "1.234,50"),
-        (-0.004, json, two, "-0.00"),
-        (-0.0, json, two, "-0.00"),
-        (0.125, json, two, "0.12"),
-        (0.375, json, two, "0.38"),
-        (2.5, json, none, "2"),
-        (2.5, json, none.point(), "2"),
-        (3.5, whole, two, "4"),
-        (1e-300, json, two, "0.00"),
-        (1.9e16, json, two, "19000000000000000.00"),
-        (5e-324, json, two, "0.00"),
-        (0.5, c, none, "0x0p0"),
-        (12.0, c, two, "0xC.00p0"),
-        (12.0, c, two.exponent(ExponentStyle::Always), "0x1.80p3"),
-        (1e-11, json, Style::PLAIN.decimals(15).exponent(ExponentStyle::Always), "9.999999999999999e-12"),
-        (99999.0, json, two.exponent(ExponentStyle::From(6)), "99999.00"),
-        (99999.0, json, two.exponent(ExponentStyle::From(5)), "1.00e5"),
-        (99999.0, json, two.exponent(ExponentStyle::From(4)), "1.00e5"),
-        (9.9951e22, json, two.exponent(ExponentStyle::Always), "1.00e23"),
-    ] {
-        assert_eq!(syntax.format_float(value, style).unwrap().to_string(), wanted);
-    }
-    // Without an exponent, the text has up to 800 digits.
+fn rounded_floats_without_an_exponent_have_up_to_800_digits() {
+    let json = Language::JSON.forms()[0].syntax();
     let binary = Format::new(0xC | 1 << 6 | 2 << 104).unwrap();
     let binary = Syntax::new(binary, b'e', b'.').unwrap();
     let text = |value: f64, places| binary.format_float(value, Style::PLAIN.decimals(places)).map(|it| it.to_string());
@@ -303,9 +199,6 @@ fn each_float_form_of_ada_reads_floats_with_a_point() {
             is_read_back::<f64>(float(state), &form.syntax(), Style::PLAIN.point());
         }
     }
-    let decimal = forms[0].syntax();
-    let texts = [1e16, 1e-7].map(|value| decimal.format_float(value, Style::PLAIN.point()).unwrap().to_string());
-    assert_eq!(texts, ["1.0e16", "1.0e-7"]);
 }
 
 /// Returns a pseudo-random syntax whose radix and exponent base are 10 or powers of two.

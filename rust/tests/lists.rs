@@ -217,21 +217,6 @@ fn sentences_name_the_nearer_limit() {
     }
 }
 
-/// An error of a list is that of one of its forms, with its index and its name.
-#[test]
-fn errors_of_lists_are_those_of_their_forms() {
-    let texts = "01.ej_+x".chars().flat_map(|one| "08.pb-\u{E9}".chars().map(move |two| format!("{one}{two}e")));
-    for text in texts.chain(["".into(), "0x".into(), "0b12".into(), "1__0".into()]) {
-        for language in Language::ALL {
-            let Err(error) = language.read(&text) else { continue };
-            let form = language.forms()[error.form];
-            assert_eq!((error.form(), error.name), (error.form, form.name()), "{language}: {text}");
-            assert_eq!(Err(error.error), form.syntax().read(&text), "{language}: {text}");
-            assert_eq!((error.span(), error.valid_up_to()), (error.error.span(), error.error.valid_up_to()));
-        }
-    }
-}
-
 /// A float has a plain text if its three radixes are 10, and an integer always has one.
 #[test]
 fn plain_texts_are_decimal() {
@@ -271,7 +256,9 @@ fn a_condition_is_set_once() {
         let values = if it.limits().1 > 1 { ["2", "none"] } else { ["true", "false"] };
         for (one, two) in values.iter().flat_map(|one| values.map(|two| (one, two))) {
             let text = format!("0x0A0A0A6878000000000000070000000C {0}={one} {0}={two}", it.name());
-            assert_eq!(text.parse::<Syntax>().unwrap_err().to_string(), format!("{} is set twice", it.name()));
+            let error = text.parse::<Syntax>().unwrap_err();
+            let wanted = (Error::InvalidDigit(35), format!("{} is set twice", it.name()));
+            assert_eq!((error.code(), error.to_string()), wanted);
         }
     }
 }

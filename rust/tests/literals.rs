@@ -4,8 +4,6 @@ use peltzivar::format::{CASE_SENSITIVE_SPECIAL, DIGIT_SEPARATOR_FLAG_MASK, NO_SP
 use peltzivar::literal::{Condition, Form, Language, Literal, Number, ReadError, ReadErrorKind, Specials, Syntax};
 use peltzivar::{Edit, FlagSetter, Format, FormatView, NumberFormatBuilder, Part, Rule, Settings};
 use std::collections::HashSet;
-use std::io::Write;
-use std::process::{Command, Stdio};
 
 const FORMAT: &str = include_str!("../../docs/FORMAT.md");
 const EXPLANATIONS: &str = include_str!("../../docs/EXPLANATIONS.md");
@@ -226,23 +224,12 @@ fn causes_are_those_of_the_page() {
 /// What users read of refused texts, with what is shown of each. Users of a language read it up to `, which`.
 #[test]
 fn sentences_name_what_is_seen() {
-    #[rustfmt::skip]
-    let rows = [
-        ("", "1 000", "unexpected space", " "),
-        ("", "1'000", "unexpected character \"'\"", "'"),
-        ("", "1\t", "unexpected tab", "\t"),
-        ("", "1\r\n", "unexpected carriage return", "\r"),
-        ("", "1\0", "unexpected byte 0", "\0"),
-        ("", "1\u{e9}2", "unexpected character '\u{e9}'", "\u{e9}"),
-        ("", "1\u{a0}000", "unexpected no-break space", "\u{a0}"),
-        ("", "\u{feff}1", "unexpected invisible character", "\u{feff}"),
-    ];
     let lines = include_str!("sentences.txt").lines().filter(|line| !line.is_empty() && !line.starts_with('#'));
     let lines = lines.map(|line| match Vec::from_iter(line.split('|').map(str::trim))[..] {
         [settings, text, sentence, shown] => (settings, text, sentence, shown),
         _ => panic!("{line}"),
     });
-    for (settings, text, sentence, shown) in lines.chain(rows) {
+    for (settings, text, sentence, shown) in lines {
         let error = read(syntax_of(settings), text).unwrap_err();
         assert_eq!((format!("{error:#}").as_str(), &text[error.span()]), (sentence, shown), "{text}");
         assert_eq!(Some(error.to_string().as_str()), sentence.split(", which").next(), "{text}");
@@ -267,18 +254,6 @@ fn parts_are_known() {
         let (literal, _) = syntax.read_prefix(text).unwrap();
         assert!(present(literal).into_iter().eq(wanted.split(' ').map(str::as_bytes)), "{text}: {literal:?}");
         assert_eq!(result.is_ok(), text == wanted.replace(' ', ""), "{text}");
-    }
-}
-
-/// Between two digits of decimal numbers, each byte is a digit, the separator, the decimal point or the exponent character,
-/// or is refused.
-#[test]
-fn each_byte_between_two_digits_is_read_or_refused() {
-    let syntax = syntax_of("digit_separator='_' internal_digit_separator=true");
-    for byte in 0..=u8::MAX {
-        let text = [b'1', byte, b'2'];
-        let found = read(syntax, &text).err().map(|it| (it.valid_up_to(), it.byte()));
-        assert_eq!(found, (!b"0123456789_.eE".contains(&byte)).then_some((1, Some(byte))), "{byte}");
     }
 }
 
@@ -332,42 +307,21 @@ fn languages_answer_as_their_grammars_and_tools_do() {
     assert_eq!(Vec::from_iter(missing), [], "forms without a row that is a number of theirs, or that is none");
 }
 
-/// Returns the settings of each row, and what a sentence has beside `decimal` and `NaN`, or lacks.
-fn phrases() -> impl Iterator<Item = (&'static str, &'static str)> {
-    let rows = include_str!("phrases.txt").lines().filter(|row| !row.is_empty() && !row.starts_with('#'));
-    rows.map(|row| row.split_once(" | ").expect(row))
-}
-
+/// Each flag has a row: settings, and the phrases that the sentence has beside `decimal` and `NaN`, or lacks.
 #[test]
 fn sentences_on_syntaxes_state_each_difference() {
-    for (settings, phrases) in phrases() {
+    let rows = include_str!("phrases.txt").lines().filter(|row| !row.is_empty() && !row.starts_with('#'));
+    let rows = Vec::from_iter(rows.map(|row| row.split_once(" | ").expect(row)));
+    for (settings, phrases) in &rows {
         let sentence = syntax_of(settings).sentence().to_string();
         let [found, usual, wanted] =
             [&*sentence, "decimal; NaN", phrases].map(|it| HashSet::<_>::from_iter(it.split("; ")));
         assert_eq!(&found ^ &usual, wanted, "{settings}");
     }
-}
-
-/// By Python's `re`, if it is installed, regular expressions match the texts that are read.
-#[test]
-fn regular_expressions_match_what_is_read() {
-    const PROGRAM: &str = "import re, sys\nfor row in sys.stdin:\n  regex, text, is_read = row[:-1].split('\\t')\n  \
-        assert str(bool(re.fullmatch(regex, text))) == is_read, row";
-    let texts =
-        HashSet::<_>::from_iter(include_str!("literals.txt").lines().filter_map(|row| row.split_whitespace().nth(2)));
-    let groups = "1_23_456 12_345 123_456 1234,567 1234.567,5 0.1234_5 0.12345_6 -0x1_ 1^5";
-    let texts = Vec::from_iter(texts.into_iter().chain(groups.split(' ')));
-    let forms = Language::ALL.iter().flat_map(Language::forms).map(Form::syntax);
-    let mut rows = String::new();
-    for syntax in forms.chain(phrases().map(|it| syntax_of(it.0))) {
-        let regex = syntax.regex().to_string();
-        for text in &texts {
-            rows += &format!("{regex}\t{text}\t{}\n", if syntax.read(text).is_ok() { "True" } else { "False" });
-        }
-    }
-    let python = Command::new("python3").args(["-c", PROGRAM]).stdin(Stdio::piped()).spawn();
-    let Ok(mut python) = python else { return eprintln!("skipped: python3 is not installed") };
-    // A row that differs ends the program, which prints it.
-    let written = python.stdin.take().unwrap().write_all(rows.as_bytes());
-    assert!(python.wait().unwrap().success() && written.is_ok());
+    let has_row = |flag: &&FlagSetter| rows.iter().any(|it| it.0.contains(&format!("{flag}=")));
+    assert_eq!(FlagSetter::FLAGS.iter().find(|it| !has_row(it)), None);
+    let settings = "digit_separator=39 integer_internal_digit_separator=true integer_group_size=3 \
+        no_integer_leading_zeros=true no_positive_mantissa_sign=true";
+    let sentence = "decimal; `'` between groups of three; no `+`; NaN; no leading zeros in integers";
+    assert_eq!(syntax_of(settings).sentence().to_string(), sentence);
 }

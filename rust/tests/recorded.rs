@@ -2,12 +2,12 @@
 //! their lines.
 
 use peltzivar::ascii::{is_valid_ascii, is_valid_letter};
-use peltzivar::digit::{char_to_digit, char_to_digit_const};
-use peltzivar::edits::{apply_all, edit_word, Edit};
+use peltzivar::digit::{char_is_digit, char_is_digit_const, char_to_digit, char_to_digit_const, digit_to_char};
+use peltzivar::edits::{apply_all, edit_word, edits_of, is_built, normal_form, same_format, Edit};
 use peltzivar::error::Error;
 use peltzivar::format_builder::{NonZeroU8, NumberFormatBuilder};
 use peltzivar::format_flags::is_valid_options_punctuation;
-use peltzivar::word::{format_error, FormatView};
+use peltzivar::word::{format_error, format_is_valid, FormatView};
 use std::str::FromStr;
 
 fn read<T: FromStr>(text: &str) -> Option<T> {
@@ -31,20 +31,34 @@ fn fields(format: &str, view: FormatView) -> String {
     format!("fields {format} {:032X} {separator} {prefix} {suffix} {radix} {base} {exponent_radix}", view.flags())
 }
 
-/// Returns a line with what the library returns now, or `None` if the line cannot be read or both forms of a call differ.
+/// Returns a line with what the library returns now, or `None` if the line cannot be read or calls that say the same differ.
 fn replayed(line: &str) -> Option<String> {
     let parts: Vec<&str> = line.split(' ').collect();
     let edits = |calls: &[&str]| calls.iter().map(|call| read(call)).collect::<Option<Vec<Edit>>>();
     Some(match parts[..] {
-        ["printed", index, name, ..] => format!("printed {index} {name} {}", outcome(name, read(index)?)?),
+        // A width changes no text.
+        ["printed", index, name, ..] => format!("printed {index} {name} {:*^200}", outcome(name, read(index)?)?),
         ["byte", byte, ..] => format!("byte {byte} {} {}", is_valid_ascii(read(byte)?), is_valid_letter(read(byte)?)),
         ["digit", byte, radix, ..] => {
-            let digit = char_to_digit(read(byte)?, read(radix)?);
-            (digit == char_to_digit_const(read(byte)?, read(radix)?)).then_some(())?;
+            let (c, base) = (read(byte)?, read(radix)?);
+            let digit = char_to_digit(c, base);
+            let are_digits = [char_is_digit(c, base), char_is_digit_const(c, base)] == [digit.is_some(); 2];
+            let is_its_character = digit.is_none_or(|it| it > 35 || digit_to_char(it) == c.to_ascii_uppercase());
+            (digit == char_to_digit_const(c, base) && are_digits && is_its_character).then_some(())?;
             format!("digit {byte} {radix} {}", digit.map_or("none".into(), |digit| digit.to_string()))
         }
         ["fields", format, ..] => fields(format, FormatView::new(word(format)?)),
-        ["check", format, ..] => format!("check {format} {:?}", format_error(word(format)?)),
+        ["check", format, ..] => {
+            let (word, view) = (word(format)?, FormatView::new(word(format)?));
+            let (error, (edits, count)) = (format_error(word), edits_of(word));
+            let built =
+                [&edits[..], &edits[..count]].map(|it| apply_all(NumberFormatBuilder::new(), it).build_unchecked());
+            let are_valid = [format_is_valid(word), view.is_valid()] == [error.is_success(); 2];
+            let are_built = built == [built[0]; 2] && is_built(word) == (built[0] == word);
+            let is_normal = normal_form(word) == edit_word(word, &[]) && same_format(word, normal_form(word));
+            (view.error() == error && are_valid && are_built && is_normal).then_some(())?;
+            format!("check {format} {error:?}")
+        }
         ["options", format, exponent, point, ..] => {
             let is_valid = is_valid_options_punctuation(word(format)?, read(exponent)?, read(point)?);
             format!("options {format} {exponent} {point} {is_valid}")

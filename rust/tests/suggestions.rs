@@ -28,7 +28,7 @@ fn state(settings: &str, exponent: u8, point: u8) -> State {
 /// Returns what is offered for the first of the lines.
 fn offered(state: State, lines: &str) -> Vec<State> {
     let lines: Vec<_> = lines_of(lines.as_bytes()).collect();
-    offers(state, &lines, lines[0]).into_iter().map(|(state, _)| state).collect()
+    offers(state, &lines, lines[0])
 }
 
 /// Returns a text with each letter in the other case.
@@ -92,7 +92,7 @@ fn numbers_of_many_forms_lead_to_their_formats() {
         let wanted = state(&bytes.collect::<Vec<_>>().join(" "), exponent, point);
         assert_eq!(offered(state("", b'e', b'.'), &swapped(lines)).first(), Some(&wanted), "{lines}");
     }
-    for text in ["16#FF#", "#FF", "0xFF_u8", "0x"] {
+    for text in ["16#FF#", "#FF", "0xFF_u8", "0x", "1.2.3", "1,2,3", "1e5.5"] {
         assert_eq!(offered(state("", b'e', b'.'), text), [], "{text}");
     }
     assert_eq!(offered(state("hexadecimal base_prefix='x'", b'p', b'.'), "0x1.8p3f"), []);
@@ -140,7 +140,7 @@ fn walk(lines: &str) -> Option<State> {
     let mut state = state("", b'e', b'.');
     for &line in &lines {
         if state.read(line.text).is_err() {
-            state = offers(state, &lines, line).first()?.0;
+            state = *offers(state, &lines, line).first()?;
         }
     }
     (state.as_expected(&lines) == lines.len()).then_some(state)

@@ -5,37 +5,15 @@ mod random;
 
 use peltzivar::format::FLAG_MASK;
 use peltzivar::literal::{
-    Condition, Conditions, ExponentStyle, Form, Forms, FromLiteral, Kind, Language, Literal, Sign, Special, Specials,
-    Spelling, Style, Syntax, WriteError, WriteInteger,
+    Condition, Conditions, ExponentStyle, Form, Forms, Language, Literal, Sign, Special, Specials, Spelling, Style,
+    Syntax, WriteError,
 };
 use peltzivar::{Format, NumberFormatBuilder, Part, Settings};
 use random::Random;
 use std::collections::{BTreeMap, HashSet};
-use std::{fmt::Debug, num::NonZeroU8};
+use std::num::NonZeroU8;
 
 const LITERALS: &str = include_str!("literals.txt");
-
-/// Writes a value in each syntax of the languages, and reads it back.
-fn is_read_back<T: WriteInteger + FromLiteral + PartialEq + Copy + Debug>(value: T) {
-    for syntax in Language::ALL.iter().flat_map(Language::forms).map(Form::syntax) {
-        for style in [Style::PLAIN, Style::PLAIN.group(3), Style::PLAIN.without_base()] {
-            match syntax.format_integer(value, style) {
-                Ok(text) => assert_eq!(syntax.parse::<T>(text.to_string()), Ok(value), "{text}"),
-                Err(WriteError::Float) => assert!(syntax.format().required_exponent_notation()),
-                Err(WriteError::Negative) => assert!(syntax.conditions().has(Condition::NegativeSign)),
-                Err(error) => panic!("{value:?} in {syntax}: {error}"),
-            }
-        }
-    }
-}
-
-#[test]
-fn integers_are_read_back() {
-    is_read_back(255_u8);
-    is_read_back(-1_000_i64);
-    is_read_back(usize::MAX);
-    is_read_back(i128::MIN);
-}
 
 /// Returns each language with a text of `literals.txt` that it reads as a literal.
 fn rows() -> impl Iterator<Item = (Language, &'static str)> {
@@ -113,13 +91,6 @@ fn is_short(value: &Value) -> bool {
     top + value.1.iter().map(|(prime, count)| f64::from(*prime).log2() * *count as f64).sum::<f64>() < 127.9
 }
 
-/// Returns whether a literal that was written has the value of one of another kind: the same integer, or the same bits.
-fn is_worth(literal: &Literal, written: &Literal) -> bool {
-    let bits = |it: &Literal| it.to_f64().map(f64::to_bits).ok();
-    bits(literal) == bits(written)
-        && (literal.is_float() || written.is_float() || literal.to_i128() == written.to_i128())
-}
-
 /// Returns whether the writer finds out what the value of a literal with an exponent is: the radix and the base are one, or powers
 /// of two, or the digits certainly have at most 128 bits.
 fn is_found_out(literal: &Literal, radix: u32, base: u32) -> bool {
@@ -147,46 +118,6 @@ fn is_reason(error: WriteError, literal: &Literal, exact: &Value, source: &Synta
         WriteError::Exponent => has_exponent && from.exponent_base() != from.radix() && !is_number,
         _ => false,
     }
-}
-
-#[test]
-fn literals_are_written_in_other_languages() {
-    let mut counts = BTreeMap::new();
-    for (language, text) in rows() {
-        let number = language.read(text).unwrap();
-        let (literal, form) = (number.literal().unwrap(), number.form().unwrap());
-        let source = language.forms()[form].syntax();
-        let exact = value(&literal, &source);
-        for target in Language::ALL {
-            for form in target.forms() {
-                let style = Style::PLAIN.group(text.len() % 5);
-                let key = match form.syntax().format_literal(&literal, style) {
-                    Ok(written) => {
-                        let back = written.to_string();
-                        let read = form.syntax().read(&back).unwrap_or_else(|error| {
-                            panic!("{language} {text:?} in {target} {}: {back:?}: {error}", form.name())
-                        });
-                        let same = if literal.kind() == Kind::EXACT {
-                            value(&read, &form.syntax()) == exact
-                        } else {
-                            is_worth(&literal, &read)
-                        };
-                        assert!(same, "{language} {text:?} in {target}: {back:?}");
-                        "written".to_string()
-                    }
-                    Err(error) => {
-                        assert!(
-                            is_reason(error, &literal, &exact, &source, &form.syntax()),
-                            "{language} {text:?} in {target}: {error:?}"
-                        );
-                        format!("{error:?}")
-                    }
-                };
-                *counts.entry(key).or_insert(0) += 1;
-            }
-        }
-    }
-    println!("{counts:?}");
 }
 
 /// Returns the syntax with these settings, in which no digits are required unless they say so.
@@ -380,23 +311,11 @@ fn languages_read_what_they_write() {
     }
 }
 
+/// As std's numbers: zeros and the sign come before the digits, of which zeros are in no group.
 #[test]
-fn texts_are_printed() {
-    let toml = Language::TOML.forms()[0].syntax();
-    let text = toml.format_integer(-1_234_567, Style::PLAIN.group(3)).unwrap();
-    let printed = format!("{text:>12}|{text:*^14.2}|{text:11}|{text:?}");
-    assert_eq!(printed, "  -1_234_567|**-1_234_567**| -1_234_567|\"-1_234_567\"");
-    let hexadecimal = Language::C.forms()[2].syntax();
-    let (short, long) = (hexadecimal.format_integer(255, Style::PLAIN).unwrap(), "7".repeat(60));
-    let literal = toml.read(&long).unwrap();
-    let long = toml.format_literal(&literal, Style::PLAIN).unwrap();
-    // As std's numbers: zeros and the sign come before the digits.
-    assert_eq!(
-        format!("{short:08}|{short:+}|{short:+8}|{short:<6}|"),
-        format!("{:#08X}|{:+}|{:>8}|0xFF  |", 255, "+0xFF", "+0xFF")
-    );
-    assert_eq!(format!("{text:012}|{text:+}|{long:063}"), format!("-001_234_567|-1_234_567|000{long}"));
-    assert_eq!(format!("{long:+}{long:_^62}"), format!("+{long}_{long}_"));
+fn zeros_are_in_no_group() {
+    let text = Language::TOML.forms()[0].syntax().format_integer(-1_234_567, Style::PLAIN.group(3)).unwrap();
+    assert_eq!(format!("{text:012}|{text:+}|{text:*^14.2}"), "-001_234_567|-1_234_567|**-1_234_567**");
 }
 
 /// Integers of each number of binary digits, in groups and without, and the literals that are read from them. Each byte
@@ -423,100 +342,17 @@ fn texts_of_each_length_are_printed_and_written() {
     }
 }
 
+/// A special value has the sign that a syntax requires, and of its spellings the first that is read back.
 #[test]
-fn special_values_are_read_back() {
-    let builder = NumberFormatBuilder::new();
+fn special_values_have_the_required_sign() {
     let specials = Specials { nan: Some(b"nan"), inf: Some(b"nan"), infinity: Some("\u{221E}".as_bytes()) };
-    for (sign, spelling) in [None, Some(Sign::Plus), Some(Sign::Minus)]
-        .into_iter()
-        .flat_map(|sign| [Spelling::Nan, Spelling::Inf, Spelling::Infinity].map(|spelling| (sign, spelling)))
-    {
-        for (format, plus) in
-            [(builder, ""), (builder.required_mantissa_sign(true), "+"), (builder.no_special(true), "")]
-        {
-            let syntax = Syntax::integers(format.build_format_or_panic());
-            let written = specials.format(&syntax, Special { sign, spelling });
-            if syntax.format().no_special() {
-                assert_eq!(written.unwrap_err(), WriteError::Special);
-                continue;
-            }
-            let word = if spelling == Spelling::Nan { "nan" } else { "\u{221E}" };
-            let text = format!("{}{word}", if sign == Some(Sign::Minus) { "-" } else { plus });
-            let written = written.unwrap();
-            assert_eq!((written.to_string(), format!("{written:>5}")), (text.clone(), format!("{text:>5}")));
-            assert_eq!(format!("{written:05}"), format!("{text:>5}"));
-            assert_eq!(written.write_into(&mut [0; 8]), Ok(&*text));
-            let back = specials.read(&syntax, text.as_bytes()).unwrap();
-            let (nan, minus) = (back.spelling == Spelling::Nan, back.sign == Some(Sign::Minus));
-            assert_eq!((nan, minus), (spelling == Spelling::Nan, sign == Some(Sign::Minus)));
+    let signed = NumberFormatBuilder::new().required_mantissa_sign(true).build_format_or_panic();
+    for (sign, shown) in [(None, "+"), (Some(Sign::Plus), "+"), (Some(Sign::Minus), "-")] {
+        for (spelling, word) in [(Spelling::Nan, "nan"), (Spelling::Inf, "\u{221E}")] {
+            let written = specials.format(&Syntax::integers(signed), Special { sign, spelling }).unwrap();
+            let text = format!("{shown}{word}");
+            assert_eq!((written.to_string(), written.write_into(&mut [0; 8])), (text.clone(), Ok(&*text)));
         }
-    }
-    let syntax = Syntax::integers(builder.build_format_or_panic());
-    let conditions = syntax.with_conditions(Conditions::NONE.no_negative_mantissa_sign(true)).unwrap();
-    let minus = Special { sign: Some(Sign::Minus), spelling: Spelling::Nan };
-    assert_eq!(specials.format(&conditions, minus).unwrap_err(), WriteError::Special);
-    assert_eq!(Specials::default().format(&syntax, minus).unwrap_err(), WriteError::Special);
-}
-
-#[test]
-fn the_style_and_conditions_decide_on_prefix_suffix_and_groups() {
-    let builder = NumberFormatBuilder::new().mantissa_radix(16).base_prefix(NonZeroU8::new(b'x'));
-    let builder = builder.digit_separator(NonZeroU8::new(b',')).integer_internal_digit_separator(true);
-    let syntax = Syntax::integers(builder.build_format_or_panic());
-    let bare = Style::PLAIN.without_base();
-    let text = |syntax: Syntax, style| syntax.format_integer(0xFFFF, style).unwrap().to_string();
-    assert_eq!((text(syntax, Style::PLAIN).as_str(), text(syntax, bare.group(2)).as_str()), ("0xFFFF", "FF,FF"));
-    let conditions = Conditions::NONE.required_base_prefix(true).no_negative_mantissa_sign(true);
-    let strict = syntax.with_conditions(conditions.integer_group_size(Some(3))).unwrap();
-    let texts = [bare, bare.group(2), bare.group(0)].map(|style| text(strict, style));
-    assert_eq!(texts, ["0xF,FFF", "0xF,FFF", "0xFFFF"]);
-    assert_eq!(strict.format_integer(-1, bare).unwrap_err(), WriteError::Negative);
-    let indian =
-        syntax.with_conditions(Conditions::NONE.integer_group_size(Some(3)).higher_group_size(Some(2))).unwrap();
-    let texts =
-        [0xFFF, 0xFFFF, 0xF_FFFF, 0xFFF_FFFF].map(|it| indian.format_integer(it, bare.group(4)).unwrap().to_string());
-    assert_eq!(texts, ["FFF", "F,FFF", "FF,FFF", "FF,FF,FFF"]);
-}
-
-/// The expected texts are those of C and NASM, and for the last rows, of docs/FORMS.md.
-#[test]
-fn a_zero_is_written_where_a_number_may_not_begin_with_another_digit() {
-    let plain = Style::PLAIN;
-    let form =
-        |language: Language, name| language.forms().as_slice().iter().find(|it| it.name() == name).unwrap().syntax();
-    let (octal, nasm) = (form(Language::C, "octal"), form(Language::NASM, "hexadecimal, h"));
-    let binary = NonZeroU8::new(2);
-    let none = NumberFormatBuilder::new().mantissa_radix(16).exponent_base(binary).exponent_radix(NonZeroU8::new(10));
-    let floats = Syntax::new_or_panic(none.required_digits(false).build_format_or_panic(), b'p', b'.');
-    let zeros = floats.with_conditions(Conditions::NONE.required_leading_zero(true)).unwrap();
-    let decimal = floats.with_conditions(Conditions::NONE.decimal_first_digit(true)).unwrap();
-    let prefix = none.base_prefix(NonZeroU8::new(b'x')).build_format_or_panic();
-    let prefixed = Syntax::integers(prefix).with_conditions(Conditions::NONE.decimal_first_digit(true)).unwrap();
-    let long = format!("AB{}", "0".repeat(40));
-    for (text, target, style, wanted) in [
-        ("F", octal, plain, "017".into()),
-        ("0", octal, plain, "0".into()),
-        ("53977", octal, plain.group(3), "01'234'567".into()),
-        ("F", octal, plain.min_digits(2), "017".into()),
-        ("F", octal, plain.min_digits(4), "0017".into()),
-        ("AB", nasm, plain.lowercase(), "0abh".into()),
-        ("00AB", nasm, plain, "0ABh".into()),
-        ("12", nasm, plain, "12h".into()),
-        ("0", nasm, plain, "0h".into()),
-        ("Ap8", nasm, plain, "0A00h".into()),
-        (&long, nasm, plain, format!("0{long}h")),
-        ("AB", prefixed, plain, "0xAB".into()),
-        ("AB", prefixed, plain.without_base(), "0AB".into()),
-        (".8", zeros, plain, "0.8".into()),
-        ("12.8", zeros, plain, "012.8".into()),
-        (".8", decimal, plain, "0.8".into()),
-        ("A.8", decimal, plain, "0A.8".into()),
-        ("-1.8", decimal, plain, "-1.8".into()),
-    ] {
-        let literal = floats.read(text).unwrap();
-        let written = target.format_literal(&literal, style).unwrap().to_string();
-        assert!(target.read(&written).is_ok());
-        assert_eq!(written, wanted, "{text}");
     }
 }
 

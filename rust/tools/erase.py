@@ -59,25 +59,8 @@ HIDDEN = re.compile(r"#\[doc\(hidden\)\](\s+)(impl .*?^\}|pub\b)", re.S | re.M)
 MODULES = {"format": "word", "feature_format": "view"}
 VIEW = ("NumberFormat", "FormatView")
 
-# Tests and tables that plain Rust copies, and the folder of the copies. The other tests are only for Rattle.
-COPIED = {
-    "lexical_tests/src/*.rt": "tests/known",
-    "numfmt/src/tests/rows.rt": "numfmt/tests/program",
-}
-NOT_COPIED = {"lib.rt", "example.rt", "groups.rt", "values.rt"}
-
-# The forms of tests in Rattle, and in plain Rust.
-TEST_FORMS = [
-    ("rattlefmt::skip", "rustfmt::skip"),
-    ("(rt: HostRuntime)", "()"),
-    (" -> Result<(), Fail>", ""),
-    ("    Ok(())\n", ""),
-    ("use std::test::Fail;\n", ""),
-    ("lexical_forms::specials::", "lexical_literal::"),
-    ("lexical_literal::syntax::", "lexical_literal::"),
-    ("assert!(rt;", "assert!("),
-    ("#[allow(deprecated)]", "#[expect(deprecated)]"),
-]
+# A table of runs that plain Rust copies.
+ROWS = "numfmt/src/tests/rows.rt", "numfmt/tests/program/rows.rs"
 
 # Texts that plain Rust replaces: the end of the path, the text, and the replacement.
 REPLACED = [
@@ -182,6 +165,7 @@ REPLACED += [
     # The library for C has one copy of these.
     ("reasons.rt", "#[inline(always)]\n#[tactic(auto, unfolding(lexical_flags::specs::Roles::Disjoint))]\nconst fn clash(", "#[cfg_attr(not(peltzivar_small), inline(always))]\nconst fn clash("),
     ("reasons.rt", "#[inline(always)]\nconst fn reason_for(", "#[cfg_attr(not(peltzivar_small), inline(always))]\nconst fn reason_for("),
+    ("exclude.rt", "#[inline(always)]\npub(crate) const fn lacks_longer(", "#[cfg_attr(not(peltzivar_small), inline(always))]\npub(crate) const fn lacks_longer("),
     ("lexical_literal/src/stop.rt", "stop.step(syntax, text, last)", "stop.step_any(syntax, text, last)"),
     ("lexical_literal/src/stop.rt", "at.step(self, text, last)", "at.step_any(self, text, last)"),
     # Texts that are refused need it alone, and one copy is enough for all calls.
@@ -386,13 +370,8 @@ def made_files():
                 head = f"{MADE} from crates/{crate}/src/{name}: change that file.\n\n"
                 text = head + renamed(Source(path, replaced(path)).erase(), *names)
                 files[RUST.joinpath(folder, stem, *others).with_suffix(".rs")] = laid_out(path, text)
-    for pattern, folder in COPIED.items():
-        for path in sorted(it for it in CRATES.glob(pattern) if it.name not in NOT_COPIED):
-            text = f"{MADE} from crates/{path.relative_to(CRATES)}: change that file.\n\n{path.read_text()}"
-            for old, new in TEST_FORMS:
-                text = text.replace(old, new)
-            text = re.sub(r"format!\(in rt\.alloc\(\); ([^)]*)\)\?", r"format!(\1)", text)
-            files[RUST.joinpath(folder, path.stem).with_suffix(".rs")] = laid_out(path, renamed(text, "peltzivar", "crate", "std"))
+    text = f"{MADE} from crates/{ROWS[0]}: change that file.\n\n{replaced(CRATES / ROWS[0])}"
+    files[RUST / ROWS[1]] = laid_out(ROWS[0], text)
     # The pages that the package has, as modules of its documentation. Cargo packs only files below rust/, and rt takes no
     # links. Links to files that are not in the package lead nowhere outside the repository.
     for name in PAGES:
@@ -407,7 +386,7 @@ def made_files():
 def main():
     files = made_files()
     stale = [path for path, text in files.items() if not path.exists() or path.read_text() != text]
-    folders = {folder for folder, *_ in PLACES.values()} | set(COPIED.values())
+    folders = {folder for folder, *_ in PLACES.values()} | {"numfmt/tests"}
     sources = {it for folder in folders for it in (RUST / folder).rglob("*.rs")}
     gone = [it for it in sources if it not in files and it.read_text().startswith(MADE)]
     names = " ".join(str(path.relative_to(RUST)) for path in stale + gone)

@@ -1,14 +1,15 @@
 -- Several forms: what has been found in the first of them, and what one form more adds.
 use Rattle.lexical_forms.proofs.Common.{ℕ, ◌≡◌, ◌*◌, inl, inr, Bool, true, false, ◌<◌, ◌≤◌, ◌+◌, List, Ok, Option, Some, None, All, IsSomeAnd, []}
-use Rattle.lexical_forms.proofs.Common.{◌∷◌, take, get_or, IsNone, refl, sym, subst, ap, arith, nat_tests, cases_lt, false≢true, take_all, All-more}
-use Rattle.lexical_forms.proofs.Common.{◌∙◌, length-take-le, slice_get-get_or, Literal, Reads}
-use Rattle.lexical_forms.proofs.Common.{Notation, notation_of, common_steps, if◌then◌else◌, length, slice_get}
-use Rattle.lexical_forms.proofs.Common.{IsFurthestForm, sign_size, IsCountedFront, IsStopped, IsRefusal, Refusal, FormList, NoForm, ReadsForm, is_stray, reach}
-use Rattle.lexical_forms.proofs.Common.{IsValidUpTo, NoFront, ReadsFront, Read, Found, Stopped, Form}
-use Rattle.lexical_forms.specs.Additions.Forms.{AreBelow, GoesTo, IsBehind, IsFoundForm, IsFoundFrontForm, IsLed}
-use Rattle.lexical_forms.specs.Additions.Forms.{IsNoBetter, IsRefusedAt, Leads, greater, limit, longer}
-use Rattle.lexical_forms.specs.Forms.{HasFront, HasKind, IsErrorOfForm, IsFirst, IsFormError, IsGreatest, IsReadByForms, Reaches}
-use Rattle.std.specs.Option.{ForSome}
+use Rattle.lexical_forms.proofs.Common.{◌∷◌, take, get_or, refl, sym, subst, ap, arith, nat_tests, cases_lt, false≢true, take_all, All-more}
+use Rattle.lexical_forms.proofs.Common.{◌∙◌, length-take-le, slice_get-get_or, Literal}
+use Rattle.lexical_forms.proofs.Common.{◌++◌, ◌||◌, Notation, NoLiteral, is_absent, is_present, notation_of, common_steps, if◌then◌else◌, length, slice_get}
+use Rattle.lexical_forms.proofs.Common.{IsFurthestForm, sign_size, IsCountedFront, IsStopped, Refusal, FormList, NoForm, ReadsForm, is_stray, reach}
+use Rattle.lexical_forms.proofs.Common.{Read, Found, Stopped, Form}
+use Rattle.lexical_literal.specs.Front.{IsValidBy, NoFrontBy, ReadsFrontBy}
+use Rattle.lexical_forms.specs.Additions.Forms.{AreBelow, IsBehind, IsFoundForm, IsFoundFrontForm, IsFrontPast, IsLed, IsLongestPast}
+use Rattle.lexical_forms.specs.Additions.Forms.{IsNoBetter, IsRefusedAt, Leads, NoFrontPast, greater, limit}
+use Rattle.lexical_forms.specs.Forms.{GoesTo, HasFront, HasKind, IsErrorIn, IsErrorOfForm, IsFirst, IsFormError, IsGreatest, IsReadByForms, Reaches, ReadsIn}
+use Rattle.std.proofs.Common.{not}
 use Rattle.std.proofs.Math.Nat.{le_antisymm}
 use Rattle.std.proofs.lemmas.List.{get_or-take}
 use Rattle.std.proofs.lemmas.Option.{slice_get_within}
@@ -45,19 +46,21 @@ pub at_index : (P : Form → Type 0) (forms list : List Form) (g : Form) (i : �
 at_index P forms list g i same inside holds = grind (arith, common_steps, slice_get-get_or)
 
 -- A text has one longest front that some literal begins with, and one that is a literal.
-pub one_size : (m : Notation) (text : List ℕ) (a b : ℕ) → IsValidUpTo m text a → IsValidUpTo m text b → a ≤ b
-one_size m text a b is other = let longer = λ (below : b < a). other.no_longer a below is.within is.front in grind arith
+module _ (R : Literal → List ℕ → Type 0) (text : List ℕ) where
+  pub one_size : (a b : ℕ) → IsValidBy R text a → IsValidBy R text b → a ≤ b
+  one_size a b is other = let longer = λ (below : b < a). other.no_longer a below is.within is.front in grind arith
 
-pub one_front : (m : Notation) (text : List ℕ) (l k : Literal) (a b : ℕ) → ReadsFront m l text a → ReadsFront m k text b → a ≤ b
-one_front m text l k a b is other = let longer = λ (below : b < a). other.no_longer a below is.within l is.reads in grind arith
+  pub one_front : (l k : Literal) (a b : ℕ) → ReadsFrontBy R l text a → ReadsFrontBy R k text b → a ≤ b
+  one_front l k a b is other = let longer = λ (below : b < a). other.no_longer a below is.within l is.reads in grind arith
+
+-- A number and at most 1 more.
+bit_within : (n a b : ℕ) (t : Bool) → a ≤ 1 → b ≤ 1 → (n ≤ n + (if t then a else b)) × (n + (if t then a else b) ≤ n + 1)
+bit_within n a b true most other = (omega arith, omega (arith, most))
+bit_within n a b false most other = (omega arith, omega (arith, other))
 
 module _ (text : List ℕ) (g : Form) where
   reach_within : (error : Refusal) → (2 * error.valid_up_to ≤ reach error) × (reach error ≤ 2 * error.valid_up_to + 1)
-  reach_within error = go (is_stray error) where
-    go : (b : Bool) → (2 * error.valid_up_to ≤ 2 * error.valid_up_to + (if b then 0 else 1))
-        × (2 * error.valid_up_to + (if b then 0 else 1) ≤ 2 * error.valid_up_to + 1)
-    go true = (omega arith, omega arith)
-    go false = (omega arith, omega arith)
+  reach_within error = bit_within (2 * error.valid_up_to) 0 1 (is_stray error) (omega arith) (omega arith)
 
   -- The reach of a form that goes up to `size`, or less far.
   pub reach_up_to : (size : ℕ) → ((other : ℕ) → GoesTo text g other → other ≤ size) → (n : ℕ) → Reaches text g n → n ≤ 2 * size + 1
@@ -65,9 +68,9 @@ module _ (text : List ℕ) (g : Form) where
 
   -- The reach of a form that stops at `stop`.
   module _ (stop : Stopped) (is : IsRefusedAt text stop g) where
-    size_of : (error : Refusal) → IsRefusal (notation_of g.syntax) text error → error.valid_up_to ≡ stop.size
-    size_of error refusal = le_antisymm (one_size (notation_of g.syntax) text error.valid_up_to stop.size refusal.valid_up_to is.0.valid)
-        (one_size (notation_of g.syntax) text stop.size error.valid_up_to is.0.valid refusal.valid_up_to)
+    size_of : (error : Refusal) → IsErrorIn g text error → error.valid_up_to ≡ stop.size
+    size_of error refusal = le_antisymm (one_size (ReadsIn g) text error.valid_up_to stop.size refusal.valid_up_to is.0.valid)
+        (one_size (ReadsIn g) text stop.size error.valid_up_to is.0.valid refusal.valid_up_to)
 
     pub reach_least : (n : ℕ) → Reaches text g n → 2 * stop.size ≤ n
     reach_least n reaches = let least = reach_within reaches.0 in omega (arith, size_of reaches.0 reaches.1, least.0, reaches.2)
@@ -75,7 +78,7 @@ module _ (text : List ℕ) (g : Form) where
     pub reach_most : (n : ℕ) → Reaches text g n → n ≤ 2 * stop.size + 1
     reach_most n reaches = let most = reach_within reaches.0 in omega (arith, size_of reaches.0 reaches.1, most.1, reaches.2)
 
-    pub reach_is : (b : Bool) → ((error : Refusal) → IsRefusal (notation_of g.syntax) text error → is_stray error ≡ b)
+    pub reach_is : (b : Bool) → ((error : Refusal) → IsErrorIn g text error → is_stray error ≡ b)
         → (n : ℕ) → Reaches text g n → n ≡ 2 * stop.size + (if b then 0 else 1)
     reach_is b stray n reaches = sym reaches.2 ∙ ap (λ (b : Bool). 2 * reaches.0.valid_up_to + (if b then 0 else 1)) (stray reaches.0 reaches.1)
         ∙ ap (λ k. 2 * k + (if b then 0 else 1)) (size_of reaches.0 reaches.1)
@@ -106,11 +109,6 @@ module _ {X : Type 0} (M : Measure X) (forms : List Form) where
     abbrev g : Form
     g = get_or forms i d
 
-    -- The form at `i` has no value.
-    pub best_stays : M.IsNot g → (best : Option (ℕ × X)) → IsBest i best → IsBest (i + 1) best
-    best_stays none None old = All-more M.IsNot forms i d inside old none
-    best_stays none (Some best) old = grind (arith, common_steps)
-
     -- It has the value `x`, which is greater than those before.
     greatest_yet : (x : X) → M.IsValue g x → All (λ g. (n : ℕ) → M.IsSize g n → n < M.size x) (take i forms) → IsBestOf (i + 1) i x
     greatest_yet x is less = grind (arith, common_steps, slice_get-get_or)
@@ -124,36 +122,17 @@ module _ {X : Type 0} (M : Measure X) (forms : List Form) where
   greatest : (i : ℕ) → length forms ≤ i → (form : ℕ) (x : X) → IsBestOf i form x → IsGreatest M.IsSize forms form (M.size x)
   greatest i end form x is = grind (arith, take_all)
 
--- How far each form goes, and the longest front that is a literal of each form.
+-- How far each form goes.
 abbrev pub goes : List ℕ → Measure Stopped
 goes text = record {
   size = λ stop. stop.size;
   IsSize = GoesTo text;
   IsValue = λ g stop. IsStopped (notation_of g.syntax) text stop;
   IsNot = λ g. ⊥;
-  one = λ g a b is other. one_size (notation_of g.syntax) text a b is other;
+  one = λ g a b is other. one_size (ReadsIn g) text a b is other;
   sized = λ g stop is. is.valid;
   none = λ g a none is. none;
 }
-
-abbrev pub fronts : List ℕ → Measure Found
-fronts text = record {
-  size = λ found. found.size;
-  IsSize = HasFront text;
-  IsValue = λ g found. IsCountedFront (notation_of g.syntax) text found;
-  IsNot = λ g. NoFront (notation_of g.syntax) text;
-  one = λ g a b is other. one_front (notation_of g.syntax) text is.0 other.0 a b is.1 other.1;
-  sized = λ g found is. (is.literal, is.reads);
-  none = λ g a none is. none a is.1.within is.0 is.1.reads;
-}
-
--- One form more, with its longest front, or none.
-pub fronts_more : (text : List ℕ) (forms : List Form) (i : ℕ) (d : Form) → i < length forms
-    → (longest : Option (ℕ × Found)) → IsBest (fronts text) forms i longest → (found : Option Found)
-    → ForSome found (IsCountedFront (notation_of (get_or forms i d).syntax) text) → (IsNone found → NoFront (notation_of (get_or forms i d).syntax) text)
-    → IsBest (fronts text) forms (i + 1) (longer longest i found)
-fronts_more text forms i d inside longest old None has none = best_stays (fronts text) forms i d inside (none refl) longest old
-fronts_more text forms i d inside longest old (Some found) has none = best_more (fronts text) forms i d inside found (has found refl) longest old
 
 -- The first form that reads the text.
 pub found_is : (forms : List Form) (text : List ℕ) (i : ℕ) (d : Form) (read : Read) → i < length forms
@@ -164,8 +143,8 @@ found_is forms text i d read inside is before = grind (arith, slice_get-get_or)
 pub first_of : (forms : List Form) (text : List ℕ) (i : ℕ) (read own : Read) → own.format ≡ read.format → own.literal ≡ read.literal
     → IsFirst forms text i read → IsFirst forms text i own
 first_of forms text i read own format same is = record {
-  reads = subst (λ l. IsSomeAnd (slice_get forms i) (λ form. (own.format ≡ form.syntax.word) × Reads (notation_of form.syntax) l text)) (sym same)
-      (subst (λ f. IsSomeAnd (slice_get forms i) (λ form. (f ≡ form.syntax.word) × Reads (notation_of form.syntax) read.literal text)) (sym format) is.reads);
+  reads = subst (λ l. IsSomeAnd (slice_get forms i) (λ form. (own.format ≡ form.syntax.word) × ReadsIn form l text)) (sym same)
+      (subst (λ f. IsSomeAnd (slice_get forms i) (λ form. (f ≡ form.syntax.word) × ReadsIn form read.literal text)) (sym format) is.reads);
   before = is.before;
 }
 
@@ -188,10 +167,6 @@ module _ (forms : List Form) (text : List ℕ) (i : ℕ) (end : length forms ≤
     none_of (form ∷ forms) some all = all 0 form some
   furthest_is some (Some best) is = (greatest (goes text) forms i end best.0 best.1 is, is.here)
 
-  pub longest_is : (form : ℕ) (found : Found) → IsBest (fronts text) forms i (Some (form, found)) → IsFoundFrontForm forms text (Ok (form, found))
-  longest_is form found is =
-      record { longest = greatest (fronts text) forms i end form found is; found = is.here; none = λ err. absurd (false≢true err); error = tt }
-
   pub all_tried : (P : Form → Type 0) → All P (take i forms) → All P forms
   all_tried P all = subst (All P) (take_all i forms end) all
 
@@ -200,12 +175,105 @@ pub each : {X : Type 0} (P Q : X → Type 0) (o : Option X) → ((x : X) → P x
 each P Q (Some x) follows holds = follows x holds
 each P Q None follows holds = holds
 
+-- Of the first `i` forms, no front has more than `reached` bytes, and the first as many, more than `size`, is `longest`, if there is one.
+module _ (forms : List Form) (text : List ℕ) (size : ℕ) where
+  abbrev Past : ℕ → Form → Type 0
+  Past reached g = NoFrontPast (notation_of g.syntax) text reached
+
+  pub record IsFound (reached form : ℕ) (found : Found) : Type 0 where
+    pub same : reached ≡ found.size
+    pub here : IsSomeAnd (slice_get forms form) (λ g. IsFrontPast (notation_of g.syntax) text size found)
+    pub before : All (λ g. (n : ℕ) → HasFront text g n → n < found.size) (take form forms)
+
+  abbrev pub IsReached : ℕ → Option (ℕ × Found) → Type 0
+  IsReached reached None = reached ≡ size
+  IsReached reached (Some best) = IsFound reached best.0 best.1
+
+  pub record AreWithin (i reached : ℕ) (longest : Option (ℕ × Found)) : Type 0 where
+    pub low : size ≤ reached
+    pub past : All (Past reached) (take i forms)
+    pub best : IsReached reached longest
+
+  up_to : (reached : ℕ) (g : Form) → Past reached g → (n : ℕ) → HasFront text g n → n ≤ reached
+  up_to reached g past n front = elim (cases_lt reached n) [
+    | inl more ↦ absurd (past n more front.1.within front.0 front.1.reads)
+    | inr low ↦ low
+  ]
+
+  module _ (i : ℕ) (d : Form) (inside : i < length forms) (reached : ℕ) (longest : Option (ℕ × Found)) (old : AreWithin i reached longest) where
+    -- One form more, which has no longer front.
+    pub front_stays : Past reached (get_or forms i d) → AreWithin (i + 1) reached longest
+    front_stays none = record { low = old.low; past = All-more (Past reached) forms i d inside old.past none; best = old.best }
+
+    -- It has a longer one.
+    pub front_more : (found : Found) → IsFrontPast (notation_of (get_or forms i d).syntax) text reached found → AreWithin (i + 1) found.size (Some (i, found))
+    front_more found is = record {
+      low = omega (arith, old.low, is.0);
+      past = All-more (Past found.size) forms i d inside (λ k e below n more. old.past k e below n (omega (arith, more, is.0))) is.1.reads.no_longer;
+      best = record {
+        same = refl;
+        here = at_index (λ g. IsFrontPast (notation_of g.syntax) text size found) forms forms d i refl inside (omega (arith, old.low, is.0), is.1);
+        before = λ k e below n front. let most = up_to reached (get_or (take i forms) k e) (old.past k e below) n front in omega (arith, most, is.0);
+      };
+    }
+
+  -- All forms have been asked.
+  pub longest_past_is : (i : ℕ) → length forms ≤ i → (reached : ℕ) (longest : Option (ℕ × Found)) → AreWithin i reached longest
+      → IsLongestPast forms text size longest
+  longest_past_is i end reached None is = subst (λ k. All (Past k) forms) is.best (all_tried forms text i end (Past reached) is.past)
+  longest_past_is i end reached (Some best) is =
+      let past = all_tried forms text i end (Past reached) is.past in
+      record {
+        longest = record {
+          here = each (λ g. IsFrontPast (notation_of g.syntax) text size best.1) (λ g. HasFront text g best.1.size) (slice_get forms best.0)
+              (λ g found. (found.1.literal, found.1.reads)) is.best.here;
+          before = is.best.before;
+          others = λ k d below n front. let most = up_to reached (get_or forms k d) (past k d below) n front in omega (arith, most, is.best.same);
+        };
+        counted = is.best.here;
+      }
+
+-- The longest front has no more bytes.
+pub no_longer_front : (m : Notation) (text : List ℕ) (size : ℕ) (found : Found) → IsCountedFront m text found → found.size ≤ size → NoFrontPast m text size
+no_longer_front m text size found is low more past = is.reads.no_longer more (omega (arith, low, past))
+
+-- The longest front of all.
+pub front_is : (forms : List Form) (text : List ℕ) (size index : ℕ) (found : Found) → IsLongestPast forms text size (Some (index, found))
+    → IsFoundFrontForm forms text (Ok (index, found))
+front_is forms text size index found is = record {
+  longest = is.longest;
+  found = each (λ g. IsFrontPast (notation_of g.syntax) text size found) (λ g. IsCountedFront (notation_of g.syntax) text found) (slice_get forms index)
+      (λ g past. past.1) is.counted;
+  none = λ err. absurd (false≢true err);
+  error = tt;
+}
+
+empty_both : (xs ys : List ℕ) → [] ≡ xs ++ ys → ([] ≡ xs) × ([] ≡ ys)
+empty_both [] ys is = (refl, is)
+empty_both (x ∷ xs) ys is = absurd (let no = ap length is in omega (arith, no))
+
+empty_take : (text : List ℕ) → take 0 text ≡ []
+empty_take [] = refl
+empty_take (x ∷ text) = refl
+
+-- A literal has a byte.
+no_empty : (m : Notation) → NoLiteral m []
+no_empty m l reads =
+    let a = empty_both l.sign _ reads.whole in let b = empty_both l.prefix _ a.1 in let integer = empty_both l.integer _ b.1 in
+    let point = empty_both l.point _ integer.1 in let c = empty_both l.fraction _ point.1 in let character = empty_both l.exponent_character _ c.1 in
+    false≢true (subst (λ e. (is_present [] || (not (is_absent []) || not (is_absent e))) ≡ true) (sym character.0)
+    (subst (λ p. (is_present [] || (not (is_absent p) || not (is_absent l.exponent_character))) ≡ true) (sym point.0)
+    (subst (λ i. (is_present i || (not (is_absent l.point) || not (is_absent l.exponent_character))) ≡ true) (sym integer.0)
+    reads.literal.spelled.some_number)))
+
+-- No front has a byte.
+pub no_front : (forms : List Form) (text : List ℕ) → IsLongestPast forms text 0 None → All (λ g. NoFrontBy (ReadsIn g) text) forms
+no_front forms text none k d below ℕ.zero within l reads =
+    no_empty (notation_of (get_or forms k d).syntax) l (subst (ReadsIn (get_or forms k d) l) (empty_take text) reads)
+no_front forms text none k d below (ℕ.suc n) within l reads = none k d below (ℕ.suc n) (omega arith) within l reads
+
 pub limit_within : (best : Furthest) → (2 * best.stop.size ≤ limit best) × (limit best ≤ 2 * best.stop.size + 1)
-limit_within best = go best.settled where
-  go : (b : Bool) → (2 * best.stop.size ≤ 2 * best.stop.size + (if b then 1 else 0))
-      × (2 * best.stop.size + (if b then 1 else 0) ≤ 2 * best.stop.size + 1)
-  go true = (omega arith, omega arith)
-  go false = (omega arith, omega arith)
+limit_within best = bit_within (2 * best.stop.size) 1 0 best.settled (omega arith) (omega arith)
 
 -- The first form does not read the text.
 pub first_none : (forms : List Form) (text : List ℕ) (stop : Stopped) → IsSomeAnd (slice_get forms 0) (IsRefusedAt text stop) → NoForm (take 1 forms) text

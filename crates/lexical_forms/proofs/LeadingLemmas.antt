@@ -3,8 +3,8 @@ use Rattle.lexical_forms.proofs.Common.{ℕ, ◌≡◌, ◌&&◌, ◌||◌, Bool
 use Rattle.lexical_forms.proofs.Common.{IsSomeAnd, take, drop, get_or, append-nil, refl, sym, subst, ap, ◌∙◌, arith, cases_lt, false≢true, nat_tests}
 use Rattle.lexical_forms.proofs.Common.{length-take-le, All-more, slice_get-get_or, Literal, Reads, is_float, text_of, Notation, notation_of, Record, ◌==◌}
 use Rattle.lexical_forms.proofs.Common.{if◌then◌else◌, IsTrue, length, slice_get, sign_size, IsMeasured, IsStopped, AreSums, cut, Cuts, HasLengths, IsWithin}
-use Rattle.lexical_forms.proofs.Common.{FormList, ReadsForm, IsFront, IsValidUpTo, NoLiteral, IsAhead, Form, Stopped, Candidate}
-use Rattle.lexical_forms.specs.Additions.Forms.{PlaysNoRole}
+use Rattle.lexical_forms.proofs.Common.{FormList, ReadsForm, IsFront, IsValidUpTo, NoFront, NoLiteral, IsAhead, Form, Stopped, Candidate}
+use Rattle.lexical_forms.specs.Additions.Forms.{NoFrontPast, PlaysNoRole}
 use Rattle.lexical_literal.specs.Additions.Literal.{HasSums, before_exponent}
 use Rattle.lexical_forms.specs.Additions.Token.{FrontsWithin, IsLeading, IsNear, IsPicked, has_float, has_prefix}
 use Rattle.lexical_forms.specs.Forms.{HasFront}
@@ -105,11 +105,26 @@ module _ (m : Notation) (text : List ℕ) where
     lacking_within more below within front =
         not_begun more front.more below within (prefix_begins m front.literal (take more text ++ front.more) front.reads required)
 
+    pub lacking_none : NoFront m text
+    lacking_none n within l reads =
+        let begins = prefix_begins m l (take n text) reads required in
+        let inside = begins.inside in let size = length-take-le n text within in
+        let sign : sign_size (take n text) ≡ sign_size text =
+        ap sign_size (sym (append-nil (take n text))) ∙ front_sign text [] n within (omega (arith, inside, size)) in
+        lacking_within n (omega (arith, inside, size, sign)) within (as_front m (take n text) l reads)
+
 -- A form of which no literal goes on behind `size` bytes has no longer front.
-pub fronts_within : (text : List ℕ) (size : ℕ) (form : Form) → IsWithin (notation_of form.syntax) text size → FrontsWithin text size form
-fronts_within text size form is n front =
-    let within = front.1.within in
-    let longer = λ (past : size < n). is n past within (as_front (notation_of form.syntax) (take n text) front.0 front.1.reads) in grind arith
+pub no_front_past : (m : Notation) (text : List ℕ) (size : ℕ) → IsWithin m text size → NoFrontPast m text size
+no_front_past m text size is more past inside l reads = is more past inside (as_front m (take more text) l reads)
+
+pub fronts_past : (text : List ℕ) (size : ℕ) (form : Form) → NoFrontPast (notation_of form.syntax) text size → FrontsWithin text size form
+fronts_past text size form is n front = elim (cases_lt size n) [
+  | inl past ↦ absurd (is n past front.1.within front.0 front.1.reads)
+  | inr low ↦ low
+]
+
+fronts_within : (text : List ℕ) (size : ℕ) (form : Form) → IsWithin (notation_of form.syntax) text size → FrontsWithin text size form
+fronts_within text size form is = fronts_past text size form (no_front_past (notation_of form.syntax) text size is)
 
 -- A literal that stops at `stop` has no longer front.
 pub stopped_within : (text : List ℕ) (form : Form) (stop : ℕ) → IsValidUpTo (notation_of form.syntax) text stop → FrontsWithin text stop form

@@ -40,8 +40,8 @@ module _ (back needs : Bool) (text : List ℕ) (form : Form) (c : Candidate) (ma
   same_longest : other.longest ≡ made.candidate.longest
   same_longest =
       let a = made.candidate.front in let b = other.front in
-      let up = one_front (notation_of form.syntax) text a.0 b.0 made.candidate.longest other.longest a.1 b.1 in
-      let down = one_front (notation_of form.syntax) text b.0 a.0 other.longest made.candidate.longest b.1 a.1 in omega (arith, up, down)
+      let up = one_front (Reads (notation_of form.syntax)) text a.0 b.0 made.candidate.longest other.longest a.1 b.1 in
+      let down = one_front (Reads (notation_of form.syntax)) text b.0 a.0 other.longest made.candidate.longest b.1 a.1 in omega (arith, up, down)
 
   pub same_size : s ≡ c.size
   same_size = other.size_is
@@ -149,8 +149,8 @@ module _ (back : Bool) (m : Notation) (text : List ℕ) (found : Found) (is : Is
 module _ (back needs : Bool) (text : List ℕ) (form : Form) (found : Found) (is : IsCountedFront (notation_of form.syntax) text found) where
   longest_is : (s e : ℕ) → (other : IsCandidate back needs text form s e) → other.longest ≡ found.size
   longest_is s e other =
-      let up = one_front (notation_of form.syntax) text is.literal other.front.0 found.size other.longest is.reads other.front.1 in
-      let down = one_front (notation_of form.syntax) text other.front.0 is.literal other.longest found.size other.front.1 is.reads in
+      let up = one_front (Reads (notation_of form.syntax)) text is.literal other.front.0 found.size other.longest is.reads other.front.1 in
+      let down = one_front (Reads (notation_of form.syntax)) text other.front.0 is.literal other.longest found.size other.front.1 is.reads in
       omega (arith, up, down)
 
   pub without_own : NoOwn back (notation_of form.syntax) text found.size → NoCandidate back needs text form
@@ -298,8 +298,8 @@ module _ (back : Bool) (text : List ℕ) (end : ℕ) (form : Form) (stop : ℕ) 
 
   pub not_ahead : goes_on back (notation_of form.syntax) text end stop ≡ false → IsAhead back text end form → ⊥
   not_ahead off is =
-      let up = one_size (notation_of form.syntax) text stop is.size valid is.valid in
-      let down = one_size (notation_of form.syntax) text is.size stop is.valid valid in
+      let up = one_size (Reads (notation_of form.syntax)) text stop is.size valid is.valid in
+      let down = one_size (Reads (notation_of form.syntax)) text is.size stop is.valid valid in
       let same : is.size ≡ stop = omega (arith, up, down) in
       let further = is.further in let more = is.more in grind (arith, nat_tests)
 

@@ -1,14 +1,16 @@
 //! What excludes that a text is a literal of a form: its first bytes, or a byte that plays no role in the form.
 
 ghost use Rattle.std.specs.Prelude.{ℕ, ◌≡◌, ◌+◌, ◌<◌, ◌≤◌, Bool, IsTrue, get_or, length};
-ghost use Rattle.lexical_forms.specs.Additions.Forms.{AreFalse, IsNoBetter, IsStranger, PlaysNoRole, sign_size};
-ghost use Rattle.lexical_literal.specs.Front.{IsValidUpTo, NoLiteral};
+ghost use Rattle.lexical_forms.specs.Additions.Forms.{AreFalse, IsNoBetter, IsStranger, NoFrontPast, PlaysNoRole, sign_size};
+ghost use Rattle.lexical_forms.specs.Additions.Token.{IsWithin, has_prefix};
+ghost use Rattle.lexical_literal.specs.Front.{IsValidUpTo, NoFront, NoLiteral};
 ghost use Rattle.lexical_util.specs.Record.{Record};
 ghost use Rattle.lexical_util.specs.Roles.{cased, other_case};
 ghost use Rattle.lexical_literal.specs.Notation.{exponent_character_of, notation_of, point_of};
 
 use lexical_literal::cause::other_case;
-use lexical_literal::step::is_digit;
+use lexical_literal::step::{is_digit, role_at};
+use lexical_literal::stop::byte_at;
 use lexical_literal::syntax::{Condition, Grammar, Options};
 use lexical_util::format::{Part, base_prefix, base_suffix, digit_separator};
 
@@ -114,4 +116,60 @@ pub(crate) const fn sign_size(text: &[u8]) -> usize
         [b'+' | b'-', ..] => 1,
         _ => 0,
     }
+}
+
+// Returns whether no front of `text` with more than `size` bytes is a literal: there is not the prefix that is required, or the text ends
+// behind them, or a byte follows that plays no role. If they are more than a sign, no literal begins with more.
+#[inline(always)]
+pub(crate) const fn lacks_longer(grammar: Grammar, text: &[u8], size: usize) -> bool
+    ensures front { IsTrue result → NoFrontPast (notation_of grammar) text.now size }
+    ensures past { IsTrue result → sign_size text.now < size → IsWithin (notation_of grammar) text.now size }
+{
+    lacks_prefix(grammar, text) || is_over(grammar, text, size)
+}
+
+// Returns whether the text ends behind the first `size` bytes, or a byte follows that plays no role.
+#[inline(always)]
+pub(crate) const fn is_over(grammar: Grammar, text: &[u8], size: usize) -> bool
+    ensures { IsTrue result → IsWithin (notation_of grammar) text.now size }
+{
+    match byte_at(text, size) {
+        None => true,
+        Some(byte) => has_no_role(grammar, byte),
+    }
+}
+
+// Returns whether `byte` plays no role, and is not the zero of a prefix.
+#[inline(always)]
+const fn has_no_role(grammar: Grammar, byte: u8) -> bool
+    ensures { IsTrue result → PlaysNoRole (notation_of grammar) byte }
+{
+    byte != b'0'
+        && matches!(role_at(grammar, Part::Integer, byte), None)
+        && !is_digit(grammar, Part::Exponent, byte)
+}
+
+// Returns whether there is not the base prefix that is required.
+#[inline(always)]
+const fn lacks_prefix(grammar: Grammar, text: &[u8]) -> bool
+    ensures none { IsTrue result → NoFront (notation_of grammar) text.now }
+    ensures within { IsTrue result → IsWithin (notation_of grammar) text.now (sign_size text.now + 1) }
+{
+    grammar.conditions.has(Condition::BasePrefix) && !has_prefix(grammar, text, sign_size(text))
+}
+
+// Returns whether a zero and a base prefix are at `index`.
+#[inline(always)]
+const fn has_prefix(grammar: Grammar, text: &[u8], index: usize) -> bool
+    requires { index ≤ length text.now }
+    ensures { result ≡ has_prefix (notation_of grammar) text.now index }
+{
+    index + 1 < text.len() && text[index] == b'0' && grammar.view().is_base_prefix(text[index + 1])
+}
+
+// Returns whether a zero and a letter are behind the sign.
+#[inline(always)]
+pub(crate) const fn has_letter_behind_zero(text: &[u8]) -> bool {
+    let sign = sign_size(text);
+    sign + 1 < text.len() && text[sign] == b'0' && text[sign + 1] > b'9'
 }

@@ -1,13 +1,14 @@
 //! Numbers that have several forms, such as `10`, `0x1F` and `0b1`.
 
 ghost use Rattle.std.specs.Prelude.{ℕ, ◌≡◌, ◌<◌, ◌≤◌, ◌+◌, ◌*◌, IfSome, IsSomeAnd, IsTrue, None, Some, SomeIff, false, if◌then◌else◌, length, slice_get};
-ghost use Rattle.lexical_forms.specs.Additions.Forms.{IsBehind, IsFoundForm, IsFoundFrontForm, IsLed, IsRefusedAt, Leads, longer, sign_size};
+ghost use Rattle.lexical_forms.specs.Additions.Forms.{IsBehind, IsFoundForm, IsFoundFrontForm, IsLed, IsLongestPast, IsRefusedAt};
+ghost use Rattle.lexical_forms.specs.Additions.Forms.{Leads, sign_size};
 ghost use Rattle.lexical_forms.specs.Forms.{HasKind, IsFormError, IsFrontByForms, IsReadByForms, NoForm, Reaches, special_by};
 ghost use Rattle.lexical_literal.specs.Front.{NoLiteral};
 ghost use Rattle.lexical_literal.specs.Read.{exact};
 ghost use Rattle.lexical_literal.specs.Notation.{notation_of};
 
-use crate::exclude::{excludes, is_settled, sign_size};
+use crate::exclude::{excludes, has_letter_behind_zero, is_settled, lacks_longer, sign_size};
 use crate::specials::{Special, Specials};
 use crate::suffix::Suffixes;
 use lexical_literal::cause::ReadError;
@@ -46,33 +47,20 @@ impl Form {
     /// Returns the same form with the suffixes that its tokens may have.
     #[must_use]
     pub const fn with_suffixes(&self, suffixes: &'static Suffixes) -> Form
-        ensures name { result.name.now ≡ self.now.name.now }
-        ensures syntax { result.syntax ≡ self.now.syntax }
-        ensures suffixes { result.suffixes ≡ Some suffixes.entry }
-        ensures kind { result.kind ≡ self.now.kind }
+        ensures { result ≡ record self.now { suffixes = Some suffixes.entry } }
     {
         Form {
-            name: self.name,
-            syntax: self.syntax,
             suffixes: Some(suffixes),
-            kind: self.kind,
+            ..*self
         }
     }
 
     /// Returns the same form with another kind, which its literals have.
     #[must_use]
     pub const fn with_kind(&self, kind: Kind) -> Form
-        ensures name { result.name.now ≡ self.now.name.now }
-        ensures syntax { result.syntax ≡ self.now.syntax }
-        ensures suffixes { result.suffixes ≡ self.now.suffixes }
-        ensures kind { result.kind ≡ kind }
+        ensures { result ≡ record self.now { kind = kind } }
     {
-        Form {
-            name: self.name,
-            syntax: self.syntax,
-            suffixes: self.suffixes,
-            kind,
-        }
+        Form { kind, ..*self }
     }
 
     /// Returns the kind.
@@ -275,11 +263,7 @@ impl<'a> Forms<'a> {
     pub const fn with_specials(self, specials: Specials<'a>) -> Forms<'a>
         ensures { result ≡ record self.entry { specials = specials.entry } }
     {
-        Forms {
-            forms: self.forms,
-            specials,
-            tokens: self.tokens,
-        }
+        Forms { specials, ..self }
     }
 
     /// Returns the same forms with rules for tokens, without which there are none.
@@ -290,9 +274,8 @@ impl<'a> Forms<'a> {
         ensures tokens { result.tokens ≡ Some tokens.entry }
     {
         Forms {
-            forms: self.forms,
-            specials: self.specials,
             tokens: Some(tokens),
+            ..self
         }
     }
 
@@ -534,21 +517,45 @@ impl<'a> Forms<'a> {
     }
 
     // Returns the longest front of `text` that is a literal of a form, with the index of the form, the first of equals, or
-    // why there is none.
+    // why there is none. Forms that end behind the zero, as a decimal one does in `0x1F`, are asked if no other goes on.
+    #[inline(always)]
     fn find_front(&self, text: &[u8]) -> Result<(usize, Found), FormError>
         ensures { IsFoundFrontForm self.now.forms text.now result }
     {
-        let mut longest = None;
-        let mut form = 0;
-        while form < self.forms.len() {
-            let (_, found) = self.forms[form].syntax.front(text);
-            longest = longer(longest, form, found);
-            form += 1;
+        if has_letter_behind_zero(text) {
+            if let Some((form, found)) = self.longest_past(text, sign_size(text) + 1) {
+                return Ok((form, found));
+            }
         }
-        match longest {
+        match self.longest_past(text, 0) {
             Some((form, found)) => Ok((form, found)),
             None => Err(self.error_at(text, self.furthest(text))),
         }
+    }
+
+    // Returns the longest front of `text` with more than `size` bytes that is a literal of a form, with the index of the form, the first
+    // of equals, if there is one.
+    #[inline(never)]
+    fn longest_past(&self, text: &[u8], size: usize) -> Option<(usize, Found)>
+        ensures { IsLongestPast self.now.forms text.now size result }
+    {
+        let mut reached = size;
+        let mut longest = None;
+        let mut form = 0;
+        while form < self.forms.len() {
+            let syntax = &self.forms[form].syntax;
+            if !lacks_longer(syntax.grammar(), text, reached) {
+                let (_, found) = syntax.front(text);
+                if let Some(found) = found {
+                    if found.size > reached {
+                        reached = found.size;
+                        longest = Some((form, found));
+                    }
+                }
+            }
+            form += 1;
+        }
+        longest
     }
 
     // Returns why `text` is not a literal of the form that goes furthest.
@@ -567,22 +574,6 @@ impl<'a> Forms<'a> {
             name: it.name,
             error,
         }
-    }
-}
-
-// Returns the longer of two fronts, the first of equals.
-#[inline(always)]
-const fn longer(
-    longest: Option<(usize, Found)>,
-    form: usize,
-    found: Option<Found>,
-) -> Option<(usize, Found)>
-    ensures { result ≡ longer longest form found }
-{
-    match (longest, found) {
-        (_, None) => longest,
-        (Some((_, best)), Some(found)) if best.size >= found.size => longest,
-        (_, Some(found)) => Some((form, found)),
     }
 }
 

@@ -2,14 +2,14 @@
 
 ghost use Rattle.std.specs.Prelude.{◌≡◌, ◌<◌, ◌≤◌, ◌+◌, ◌-◌, ◌==◌, ◌&&◌, ℕ, All, IsNone, IsSomeAnd, IsTrue, Some, drop, false, length, slice_get, take, true};
 ghost use Rattle.std.specs.Option.{ForSome};
-ghost use Rattle.lexical_forms.specs.Additions.Forms.{IsFurthestForm, PlaysNoRole, further, sign_size};
+ghost use Rattle.lexical_forms.specs.Additions.Forms.{IsFurthestForm, further, sign_size};
 ghost use Rattle.lexical_literal.specs.Additions.Stop.{HasBegun, IsCountedFront, IsMeasured, IsStopped};
 ghost use Rattle.lexical_literal.specs.Additions.Literal.{AreSums, cut};
 ghost use Rattle.lexical_literal.specs.Additions.Step.{cuts_of};
 ghost use Rattle.lexical_forms.specs.Additions.Token.{AreNear, FrontsWithin, IsBestOf, IsEnd, IsLeading, IsMade};
 ghost use Rattle.lexical_forms.specs.Additions.Token.{IsNear, IsOwn, IsPicked, IsWithin, NoOwn, better};
 ghost use Rattle.lexical_forms.specs.Additions.Token.{goes_on};
-ghost use Rattle.lexical_forms.specs.Additions.Token.{has_float, has_prefix, suffixed, whole};
+ghost use Rattle.lexical_forms.specs.Additions.Token.{has_float, suffixed, whole};
 ghost use Rattle.lexical_literal.specs.Cause.{is_in};
 ghost use Rattle.lexical_forms.specs.Forms.{ReadsForm};
 ghost use Rattle.lexical_literal.specs.Notation.{notation_of};
@@ -18,17 +18,16 @@ ghost use Rattle.lexical_forms.specs.Token.{HasNone, IsAhead, IsReadByTokens, Is
 ghost use Rattle.lexical_forms.specs.Token.{is_shorter};
 ghost use Rattle.lexical_util.specs.Record.{raw};
 
-use crate::exclude::sign_size;
+use crate::exclude::{has_letter_behind_zero, is_over, lacks_longer, sign_size};
 use crate::list::{Form, FormError, Forms, Tokens};
 use crate::suffix::{
     byte_before, has_word_byte, is_followed, is_stopped, is_word_byte, kind_with, suffix_size,
     suffix_words, word_size,
 };
 use lexical_literal::literal::Literal;
-use lexical_literal::step::{is_digit, is_point, role_at};
+use lexical_literal::step::is_point;
 use lexical_literal::stop::{Begun, Found, Stopped, byte_at};
-use lexical_literal::syntax::{Condition, Grammar, Syntax};
-use lexical_util::format::Part;
+use lexical_literal::syntax::Syntax;
 
 /// A number that a text begins with, and what follows it.
 ///
@@ -122,7 +121,13 @@ impl<'a> Forms<'a> {
         let Some(tokens) = self.tokens else {
             return Err(TokenError::NoTokens);
         };
-        match self.leading(tokens, text, has_letter_behind_zero(text)) {
+        let sign = sign_size(text);
+        let reached = if has_letter_behind_zero(text) {
+            sign + 1
+        } else {
+            sign
+        };
+        match self.leading(tokens, text, reached) {
             Some(token) => Ok(token),
             None => self.token_of(tokens, text),
         }
@@ -133,7 +138,7 @@ impl<'a> Forms<'a> {
     fn token_of<'t>(&self, tokens: &Tokens, text: &'t [u8]) -> Result<Token<'t>, TokenError>
         ensures { IsReadByTokens self.now (Some tokens.entry) text.now result }
     {
-        if let Some(token) = self.leading(tokens, text, false) {
+        if let Some(token) = self.leading(tokens, text, sign_size(text)) {
             return Ok(token);
         }
         let back = tokens.gives_points_back;
@@ -160,20 +165,18 @@ impl<'a> Forms<'a> {
         Err(stopped(it, text, form, candidate))
     }
 
-    // Returns the token that `text` begins with, if reading the forms of the list once tells it. If `excluding` is true, a form of
-    // which no literal goes on behind the first byte and the sign is not asked.
-    fn leading<'t>(&self, tokens: &Tokens, text: &'t [u8], excluding: bool) -> Option<Token<'t>>
+    // Returns the token that `text` begins with, if its literal has more than `start` bytes, and reading the forms of the list once
+    // tells it.
+    fn leading<'t>(&self, tokens: &Tokens, text: &'t [u8], start: usize) -> Option<Token<'t>>
+        requires { sign_size text.now ≤ start }
         ensures { ForSome result (IsToken self.now tokens.now text.now) }
     {
         let back = tokens.gives_points_back;
-        let sign = sign_size(text);
-        let mut reached = sign;
+        let mut reached = start;
         let mut form = 0;
         while form < self.forms.len() {
             let it = &self.forms[form];
-            if is_excluded(it.syntax.grammar(), text, sign, excluding) {
-                reached = larger(reached, sign + 1);
-            } else {
+            if !lacks_longer(it.syntax.grammar(), text, reached) {
                 let begun = it.syntax.begin(false, text, true);
                 let size = begun.at.size;
                 if begun.complete
@@ -337,61 +340,6 @@ fn are_past(forms: &[Form], but: usize, back: bool, text: &[u8], size: usize) ->
     true
 }
 
-// Returns whether the form is not asked: there is not the prefix that is required, or, if `excluding` is true, no literal begins
-// with more than one byte behind the sign, which has this length.
-#[inline(always)]
-const fn is_excluded(grammar: Grammar, text: &[u8], sign: usize, excluding: bool) -> bool
-    requires { sign ≡ sign_size text.now }
-    ensures { IsTrue result → IsWithin (notation_of grammar) text.now (sign + 1) }
-{
-    lacks_prefix(grammar, text) || (excluding && is_over(grammar, text, sign + 1))
-}
-
-// Returns whether a zero and a letter are behind the sign.
-#[inline(always)]
-pub(crate) const fn has_letter_behind_zero(text: &[u8]) -> bool {
-    let sign = sign_size(text);
-    sign + 1 < text.len() && text[sign] == b'0' && text[sign + 1] > b'9'
-}
-
-// Returns whether the text ends behind the first `size` bytes, or a byte follows that plays no role.
-#[inline(always)]
-const fn is_over(grammar: Grammar, text: &[u8], size: usize) -> bool
-    ensures { IsTrue result → IsWithin (notation_of grammar) text.now size }
-{
-    match byte_at(text, size) {
-        None => true,
-        Some(byte) => has_no_role(grammar, byte),
-    }
-}
-
-// Returns whether `byte` plays no role, and is not the zero of a prefix.
-#[inline(always)]
-const fn has_no_role(grammar: Grammar, byte: u8) -> bool
-    ensures { IsTrue result → PlaysNoRole (notation_of grammar) byte }
-{
-    byte != b'0'
-        && matches!(role_at(grammar, Part::Integer, byte), None)
-        && !is_digit(grammar, Part::Exponent, byte)
-}
-
-// Returns whether there is not the base prefix that is required.
-#[inline(always)]
-const fn lacks_prefix(grammar: Grammar, text: &[u8]) -> bool
-    ensures { IsTrue result → IsWithin (notation_of grammar) text.now (sign_size text.now + 1) }
-{
-    grammar.conditions.has(Condition::BasePrefix) && !has_prefix(grammar, text, sign_size(text))
-}
-
-// Returns whether a zero and a base prefix are at `index`.
-#[inline(always)]
-const fn has_prefix(grammar: Grammar, text: &[u8], index: usize) -> bool
-    requires { index ≤ length text.now }
-    ensures { result ≡ has_prefix (notation_of grammar) text.now index }
-{
-    index + 1 < text.len() && text[index] == b'0' && grammar.view().is_base_prefix(text[index + 1])
-}
-
 // Returns the larger of two sizes.
 #[inline(always)]
 const fn larger(one: usize, other: usize) -> usize
@@ -447,8 +395,7 @@ impl Form {
         requires { size ≤ length text.now }
         ensures { IsTrue result → sign_size text.now < size → IsNear back (notation_of self.now.syntax) text.now size }
     {
-        let grammar = self.syntax.grammar();
-        lacks_prefix(grammar, text) || is_over(grammar, text, size) || self.stops(back, text, size)
+        lacks_longer(self.syntax.grammar(), text, size) || self.stops(back, text, size)
     }
 
     // Returns by reading whether no literal begins with more than the first `size` bytes of `text`, or only with a point more that is

@@ -3,23 +3,16 @@ use Rattle.lexical_literal.proofs.Common.{ℕ, ◌≡◌, ◌≤◌, ◌↔◌, 
 use Rattle.lexical_literal.proofs.Common.{subst, ◌∙◌, arith, false≢true, and_parts, and_from, cases_Bool, length-take-le, Flag, raw, Role, Part, all_conditions}
 use Rattle.lexical_literal.proofs.Common.{Notation, has, notation_of, Condition, Grammar, ◌==◌, IsTrue, if◌then◌else◌, length, has_size, Allows, IsRefusal}
 use Rattle.lexical_literal.proofs.Common.{adding, bare, is_one_of, marks_of, number_separator_flags, requirement_flags, span_of, with_rules, IsValidUpTo}
-use Rattle.lexical_literal.proofs.Common.{IsWeaker, lets, place_of, blame, mask_of, unmet}
-use Rattle.lexical_literal.proofs.Common.{group_allows, unsized, no_condition, role_at, part_of, Blame, ReadErrorKind}
-use Rattle.lexical_literal.proofs.Common.{Group, Summary, sum_by}
-use Rattle.lexical_literal.specs.Cause.{IsCaseFlag, IsCause, IsRequirement, IsUnmet, Permits, RefusesAlone, binds, case_set, error_of, first_unmet}
-use Rattle.lexical_literal.specs.Cause.{is_at, lowest, requiring, tail_of}
+use Rattle.lexical_literal.proofs.Common.{IsWeaker, lets, place_of, blame, mask_of, unmet, group_allows, unsized, no_condition, role_at, part_of, Blame}
+use Rattle.lexical_literal.proofs.Common.{ReadErrorKind, Group, Summary, sum_by, IsCause, IsUnmet, binds, case_set, error_of, first_unmet, is_at, lowest}
+use Rattle.lexical_literal.proofs.Common.{requiring, tail_of, cases, group_at, otherwise, refusal_of, requirements, separators, some_unmet, spot_of, IsReadOf}
+use Rattle.lexical_literal.proofs.Common.{goes, role_next, slice_get, flag_bits, other_case, kept, Marks, Spot}
+use Rattle.lexical_literal.specs.Cause.{IsCaseFlag, IsRequirement, Permits, RefusesAlone}
 use Rattle.lexical_literal.specs.Additions.Causes.{is_at_gap}
-use Rattle.lexical_literal.specs.Additions.Explained.{alone, cases, group_at, otherwise, refusal_of, requirements, separators, some_unmet, spot_of, zeros}
-use Rattle.lexical_literal.specs.Additions.GroupSize.{IsReadOf, goes, role_next}
-use Rattle.std.specs.Prelude.{slice_get}
-use Rattle.lexical_util.specs.Record.{flag_bits}
+use Rattle.lexical_literal.specs.Additions.Explained.{alone, zeros}
 use Rattle.lexical_util.specs.Layout as layout
-use Rattle.lexical_util.specs.Roles.{other_case}
 use Rattle.lexical_util.specs.declared.format_flags.Part.TheVariants as parts
-use Rattle.lexical_literal.specs.Notation.{kept}
-use Rattle.lexical_literal.specs.Cause.{Marks}
 use Rattle.lexical_literal.specs.declared.cause.ReadErrorKind.TheVariants as causes
-use Rattle.lexical_literal.specs.declared.cause.Spot.{Spot}
 use Rattle.lexical_literal.specs.declared.syntax.Condition.TheVariants as conditions
 use Rattle.lexical_literal.proofs.CauseLemmas.{flag_zero, found_in, mask_flags, none_of, only_mask, only_none, some_of}
 use Rattle.lexical_literal.proofs.GroupLemmas.{same_unsized}

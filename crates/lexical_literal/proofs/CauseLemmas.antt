@@ -2,23 +2,18 @@
 use Rattle.lexical_literal.proofs.Common.{ℕ, ◌≡◌, ◌<◌, ◌+◌, ◌^◌, ◌&&◌, ◌||◌, not, Bool, true, false, bit_and, bit_or, inl, inr, List, [], ◌∷◌, ◌++◌, sum_by}
 use Rattle.lexical_literal.proofs.Common.{refl, sym, ap, ◌∙◌, arith, nat_tests, false≢true, cases_Bool, eqb-true, ByteSet, Flag, bit, raw, Record, list_any}
 use Rattle.lexical_literal.proofs.Common.{Notation, ◌==◌, if◌then◌else◌, length, mask_of, no_condition, bare, index_behind, is_one_of, number_separator_flags}
-use Rattle.lexical_literal.proofs.Common.{requirement_flags, with_rules}
+use Rattle.lexical_literal.proofs.Common.{requirement_flags, with_rules, list_any-append, or_parts, w128, bit_not, flag_bits, part, SEPARATORS}
 use Rattle.lexical_literal.specs.Cause.{flag_at, leading_zero_flags}
-use Rattle.std.proofs.lemmas.List.Folds.{list_any-append}
 use Rattle.std.proofs.lemmas.Nat.Bits.{bit_at_and, bit_at_or, bit_at_not, bit_at-zero, bit_at-pow_same, bit_at-pow_other}
 use Rattle.std.proofs.Math.Nat.{mod-lt}
-use Rattle.std.proofs.lemmas.Bool.{or_parts}
 use Rattle.std.proofs.lemmas.Nat.{and_assoc}
-use Rattle.std.specs.Int.{w128, bit_not}
 use Rattle.lexical_util.specs.Groups.{bits_of}
-use Rattle.lexical_util.specs.Record.{flag_bits}
-use Rattle.lexical_util.specs.Layout as layout
-use Rattle.lexical_util.specs.Layout.{part}
 use Rattle.lexical_util.specs.Record.{word_of}
+use Rattle.lexical_util.specs.Layout as layout
 use Rattle.lexical_util.proofs.ViewLemmas.{bits_by_mask}
 use Rattle.lexical_flags.proofs.Packing.{raw-word_of}
 use Rattle.lexical_flags.specs.declared.format_flags.TheConstants.{FLAG_MASK}
-use Rattle.lexical_literal.specs.declared.cause.TheConstants.{FLOAT_REQUIREMENTS, REQUIREMENTS, SEPARATORS, ZEROS}
+use Rattle.lexical_literal.specs.declared.cause.TheConstants.{FLOAT_REQUIREMENTS, REQUIREMENTS, ZEROS}
 
 -- FLAGS
 

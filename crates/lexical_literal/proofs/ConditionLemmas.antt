@@ -4,12 +4,11 @@ use Rattle.lexical_literal.proofs.Common.{subst, ◌∙◌, arith, false≢true,
 use Rattle.lexical_literal.proofs.Common.{signs, Role, Part, Notation, Literal, IsLiteral, IsSpelled, Reads, is_absent, is_none_or_one, is_none_or_prefix}
 use Rattle.lexical_literal.proofs.Common.{is_present, text_of, Condition, ◌==◌, if◌then◌else◌, length, HasRoles, has_sizes, Cuts, HasLengths, add, admits}
 use Rattle.lexical_literal.proofs.Common.{after, count, is_fresh, role_at, part_of, digits_piece, lacks_prefix, no_condition, no_cuts, start, takes}
-use Rattle.lexical_literal.proofs.Common.{awaits_integer, Piece, Stage, Summary}
+use Rattle.lexical_literal.proofs.Common.{awaits_integer, Piece, Stage, Summary, is_negative, piece_of, step_by, tally_by, condition, is_plus}
 use Rattle.lexical_literal.specs.Additions.Scan.{is_first, needs_first}
-use Rattle.lexical_literal.specs.Additions.Step.{is_negative, piece_of, step_by, tally_by}
 use Rattle.lexical_util.specs.declared.feature_format.roles.Role.TheVariants as roles
 use Rattle.lexical_util.specs.declared.format_flags.Part.TheVariants as parts
-use Rattle.lexical_literal.specs.Literal.{begins_with, condition, is_plus, may_begin}
+use Rattle.lexical_literal.specs.Literal.{begins_with, may_begin}
 use Rattle.lexical_literal.specs.declared.step.Piece.TheVariants as pieces
 use Rattle.lexical_literal.specs.declared.step.Stage.TheVariants as stages
 use Rattle.lexical_literal.specs.declared.syntax.Condition.TheVariants as conditions

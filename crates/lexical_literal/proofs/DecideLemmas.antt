@@ -3,9 +3,8 @@ use Rattle.lexical_literal.proofs.Common.{ℕ, ◌≡◌, ◌↔◌, inl, inr, B
 use Rattle.lexical_literal.proofs.Common.{subst, ◌∙◌, arith, false≢true, and_parts, and_from, cases_Bool, or_left, Flag, Role, Part, Notation, Condition}
 use Rattle.lexical_literal.proofs.Common.{Allows, is_one_of, requirement_flags, with_rules, has_size, has_sizes, IsWeaker, lets, HasRoles, HasSizes, IsReady}
 use Rattle.lexical_literal.proofs.Common.{first_group, group_allows, group_after, grow, grown, unsized, is_accepted, role_at, walk, start, step, Group, Summary}
-use Rattle.lexical_literal.specs.Additions.GroupSize.{goes, is_size, makes_empty, role_next}
-use Rattle.std.proofs.Common.{if◌then◌else◌}
-use Rattle.std.specs.Prelude.{is_some}
+use Rattle.lexical_literal.proofs.Common.{goes, is_size, role_next, if◌then◌else◌, is_some}
+use Rattle.lexical_literal.specs.Additions.GroupSize.{makes_empty}
 use Rattle.lexical_util.specs.declared.format_flags.Part.TheVariants as parts
 use Rattle.lexical_literal.specs.declared.syntax.Condition.TheVariants as conditions
 use Rattle.lexical_literal.proofs.ConditionLemmas.{literal_arrives, literal_from}

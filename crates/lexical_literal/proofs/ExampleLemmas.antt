@@ -1,9 +1,9 @@
 -- A test that says whether parts are a literal, for examples.
 use Rattle.lexical_literal.proofs.Common.{ℕ, ◌≡◌, Bool, false, not, ◌&&◌, ◌||◌, List, [], ◌∷◌, true, refl, sym, arith, false≢true, list_any, AllByRecursion}
 use Rattle.lexical_literal.proofs.Common.{Flag, signs, all_conditions, Notation, Literal, IsLiteral, text_of, is_absent, is_present, is_float, is_none_or_one}
-use Rattle.lexical_literal.proofs.Common.{is_none_or_prefix, Condition, common_steps, IsTrue, requirement_flags, implies}
+use Rattle.lexical_literal.proofs.Common.{is_none_or_prefix, Condition, common_steps, IsTrue, requirement_flags, implies, condition}
 use Rattle.lexical_util.specs.declared.format_flags.Part.TheVariants as parts
-use Rattle.lexical_literal.specs.Literal.{condition, requirement}
+use Rattle.lexical_literal.specs.Literal.{requirement}
 use Rattle.lexical_literal.specs.Readings.{HasTwoReadings}
 use Rattle.lexical_literal.specs.Run.{is_run}
 use Rattle.lexical_literal.proofs.CutLemmas.{only}

@@ -2,17 +2,13 @@
 use Rattle.lexical_literal.proofs.Common.{ℕ, ◌≡◌, ◌≤◌, ◌+◌, ◌-◌, inl, inr, Bool, true, false, not, ◌&&◌, ◌||◌, nat_lt, List, [], ◌∷◌, ◌++◌, Option, Some, None}
 use Rattle.lexical_literal.proofs.Common.{refl, sym, ap, subst, ◌∙◌, arith, zero, suc, false≢true, and_parts, and_from, cases_Bool, or_left, or_right}
 use Rattle.lexical_literal.proofs.Common.{nat_tests, list_any, separators_in, Role, Part, Literal, Reads, Notation, ◌==◌, if◌then◌else◌, nat_le, append_assoc}
-use Rattle.lexical_literal.proofs.Common.{IsFront, has_size, has_sizes, HasRoles, HasSizes, IsReady}
-use Rattle.lexical_literal.proofs.Common.{first_group, group_allows, group_after, grow, grown, unsized}
-use Rattle.lexical_literal.proofs.Common.{admits, after, after_mark, gap_fits, has_digit, is_open, is_signed, lacks_prefix, may_follow, part_of, role_at, walk}
-use Rattle.lexical_literal.proofs.Common.{start, takes, takes_in, Group, Stage, Summary}
-use Rattle.lexical_literal.specs.Groups.{higher, inner_fits, last_fits}
-use Rattle.lexical_literal.specs.Additions.GroupSize.{follows, most}
-use Rattle.lexical_literal.specs.Additions.Step.{is_run}
-use Rattle.std.proofs.lemmas.Bool.{or_parts}
+use Rattle.lexical_literal.proofs.Common.{IsFront, has_size, has_sizes, HasRoles, HasSizes, IsReady, first_group, group_allows, group_after, grow, grown}
+use Rattle.lexical_literal.proofs.Common.{unsized, admits, after, after_mark, gap_fits, has_digit, is_open, is_signed, lacks_prefix, may_follow, part_of}
+use Rattle.lexical_literal.proofs.Common.{role_at, walk, start, takes, takes_in, Group, Stage, Summary, inner_fits, last_fits, follows, most, is_run, or_parts}
+use Rattle.lexical_literal.proofs.Common.{is_place}
+use Rattle.lexical_literal.specs.Groups.{higher}
 use Rattle.lexical_util.specs.declared.feature_format.roles.Role.TheVariants as roles
 use Rattle.lexical_util.specs.declared.format_flags.Part.TheVariants as parts
-use Rattle.lexical_literal.specs.Run.{is_place}
 use Rattle.lexical_literal.specs.declared.syntax.Condition.TheVariants as conditions
 use Rattle.lexical_literal.proofs.FrontLemmas.{begins, completed_there, ended_there, front_is_read, goes_on_there, literal_there}
 use Rattle.lexical_literal.proofs.ScanLemmas.{admits_settled}

@@ -4,9 +4,8 @@ use Rattle.lexical_literal.proofs.Common.{arith, false≢true, and_parts, and_fr
 use Rattle.lexical_literal.proofs.Common.{set_of_role, Literal, Reads, Condition, ◌==◌, IsReady, HasRoles, IsFront, admits, continues, implies, has_digit}
 use Rattle.lexical_literal.proofs.Common.{is_fresh, after_digit, after_mark, after_point, lacks_prefix, may_follow, gap_fits, is_open, is_signed, takes, after}
 use Rattle.lexical_literal.proofs.Common.{walk, is_accepted, start, no_cuts, role_at, part_of, awaits_integer, digits_suffice, takes_in, forbids_plus, Stage}
-use Rattle.lexical_literal.proofs.Common.{Summary}
-use Rattle.lexical_literal.specs.Additions.Step.{is_led, may_lead, is_negative, leads_to_prefix, needs_exponent, ends, is_run}
-use Rattle.std.proofs.lemmas.Bool.{or_from}
+use Rattle.lexical_literal.proofs.Common.{Summary, is_led, may_lead, is_negative, needs_exponent, ends, is_run, or_from}
+use Rattle.lexical_literal.specs.Additions.Step.{leads_to_prefix}
 use Rattle.lexical_util.specs.Layout as layout
 use Rattle.lexical_util.specs.declared.feature_format.roles.Role.TheVariants as roles
 use Rattle.lexical_util.specs.declared.format_flags.Part.TheVariants as parts

@@ -2,9 +2,8 @@
 use Rattle.lexical_literal.proofs.Common.{ℕ, ◌≡◌, ◌≤◌, ◌+◌, inl, inr, Bool, true, false, not, ◌&&◌, ◌||◌, nat_lt, List, [], ◌∷◌, Some, None, refl, sym, ap}
 use Rattle.lexical_literal.proofs.Common.{subst, ◌∙◌, arith, false≢true, and_parts, and_from, cases_Bool, false_from_ne_true, or_left, or_right, nat_tests}
 use Rattle.lexical_literal.proofs.Common.{Flag, separators_in, Part, Notation, Condition, ◌==◌, if◌then◌else◌, has_size, gap_fits, grown, unsized, Group}
-use Rattle.lexical_literal.proofs.Common.{HasRoles, HasSizes, with_rules}
-use Rattle.lexical_literal.specs.Groups.{all_fit, first_fits, group_sizes, inner_fits, is_grouped, last_fits, one_more, rest_fits}
-use Rattle.lexical_literal.specs.Additions.GroupSize.{follows, is_size, most}
+use Rattle.lexical_literal.proofs.Common.{HasRoles, HasSizes, with_rules, inner_fits, is_grouped, last_fits, follows, is_size, most}
+use Rattle.lexical_literal.specs.Groups.{all_fit, first_fits, group_sizes, one_more, rest_fits}
 use Rattle.lexical_util.specs.declared.feature_format.roles.Role.TheVariants as roles
 use Rattle.lexical_literal.proofs.RunLemmas.{is_rest}
 use Rattle.lexical_literal.proofs.WalkLemmas.{as_role, digit_role}

@@ -1,12 +1,10 @@
 -- What has been read where one part ends and the next one begins.
 use Rattle.lexical_literal.proofs.Common.{ℕ, ◌≡◌, ◌<◌, ◌+◌, ◌-◌, true, false, List, get_or, refl, ap, subst, ◌∙◌, arith, set, Notation, length, HasRoles, IsAt}
 use Rattle.lexical_literal.proofs.Common.{IsBegun, IsReadOn, at_stage, Cuts, after_point, cuts_of, has_digit, awaits_integer, is_signed, takes, part_of}
-use Rattle.lexical_literal.proofs.Common.{with_prefix, Stopped, Piece, Stage}
-use Rattle.lexical_literal.specs.Additions.Scan.{IsOpened, IsSign, behind_sign, counts_of, has_first, integer_counts, is_free}
-use Rattle.lexical_literal.specs.Additions.Step.{piece_number}
+use Rattle.lexical_literal.proofs.Common.{with_prefix, Stopped, Piece, Stage, IsOpened, counts_of, integer_counts, is_free, piece_number, Reading}
+use Rattle.lexical_literal.specs.Additions.Scan.{IsSign, behind_sign, has_first}
 use Rattle.lexical_util.specs.declared.feature_format.roles.Role.TheVariants as roles
 use Rattle.lexical_util.specs.declared.format_flags.Part.TheVariants as parts
-use Rattle.lexical_literal.specs.declared.scan.Reading.{Reading}
 use Rattle.lexical_literal.specs.declared.step.Piece.TheVariants as pieces
 use Rattle.lexical_literal.specs.declared.step.Stage.TheVariants as stages
 use Rattle.lexical_literal.specs.declared.syntax.Condition.TheVariants as conditions

@@ -2,11 +2,10 @@
 use Rattle.lexical_literal.proofs.Common.{ℕ, ◌≡◌, Bool, true, false, not, ◌&&◌, ◌||◌, Option, Some, None, refl, sym, ap, subst, ◌∙◌, arith, false≢true}
 use Rattle.lexical_literal.proofs.Common.{and_from, and_parts, Flag, Role, Part, Notation, is_same, Condition, ◌==◌, if◌then◌else◌, has_size, adding, bare}
 use Rattle.lexical_literal.proofs.Common.{is_one_of, number_separator_flags, with_rules, lets, place_of, admits, after, continues, implies, may_follow, unsized}
-use Rattle.lexical_literal.proofs.Common.{gap_fits, is_open, is_signed, no_condition, role_at, takes, part_of, takes_in, Stage, Summary}
-use Rattle.lexical_literal.specs.Cause.{binds, is_at}
+use Rattle.lexical_literal.proofs.Common.{gap_fits, is_open, is_signed, no_condition, role_at, takes, part_of, takes_in, Stage, Summary, binds, is_at, ends}
+use Rattle.lexical_literal.proofs.Common.{move_by, is_some}
 use Rattle.lexical_literal.specs.Additions.Causes.{is_separator}
-use Rattle.lexical_literal.specs.Additions.Step.{complete_by, ends, finishes, move_by}
-use Rattle.std.specs.Prelude.{is_some}
+use Rattle.lexical_literal.specs.Additions.Step.{complete_by, finishes}
 use Rattle.lexical_util.specs.Layout as layout
 use Rattle.lexical_util.specs.declared.feature_format.roles.Role.TheVariants as roles
 use Rattle.lexical_util.specs.declared.format_flags.Part.TheVariants as parts

@@ -4,8 +4,7 @@ use Rattle.lexical_literal.proofs.Common.{false≢true, and_parts, and_from, cas
 use Rattle.lexical_literal.proofs.Common.{Literal, IsSpelled, text_of, is_present, is_absent, is_none_or_one, is_none_or_prefix, Condition, ◌==◌, if◌then◌else◌}
 use Rattle.lexical_literal.proofs.Common.{HasRoles, Cuts, implies, has_digit, after_digit, after_mark, after_point, may_follow, is_signed, part_of}
 use Rattle.lexical_literal.proofs.Common.{forbids_plus, gap_fits, digits_suffice, continues, add, digits_piece, no_condition, start, no_cuts, with_prefix}
-use Rattle.lexical_literal.proofs.Common.{Piece, Stage}
-use Rattle.lexical_literal.specs.Additions.Step.{is_lone, is_led, may_lead, ends, piece_of}
+use Rattle.lexical_literal.proofs.Common.{Piece, Stage, is_lone, is_led, may_lead, ends, piece_of}
 use Rattle.std.proofs.lemmas.Bool.{and_right}
 use Rattle.lexical_util.specs.Layout as layout
 use Rattle.lexical_util.specs.declared.feature_format.roles.Role.TheVariants as roles

@@ -1,13 +1,10 @@
 -- A refusal has one cause, and a text has one refusal.
 use Rattle.lexical_literal.proofs.Common.{ℕ, ◌≡◌, ◌<◌, ◌≤◌, ◌↔◌, ◌^◌, Bool, true, List, Option, Some, None, sum_by, take, refl, sym, ap, subst, ◌∙◌, arith}
 use Rattle.lexical_literal.proofs.Common.{nat_tests, Flag, bit, raw, Part, Notation, has, Condition, if◌then◌else◌, IsRefusal, marks_of, span_of, IsValidUpTo}
-use Rattle.lexical_literal.proofs.Common.{ReadErrorKind, Refusal}
-use Rattle.lexical_literal.specs.Cause.{IsCause, IsSeparator, IsUnmet, SameBlame, error_of, first_unmet, is_at, lowest, tail_of}
+use Rattle.lexical_literal.proofs.Common.{ReadErrorKind, Refusal, IsCause, IsUnmet, error_of, first_unmet, is_at, lowest, tail_of, slice_get, flag_bits, kept}
+use Rattle.lexical_literal.specs.Cause.{IsSeparator, SameBlame}
 use Rattle.std.proofs.Math.Nat.{le_antisymm}
-use Rattle.std.specs.Prelude.{slice_get}
-use Rattle.lexical_util.specs.Record.{flag_bits}
 use Rattle.lexical_util.specs.Layout.{flags}
-use Rattle.lexical_literal.specs.Notation.{kept}
 use Rattle.lexical_literal.specs.declared.cause.ReadErrorKind.TheVariants as causes
 use Rattle.lexical_literal.specs.declared.cause.Place.{Place}
 

@@ -1,7 +1,7 @@
 -- The roles of the bytes of a literal's parts.
 use Rattle.lexical_literal.proofs.Common.{ℕ, ◌≡◌, true, List, [], ◌∷◌, ◌++◌, arith, and_parts, ByteSet, Part, Notation, Literal, IsSpelled, is_none_or_one}
-use Rattle.lexical_literal.specs.Run.{are_fit, is_fit}
-use Rattle.lexical_literal.specs.Readings.{AllIn, PartsHaveRoles, run_byte}
+use Rattle.lexical_literal.proofs.Common.{are_fit, is_fit, AllIn, run_byte}
+use Rattle.lexical_literal.specs.Readings.{PartsHaveRoles}
 
 module _ (m : Notation) (part : Part) where
   -- Each byte of a digit run is a digit or a separator.

@@ -1,12 +1,11 @@
 -- A literal is cut by the lengths of its parts.
 use Rattle.lexical_literal.proofs.Common.{ℕ, ◌≡◌, ◌+◌, List, [], ◌++◌, take, drop, Ok, refl, sym, ap, subst, ◌∙◌, arith, Literal, Reads, text_of, Notation}
-use Rattle.lexical_literal.proofs.Common.{notation_of, Grammar, length, ReadsFront, Read, IsCountedFront, IsMeasured, cut, Cuts, HasLengths, cuts_of}
+use Rattle.lexical_literal.proofs.Common.{notation_of, Grammar, length, ReadsFront, Read, IsCountedFront, IsMeasured, cut, Cuts, HasLengths, cuts_of, take_all}
+use Rattle.lexical_literal.proofs.Common.{NoFront, NoLiteral, IsRead}
 use Rattle.lexical_literal.specs.Additions.Literal.{IsCut}
-use Rattle.std.proofs.lemmas.List.{append_assoc, take_all}
+use Rattle.std.proofs.lemmas.List.{append_assoc}
 use Rattle.std.proofs.Math.Seq.{drop-append_seam, take-append_seam}
 use lib.ListN.{length-append}
-use Rattle.lexical_literal.specs.Front.{NoFront, NoLiteral}
-use Rattle.lexical_literal.specs.Parts.{IsRead}
 use Rattle.lexical_literal.specs.Read.{exact}
 use Rattle.lexical_literal.specs.declared.step.Piece.TheVariants as pieces
 

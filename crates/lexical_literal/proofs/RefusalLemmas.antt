@@ -2,8 +2,7 @@
 use Rattle.lexical_literal.proofs.Common.{ℕ, ◌≡◌, Bool, true, false, ◌&&◌, ◌||◌, List, [], ◌∷◌, ◌++◌, Option, Some, None, refl, sym, ap, subst, ◌∙◌, arith}
 use Rattle.lexical_literal.proofs.Common.{and_parts, and_from, Flag, separators_in, Part, Notation, Literal, IsLiteral, IsSpelled, Condition, ◌==◌, IsTrue}
 use Rattle.lexical_literal.proofs.Common.{IsReady, HasRoles, IsFront, is_one_of, requirement_flags, number_separator_flags, with_rules, IsWeaker, after, walk}
-use Rattle.lexical_literal.proofs.Common.{start, Summary}
-use Rattle.lexical_literal.specs.Run.{is_place, is_fit, are_fit}
+use Rattle.lexical_literal.proofs.Common.{start, Summary, is_place, is_fit, are_fit}
 use Rattle.lexical_literal.proofs.WalkLemmas.{took}
 use Rattle.lexical_literal.proofs.FrontLemmas.{front_from, front_is_read}
 use Rattle.lexical_literal.proofs.PartOfLemmas.{none_after}

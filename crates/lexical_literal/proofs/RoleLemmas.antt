@@ -2,7 +2,8 @@
 use Rattle.lexical_literal.proofs.Common.{ℕ, ◌≡◌, ◌<◌, ◌↔◌, Bool, true, false, not, nat_lt, List, [], ◌∷◌, ◌&&◌, ◌||◌, Option, Some, None, inl, inr, refl, sym}
 use Rattle.lexical_literal.proofs.Common.{ap, ◌∙◌, arith, false≢true, and_from, cases_Bool, nat_tests, AllByRecursion, ByteSet, Flag, separators_in, Record}
 use Rattle.lexical_literal.proofs.Common.{raw, Role, Part, Condition, all_conditions, has, notation_of, number_of, radix_of, set_of_role, Conditions, Grammar}
-use Rattle.lexical_literal.proofs.Common.{◌==◌, IsTrue, has_size, HasRoles, HasSizes, IsReady, steps_of}
+use Rattle.lexical_literal.proofs.Common.{◌==◌, IsTrue, has_size, HasRoles, HasSizes, IsReady, steps_of, option_or, point_of, exponent_character_of}
+use Rattle.lexical_literal.proofs.Common.{lacks_options, contradiction, first_fault, Options}
 use Rattle.std.proofs.lemmas.Bool.{lt-ltb}
 use Rattle.lexical_flags.proofs.RuleLemmas.{Holds-from_lawful}
 use Rattle.lexical_flags.specs.Rules.{Meets, shape_of}
@@ -21,12 +22,9 @@ use Rattle.lexical_util.proofs.ByteRoleLemmas.{AreApart, apart_from, one_role}
 use Rattle.lexical_literal.specs.declared.syntax.ConditionsError.{ConditionsError}
 use Rattle.lexical_literal.specs.declared.syntax.ConditionsErrorKind.{ConditionsErrorKind}
 use Rattle.lexical_literal.specs.declared.syntax.ConditionsErrorKind.TheVariants as faults
-use Rattle.std.specs.Option.{option_or}
 use Rattle.std.specs.Prelude.{if◌then◌else◌, nat_le, option_map}
-use Rattle.lexical_literal.specs.Notation.{point_of, exponent_character_of, lacks_options}
-use Rattle.lexical_literal.specs.Syntax.{IsSyntax, FitIfAny, contradiction, fault, first_fault, lacks_separator, limits, missing}
+use Rattle.lexical_literal.specs.Syntax.{IsSyntax, FitIfAny, fault, lacks_separator, limits, missing}
 use Rattle.lexical_literal.specs.declared.syntax.Condition.TheVariants as conditions
-use Rattle.lexical_literal.specs.declared.syntax.Options.{Options}
 use Rattle.lexical_literal.proofs.RefusalLemmas.{other_roles}
 
 -- The exponent character and the decimal point, or 0 without options.

@@ -1,8 +1,7 @@
 -- Digit runs, byte by byte.
 use Rattle.lexical_literal.proofs.Common.{ℕ, ◌≡◌, Bool, true, false, not, ◌&&◌, ◌||◌, List, [], ◌∷◌, ◌++◌, refl, arith, or_right, list_any, ByteSet}
-use Rattle.lexical_literal.proofs.Common.{separators_in, Part, Notation, is_present, if◌then◌else◌, gap_fits, is_open}
-use Rattle.std.proofs.lemmas.List.Folds.{list_any-append}
-use Rattle.lexical_literal.specs.Run.{ends_with, is_place, are_fit}
+use Rattle.lexical_literal.proofs.Common.{separators_in, Part, Notation, is_present, if◌then◌else◌, gap_fits, is_open, list_any-append, is_place, are_fit}
+use Rattle.lexical_literal.specs.Run.{ends_with}
 
 -- `is_rest m part h g run` is true if `run` can follow in `part`, after a digit if `h` is true, and in a gap if `g` is true. A
 -- separator is tested when the next digit or the end comes.

@@ -1,11 +1,9 @@
 -- A reader sees no difference between equivalent formats.
-use Rattle.lexical_literal.proofs.Common.{ℕ, ◌≡◌, nat_lt, Option, arith, Record, raw, Part, Conditions, has, notation_of, number_of, radix_of}
-use Rattle.lexical_util.specs.Digits.{byte_value}
+use Rattle.lexical_literal.proofs.Common.{ℕ, ◌≡◌, nat_lt, Option, arith, Record, raw, Part, Conditions, has, notation_of, number_of, radix_of, byte_value}
+use Rattle.lexical_literal.proofs.Common.{Options, point_of, exponent_character_of, lacks_options}
 use Rattle.lexical_util.specs.Layout as layout
 use Rattle.lexical_util.specs.NormalForm.{SameFormat}
 use Rattle.lexical_util.specs.Roles.{cased, used_separator}
-use Rattle.lexical_literal.specs.declared.syntax.Options.{Options}
-use Rattle.lexical_literal.specs.Notation.{point_of, exponent_character_of, lacks_options}
 
 module _ (r s : Record) (same : SameFormat r s) where
   same_radix : (part : Part) → radix_of r part ≡ radix_of s part

@@ -3,9 +3,9 @@ use Rattle.lexical_literal.proofs.Common.{ℕ, ◌≡◌, ◌<◌, ◌≤◌, �
 use Rattle.lexical_literal.proofs.Common.{false≢true, and_from, and_parts, or_left, take_more, separators_in, Role, Part, Notation, common_steps, ◌==◌, IsTrue}
 use Rattle.lexical_literal.proofs.Common.{if◌then◌else◌, length, HasRoles, IsAt, IsReadOn, at_stage, Cuts, add, admits, after, after_digit, after_mark}
 use Rattle.lexical_literal.proofs.Common.{digits_piece, forbids_plus, has_digit, awaits_integer, is_signed, lacks_prefix, may_follow, takes, role_at, part_of}
-use Rattle.lexical_literal.proofs.Common.{takes_in, count, with_prefix, Stopped, Piece, Stage, Summary}
-use Rattle.lexical_literal.specs.Additions.Scan.{fresh, is_free, may_read}
-use Rattle.lexical_literal.specs.Additions.Step.{add_more, is_negative, is_run, piece_of, digits_of}
+use Rattle.lexical_literal.proofs.Common.{takes_in, count, with_prefix, Stopped, Piece, Stage, Summary, is_free, may_read, add_more, is_negative, is_run}
+use Rattle.lexical_literal.proofs.Common.{piece_of, digits_of}
+use Rattle.lexical_literal.specs.Additions.Scan.{fresh}
 use Rattle.lexical_literal.proofs.StepLemmas.{awaited_part}
 use Rattle.lexical_util.specs.declared.feature_format.roles.Role.TheVariants as roles
 use Rattle.lexical_util.specs.declared.format_flags.Part.TheVariants as parts
@@ -92,7 +92,8 @@ module _ (m : Notation) (text : List ℕ) where
 
   module _ (h : HasRoles m) where
     -- One byte is read.
-    pub read_one : (at : Stopped) (r : Role) → at.size < length text → role_at m (part_of at.read.stage) (get_or text at.size 0) ≡ Some r → at.read.ended ≡ false
+    pub read_one : (at : Stopped) (r : Role) → at.size < length text
+        → role_at m (part_of at.read.stage) (get_or text at.size 0) ≡ Some r → at.read.ended ≡ false
         → takes m at.read (get_or text at.size 0 == 43) r ≡ true
         → admits m.condition at.read (get_or text at.size 0) r ≡ true → (c : Cuts) → IsAt m text at c
         → IsAt m text (record { size = at.size + 1; read = after at.read (get_or text at.size 0 == 48) r }) (count (part_of at.read.stage) (Some r) c)

@@ -3,10 +3,9 @@ use Rattle.lexical_literal.proofs.Common.{ℕ, ◌≡◌, ◌+◌, inl, inr, Boo
 use Rattle.lexical_literal.proofs.Common.{get_or, take, refl, sym, ap, subst, ◌∙◌, arith, false≢true, and_parts, cases_Bool, eqb-true, or_left, or_right}
 use Rattle.lexical_literal.proofs.Common.{length-take-le, Flag, separators_in, signs, Role, Part, Literal, IsSpelled, Reads, is_absent, is_none_or_one}
 use Rattle.lexical_literal.proofs.Common.{is_none_or_prefix, text_of, Notation, ◌==◌, if◌then◌else◌, IsTrue, length, is_one_of, requirement_flags, has_size}
-use Rattle.lexical_literal.proofs.Common.{has_sizes, AllIn, run_byte, HasRoles, HasSizes, first_group}
-use Rattle.lexical_literal.proofs.Common.{group_allows, group_after, grow, grown, unsized, role_at, Group}
-use Rattle.lexical_literal.specs.Groups.{is_grouped}
-use Rattle.lexical_literal.specs.Additions.GroupSize.{follows, is_idle, next_part}
+use Rattle.lexical_literal.proofs.Common.{has_sizes, AllIn, run_byte, HasRoles, HasSizes, first_group, group_allows, group_after, grow, grown, unsized, role_at}
+use Rattle.lexical_literal.proofs.Common.{Group, is_grouped, follows}
+use Rattle.lexical_literal.specs.Additions.GroupSize.{is_idle, next_part}
 use Rattle.std.proofs.lemmas.List.{drop_more, get_or-take}
 use Rattle.lexical_util.specs.declared.feature_format.roles.Role.TheVariants as roles
 use Rattle.lexical_util.specs.declared.format_flags.Part.TheVariants as parts
@@ -75,7 +74,8 @@ module _ (m : Notation) where
 
     byte_after : (part : Part) (separated : Bool) (digits b : ℕ) (text : List ℕ) (r : Role) → role_at m part b ≡ Some r
         → at part separated digits (b ∷ text)
-        ≡ ends (group_after m (if group_allows m (group part separated digits) (Some r) then Some (grown (group part separated digits) (Some r)) else None) text)
+        ≡ ends (group_after m (if group_allows m (group part separated digits) (Some r)
+        then Some (grown (group part separated digits) (Some r)) else None) text)
     byte_after part separated digits b text r plays = rw (sized, plays) refl
 
     chosen : (t : Bool) (g : Group) (text : List ℕ) → ends (group_after m (if t then Some g else None) text) ≡ (t && ends (group_after m (Some g) text))

@@ -1,13 +1,10 @@
 -- The bytes to show for a text that is refused are of the text.
 use Rattle.lexical_literal.proofs.Common.{ℕ, ◌≡◌, ◌≤◌, ◌+◌, List, [], ◌∷◌, take, Option, None, Some, get_or, sym, subst, arith, length-take-le, take_more}
-use Rattle.lexical_literal.proofs.Common.{ByteSet, Flag, Notation, notation_of, Condition}
-use Rattle.lexical_literal.proofs.Common.{Grammar, common_steps, length, if◌then◌else◌, IsRefusal, index_behind}
-use Rattle.lexical_literal.proofs.Common.{marks_of, span_of, ReadErrorKind, Refusal}
-use Rattle.lexical_literal.specs.Cause.{first_in, wrong_end}
+use Rattle.lexical_literal.proofs.Common.{ByteSet, Flag, Notation, notation_of, Condition, Grammar, common_steps, length, if◌then◌else◌, IsRefusal}
+use Rattle.lexical_literal.proofs.Common.{index_behind, marks_of, span_of, ReadErrorKind, Refusal, first_in, slice_get, Marks}
+use Rattle.lexical_literal.specs.Cause.{wrong_end}
 use Rattle.std.proofs.Math.Seq.{take-length}
 use Rattle.std.proofs.lemmas.Option.{slice_get_within}
-use Rattle.std.specs.Prelude.{slice_get}
-use Rattle.lexical_literal.specs.Cause.{Marks}
 use Rattle.lexical_literal.proofs.CauseLemmas.{behind_more}
 
 module _ (A : ByteSet) where

@@ -2,11 +2,10 @@
 use Rattle.lexical_literal.proofs.Common.{ℕ, ◌≡◌, Bool, true, false, not, ◌&&◌, ◌||◌, List, [], ◌∷◌, ◌++◌, refl, ◌∙◌, arith, list_any, ByteSet, signs, Part}
 use Rattle.lexical_literal.proofs.Common.{Notation, Literal, is_absent, is_none_or_one, is_none_or_prefix, ◌==◌, if◌then◌else◌, implies, has_digit, is_fresh}
 use Rattle.lexical_literal.proofs.Common.{after_digit, after_mark, after_point, awaits_integer, part_of, is_signed, forbids_plus, digits_suffice, continues}
-use Rattle.lexical_literal.proofs.Common.{Stage, Summary}
-use Rattle.lexical_literal.specs.Additions.Step.{is_lone, is_led, is_bare, may_float}
+use Rattle.lexical_literal.proofs.Common.{Stage, Summary, is_lone, is_led, is_bare, may_float, is_plus}
 use Rattle.lexical_util.specs.declared.feature_format.roles.Role.TheVariants as roles
 use Rattle.lexical_util.specs.declared.format_flags.Part.TheVariants as parts
-use Rattle.lexical_literal.specs.Literal.{is_plus, has_leading_zero}
+use Rattle.lexical_literal.specs.Literal.{has_leading_zero}
 use Rattle.lexical_literal.specs.declared.step.Stage.TheVariants as stages
 use Rattle.lexical_literal.proofs.RunLemmas.{is_rest}
 

@@ -2,10 +2,8 @@
 use Rattle.lexical_literal.proofs.Common.{ℕ, ◌≡◌, ◌+◌, ◌-◌, ◌↔◌, inl, inr, Bool, true, false, not, ◌&&◌, ◌||◌, List, [], ◌∷◌, ◌++◌, append-nil, Option, Some}
 use Rattle.lexical_literal.proofs.Common.{None, refl, sym, ap, subst, ◌∙◌, arith, cases_Bool, false_from_ne_true, ByteSet, Flag, Role, Part, Notation}
 use Rattle.lexical_literal.proofs.Common.{Condition, if◌then◌else◌, length, length-append, append_assoc, Allows, index_behind, marks_of, with_rules, has_size}
-use Rattle.lexical_literal.proofs.Common.{has_sizes, IsWeaker, lets, HasRoles, HasSizes, IsReady}
-use Rattle.lexical_literal.proofs.Common.{first_group, group_allows, group_after, grown, unsized, part_of}
-use Rattle.lexical_literal.proofs.Common.{role_at, walk, start, Group, Summary}
-use Rattle.lexical_literal.specs.Additions.GroupSize.{IsReadOf, goes, role_next}
+use Rattle.lexical_literal.proofs.Common.{has_sizes, IsWeaker, lets, HasRoles, HasSizes, IsReady, first_group, group_allows, group_after, grown, unsized}
+use Rattle.lexical_literal.proofs.Common.{part_of, role_at, walk, start, Group, Summary, IsReadOf, goes, role_next}
 use Rattle.lexical_util.specs.declared.feature_format.roles.Role.TheVariants as roles
 use Rattle.lexical_util.specs.declared.format_flags.Part.TheVariants as parts
 use Rattle.lexical_literal.proofs.BlameLemmas.{own_weaker}

@@ -4,15 +4,11 @@ use Rattle.lexical_literal.proofs.Common.{replicate, take, drop, Some, None, ref
 use Rattle.lexical_literal.proofs.Common.{and_parts, cases_Bool, cases_lt, false_from_ne_true, slice_get-get_or, length-take-le, take_more, take_all, Notation}
 use Rattle.lexical_literal.proofs.Common.{Literal, IsLiteral, Reads, Role, common_steps, if◌then◌else◌, length, append_assoc, count, cuts_of, role_at, walk}
 use Rattle.lexical_literal.proofs.Common.{step, is_accepted, part_of, start, no_cuts, HasLengths, Allows, IsFront, IsValidUpTo, NoFront, NoLiteral, ReadsFront}
-use Rattle.lexical_literal.proofs.Common.{IsCountedFront, IsMeasured, IsStopped, first_group, group_allows}
-use Rattle.lexical_literal.proofs.Common.{group_after, grow, grown, unsized, has_sizes, HasRoles}
-use Rattle.lexical_literal.proofs.Common.{HasSizes, IsReady, IsAt, Found, Stopped, Group, Summary}
+use Rattle.lexical_literal.proofs.Common.{IsCountedFront, IsMeasured, IsStopped, first_group, group_allows, group_after, grow, grown, unsized, has_sizes}
+use Rattle.lexical_literal.proofs.Common.{HasRoles, HasSizes, IsReady, IsAt, Found, Stopped, Group, Summary, HasBegun, HasFound, IsLongest, IsUnderway, goes}
+use Rattle.lexical_literal.proofs.Common.{IsRefused, is_some, slice_get, or_parts}
 use Rattle.lexical_literal.specs.Additions.Step.{is_complete, tally}
-use Rattle.lexical_literal.specs.Additions.Stop.{HasBegun, HasFound, IsFronted, IsLongest, IsUnderway}
-use Rattle.lexical_literal.specs.Additions.GroupSize.{goes}
-use Rattle.lexical_literal.specs.Additions.Scan.{IsRefused}
-use Rattle.std.specs.Prelude.{is_some, slice_get}
-use Rattle.std.proofs.lemmas.Bool.{or_parts}
+use Rattle.lexical_literal.specs.Additions.Stop.{IsFronted}
 use Rattle.std.proofs.lemmas.Option.{slice_get_past}
 use Rattle.std.proofs.lemmas.List.{take-take}
 use Rattle.lexical_literal.specs.declared.stop.Begun.{Begun}
@@ -96,7 +92,8 @@ module _ (m : Notation) (text : List ℕ) where
   }
 
   -- The longest front where reading stops.
-  pub longest_all : (stop : Stopped) (longest : Option Found) → IsStopped m text stop → IsLongest m text stop.size longest → IsLongest m text (length text) longest
+  pub longest_all : (stop : Stopped) (longest : Option Found) → IsStopped m text stop
+      → IsLongest m text stop.size longest → IsLongest m text (length text) longest
   longest_all stop longest stopped is = record {
     found = λ found some. let before = is.found found some in let within = stopped.valid.within in (omega (arith, before.0, within), before.1, before.2);
     counted = is.counted;
@@ -126,7 +123,8 @@ pub no_front : (m : Notation) (text : List ℕ) (longest : Option Found) → IsL
 no_front m text x2 is none size below = grind arith
 
 -- A literal that has been found is the longest front that is one if reading stops behind it.
-pub found_there : (m : Notation) (text : List ℕ) (counted : Begun) → HasBegun m text counted → counted.complete ≡ true → (stop : Stopped) → IsStopped m text stop
+pub found_there : (m : Notation) (text : List ℕ) (counted : Begun) → HasBegun m text counted → counted.complete ≡ true
+    → (stop : Stopped) → IsStopped m text stop
     → stop.size ≡ counted.at.size → IsCountedFront m text (record { size = stop.size; counts = counted.counts })
 found_there m text counted has complete stop is same = let l = has.literal complete in record {
   literal = l.0;

@@ -2,7 +2,8 @@
 use Rattle.lexical_literal.proofs.Common.{ℕ, ◌≡◌, Bool, true, false, not, ◌+◌, ◌&&◌, List, [], ◌∷◌, ◌++◌, Option, Some, None, refl, sym, ap, ◌∙◌, arith}
 use Rattle.lexical_literal.proofs.Common.{false≢true, false_from_ne_true, nat_tests, Role, Part, Notation, set_of_role, Condition, ◌==◌, if◌then◌else◌, length}
 use Rattle.lexical_literal.proofs.Common.{HasRoles, Cuts, add, admits, role_at, takes, after, part_of, takes_in, count, no_condition, Piece, Stage, Summary}
-use Rattle.lexical_literal.specs.Additions.Step.{move_by, piece_number, walk_by, step_by, accepted_by, tally_by}
+use Rattle.lexical_literal.proofs.Common.{move_by, piece_number, step_by, tally_by}
+use Rattle.lexical_literal.specs.Additions.Step.{walk_by, accepted_by}
 use Rattle.lexical_util.specs.declared.feature_format.roles.Role.TheVariants as roles
 
 -- `Accepts C m o text` holds if `text` is accepted with the conditions `C`.

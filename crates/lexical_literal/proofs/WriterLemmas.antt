@@ -1,13 +1,11 @@
 -- Which texts of mantissa digits are literals.
 use Rattle.lexical_literal.proofs.Common.{ℕ, ◌≡◌, ◌≢◌, ◌↔◌, Bool, true, false, not, ◌&&◌, ◌||◌, IsFalse, List, [], ◌∷◌, Some, None, refl, sym, ap, ◌∙◌, arith}
 use Rattle.lexical_literal.proofs.Common.{list_any, false_from_ne_true, Notation, Literal, Reads, HasRoles, HasSizes, IsReady, first_group, unsized, AllIn}
-use Rattle.lexical_literal.proofs.Common.{step, walk, is_accepted, start, part_of, Stage}
+use Rattle.lexical_literal.proofs.Common.{step, walk, is_accepted, start, part_of, Stage, needs_exponent, move_by, or_from}
 use Rattle.lexical_literal.specs.Readings.{refuses_first}
-use Rattle.lexical_literal.specs.Additions.Step.{needs_exponent, move_by}
 use Rattle.lexical_util.specs.Layout as layout
 use Rattle.lexical_util.specs.declared.feature_format.roles.Role.TheVariants as roles
 use Rattle.lexical_util.specs.declared.format_flags.Part.TheVariants as parts
-use Rattle.std.proofs.lemmas.Bool.{or_from}
 use Rattle.lexical_literal.specs.declared.step.Stage.TheVariants as stages
 use Rattle.lexical_literal.proofs.WalkLemmas.{walk_none, digit_role, is_role}
 use Rattle.lexical_literal.proofs.StepLemmas.{reading}

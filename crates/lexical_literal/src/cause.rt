@@ -340,7 +340,8 @@ impl Spot {
 
     // Returns those of `flags` each of which, as the only requirement, refuses what cannot follow.
     const fn refusing(self, flags: u128) -> u128
-        ensures { result ≡ mask_of (λ f. (raw flags).flag f && not (goes (adding f (bare (notation_of (grammar_at self)))) self.read (group_at self) self.byte)) }
+        ensures { result ≡ mask_of (λ f. (raw flags).flag f
+            && not (goes (adding f (bare (notation_of (grammar_at self)))) self.read (group_at self) self.byte)) }
     {
         let mut mask = flags;
         let mut number = 0;

@@ -2,12 +2,10 @@
 use Rattle.lexical_number.proofs.Common.{pow_pos, pow_mono, pow-add, IsNearestBits, nat_tests, ◌≡◌, ℕ, suc, ◌+◌, ◌-◌, ◌*◌, ◌/◌, ◌%◌, ◌^◌, ◌<◌, ◌≤◌, ◌==◌, ◌||◌}
 use Rattle.lexical_number.proofs.Common.{◌&&◌, nat_lt, Bool, true, false, refl, sym, ap, ◌∙◌, subst, inl, inr, arith, eq-zero-or-pos, mul-pos, mod-eq_of_lt}
 use Rattle.lexical_number.proofs.Common.{lt_of_mul-lt-mul_right, mul-le-mul_right, le_of_eq, le_trans, mul-le-mul_left, nearest_of_huge, nearest_of_tiny}
-use Rattle.lexical_number.proofs.Common.{IsCutTo}
-use native.Mathlib.Nat.{mod-lt, eq_of_mul-eq-mul_right, div-add-mod', div-eq_of_lt, le_of_mul-le-mul_right}
-use mir.Val.{bool_byte}
-use lib.Dec.{lit≤}
+use Rattle.lexical_number.proofs.Common.{IsCutTo, eq_of_mul-eq-mul_right, bool_byte, lit≤, Format, hid, ones, prec}
+use native.Mathlib.Nat.{mod-lt, div-add-mod', div-eq_of_lt, le_of_mul-le-mul_right}
 use lib.Pow.{shl_lt}
-use lib.Ieee.{Format, hid, ones, prec, low}
+use lib.Ieee.{low}
 use Rattle.core.specs.Dec2flt.Rounding.{scaled_bits, IsCut, IsJustAbove, IsSignificand, IsWithin}
 use Rattle.core.proofs.dec2flt.Patterns.{shape}
 use Rattle.core.proofs.dec2flt.RoundingLemmas.{nearest_tie, nearest_above}

@@ -1,11 +1,9 @@
 -- The number that digits represent when they follow those of another number.
 use Rattle.lexical_number.proofs.Common.{◌≡◌, ℕ, suc, ◌+◌, ◌*◌, ◌<◌, ◌≤◌, List, ◌∷◌, drop, get_or, nat_lt, Bool, true, false, cond, refl, Option, Some, None}
-use Rattle.lexical_number.proofs.Common.{sym, ap, subst, ◌∙◌, arith, drop-cons, ◌++◌, nat_tests, filter_map-append, length}
+use Rattle.lexical_number.proofs.Common.{sym, ap, subst, ◌∙◌, arith, drop-cons, ◌++◌, nat_tests, filter_map-append, length, number_from_digits_after}
+use Rattle.lexical_number.proofs.Common.{cons_option, byte_value, number_after, digits_in}
 use Rattle.std.proofs.lemmas.Int.Digits.{number_after_append, number_after_ge}
-use Rattle.std.specs.Int.Digits.{number_from_digits_after}
-use Rattle.std.specs.List.{cons_option}
-use Rattle.lexical_base.specs.Digits.{byte_value, digit_of}
-use Rattle.lexical_number.specs.Number.{number_after, digits_in}
+use Rattle.lexical_base.specs.Digits.{digit_of}
 
 -- What is left at the index `i` begins with the byte at `i`.
 module _ (radix n i : ℕ) (bytes : List ℕ) (inside : i < length bytes) where

@@ -1,10 +1,8 @@
 -- Leading digits and an exponent, in radixes that are powers of two, as a whole number times a power of two.
 use Rattle.lexical_number.proofs.Common.{pow_pos, pow_mono, pow-add, IsNearestBits, raised_up, raised_down, ◌≡◌, ℕ, zero, suc, ◌+◌, ◌*◌, ◌^◌, ◌≤◌, Bool, true}
 use Rattle.lexical_number.proofs.Common.{false, if◌then◌else◌, sym, ap, ◌∙◌, subst, arith, mul-le-mul, mul-le-mul_right, le_trans, le_of_eq, pow-suc}
-use Rattle.lexical_number.proofs.Common.{nearest_of_tiny, nearest_of_huge, Leads}
+use Rattle.lexical_number.proofs.Common.{nearest_of_tiny, nearest_of_huge, Leads, lit≤, Format, hid, ones}
 use native.Mathlib.Nat.{pow-zero}
-use lib.Dec.{lit≤}
-use lib.Ieee.{Format, hid, ones}
 
 pub pow_of : (a n : ℕ) → (2 ^ a) ^ n ≡ 2 ^ (n * a)
 pow_of a zero = pow-zero (2 ^ a) ∙ sym (ap (λ x. 2 ^ x) {x = 0 * a} {y = 0} (omega arith))

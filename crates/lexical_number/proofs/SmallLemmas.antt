@@ -1,15 +1,12 @@
 -- Numbers of 64 bits, by the number of their digits behind leading zeros.
 use Rattle.lexical_number.proofs.Common.{◌≡◌, ℕ, zero, suc, ◌+◌, ◌-◌, ◌*◌, ◌%◌, ◌^◌, ◌<◌, ◌≤◌, ◌↔◌, ◌&&◌, ◌||◌, inl, inr, List, [], ◌∷◌, ◌++◌, nat_lt, Bool}
 use Rattle.lexical_number.proofs.Common.{true, false, cond, Some, None, refl, sym, ap, subst, ◌∙◌, arith, slice_index_or, cases_lt, nat_tests, ◌==◌, length}
-use Rattle.lexical_number.proofs.Common.{nat_le, if◌then◌else◌, IsTrue, number_from_digits_after, digits_in, number, places, leading_zeros}
+use Rattle.lexical_number.proofs.Common.{nat_le, if◌then◌else◌, IsTrue, number_from_digits_after, digits_in, number, places, leading_zeros, agree_below_at}
+use Rattle.lexical_number.proofs.Common.{number_lt, mod-add-mod, pow-le-pow_right, pow-zero, cons_option, byte_value}
 use Rattle.std.specs.Int.Digits.{AllBelowBase, number_from_digits}
 use Rattle.lexical_number.specs.Small.{IsSmall}
-use Rattle.std.proofs.lemmas.Bool.{agree_below_at}
-use Rattle.std.proofs.lemmas.Int.Digits.{number_lt}
 use Rattle.std.proofs.lemmas.Nat.{mul-mod_first}
-use Rattle.std.proofs.Math.Nat.{mod-add-mod, mul-le-mul_right, pow-le-pow_right, pow-suc, pow-zero}
-use Rattle.std.specs.List.{cons_option}
-use Rattle.lexical_base.specs.Digits.{byte_value}
+use Rattle.std.proofs.Math.Nat.{mul-le-mul_right, pow-suc}
 use Rattle.lexical_number.specs.declared.small.TheConstants.{MOST}
 
 -- Digits behind a number are those behind each number that is the same modulo `2 ^ 64`.

@@ -2,14 +2,6 @@
 //! from outside, and the values that only Rattle has.
 #![tactic(auto)]
 
-mod builders;
-mod bytes;
-mod edits;
-mod errors;
 mod example;
-mod groups;
-mod roles;
-mod rules;
 mod specials;
 mod values;
-mod views;

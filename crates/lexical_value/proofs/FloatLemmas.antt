@@ -1,17 +1,14 @@
 -- The fraction that a literal is, by its parts, and floats that are no NaN.
-use Rattle.lexical_value.proofs.Common.{raised_down, raised_up, number, places, mantissa}
-use Rattle.std.proofs.Common.{ℕ, ◌≡◌, ◌+◌, ◌*◌, ◌^◌, ◌==◌, not, Bool, true, false, cond, ap, ◌∙◌, refl, subst, sym, zero, suc}
-use lib.Ieee.{Float, Format, emax, inf, is_nan, low, odd, prec, round, units}
+use Rattle.lexical_value.proofs.Common.{raised_down, raised_up, number, places, mantissa, ℕ, ◌≡◌, ◌+◌, ◌*◌, ◌^◌, not, Bool, true, false, cond, ap, ◌∙◌, refl}
+use Rattle.lexical_value.proofs.Common.{subst, sym, zero, suc, round, is_decimal, Record, effective_exponent_base, effective_exponent_radix, Literal, is_minus}
+use Rattle.lexical_value.proofs.Common.{Leads, denominator, numerator}
+use Rattle.std.proofs.Common.{◌==◌}
+use lib.Ieee.{Float, Format, emax, inf, is_nan, low, odd, prec, units}
 use lib.Ieee.Fits.{round_is}
 use Rattle.std.proofs.lemmas.Bool.{and_parts, eqb-true}
-use Rattle.lexical_value.specs.Float.{is_decimal}
 use Rattle.core.specs.Prelude.{T, ltb}
 use Rattle.std.specs.Float.{NotNan}
 use Rattle.lexical_util.specs.Layout as layout
-use Rattle.lexical_util.specs.Record.{Record, effective_exponent_base, effective_exponent_radix}
-use Rattle.lexical_literal.specs.Literal.{Literal, is_minus}
-use Rattle.lexical_number.specs.Leading.{Leads}
-use Rattle.lexical_value.specs.Value.{denominator, numerator}
 
 -- What holds of the fraction by its parts holds of the value of the literal.
 pub of_value : (P : ℕ → ℕ → Type 0) (r : Record) (l : Literal) (n m b e k : ℕ) (s : Bool) → n ≡ mantissa r.byte l → m ≡ r.byte layout.mantissa_radix

@@ -1,20 +1,14 @@
 -- The lowest bits of a number, and what literals of the exact kind are worth.
-use Rattle.std.proofs.Common.{ℕ, ◌≡◌, ◌+◌, ◌-◌, ◌%◌, ◌^◌, ◌<◌, ◌≤◌, ◌||◌, ◌∙◌, Bool, true}
-use Rattle.std.proofs.Common.{false, not, if◌then◌else◌, Some, Result, Ok, Err, arith, ap, refl, subst, sym}
-use Rattle.std.proofs.Math.Nat.{mod-eq_of_lt, pow-le-pow_right}
+use Rattle.lexical_value.proofs.Common.{ℕ, ◌≡◌, ◌+◌, ◌-◌, ◌%◌, ◌^◌, ◌<◌, ◌≤◌, ◌||◌, ◌∙◌, Bool, true, false, not, if◌then◌else◌, Some, Ok, Err, arith, ap, refl}
+use Rattle.lexical_value.proofs.Common.{subst, sym, pow-le-pow_right, nat_tests, Record, width, worth, wrapped, Literal, is_binary, is_decimal, nearest}
+use Rattle.lexical_value.proofs.Common.{IsNoInteger, IsNotWorth, float_worth, ValueErrorKind}
+use Rattle.std.proofs.Common.{Result}
+use Rattle.std.proofs.Math.Nat.{mod-eq_of_lt}
 use Rattle.std.proofs.Math.Pow.{mod-mod-pow}
 use Rattle.std.proofs.lemmas.Bool.{false≢true}
-use Rattle.std.proofs.lemmas.Bool.Decides.{nat_tests}
 use Rattle.std.specs.Float.{Float, Format}
-use Rattle.lexical_util.specs.Record.{Record}
 use Rattle.lexical_literal.specs.Read.{exact}
-use Rattle.lexical_value.specs.Kind.{width, worth, wrapped}
-use Rattle.lexical_literal.specs.Literal.{Literal}
 use Rattle.lexical_literal.specs.declared.kind.IntegerKind.TheVariants as integers
-use Rattle.lexical_value.specs.Float.{is_binary, is_decimal, nearest}
-use Rattle.lexical_value.specs.Integer.{IsNoInteger}
-use Rattle.lexical_value.specs.Kind.{IsNotWorth, float_worth}
-use Rattle.lexical_value.specs.declared.integer.ValueErrorKind.{ValueErrorKind}
 use Rattle.lexical_value.specs.declared.integer.ValueErrorKind.TheVariants as kinds
 
 -- Fewer bits are the lowest of 64 bits.

@@ -1,20 +1,18 @@
 -- On what the value of a literal does not depend.
-use Rattle.lexical_value.proofs.Common.{nat_tests, number, mantissa}
-use Rattle.std.proofs.Common.{ℕ, ◌≡◌, ◌*◌, ◌<◌, ◌^◌, cond, if◌then◌else◌, IsTrue, IsFalse, List, [], ◌∷◌, ◌++◌, nat_lt, Some, None, refl, sym, ap, ◌∙◌, arith}
-use Rattle.std.proofs.Common.{append-nil, length}
-use Rattle.std.proofs.Math.Nat.{pow-zero}
+use Rattle.lexical_value.proofs.Common.{nat_tests, number, mantissa, ℕ, ◌≡◌, ◌*◌, ◌<◌, ◌^◌, cond, if◌then◌else◌, ◌++◌, Some, refl, sym, ap, ◌∙◌, arith}
+use Rattle.lexical_value.proofs.Common.{pow-zero, Record, effective_exponent_base, effective_exponent_radix, Literal, is_float, numerator}
+use Rattle.std.proofs.Common.{IsTrue, IsFalse, List, [], ◌∷◌, nat_lt, None, append-nil, length}
 use Rattle.std.proofs.lemmas.List.Elements.{filter_map-append}
 use Rattle.std.specs.Int.Digits.{number_from_digits}
 use Rattle.std.specs.Prelude.{◌==◌, position, unwrap_or}
 use Rattle.lexical_util.specs.Digits.{byte_value, digit_characters, digit_of, uppercase}
 use Rattle.lexical_util.specs.Layout as layout
 use Rattle.lexical_util.specs.NormalForm.{SameFormat}
-use Rattle.lexical_util.specs.Record.{Record, effective_exponent_base, effective_exponent_radix}
-use Rattle.lexical_literal.specs.Literal.{Literal, Reads, is_float}
+use Rattle.lexical_literal.specs.Literal.{Reads}
 use Rattle.lexical_literal.specs.Notation.{Notation}
 use Rattle.lexical_number.specs.Number.{digits_in}
 use Rattle.lexical_value.specs.Integer.{integer_size}
-use Rattle.lexical_value.specs.Value.{SameDigits, SameValue, numerator, power, spelled}
+use Rattle.lexical_value.specs.Value.{SameDigits, SameValue, power, spelled}
 
 -- The value depends on the mantissa radix, and on the effective exponent base and radix.
 pub same_word : (r s : Record) (l : Literal) → SameFormat r s → SameValue r.byte l s.byte l

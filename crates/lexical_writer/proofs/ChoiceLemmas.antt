@@ -1,20 +1,20 @@
 -- What a list reads is the number that a form has written.
-use Rattle.lexical_writer.proofs.Common.{ℕ, ℤ, ◌≡◌, Bool, Grammar, Literal, None, Ok, Option, Some, Style, false, false≢true, inl, inr, is_some, not, raw, refl}
-use Rattle.lexical_writer.proofs.Common.{subst, sym, true, ◌⊎◌}
+use Rattle.lexical_writer.proofs.Common.{Bool, Err, Form, Grammar, HasValue, IsRounded, IsSomeAnd, IsWhole, Kind, List, Literal, None, Ok, Option, Read, Reads}
+use Rattle.lexical_writer.proofs.Common.{ReadsForm, Record, SameFraction, Some, Style, ap, arith, decimals_in, false, if◌then◌else◌, inl, inr, integer_worth}
+use Rattle.lexical_writer.proofs.Common.{is_binary, is_decimal, is_exact, is_float, is_minus, is_some, nearest, not, notation_of, ok_or, raw, refl, slice_get}
+use Rattle.lexical_writer.proofs.Common.{subst, suc, sym, take, true, with_sign, worth, zero, ℕ, ℤ, ◌&&◌, ◌||◌, ◌∙◌, ◌≡◌, ◌⊎◌}
 use Rattle.std.specs.Float.{Float, Format, binary64}
-use Rattle.lexical_literal.specs.Read.{Read, exact}
+use Rattle.std.specs.Float.Ieee.{round}
+use Rattle.std.specs.Prelude.{negsuc, option_map, pos}
+use Rattle.std.proofs.lemmas.List.{length-take-le}
+use Rattle.lexical_forms.specs.Forms.{HasKind, IsFirst, NoForm}
+use Rattle.lexical_literal.specs.Read.{exact}
 use Rattle.lexical_value.proofs.KindLemmas.{exact_float}
-use Rattle.lexical_value.specs.Float.{nearest}
-use Rattle.lexical_value.specs.Kind.{float_worth}
-use Rattle.lexical_literal.specs.Literal.{is_float}
-use Rattle.lexical_writer.specs.Choice.{IsAmount, IsInStyle, IsReal, IsWhole, IsWrittenNumber, IsWrittenReal, has_float}
-use Rattle.lexical_writer.specs.Conversion.{SameFraction}
-use Rattle.lexical_writer.specs.Layout.{HasValue}
-use Rattle.lexical_writer.specs.Rounded.{IsRounded, decimals_in}
-
-pub not_false : (b : Bool) → not b ≡ true → b ≡ false
-not_false true is = absurd (false≢true is)
-not_false false is = refl
+use Rattle.lexical_value.specs.Integer.{integer_size}
+use Rattle.lexical_value.specs.Kind.{float_worth, format_by}
+use Rattle.lexical_literal.specs.declared.kind.FloatKind.TheVariants as floats
+use Rattle.lexical_value.specs.declared.integer.ValueErrorKind.TheVariants as kinds
+use Rattle.lexical_writer.specs.Choice.{IsAmount, IsInStyle, IsReal, IsWrittenNumber, IsWrittenReal, IsWrittenWhole, has_float}
 
 -- A literal of the exact kind is worth the float that is nearest to it.
 nearest_is : (f : Format) (x : Float) (read : Read) → read.kind ≡ exact → IsReal f x read → x ≡ nearest f (raw read.format).byte read.literal
@@ -31,27 +31,32 @@ pub written_real : (f : Format) (x : Float) (decimals : Option ℕ) (g : Grammar
 written_real f x None g l near rounded = near refl
 written_real f x (Some n) g l near rounded = rounded n refl
 
--- If a literal of the exact kind is written for a float, it is this float in the style.
-pub plain_real : (f : Format) (x : Float) (decimals : Option ℕ) (g : Grammar) (read : Read) → read.kind ≡ exact → read.format ≡ g.word
-    → IsWrittenReal f x decimals g read.literal → IsAmount f x decimals read
-plain_real f x None g read kind word has = inr (kind, subst (λ w. x ≡ nearest f (raw w).byte read.literal) (sym word) has)
-plain_real f x (Some n) g read kind word has = (
-  g,
-  read.literal,
-  has,
-  inr (kind, subst (λ w. nearest f (raw g.word).byte read.literal ≡ nearest f (raw w).byte read.literal) (sym word) refl),
-)
+-- A float, or an integer of the exact kind, is worth the float that is nearest to it.
+worth_nearest : (f : Format) (kind : Kind) (r : Record) (l : Literal) → (is_decimal r.byte || is_binary r.byte) ≡ true → kind.floats ≡ floats.Nearest
+    → (is_exact kind.integers || is_float l) ≡ true → float_worth kind f r.byte l ≡ Ok (nearest f r.byte l)
+worth_nearest f kind r l known near plain = (λ i. if not (known i) then Err kinds.UnsupportedRadix
+    else (if plain i then Ok (nearest (format_by (near i) f) r.byte l)
+    else ok_or (option_map (λ w. round f w.0 w.1 1) (integer_worth kind.integers r.byte l)) (if is_minus l.sign then kinds.TooSmall else kinds.TooLarge)))
 
--- A float that is rounded is read as what is written for it is.
-pub rounded_real : (f : Format) (x : Float) (decimals : Option ℕ) (g : Grammar) (own read : Read) → is_some decimals ≡ true → own.kind ≡ exact
-    → own.format ≡ g.word → IsWrittenReal f x decimals g own.literal → (y : Float) → IsReal f y own → IsReal f y read → IsAmount f x decimals read
-rounded_real f x None g own read some kind word has y same real = absurd (false≢true some)
-rounded_real f x (Some n) g own read some kind word has y same real = (
-  g,
-  own.literal,
-  has,
-  subst (λ z. IsReal f z read) (subst (λ w. y ≡ nearest f (raw w).byte own.literal) word (nearest_is f y own kind same)) real,
-)
+-- What is worth the float that is nearest to a literal that is written for a float is this float in the style.
+amount_is : (f : Format) (x : Float) (decimals : Option ℕ) (g : Grammar) (l : Literal) (read : Read) → IsWrittenReal f x decimals g l
+    → IsReal f (nearest f (raw g.word).byte l) read → IsAmount f x decimals read
+amount_is f x None g l read has worth = subst (λ y. IsReal f y read) (sym has) worth
+amount_is f x (Some n) g l read has worth = (g, l, has, worth)
+
+-- If a literal is written for a float, and worth the nearest one, it is this float in the style.
+pub plain_real : (f : Format) (x : Float) (decimals : Option ℕ) (g : Grammar) (read : Read) → read.format ≡ g.word
+    → (is_decimal (raw g.word).byte || is_binary (raw g.word).byte) ≡ true → read.kind.floats ≡ floats.Nearest
+    → (is_exact read.kind.integers || is_float read.literal) ≡ true → IsWrittenReal f x decimals g read.literal → IsAmount f x decimals read
+plain_real f x decimals g read word known near plain has = amount_is f x decimals g read.literal read has
+    (inl (subst (λ w. float_worth read.kind f (raw w).byte read.literal ≡ Ok (nearest f (raw g.word).byte read.literal)) (sym word)
+    (worth_nearest f read.kind (raw g.word) read.literal known near plain)))
+
+-- What is worth the same float as a literal of the exact kind that is written for a float is this float in the style.
+pub same_real : (f : Format) (x : Float) (decimals : Option ℕ) (g : Grammar) (own read : Read) → own.kind ≡ exact → own.format ≡ g.word
+    → IsWrittenReal f x decimals g own.literal → (y : Float) → IsReal f y own → IsReal f y read → IsAmount f x decimals read
+same_real f x decimals g own read kind word has y same real = amount_is f x decimals g own.literal read has
+    (subst (λ z. IsReal f z read) (subst (λ w. y ≡ nearest f (raw w).byte own.literal) word (nearest_is f y own kind same)) real)
 
 -- If a literal of the exact kind is written for a number of the exact kind, it is this number in the style, unless an integer is written as a float.
 pub plain_number : (a : Read) (style : Style) (g : Grammar) (b : Read) → a.kind ≡ exact → b.kind ≡ exact → b.format ≡ g.word
@@ -96,7 +101,52 @@ rounded_number a style g own read wish some kind word has y same real = inr (
   subst (λ z. IsReal binary64 z read) (subst (λ w. y ≡ nearest binary64 (raw w).byte own.literal) word (nearest_is binary64 y own kind same)) real,
 )
 
+-- A literal of a format that has no floats is worth none.
+pub no_float : (g : Grammar) (read : Read) (known : Bool) → read.format ≡ g.word → known ≡ (is_decimal (raw g.word).byte || is_binary (raw g.word).byte)
+    → (is_float read.literal && known) ≡ false → has_float read ≡ false
+no_float g read known word is none =
+    subst (λ w. (is_float read.literal && (is_decimal (raw w).byte || is_binary (raw w).byte)) ≡ false) (sym word)
+    (ap (λ known. is_float read.literal && known) (sym is) ∙ none)
+
 -- If a literal of the exact kind is written for an integer, and is worth no float, it is this integer.
-pub plain_whole : (z : ℤ) (g : Grammar) (read : Read) → read.kind ≡ exact → read.format ≡ g.word → not (has_float read) ≡ true
-    → HasValue (raw g.word) read.literal z → IsWhole z read
-plain_whole z g read kind word none has = inr (inr (kind, not_false (has_float read) none, subst (λ w. HasValue (raw w) read.literal z) (sym word) has))
+pub plain_whole : (z : ℤ) (g : Grammar) (read : Read) → read.kind ≡ exact → read.format ≡ g.word → has_float read ≡ false
+    → IsWrittenWhole z (raw g.word) read.literal → IsWhole z read
+plain_whole z g read kind word none has = inr (inr (kind, none, subst (λ w. HasValue (raw w) read.literal z) (sym word) has.0))
+
+abbrev size_without : ℤ → ℕ
+size_without (pos n) = n
+size_without (negsuc n) = suc n
+
+size_with : (a : Bool) (n : ℕ) → size_without (with_sign a n) ≡ n
+size_with false n = refl
+size_with true zero = refl
+size_with true (suc n) = refl
+
+-- An integer literal that is written for an integer is worth it by a kind that keeps its size.
+pub kept_whole : (negative : Bool) (size : ℕ) (g : Grammar) (read : Read) → read.format ≡ g.word → is_float read.literal ≡ false
+    → ((negative : Bool) → worth read.kind.integers negative size ≡ Some (negative, size))
+    → IsWrittenWhole (with_sign negative size) (raw g.word) read.literal → IsWhole (with_sign negative size) read
+kept_whole negative size g read word whole kept has =
+    let is : with_sign negative size ≡ with_sign (is_minus read.literal.sign) (integer_size (raw read.format).byte read.literal) =
+    subst (λ w. with_sign negative size ≡ with_sign (is_minus read.literal.sign) (integer_size (raw w).byte read.literal)) (sym word) has.1 in
+    let same = sym (size_with negative size) ∙ ap size_without is ∙ size_with (is_minus read.literal.sign) (integer_size (raw read.format).byte read.literal) in
+    inl (
+      whole,
+      subst (λ o. IsSomeAnd o (λ w. with_sign negative size ≡ with_sign w.0 w.1))
+          (sym (subst (λ n. worth read.kind.integers (is_minus read.literal.sign) n ≡ Some (is_minus read.literal.sign, n)) same
+          (kept (is_minus read.literal.sign)))) is,
+    )
+
+-- What is written by the first form of a list is its first literal.
+pub first_reads : (forms : List Form) (form : Form) (text : List ℕ) (l : Literal) (index : ℕ) → slice_get forms index ≡ Some form → index ≡ 0
+    → Reads (notation_of form.syntax) l text
+    → IsFirst forms text index (record { format = form.syntax.word; literal = l; kind = form.kind })
+    × HasKind forms index (record { format = form.syntax.word; literal = l; kind = form.kind })
+first_reads forms form text l index here first reads =
+    let read : Read = record { format = form.syntax.word; literal = l; kind = form.kind } in (
+      record {
+        reads = subst (λ o. IsSomeAnd o (ReadsForm text read)) (sym here) (refl, reads);
+        before = subst (λ n. NoForm (take n forms) text) (sym first) (λ k d below. absurd (omega (arith, below, length-take-le 0 forms (omega arith))));
+      },
+      subst (λ o. IsSomeAnd o (λ (form : Form). read.kind ≡ form.kind)) (sym here) refl,
+    )

@@ -1,21 +1,16 @@
 -- What is written of a literal has its value.
-use Rattle.lexical_writer.proofs.Common.{ℕ, ◌≡◌, ◌≤◌, ◌*◌, ◌^◌, ◌&&◌, ◌||◌, ◌⊎◌, inl, inr, if◌then◌else◌, Bool, true, false, List, [], ◌∷◌, ◌++◌, length}
-use Rattle.lexical_writer.proofs.Common.{Some, None, Ok, unwrap_or, sym, ap, ◌∙◌, arith, pow-suc, pow-zero, nat_tests, number_from_digits_after, Record}
-use Rattle.lexical_writer.proofs.Common.{raw, effective_exponent_base, effective_exponent_radix, Literal, is_absent, is_present, is_minus, Parts, Grammar}
-use Rattle.lexical_writer.proofs.Common.{digits_in, number, at_least, size_of, values_of, Amount, Source}
+use Rattle.lexical_writer.proofs.Common.{Amount, Bool, Grammar, HasNumber, List, Literal, None, Ok, Parts, Record, SameFraction, Some, Source, [], amount_of}
+use Rattle.lexical_writer.proofs.Common.{ap, arith, at_least, denominator, digits_in, effective_exponent_base, effective_exponent_radix, false}
+use Rattle.lexical_writer.proofs.Common.{filter_map-append, given_fraction, given_power, if◌then◌else◌, inl, inr, is_absent, is_minus, is_present, length}
+use Rattle.lexical_writer.proofs.Common.{mantissa, nat_tests, number, number_after_append, number_digits_of, number_from_digits, number_from_digits_after}
+use Rattle.lexical_writer.proofs.Common.{numerator, one_if, pow-suc, pow-zero, raised_down, raised_up, raw, refl, scale, size_of, sym, true, unwrap_or}
+use Rattle.lexical_writer.proofs.Common.{values_of, ℕ, ◌&&◌, ◌*◌, ◌++◌, ◌^◌, ◌||◌, ◌∙◌, ◌∷◌, ◌≡◌, ◌≤◌, ◌⊎◌}
 use Rattle.std.specs.Borrow.{Bor}
-use Rattle.lexical_util.specs.Layout as layout
 use Rattle.lexical_literal.specs.Parts.{literal_of}
-use Rattle.lexical_number.proofs.DigitLemmas.{number_after-append}
-use Rattle.lexical_literal.specs.Read.{mantissa}
-use Rattle.lexical_value.specs.Value.{power, scale}
-use Rattle.lexical_writer.specs.Conversion.{SameFraction, amount_of, fraction_of, source_of}
-use Rattle.lexical_writer.proofs.DigitLemmas.{enough}
-use Rattle.lexical_writer.specs.Layout.{HasNumber, given_fraction, given_power, one_if}
+use Rattle.lexical_util.specs.Layout as layout
+use Rattle.lexical_writer.specs.Conversion.{fraction_of, source_of}
 use Rattle.lexical_writer.specs.declared.run.Source.TheVariants as sources
-
-cross : (m s q u d : ℕ) → (m * u) * ((s * q) * d) ≡ ((m * q) * u) * (s * d)
-cross m s q u d = omega arith
+use Rattle.lexical_writer.proofs.DigitLemmas.{enough}
 
 -- A 0 that stands for absent digits makes the number and the scale larger by the same factor.
 pub zero_scaled : (radix n : ℕ) (none : Bool) (digits : List ℕ) → (q : ℕ) × (number_from_digits_after radix n
@@ -27,6 +22,39 @@ zero_scaled radix n none (d ∷ digits) =
     let most : (none : Bool) → one_if none ≤ length (d ∷ digits) = λ none. grind (arith, nat_tests) in
     let same = enough (one_if none) (d ∷ digits) (most none) in
     (1, ap (number_from_digits_after radix n) same ∙ omega arith, ap (λ (ds : List ℕ). radix ^ length ds) same ∙ omega arith)
+
+-- The digits of a source represent its number.
+pub size_values : (radix : ℕ) (source : Source) → 2 ≤ radix → size_of radix source ≡ number_from_digits radix (values_of radix source)
+size_values radix (sources.Bytes bytes) two = refl
+size_values radix (sources.Number n) two = sym (number_digits_of radix n two)
+size_values radix (sources.Padded padded) two = refl
+
+-- What has the digits and the exponent of an amount has its value.
+pub same_value : (g : Grammar) (amount : Amount) (l : Literal) (num den : ℕ) → 2 ≤ (raw g.word).byte layout.mantissa_radix → HasNumber g amount l
+    → (up down : ℕ) → raised_up (given_power amount).negative (effective_exponent_base (raw g.word))
+    (size_of (effective_exponent_radix (raw g.word)) (given_power amount).source) ≡ up
+    → raised_down (given_power amount).negative (effective_exponent_base (raw g.word))
+    (size_of (effective_exponent_radix (raw g.word)) (given_power amount).source) ≡ down
+    → (number_from_digits ((raw g.word).byte layout.mantissa_radix) (values_of ((raw g.word).byte layout.mantissa_radix) amount.integer
+    ++ values_of ((raw g.word).byte layout.mantissa_radix) (given_fraction amount)) * up) * den
+    ≡ num * ((raw g.word).byte layout.mantissa_radix ^ length (values_of ((raw g.word).byte layout.mantissa_radix) (given_fraction amount)) * down)
+    → num * denominator (raw g.word).byte l ≡ numerator (raw g.word).byte l * den
+same_value g amount l num den two has up down ups downs worth =
+    let s = raw g.word in
+    let radix = s.byte layout.mantissa_radix in
+    let front = values_of radix amount.integer in
+    let rest = values_of radix (given_fraction amount) in
+    let b = effective_exponent_base s in
+    let factor = zero_scaled radix (number_from_digits radix front) has.zero rest in
+    let integer : number radix l.integer ≡ number_from_digits radix front = has.integer ∙ size_values radix amount.integer two in
+    let mantissa_is : mantissa s.byte l ≡ number_from_digits radix (front ++ rest) * factor.0 =
+    ap (number_from_digits radix) (filter_map-append _ l.integer l.fraction)
+    ∙ number_after_append radix 0 (digits_in radix l.integer) (digits_in radix l.fraction)
+    ∙ (λ j. number_from_digits_after radix (integer j) (has.fraction j)) ∙ factor.1 ∙ ap (λ m. m * factor.0) (sym (number_after_append radix 0 front rest)) in
+    let scale_is : scale s.byte l ≡ radix ^ length rest * factor.0 = ap (λ (ds : List ℕ). radix ^ length ds) has.fraction ∙ factor.2 in
+    let up_is = (λ j. raised_up (has.exponent_sign j) b (has.exponent j)) ∙ ups in
+    let down_is = (λ j. raised_down (has.exponent_sign j) b (has.exponent j)) ∙ downs in
+    (λ j. num * (scale_is j * down_is j)) ∙ omega (arith, ap (λ m. m * factor.0) worth) ∙ sym (λ j. (mantissa_is j * up_is j) * den)
 
 -- The digits of the exponent represent the number that they represent in the literal.
 source_is : (bytes : Bor (List ℕ)) (from to : ℕ) (source : Source) → source_of bytes from to ≡ Ok source → size_of to source ≡ number from bytes.now
@@ -44,7 +72,7 @@ module _ (r : Record) (parts : Parts) (s : Record) where
   -- `IsAmount amount` holds if `amount` has the signs and the digits of `parts`. An exponent that it lacks is 0.
   record IsAmount (amount : Amount) : Type 0 where
     negative : amount.negative ≡ is_minus parts.sign.now
-    integer : size_of (s.byte layout.mantissa_radix) amount.integer ≡ number (s.byte layout.mantissa_radix) parts.integer.now
+    integer : values_of (s.byte layout.mantissa_radix) amount.integer ≡ digits_in (s.byte layout.mantissa_radix) parts.integer.now
     fraction : values_of (s.byte layout.mantissa_radix) (given_fraction amount) ≡ digits_in (s.byte layout.mantissa_radix) parts.fraction.now
     exponent : size_of (effective_exponent_radix s) (given_power amount).source ≡ number (effective_exponent_radix r) parts.exponent.now
     power : (((given_power amount).negative ≡ is_minus parts.exponent_sign.now) × (effective_exponent_base r ≡ effective_exponent_base s))
@@ -62,42 +90,36 @@ module _ (r : Record) (parts : Parts) (s : Record) where
   }
 
 -- The factors by which the number is multiplied and divided.
-same_powers : (given negative written : Bool) (b c n k : ℕ) → written ≡ negative → k ≡ c ^ n → ((negative ≡ given) × (b ≡ c)) ⊎ (n ≡ 0)
-    → ((if written then 1 else k) ≡ (if given then 1 else b ^ n)) × ((if written then k else 1) ≡ (if given then b ^ n else 1))
-same_powers given negative written b c n k sign is (inl same) = (cc, cc)
-same_powers given negative written b c n k sign is (inr none) =
+same_powers : (given negative : Bool) (b c n : ℕ) → ((negative ≡ given) × (b ≡ c)) ⊎ (n ≡ 0)
+    → (raised_up negative c n ≡ raised_up given b n) × (raised_down negative c n ≡ raised_down given b n)
+same_powers given negative b c n (inl same) = ((λ j. raised_up (same.0 j) (sym same.1 j) n), (λ j. raised_down (same.0 j) (sym same.1 j) n))
+same_powers given negative b c n (inr none) =
     let one : b ^ n ≡ 1 = rw none (pow-zero b) in
-    let other : k ≡ 1 = is ∙ (rw none (pow-zero c)) in
+    let other : c ^ n ≡ 1 = rw none (pow-zero c) in
     (grind arith, grind arith)
 
 -- What has the digits of the amount of a literal has its value.
 pub same_fraction : (r : Record) (parts : Parts) (g : Grammar) (amount : Amount) → r.byte layout.mantissa_radix ≡ (raw g.word).byte layout.mantissa_radix
+    → 2 ≤ (raw g.word).byte layout.mantissa_radix
     → amount_of r parts (raw g.word) ≡ Ok amount → (l : Literal) → HasNumber g amount l → SameFraction r (literal_of parts) (raw g.word) l
-same_fraction r parts g amount same is l has =
+same_fraction r parts g amount same two is l has =
     let a = is_amount r parts (raw g.word) amount is in
     let s = raw g.word in
-    let k = literal_of parts in
     let radix = s.byte layout.mantissa_radix in
-    let front = number radix parts.integer.now in
-    let places = digits_in radix parts.fraction.now in
-    let factor = zero_scaled radix front has.zero places in
-    let given_mantissa : mantissa r.byte k ≡ number_from_digits_after radix front places =
-    ap (λ b. number b (parts.integer.now ++ parts.fraction.now)) same ∙ number_after-append radix 0 parts.integer.now parts.fraction.now in
-    let given_scale : scale r.byte k ≡ radix ^ length places = ap (λ b. b ^ length (digits_in b parts.fraction.now)) same in
-    let fraction : digits_in radix l.fraction ≡ at_least (one_if has.zero) places = has.fraction ∙ ap (at_least (one_if has.zero)) a.fraction in
-    let written_mantissa : mantissa s.byte l ≡ number_from_digits_after radix front places * factor.0 =
-    number_after-append radix 0 l.integer l.fraction ∙ (λ i. number_from_digits_after radix ((has.integer ∙ a.integer) i) (fraction i)) ∙ factor.1 in
-    let written_scale : scale s.byte l ≡ radix ^ length places * factor.0 = ap (λ digits. radix ^ length digits) fraction ∙ factor.2 in
-    let written_power : power s.byte l ≡ effective_exponent_base s ^ number (effective_exponent_radix r) parts.exponent.now =
-    ap (λ n. effective_exponent_base s ^ n) (has.exponent ∙ a.exponent) in
+    let powers = same_powers (is_minus parts.exponent_sign.now) (given_power amount).negative (effective_exponent_base r) (effective_exponent_base s)
+    (number (effective_exponent_radix r) parts.exponent.now) a.power in
+    let mantissa_is : mantissa r.byte (literal_of parts)
+    ≡ number_from_digits radix (values_of radix amount.integer ++ values_of radix (given_fraction amount)) =
+    ap (λ b. number b (parts.integer.now ++ parts.fraction.now)) same ∙ ap (number_from_digits radix) (filter_map-append _ parts.integer.now parts.fraction.now)
+    ∙ sym (λ j. number_from_digits radix (a.integer j ++ a.fraction j)) in
+    let scale_is : scale r.byte (literal_of parts) ≡ radix ^ length (values_of radix (given_fraction amount)) =
+    ap (λ b. b ^ length (digits_in b parts.fraction.now)) same ∙ sym (ap (λ (ds : List ℕ). radix ^ length ds) a.fraction) in
     record {
       sign = sym (has.sign ∙ a.negative);
-      fraction =
-          let up = if is_minus k.exponent_sign then 1 else power r.byte k in
-          let down = if is_minus k.exponent_sign then power r.byte k else 1 in
-          let powers = same_powers (is_minus k.exponent_sign) (given_power amount).negative (is_minus l.exponent_sign) (effective_exponent_base r)
-          (effective_exponent_base s) (number (effective_exponent_radix r) parts.exponent.now) (power s.byte l) has.exponent_sign written_power a.power in
-          (λ i. (given_mantissa i * up) * (written_scale i * powers.1 i))
-          ∙ cross (number_from_digits_after radix front places) (radix ^ length places) factor.0 up down
-          ∙ sym (λ i. (written_mantissa i * powers.0 i) * (given_scale i * down));
+      fraction = same_value g amount l (numerator r.byte (literal_of parts)) (denominator r.byte (literal_of parts)) two has _ _
+          (ap (raised_up (given_power amount).negative (effective_exponent_base s)) a.exponent ∙ powers.0)
+          (ap (raised_down (given_power amount).negative (effective_exponent_base s)) a.exponent ∙ powers.1)
+          (λ j. (sym mantissa_is j * raised_up (is_minus parts.exponent_sign.now) (effective_exponent_base r)
+          (number (effective_exponent_radix r) parts.exponent.now))
+          * (scale_is j * raised_down (is_minus parts.exponent_sign.now) (effective_exponent_base r) (number (effective_exponent_radix r) parts.exponent.now)));
     }

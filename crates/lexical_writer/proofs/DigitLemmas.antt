@@ -1,20 +1,15 @@
 -- Digits and their characters.
-use Rattle.lexical_writer.proofs.Common.{ℕ, ◌≡◌, ◌+◌, ◌*◌, ◌<◌, ◌≤◌, ◌||◌, Bool, true, false, cond, nat_lt, List, [], ◌∷◌, ◌++◌, length, drop, get_or, Option}
-use Rattle.lexical_writer.proofs.Common.{◌-◌, ◌/◌, ◌%◌, map, set, slice_get, option_to_list, Some, None, refl, sym, ap, ◌∙◌, arith, suc, zero, drop-cons}
-use Rattle.lexical_writer.proofs.Common.{add-one, replicate, append-nil, subst, inl, inr, cases_lt, false≢true, number_after_append, append_assoc}
-use Rattle.lexical_writer.proofs.Common.{length-append, nat_tests, AllBelowBase, digits_of, number_from_digits, number_from_digits_after, cons_option}
-use Rattle.lexical_writer.proofs.Common.{byte_value, digit_of, is_present, digits_in, number, at_least, character, grouped, grouped_front, padded_values}
-use Rattle.lexical_writer.proofs.Common.{values_of, Source, all_below_base_digits_of, length-digits_of_step, mod-mul-add, get_or_from_slice_get, ByteSet}
-use Rattle.lexical_writer.proofs.Common.{begins_decimal, separated, Pattern}
-use Rattle.std.proofs.lemmas.Int.Digits.{digits_of_step}
+use Rattle.lexical_writer.proofs.Common.{AllBelowBase, Bool, ByteSet, List, None, Option, Pattern, Some, Source, [], add-one, all_below_base_digits_of, ap}
+use Rattle.lexical_writer.proofs.Common.{append-nil, append_assoc, arith, at_least, begins_decimal, begins_with, below, byte_value, cases_lt, character}
+use Rattle.lexical_writer.proofs.Common.{cons_option, digit_characters, digit_of, digits_in, digits_of, digits_of_step, div-div-eq-div-mul, drop, drop-cons}
+use Rattle.lexical_writer.proofs.Common.{ends_group, false, false≢true, get_or, get_or_from_slice_get, grouped, grouped_front, inl, inr, is_present, length}
+use Rattle.lexical_writer.proofs.Common.{length-append, length-digits_of_step, length-map, length-replicate, ltb-true, map, mod-mul-add, nat_lt, nat_tests}
+use Rattle.lexical_writer.proofs.Common.{no_groups, number, number_after_append, number_from_digits, number_from_digits_after, only_if, option_to_list}
+use Rattle.lexical_writer.proofs.Common.{padded_values, refl, replicate, separated, set, slice_get, subst, suc, sym, true, values_of, zero, ℕ, ◌%◌, ◌*◌, ◌++◌}
+use Rattle.lexical_writer.proofs.Common.{◌+◌, ◌-◌, ◌/◌, ◌<◌, ◌||◌, ◌∙◌, ◌∷◌, ◌≡◌, ◌≤◌}
 use Rattle.std.proofs.lemmas.Nat.{div-mul-add}
-use Rattle.lexical_writer.specs.Digits.{ends_group, no_groups, only_if}
-use Rattle.std.proofs.lemmas.Bool.{ltb-true}
-use Rattle.std.proofs.lemmas.List.{drop-set, length-map, length-set, map_push}
-use Rattle.std.proofs.Math.Nat.{div-div-eq-div-mul}
-use Rattle.lexical_util.specs.Digits.{digit_characters}
+use Rattle.std.proofs.lemmas.List.{drop-set, length-set, map_push}
 use Rattle.lexical_base.proofs.ValueLemmas.{byte_value-digit_character, same_at}
-use Rattle.lexical_literal.specs.Literal.{begins_with}
 use Rattle.lexical_writer.specs.declared.run.Padded.{Padded}
 use Rattle.lexical_writer.specs.declared.run.Source.TheVariants as sources
 
@@ -25,15 +20,7 @@ left_of radix i bytes digit inside is =
     let cons : drop i bytes ≡ get_or bytes i 0 ∷ drop (i + 1) bytes = rw add-one (drop-cons bytes i 0 inside) in
     ap (digits_in radix) cons ∙ ap (λ digit. cons_option digit (digits_in radix (drop (i + 1) bytes))) (sym is)
 
--- Each digit among bytes is below the radix.
-below_if : (radix value : ℕ) (digits : List ℕ) → AllBelowBase radix digits
-    → AllBelowBase radix (cons_option (cond (nat_lt value radix) (Some value) None) digits)
-below_if radix value digits rest = grind (arith, nat_tests)
-
-pub digits_below : (radix : ℕ) (bytes : List ℕ) → AllBelowBase radix (digits_in radix bytes)
-digits_below radix [] = tt
-digits_below radix (byte ∷ bytes) = below_if radix (byte_value byte) (digits_in radix bytes) (digits_below radix bytes)
-
+-- Digits are below the radix.
 pub zeros_below : (radix k : ℕ) → 2 ≤ radix → AllBelowBase radix (replicate k 0)
 zeros_below radix zero two = tt
 zeros_below radix (suc k) two = (omega arith, zeros_below radix k two)
@@ -44,14 +31,14 @@ both_below radix (x ∷ xs) ys all rest = (all.0, both_below radix xs ys all.1 r
 
 -- The digits behind the first piece.
 pub behind_below : (radix : ℕ) (padded : Padded) → 2 ≤ radix → AllBelowBase radix (digits_in radix padded.second.now ++ replicate padded.after 0)
-behind_below radix padded two = both_below radix _ _ (digits_below radix padded.second.now) (zeros_below radix padded.after two)
+behind_below radix padded two = both_below radix _ _ (below radix padded.second.now) (zeros_below radix padded.after two)
 
 pub padded_below : (radix : ℕ) (padded : Padded) → 2 ≤ radix → AllBelowBase radix (padded_values radix padded)
 padded_below radix padded two =
-    both_below radix _ _ (zeros_below radix padded.before two) (both_below radix _ _ (digits_below radix padded.first.now) (behind_below radix padded two))
+    both_below radix _ _ (zeros_below radix padded.before two) (both_below radix _ _ (below radix padded.first.now) (behind_below radix padded two))
 
 pub values_below : (radix : ℕ) (source : Source) → 2 ≤ radix → AllBelowBase radix (values_of radix source)
-values_below radix (sources.Bytes bytes) two = digits_below radix bytes.now
+values_below radix (sources.Bytes bytes) two = below radix bytes.now
 values_below radix (sources.Number n) two = all_below_base_digits_of radix n two
 values_below radix (sources.Padded padded) two = padded_below radix padded two
 
@@ -111,10 +98,10 @@ pub lead : (radix i d : ℕ) (bytes : List ℕ) → 2 ≤ radix → i < length b
     → digits_in radix (drop i bytes) ≡ digits_of radix (number radix (drop i bytes))
 lead radix i d bytes two inside is some =
     let rest = drop (suc i) bytes in
-    let below : d < radix = grind (arith, nat_tests) in
+    let small : d < radix = grind (arith, nat_tests) in
     let first : digits_in radix (drop i bytes) ≡ d ∷ digits_in radix rest = rw (drop-cons bytes i 0 inside, is) refl in
     first ∙ sym (ap (λ digits. digits_of radix (number_from_digits radix digits)) first
-    ∙ after radix 0 d (digits_in radix rest) two (omega arith) (below, digits_below radix rest))
+    ∙ after radix 0 d (digits_in radix rest) two (omega arith) (small, below radix rest))
 
 -- The character of a digit, in either case, has its value.
 pub character_value : (lowercase : Bool) (d : ℕ) → d < 36 → byte_value (character lowercase d) ≡ d
@@ -164,13 +151,16 @@ grouped_plain pattern (d ∷ digits) plain =
     let none : ends_group pattern (length digits) ≡ false = grind (arith, nat_tests) in
     rw (none, grouped_plain pattern digits plain) refl
 
+-- The characters of a number are its digits, and as many.
 pub read_back : (radix n : ℕ) (bytes : List ℕ) → 2 ≤ radix → radix ≤ 36 → bytes ≡ map (character false) (digits_of radix n)
-    → digits_in radix bytes ≡ digits_of radix n
-read_back radix n bytes two small is = ap (digits_in radix) (is ∙ sym (grouped_plain (no_groups false) (digits_of radix n) refl))
-    ∙ grouped_digits radix (no_groups false) small (λ some. absurd (omega (arith, some))) (digits_of radix n) (all_below_base_digits_of radix n two)
+    → (digits_in radix bytes ≡ digits_of radix n) × (bytes ≡ map (character false) (digits_in radix bytes))
+read_back radix n bytes two small is =
+    let digits = ap (digits_in radix) (is ∙ sym (grouped_plain (no_groups false) (digits_of radix n) refl))
+    ∙ grouped_digits radix (no_groups false) small (λ some. absurd (omega (arith, some))) (digits_of radix n) (all_below_base_digits_of radix n two) in
+    (digits, is ∙ sym (ap (map (character false)) digits))
 
-pub as_many : (radix n : ℕ) (bytes : List ℕ) → bytes ≡ map (character false) (digits_of radix n) → length bytes ≡ length (digits_of radix n)
-as_many radix n bytes is = ap length is ∙ length-map (digits_of radix n) (character false)
+pub as_many : (bytes digits : List ℕ) → bytes ≡ map (character false) digits → length digits ≡ length bytes
+as_many bytes digits is = sym (ap length is ∙ length-map digits (character false))
 
 -- Enough digits are those that there are.
 pub enough : (least : ℕ) (digits : List ℕ) → least ≤ length digits → at_least least digits ≡ digits
@@ -218,23 +208,15 @@ grouped_some pattern (d ∷ digits) = refl
 
 pub grouped_present : (pattern : Pattern) (least : ℕ) (digits : List ℕ)
     → is_present (grouped pattern (at_least least digits)) ≡ (nat_lt 0 least || is_present digits)
-grouped_present pattern least digits = grouped_some pattern (at_least least digits) ∙ some least digits
+grouped_present pattern least digits =
+    let count = length-append {A = ℕ} (replicate (least - length digits) 0) digits in
+    let zeros = length-replicate {A = ℕ} (least - length digits) 0 in
+    let is = present_if digits in
+    grouped_some pattern (at_least least digits) ∙ present_if (at_least least digits) ∙ grind (arith, nat_tests, count, zeros, is)
   where
-    behind : (k d : ℕ) (digits : List ℕ) → is_present (replicate k 0 ++ (d ∷ digits)) ≡ true
-    behind zero d digits = refl
-    behind (suc k) d digits = refl
-
-    or_true : (test : Bool) → (test || true) ≡ true
-    or_true true = refl
-    or_true false = refl
-
-    positive : (least : ℕ) → (nat_lt 0 (suc least) || false) ≡ true
-    positive least = grind (arith, nat_tests)
-
-    some : (least : ℕ) (digits : List ℕ) → is_present (at_least least digits) ≡ (nat_lt 0 least || is_present digits)
-    some zero [] = refl
-    some (suc least) [] = ap (λ k. is_present (replicate {A = ℕ} k 0 ++ [])) {x = suc least - 0} {y = suc least} (omega arith) ∙ sym (positive least)
-    some least (d ∷ digits) = behind (least - length (d ∷ digits)) d digits ∙ sym (or_true (nat_lt 0 least))
+    present_if : (xs : List ℕ) → is_present xs ≡ nat_lt 0 (length xs)
+    present_if [] = refl
+    present_if (x ∷ xs) = grind (arith, nat_tests)
 
 -- Zeros before digits are digits, and do not change the number.
 pub least_below : (radix least : ℕ) (digits : List ℕ) → 2 ≤ radix → AllBelowBase radix digits → AllBelowBase radix (at_least least digits)
@@ -266,18 +248,17 @@ pub padded_text : (pattern : Pattern) (text a b c d : List ℕ) (n behind betwee
     → (((text ++ grouped_front pattern n a) ++ grouped_front pattern behind b) ++ grouped_front pattern between c)
     ++ grouped_front pattern last d ≡ text ++ grouped pattern (a ++ (b ++ (c ++ d)))
 padded_text pattern text a b c d n behind between last all second third fourth =
-    let whole = all ∙ length-append a (b ++ (c ++ d)) in
-    let rest = length-append b (c ++ d) in
+    let rest = length-append a (b ++ (c ++ d)) in
+    let more = length-append b (c ++ d) in
     let end = length-append c d in
     let front = grouped_front pattern in
     append_assoc ((text ++ front n a) ++ front behind b) (front between c) (front last d)
     ∙ append_assoc (text ++ front n a) (front behind b) (front between c ++ front last d)
     ∙ append_assoc text (front n a) (front behind b ++ (front between c ++ front last d))
-    ∙ ap (λ it. text ++ (front n a ++ (front behind b ++ (front between c ++ it))))
-    (grouped_last pattern last d (omega (arith, whole, rest, end, second, third, fourth)))
-    ∙ ap (λ it. text ++ (front n a ++ (front behind b ++ it))) (sym (grouped_parts pattern between c d (omega (arith, whole, rest, end, second, third))))
-    ∙ ap (λ it. text ++ (front n a ++ it)) (sym (grouped_parts pattern behind b (c ++ d) (omega (arith, whole, rest, second))))
-    ∙ ap (λ it. text ++ it) (sym (grouped_parts pattern n a (b ++ (c ++ d)) all))
+    ∙ sym (ap (λ it. text ++ it) (grouped_parts pattern n a (b ++ (c ++ d)) all ∙ ap (λ it. front n a ++ it)
+    (grouped_parts pattern behind b (c ++ d) (omega (arith, all, rest, second)) ∙ ap (λ it. front behind b ++ it)
+    (grouped_parts pattern between c d (omega (arith, all, rest, more, second, third)) ∙ ap (λ it. front between c ++ it)
+    (sym (grouped_last pattern last d (omega (arith, all, rest, more, end, second, third, fourth))))))))
 
 -- What is written of digits has at least as many bytes.
 grouped_longer : (pattern : Pattern) (digits : List ℕ) → length digits ≤ length (grouped pattern digits)

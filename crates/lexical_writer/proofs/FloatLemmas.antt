@@ -1,52 +1,25 @@
 -- Digits with a point, zeros around them and an exponent have the value of the literal that is written.
-use Rattle.lexical_writer.proofs.Common.{ℕ, suc, ◌≡◌, ◌≢◌, ◌==◌, ◌+◌, ◌-◌, ◌*◌, ◌/◌, ◌%◌, ◌<◌, ◌≤◌, ◌^◌, ◌&&◌, ◌||◌, nat_lt, inl, inr, if◌then◌else◌, Bool}
-use Rattle.lexical_writer.proofs.Common.{true, false, ap, ◌∙◌, arith, sym, List, [], ◌∷◌, ◌++◌, length, take, drop, replicate, Option, Some, None, Result}
-use Rattle.lexical_writer.proofs.Common.{Ok, Err, IfOk, nat_tests, number_after_append, append_assoc, length-append, one-le-pow, number_from_digits}
-use Rattle.lexical_writer.proofs.Common.{number_from_digits_after, cons_option, digit_of, Record, raw, effective_exponent_base, effective_exponent_radix}
-use Rattle.lexical_writer.proofs.Common.{Literal, is_minus, Grammar, format_of, raised_down, raised_up, digits_in, number, size_of, values_of, Amount}
-use Rattle.std.proofs.Common.{is_some, not, refl, subst, unwrap_or}
-use Rattle.std.proofs.lemmas.Bool.{false≢true}
-use Rattle.lexical_literal.specs.Notation.{lacks_options}
-use Rattle.std.proofs.Math.Nat.{pow-zero}
-use Rattle.std.proofs.lemmas.List.{take-append-drop}
-use Rattle.lexical_literal.specs.Literal.{is_present}
-use Rattle.std.proofs.lemmas.List.Elements.{filter_map-append}
-use lib.Ieee.{Float, Format, down, emax, fin, inf, low, nan, prec, round, up}
-use native.Mathlib.Nat.{eq_of_mul-eq-mul_right, mul_right_comm}
+use Rattle.lexical_writer.proofs.Common.{Amount, Bool, Err, Grammar, HasNumber, IfOk, IsCutTo, IsFloatOf, IsLaidOut, IsRounded, Layout, List, Literal, None, Ok}
+use Rattle.lexical_writer.proofs.Common.{Option, Power, Record, Result, Some, Style, WriteError, [], ap, append_assoc, arith, cons_option, decimals_in}
+use Rattle.lexical_writer.proofs.Common.{denominator, digit_of, digits_in, drop, effective_exponent_base, effective_exponent_radix, emax, eq-zero-or-pos}
+use Rattle.lexical_writer.proofs.Common.{eq_of_mul-eq-mul_right, false, false≢true, filter_map-append, format_of, given_fraction, if◌then◌else◌, inl, inr}
+use Rattle.lexical_writer.proofs.Common.{is_binary, is_decimal, is_minus, is_present, is_some, lacks_options, laid_out, least_places, length, length-append}
+use Rattle.lexical_writer.proofs.Common.{literal_of, low, mantissa, mul-le-mul_right, nat_lt, nat_tests, nearest, no_power, not, number, number_after_append}
+use Rattle.lexical_writer.proofs.Common.{number_from_digits, number_from_digits_after, numerator, one-le-pow, pow-add, pow-le-pow_right, pow-zero, power, prec}
+use Rattle.lexical_writer.proofs.Common.{raised_down, raised_up, raw, refl, replicate, round, round_same, rounded, scale, size_of, subst, suc, sym, take}
+use Rattle.lexical_writer.proofs.Common.{take-append-drop, true, unwrap_or, values_of, wished_places, ℕ, ◌%◌, ◌&&◌, ◌*◌, ◌++◌, ◌+◌, ◌-◌, ◌/◌, ◌<◌, ◌==◌, ◌^◌}
+use Rattle.lexical_writer.proofs.Common.{◌||◌, ◌∙◌, ◌∷◌, ◌≡◌, ◌≢◌, ◌≤◌}
+use Rattle.std.proofs.Math.Nat.{div-eq_of_lt-le, mod-eq-sub-div-mul}
+use lib.Ieee.{Float, Format, down, fin, inf, nan, up}
 use lib.Ieee.Exact.{HasValue, round_exact}
-use lib.Ieee.Scale.{round_same}
-use lib.Pow.{pow-add, shl_lt}
-use Rattle.std.proofs.Math.Nat.{div-eq_of_lt-le, eq-zero-or-pos, mod-eq-sub-div-mul, pow-le-pow_right}
+use lib.Pow.{shl_lt}
+use Rattle.lexical_literal.specs.Read.{exponent}
 use Rattle.lexical_util.specs.Layout as layout
-use Rattle.lexical_literal.specs.Read.{exponent, mantissa}
-use Rattle.lexical_number.specs.Leading.{IsCutTo}
-use Rattle.lexical_value.specs.Float.{is_binary, is_decimal, nearest}
-use Rattle.lexical_value.specs.Value.{denominator, numerator, power, scale}
-use Rattle.lexical_writer.specs.Amount.{IsTextOf, least_places, power_if, wished_places}
-use Rattle.lexical_writer.specs.Layout.{HasNumber, IsLaidOut, given_fraction, given_power, laid_out, literal_of, no_power}
-use Rattle.lexical_writer.specs.declared.layout.Power.{Power}
-use Rattle.lexical_writer.specs.declared.layout.Layout.{Layout}
-use Rattle.lexical_writer.specs.declared.layout.Style.{Style}
-use Rattle.lexical_writer.specs.declared.layout.WriteError.{WriteError}
-use Rattle.lexical_writer.specs.Rounded.{HasDecimals, IsRounded, decimals_in, rounded}
-use Rattle.lexical_writer.proofs.ConversionLemmas.{zero_scaled}
+use Rattle.lexical_writer.specs.Amount.{IsTextOf, power_if}
+use Rattle.lexical_writer.specs.Rounded.{HasDecimals}
+use Rattle.lexical_writer.proofs.ConversionLemmas.{size_values, zero_scaled}
 use Rattle.lexical_writer.proofs.DigitLemmas.{zeros_number}
-use Rattle.lexical_writer.proofs.PlainLemmas.{pow_twice, size_values, zeros_after}
-
--- Digits between zeros, with more zeros behind a point.
-pub around : (radix before : ℕ) (digits : List ℕ) (after places : ℕ)
-    → number_from_digits radix ((replicate before 0 ++ (digits ++ replicate after 0)) ++ replicate places 0)
-    ≡ number_from_digits radix digits * radix ^ (after + places)
-around radix before digits after places =
-    let n = number_from_digits radix digits in
-    let zeros : List ℕ = replicate after 0 in
-    number_after_append radix 0 (replicate before 0 ++ (digits ++ zeros)) (replicate places 0)
-    ∙ ap (λ m. number_from_digits_after radix m (replicate places 0)) (zeros_number radix before (digits ++ zeros)
-    ∙ number_after_append radix 0 digits zeros ∙ zeros_after radix n after)
-    ∙ zeros_after radix (n * radix ^ after) places ∙ regrouped n (radix ^ after) (radix ^ places) ∙ sym (ap (λ p. n * p) (pow-add radix after places))
-  where
-    regrouped : (a b c : ℕ) → a * b * c ≡ a * (b * c)
-    regrouped a b c = omega arith
+use Rattle.lexical_writer.proofs.PlainLemmas.{zeros_after}
 
 -- Digits behind others, with zeros behind them.
 pub behind : (radix : ℕ) (xs ys : List ℕ) (after : ℕ)
@@ -54,6 +27,16 @@ pub behind : (radix : ℕ) (xs ys : List ℕ) (after : ℕ)
 behind radix xs ys after =
     ap (number_from_digits radix) (sym (append_assoc xs ys (replicate after 0))) ∙ number_after_append radix 0 (xs ++ ys) (replicate after 0)
     ∙ zeros_after radix (number_from_digits radix (xs ++ ys)) after
+
+-- Digits between zeros, with more zeros behind a point.
+pub around : (radix before : ℕ) (digits : List ℕ) (after places : ℕ)
+    → number_from_digits radix ((replicate before 0 ++ (digits ++ replicate after 0)) ++ replicate places 0)
+    ≡ number_from_digits radix digits * radix ^ (after + places)
+around radix before digits after places =
+    let n = number_from_digits radix digits in
+    behind radix [] (replicate before 0 ++ (digits ++ replicate after 0)) places
+    ∙ ap (λ m. m * radix ^ places) (zeros_number radix before (digits ++ replicate after 0) ∙ behind radix [] digits after)
+    ∙ omega (arith, ap (λ p. n * p) (pow-add radix after places))
 
 -- The digits of bytes are those before an index, and those from there on.
 pub cut_digits : (radix k : ℕ) (bytes : List ℕ) → digits_in radix (take k bytes) ++ digits_in radix (drop k bytes) ≡ digits_in radix bytes
@@ -67,25 +50,15 @@ fewer radix (byte ∷ bytes) = one (digit_of byte radix) (digits_in radix bytes)
     one None digits n most = omega (arith, most)
     one (Some d) digits n most = omega (arith, most)
 
--- If all bytes are digits, so are those from an index on.
+-- If all bytes are digits, so are those up to an index, and those from there on.
 pub all_digits : (radix k : ℕ) (bytes : List ℕ) → length (digits_in radix bytes) ≡ length bytes
-    → length (digits_in radix (drop k bytes)) ≡ length (drop k bytes)
+    → (length (digits_in radix (take k bytes)) ≡ length (take k bytes)) × (length (digits_in radix (drop k bytes)) ≡ length (drop k bytes))
 all_digits radix k bytes all =
     let digits = sym (ap length (cut_digits radix k bytes)) ∙ length-append (digits_in radix (take k bytes)) (digits_in radix (drop k bytes)) in
     let whole = sym (ap length (take-append-drop k bytes)) ∙ length-append (take k bytes) (drop k bytes) in
     let first = fewer radix (take k bytes) in
     let second = fewer radix (drop k bytes) in
-    omega (arith, all, digits, whole, first, second)
-
--- And up to an index.
-pub first_digits : (radix k : ℕ) (bytes : List ℕ) → length (digits_in radix bytes) ≡ length bytes
-    → length (digits_in radix (take k bytes)) ≡ length (take k bytes)
-first_digits radix k bytes all =
-    let digits = sym (ap length (cut_digits radix k bytes)) ∙ length-append (digits_in radix (take k bytes)) (digits_in radix (drop k bytes)) in
-    let whole = sym (ap length (take-append-drop k bytes)) ∙ length-append (take k bytes) (drop k bytes) in
-    let first = fewer radix (take k bytes) in
-    let second = fewer radix (drop k bytes) in
-    omega (arith, all, digits, whole, first, second)
+    (omega (arith, all, digits, whole, first, second), omega (arith, all, digits, whole, first, second))
 
 pub present : (digits : List ℕ) → 0 < length digits → is_present digits ≡ true
 present [] some = absurd (omega (arith, some))
@@ -99,38 +72,6 @@ record HasParts (r : Record) (l : Literal) (n places : ℕ) (negative : Bool) (e
   up : raised_up (is_minus l.exponent_sign) (effective_exponent_base r) (exponent r.byte l) ≡ raised_up negative (effective_exponent_base r) e
   down : raised_down (is_minus l.exponent_sign) (effective_exponent_base r) (exponent r.byte l) ≡ raised_down negative (effective_exponent_base r) e
 
--- What has the digits of an amount has its mantissa and its exponent.
-has_parts : (g : Grammar) (amount : Amount) (n places e : ℕ) (negative : Bool)
-    → number_from_digits ((raw g.word).byte layout.mantissa_radix)
-    (values_of ((raw g.word).byte layout.mantissa_radix) amount.integer ++ values_of ((raw g.word).byte layout.mantissa_radix) (given_fraction amount)) ≡ n
-    → length (values_of ((raw g.word).byte layout.mantissa_radix) (given_fraction amount)) ≡ places
-    → raised_up (given_power amount).negative (effective_exponent_base (raw g.word))
-    (size_of (effective_exponent_radix (raw g.word)) (given_power amount).source)
-    ≡ raised_up negative (effective_exponent_base (raw g.word)) e
-    → raised_down (given_power amount).negative (effective_exponent_base (raw g.word))
-    (size_of (effective_exponent_radix (raw g.word)) (given_power amount).source)
-    ≡ raised_down negative (effective_exponent_base (raw g.word)) e
-    → 2 ≤ (raw g.word).byte layout.mantissa_radix → (l : Literal) → HasNumber g amount l
-    → HasParts (raw g.word) l n places negative e
-has_parts g amount n places e negative digits count up down two l has =
-    let s = raw g.word in
-    let radix = s.byte layout.mantissa_radix in
-    let front = values_of radix amount.integer in
-    let rest = values_of radix (given_fraction amount) in
-    let factor = zero_scaled radix (number_from_digits radix front) has.zero rest in
-    let integer : number radix l.integer ≡ number_from_digits radix front = has.integer ∙ size_values radix amount.integer two in
-    let b = effective_exponent_base s in
-    record {
-      factor = factor.0;
-      mantissa = ap (number_from_digits radix) (filter_map-append _ l.integer l.fraction)
-          ∙ number_after_append radix 0 (digits_in radix l.integer) (digits_in radix l.fraction)
-          ∙ (λ j. number_from_digits_after radix (integer j) (has.fraction j)) ∙ factor.1
-          ∙ ap (λ m. m * factor.0) (sym (number_after_append radix 0 front rest) ∙ digits);
-      scale = ap (λ (ds : List ℕ). radix ^ length ds) has.fraction ∙ factor.2 ∙ ap (λ k. radix ^ k * factor.0) count;
-      up = (λ j. raised_up (has.exponent_sign j) b (has.exponent j)) ∙ up;
-      down = (λ j. raised_down (has.exponent_sign j) b (has.exponent j)) ∙ down;
-    }
-
 pub twos : (i j : ℕ) → i ≤ j → 2 ^ i ≤ 2 ^ j
 twos i j less = pow-le-pow_right (omega arith) less
 
@@ -141,56 +82,46 @@ pub exact : (double : Bool) (s : Bool) (n bits up down : ℕ) → n < 2 ^ prec (
 exact double s n bits up down small short few fits =
     let f = format_of double in
     let j = up + low f - down in
-    let fine : n * 2 ^ j < 2 ^ (low f + suc (emax f)) =
-    let below = shl_lt bits j short in
-    let more = twos (bits + j) (low f + suc (emax f)) (omega (arith, few)) in
-    omega (arith, below, more) in
-    let same : n * 2 ^ up * 2 ^ low f ≡ n * 2 ^ j * 2 ^ down =
-    assoc n (2 ^ up) (2 ^ low f) ∙ ap (λ p. n * p) (sym (pow-add 2 up (low f)) ∙ ap (λ k. 2 ^ k) {x = up + low f} {y = j + down} (omega (arith, fits))
-    ∙ pow-add 2 j down) ∙ sym (assoc n (2 ^ j) (2 ^ down)) in
-    round_exact f s (n * 2 ^ up) (2 ^ down) n j (one-le-pow down 2 (omega arith)) small fine same
-  where
-    assoc : (a b c : ℕ) → a * b * c ≡ a * (b * c)
-    assoc a b c = omega arith
+    round_exact f s (n * 2 ^ up) (2 ^ down) n j (one-le-pow down 2 (omega arith)) small
+    (omega (arith, shl_lt bits j short, twos (bits + j) (low f + suc (emax f)) (omega (arith, few))))
+    (omega (arith, ap (λ p. n * p) (sym (pow-add 2 up (low f)) ∙ ap (λ k. 2 ^ k) {x = up + low f} {y = j + down} (omega (arith, fits)) ∙ pow-add 2 j down)))
 
 -- A number that is cut to halves of its units is rounded to units.
-cut_even : (num den q a : ℕ) (more : Bool) → q ≡ a * 2 → IsCutTo (num * 2) q more den
-    → q / 2 + (if nat_lt 2 (q % 4) || (q % 4 == 1 && more) then 1 else 0) ≡ rounded num den
-cut_even num den q a more is cut =
-    let times : q * den ≡ a * den * 2 = ap (λ k. k * den) is ∙ omega arith in
-    let from = cut.from in
-    let below = cut.below in
-    let whole : num / den ≡ a = div-eq_of_lt-le {k = a} den {m = num} (omega (arith, times, from)) (omega (arith, times, below)) in
-    let rest : num % den ≡ num - a * den = mod-eq-sub-div-mul num den ∙ ap (λ k. num - k * den) whole in
-    let small : num % den * 2 < den = omega (arith, rest, times, from, below) in
-    let half : q / 2 ≡ a = omega (arith, is) in
-    let last : q % 4 ≤ 2 = omega (arith, is) in
-    let not_one : q % 4 ≢ 1 = λ one. omega (arith, is, one) in
-    grind (arith, nat_tests, whole, small, half, last, not_one)
-
-cut_odd : (num den q a : ℕ) (more : Bool) → q ≡ a * 2 + 1 → IsCutTo (num * 2) q more den
-    → q / 2 + (if nat_lt 2 (q % 4) || (q % 4 == 1 && more) then 1 else 0) ≡ rounded num den
-cut_odd num den q a more is cut =
-    let times : q * den ≡ a * den * 2 + den = ap (λ k. k * den) is ∙ omega arith in
-    let from = cut.from in
-    let below = cut.below in
-    let whole : num / den ≡ a = div-eq_of_lt-le {k = a} den {m = num} (omega (arith, times, from)) (omega (arith, times, below)) in
-    let rest : num % den ≡ num - a * den = mod-eq-sub-div-mul num den ∙ ap (λ k. num - k * den) whole in
-    let half : q / 2 ≡ a = omega (arith, is) in
-    let last : q % 4 ≡ a % 2 * 2 + 1 = omega (arith, is) in
-    let some : more ≡ nat_lt den (num % den * 2) = cut.some ∙ grind (arith, nat_tests, times, rest, from, below) in
-    let large : den ≤ num % den * 2 = omega (arith, rest, times, from) in
-    grind (arith, nat_tests, whole, half, last, some, large)
-
 pub halved : (num den q : ℕ) (more : Bool) → IsCutTo (num * 2) q more den
     → q / 2 + (if nat_lt 2 (q % 4) || (q % 4 == 1 && more) then 1 else 0) ≡ rounded num den
 halved num den q more cut = elim (eq-zero-or-pos (q % 2)) [
-  | inl z ↦ cut_even num den q (q / 2) more (omega (arith, z)) cut
-  | inr p ↦ cut_odd num den q (q / 2) more (omega (arith, p)) cut
+  | inl z ↦
+      let none : q % 2 * den ≡ 0 = ap (λ k. k * den) z ∙ omega arith in
+      let small : num % den * 2 < den = omega (arith, rest, times, none, below) in
+      let last : q % 4 ≤ 2 = omega (arith, z) in
+      let not_one : q % 4 ≢ 1 = λ one. omega (arith, z, one) in
+      grind (arith, nat_tests, whole, small, last, not_one)
+  | inr p ↦
+      let one : q % 2 ≡ 1 = omega (arith, p) in
+      let once : q % 2 * den ≡ den = ap (λ k. k * den) one ∙ omega arith in
+      let last : q % 4 ≡ q / 2 % 2 * 2 + 1 = omega (arith, one) in
+      let some : more ≡ nat_lt den (num % den * 2) = cut.some ∙ grind (arith, nat_tests, times, once, rest, from, below) in
+      let large : den ≤ num % den * 2 = omega (arith, rest, times, once, from) in
+      grind (arith, nat_tests, whole, last, some, large)
 ]
+  where
+    times : q * den ≡ q / 2 * den * 2 + q % 2 * den
+    times = ap (λ k. k * den) {x = q} {y = q / 2 * 2 + q % 2} (omega arith) ∙ omega arith
 
-some_product : (m n : ℕ) → 0 < m → 0 < n → 0 < m * n
-some_product m n some more = grind arith
+    most : q % 2 * den ≤ den
+    most = omega (arith, mul-le-mul_right den (let rest : q % 2 ≤ 1 = omega arith in rest))
+
+    from : q * den ≤ num * 2
+    from = cut.from
+
+    below : num * 2 < (q + 1) * den
+    below = cut.below
+
+    whole : num / den ≡ q / 2
+    whole = div-eq_of_lt-le {k = q / 2} den {m = num} (omega (arith, times, from)) (omega (arith, times, most, below))
+
+    rest : num % den ≡ num - q / 2 * den
+    rest = mod-eq-sub-div-mul num den ∙ ap (λ k. num - k * den) whole
 
 -- Radixes in which floats are written are at least 2, and their bases are not 0.
 some_radixes : (r : Record) → (is_decimal r.byte || is_binary r.byte) ≡ true → (2 ≤ r.byte layout.mantissa_radix) × (0 < effective_exponent_base r)
@@ -203,6 +134,9 @@ base_ten r is ten = grind (arith, nat_tests, is, ten)
 pub some_down : (negative : Bool) (b e : ℕ) → 0 < b → 0 < raised_down negative b e
 some_down true b e some = one-le-pow e b some
 some_down false b e some = omega arith
+
+some_product : (m n : ℕ) → 0 < m → 0 < n → 0 < m * n
+some_product m n some more = grind arith
 
 some_denominator : (r : Record) (l : Literal) → (is_decimal r.byte || is_binary r.byte) ≡ true → 0 < denominator r.byte l
 some_denominator r l is =
@@ -217,53 +151,48 @@ some_denominator r l is =
 powers_of : (base radix e : ℕ) (shown negative : Bool) (power : Option Power) → power ≡ power_if shown negative e → (shown ≡ false → e ≡ 0)
     → (raised_up (unwrap_or power no_power).negative base (size_of radix (unwrap_or power no_power).source) ≡ raised_up negative base e)
     × (raised_down (unwrap_or power no_power).negative base (size_of radix (unwrap_or power no_power).source) ≡ raised_down negative base e)
-powers_of base radix e true negative power is hidden = (
-  ap (λ p. raised_up (unwrap_or p no_power).negative base (size_of radix (unwrap_or p no_power).source)) is,
-  ap (λ p. raised_down (unwrap_or p no_power).negative base (size_of radix (unwrap_or p no_power).source)) is,
-)
-powers_of base radix e false true power is hidden = (
-  ap (λ p. raised_up (unwrap_or p no_power).negative base (size_of radix (unwrap_or p no_power).source)) is ∙ pow-zero base,
-  ap (λ p. raised_down (unwrap_or p no_power).negative base (size_of radix (unwrap_or p no_power).source)) is
-      ∙ sym (ap (λ e. base ^ e) (hidden refl) ∙ pow-zero base),
-)
-powers_of base radix e false false power is hidden = (
-  ap (λ p. raised_up (unwrap_or p no_power).negative base (size_of radix (unwrap_or p no_power).source)) is
-      ∙ sym (ap (λ e. base ^ e) (hidden refl)),
-  ap (λ p. raised_down (unwrap_or p no_power).negative base (size_of radix (unwrap_or p no_power).source)) is,
-)
+powers_of base radix e true negative power is hidden = rw is (refl, refl)
+powers_of base radix e false true power is hidden = rw (is, hidden refl) (pow-zero base, sym (pow-zero base))
+powers_of base radix e false false power is hidden = rw (is, hidden refl) (refl, refl)
 
 -- The parts of a literal that is written for an amount.
 parts_of : (g : Grammar) (style : Style) (negative : Bool) (num den : ℕ) (l : Literal) → 2 ≤ (raw g.word).byte layout.mantissa_radix
     → (it : IsTextOf g style negative num den l) → HasParts (raw g.word) l it.is.units it.is.places it.is.negative it.is.e
 parts_of g style negative num den l two it =
-    let r = raw g.word in
-    let powers = powers_of (effective_exponent_base r) (effective_exponent_radix r) it.is.e it.is.shown it.is.negative it.amount.exponent it.is.power
-    it.is.hidden in
-    has_parts g it.amount it.is.units it.is.places it.is.e it.is.negative it.is.number it.is.count powers.0 powers.1 two l it.number
+    let s = raw g.word in
+    let radix = s.byte layout.mantissa_radix in
+    let b = effective_exponent_base s in
+    let has = it.number in
+    let front = values_of radix it.amount.integer in
+    let factor = zero_scaled radix (number_from_digits radix front) has.zero (values_of radix (given_fraction it.amount)) in
+    let integer : number radix l.integer ≡ number_from_digits radix front = has.integer ∙ size_values radix it.amount.integer two in
+    let powers = powers_of b (effective_exponent_radix s) it.is.e it.is.shown it.is.negative it.amount.exponent it.is.power it.is.hidden in
+    record {
+      factor = factor.0;
+      mantissa = ap (number_from_digits radix) (filter_map-append _ l.integer l.fraction)
+          ∙ number_after_append radix 0 (digits_in radix l.integer) (digits_in radix l.fraction)
+          ∙ (λ j. number_from_digits_after radix (integer j) (has.fraction j)) ∙ factor.1
+          ∙ ap (λ m. m * factor.0) (sym (number_after_append radix 0 front (values_of radix (given_fraction it.amount))) ∙ it.is.number);
+      scale = ap (λ (ds : List ℕ). radix ^ length ds) has.fraction ∙ factor.2 ∙ ap (λ k. radix ^ k * factor.0) it.is.count;
+      up = (λ j. raised_up (has.exponent_sign j) b (has.exponent j)) ∙ powers.0;
+      down = (λ j. raised_down (has.exponent_sign j) b (has.exponent j)) ∙ powers.1;
+    }
 
--- A literal that is written for a fraction that is not rounded is read as the float nearest to it.
-pub amount_nearest : (f : Format) (g : Grammar) (style : Style) (negative : Bool) (num den : ℕ) (l : Literal)
-    → (is_decimal (raw g.word).byte || is_binary (raw g.word).byte) ≡ true → 0 < den
-    → style.decimals ≡ None → IsTextOf g style negative num den l → round f negative num den ≡ nearest f (raw g.word).byte l
-amount_nearest f g style negative num den l supported some plain it =
+-- A literal that is written for a float that is not rounded is read as this float.
+pub amount_nearest : (f : Format) (x : Float) (g : Grammar) (style : Style) (l : Literal) → (is_decimal (raw g.word).byte || is_binary (raw g.word).byte) ≡ true
+    → style.decimals ≡ None → IsFloatOf f x g style l → x ≡ nearest f (raw g.word).byte l
+amount_nearest f x g style l supported plain is =
     let r = raw g.word in
-    let p = parts_of g style negative num den l (some_radixes r supported).0 it in
-    let b = effective_exponent_base r in
-    let s = it.is.negative in
-    let e = it.is.e in
-    let exact : it.is.units * (den * raised_up s b e) ≡ num * r.byte layout.mantissa_radix ^ it.is.places * raised_down s b e = it.is.form.0.exact plain in
-    let above : numerator r.byte l ≡ it.is.units * p.factor * raised_up s b e = (λ i. p.mantissa i * p.up i) in
-    let below : denominator r.byte l ≡ r.byte layout.mantissa_radix ^ it.is.places * p.factor * raised_down s b e = (λ i. p.scale i * p.down i) in
-    round_same f negative num den (numerator r.byte l) (denominator r.byte l) some (some_denominator r l supported)
-    (ap (λ n. num * n) below ∙ left num (r.byte layout.mantissa_radix ^ it.is.places) p.factor (raised_down s b e) ∙ ap (λ n. n * p.factor) (sym exact)
-    ∙ right it.is.units den (raised_up s b e) p.factor ∙ ap (λ n. n * den) (sym above))
+    let it = is.4 in
+    let p = parts_of g style is.0 is.1 is.2 l (some_radixes r supported).0 it in
+    let exact = it.is.form.0.exact plain in
+    let above : numerator r.byte l ≡ it.is.units * p.factor * raised_up it.is.negative (effective_exponent_base r) it.is.e = (λ i. p.mantissa i * p.up i) in
+    let below : denominator r.byte l ≡ r.byte layout.mantissa_radix ^ it.is.places * p.factor * raised_down it.is.negative (effective_exponent_base r) it.is.e =
+    (λ i. p.scale i * p.down i) in
+    is.3.near plain
+    ∙ round_same f is.0 is.1 is.2 (numerator r.byte l) (denominator r.byte l) is.3.some (some_denominator r l supported)
+    (omega (arith, ap (λ n. is.1 * n) below, ap (λ n. n * p.factor) exact, ap (λ n. n * is.2) above))
     ∙ ap (λ sign. round f sign (numerator r.byte l) (denominator r.byte l)) (sym (it.number.sign ∙ it.sign))
-  where
-    left : (n p q d : ℕ) → n * (p * q * d) ≡ n * p * d * q
-    left n p q d = omega arith
-
-    right : (n d u q : ℕ) → n * (d * u) * q ≡ n * q * u * d
-    right n d u q = omega arith
 
 -- The value of a float is that of each fraction that is equal to it.
 pub rescaled : (x : Float) (s : Bool) (w l num den : ℕ) → 0 < l → num * l ≡ w * den → HasValue x s w l → HasValue x s num den
@@ -271,44 +200,39 @@ rescaled nan s w l num den p h v = v
 rescaled (inf t) s w l num den p h v = v
 rescaled (fin t m e) s w l num den p h v = (
   v.0,
-  eq_of_mul-eq-mul_right l p (m * up e * den) (num * down e) (mul_right_comm (m * up e) den l ∙ ap (λ x. x * den) v.1
-      ∙ mul_right_comm w (down e) den ∙ ap (λ x. x * down e) (sym h) ∙ mul_right_comm num l (down e)),
+  eq_of_mul-eq-mul_right l p (m * up e * den) (num * down e) (omega (arith, ap (λ x. x * den) v.1, ap (λ x. x * down e) h)),
 )
 
 -- The number of decimals is that of the style.
 pub decimals_are : (g : Grammar) (style : Style) (shown : Bool) (n : ℕ) → style.decimals ≡ Some n → least_places g style shown ≡ decimals_in g n
 decimals_are g style shown n wished = ap (λ o. if lacks_options g.options then 0 else wished_places o (style.point || not shown)) wished
 
--- A literal that is written for a fraction that is rounded is rounded.
-pub amount_rounded : (g : Grammar) (style : Style) (negative : Bool) (num den n : ℕ) (l : Literal) (x : Float)
-    → (is_decimal (raw g.word).byte || is_binary (raw g.word).byte) ≡ true → 0 < den → style.decimals ≡ Some n → HasValue x negative num den
-    → IsTextOf g style negative num den l → IsRounded x (raw g.word) l (decimals_in g n)
-amount_rounded g style negative num den n l x supported some wished value it =
+-- A literal that is written for a float that is rounded is rounded.
+pub amount_rounded : (f : Format) (x : Float) (g : Grammar) (style : Style) (n : ℕ) (l : Literal)
+    → (is_decimal (raw g.word).byte || is_binary (raw g.word).byte) ≡ true → style.decimals ≡ Some n → IsFloatOf f x g style l
+    → IsRounded x (raw g.word) l (decimals_in g n)
+amount_rounded f x g style n l supported wished is =
     let r = raw g.word in
-    let p = parts_of g style negative num den l (some_radixes r supported).0 it in
+    let it = is.4 in
+    let p = parts_of g style is.0 is.1 is.2 l (some_radixes r supported).0 it in
     let unit = r.byte layout.mantissa_radix ^ it.is.places in
     let places : it.is.places ≡ decimals_in g n = elim it.is.form.0.last [
-      | inl is ↦ is ∙ decimals_are g style it.is.shown n wished
+      | inl same ↦ same ∙ decimals_are g style it.is.shown n wished
       | inr other ↦ absurd (false≢true (sym (ap is_some other.0) ∙ ap is_some wished))
     ] in
-    let rounded_to : HasDecimals r l it.is.places num den =
-    ap (λ m. m * unit) p.mantissa ∙ turned it.is.units p.factor unit ∙ ap (λ m. m * (unit * p.factor)) (it.is.form.0.rounded (ap is_some wished))
-    ∙ sym (λ j. rounded (num * unit * p.down j) (den * p.up j) * p.scale j) in
+    let rounded_to : HasDecimals r l it.is.places is.1 is.2 =
+    omega (arith, ap (λ m. m * unit) p.mantissa, ap (λ m. m * (unit * p.factor)) (it.is.form.0.rounded (ap is_some wished)))
+    ∙ sym (λ j. rounded (is.1 * unit * p.down j) (is.2 * p.up j) * p.scale j) in
     record {
-      num = num;
-      den = den;
-      some = some;
-      value = subst (λ sign. HasValue x sign num den) (sym (it.number.sign ∙ it.sign)) value;
-      decimals = subst (λ k. HasDecimals r l k num den) places rounded_to;
+      num = is.1;
+      den = is.2;
+      some = is.3.some;
+      value = subst (λ sign. HasValue x sign is.1 is.2) (sym (it.number.sign ∙ it.sign)) (elim is.3.exact [
+        | inl value ↦ value
+        | inr other ↦ absurd (false≢true (sym (ap is_some other.0) ∙ ap is_some wished))
+      ]);
+      decimals = subst (λ k. HasDecimals r l k is.1 is.2) places rounded_to;
     }
-  where
-    turned : (n q u : ℕ) → n * q * u ≡ n * (u * q)
-    turned n q u = omega arith
-
--- What follows from what holds of a result that is `Ok`.
-pub if_ok : {A E : Type 0} (P Q : A → Type 0) (result : Result A E) → ((x : A) → P x → Q x) → IfOk result P → IfOk result Q
-if_ok P Q (Ok x) follows holds = follows x holds
-if_ok P Q (Err error) follows holds = holds
 
 -- What follows from what a layout is, and from the number that it has.
 pub if_numbered : (g : Grammar) (style : Style) (amount : Amount) (P : Layout → Type 0) (result : Result Layout WriteError)

@@ -1,17 +1,11 @@
 -- Grouped digits.
-use Rattle.lexical_writer.proofs.Common.{ℕ, ◌≡◌, ◌<◌, ◌≤◌, ◌==◌, Bool, true, false, get_or, zero, suc, List, [], ◌∷◌, length, refl, subst, sym, ap, ◌∙◌, arith}
-use Rattle.lexical_writer.proofs.Common.{◌+◌, ◌-◌, ◌*◌, ◌/◌, ◌%◌, inl, inr, cases_lt, false≢true, nat_tests, AllBelowBase, byte_value, digits_of, at_least}
-use Rattle.lexical_writer.proofs.Common.{character, grouped, mod-mul-add, ByteSet, all_below_base_digits_of, Pattern}
-use Rattle.std.proofs.lemmas.Int.Digits.{first_digits_of}
+use Rattle.lexical_writer.proofs.Common.{AllBelowBase, Bool, ByteSet, List, Notation, Part, Pattern, [], all_below_base_digits_of, and_from, ap, arith}
+use Rattle.lexical_writer.proofs.Common.{at_least, byte_value, cases_lt, character, digits_of, ends_group, false, false≢true, first_digits_of, get_or, grouped}
+use Rattle.lexical_writer.proofs.Common.{has_leading_zero, inl, inr, is_grouped, length, mod-mul-add, nat_tests, refl, separators_in, subst, suc, sym, true}
+use Rattle.lexical_writer.proofs.Common.{zero, ℕ, ◌%◌, ◌*◌, ◌+◌, ◌-◌, ◌/◌, ◌<◌, ◌==◌, ◌∙◌, ◌∷◌, ◌≡◌, ◌≤◌}
 use Rattle.std.proofs.Math.Nat.{div-add-mod}
-use Rattle.std.proofs.lemmas.Bool.{and_from}
-use Rattle.lexical_util.specs.Layout.{separators_in}
-use Rattle.lexical_util.specs.declared.format_flags.Part.{Part}
-use Rattle.lexical_literal.specs.Groups.{all_fit, first_fits, group_sizes, inner_fits, is_grouped, last_fits, one_more, rest_fits}
-use Rattle.lexical_literal.specs.Literal.{has_leading_zero}
-use Rattle.lexical_literal.specs.Notation.{Notation}
+use Rattle.lexical_literal.specs.Groups.{all_fit, first_fits, group_sizes, inner_fits, last_fits, one_more, rest_fits}
 use Rattle.lexical_literal.proofs.RunLemmas.{is_rest}
-use Rattle.lexical_writer.specs.Digits.{ends_group}
 use Rattle.lexical_writer.proofs.DigitLemmas.{character_value, enough}
 
 -- `Between m part pattern` holds if the separator of `pattern` may be between digits of `part`, where there are groups.
@@ -80,9 +74,6 @@ module _ (m : Notation) (radix : ℕ) (pattern : Pattern) (digit : (d : ℕ) →
     State left (count ∷ []) = (count ≡ left) × (0 < left) × (left ≤ pattern.last)
     State left (count ∷ next ∷ counts) = Fits left count (next ∷ counts)
 
-    step : (p : ℕ) → (p + 1) * pattern.higher ≡ p * pattern.higher + pattern.higher
-    step p = omega arith
-
     ends : (p k n : ℕ) → n ≡ p * pattern.higher + k + pattern.last → k ≡ 0 → ends_group pattern n ≡ true
     ends p k n total none =
         let place : (n - pattern.last) % pattern.higher ≡ 0 =
@@ -122,7 +113,7 @@ module _ (m : Notation) (radix : ℕ) (pattern : Pattern) (digit : (d : ℕ) →
                     (record { inner = is.inner; within = (omega arith, omega (arith, part)); total = omega (arith, is.total); rest = is.rest })
                 | inr whole ↦
                     let full : count ≡ pattern.higher = omega (arith, whole, is.within.1) in
-                    let same : n ≡ (is.inner + 1) * pattern.higher + 0 + pattern.last = omega (arith, is.total, full, step is.inner) in
+                    let same : n ≡ (is.inner + 1) * pattern.higher + 0 + pattern.last = omega (arith, is.total, full) in
                     let fits : inner_fits m part count ≡ true = subst (λ k. inner_fits m part k ≡ true) (sym full) fits_inner in
                     subst (State (n + 1)) (sym (next_outside d (e ∷ digits) all.0 (ends (is.inner + 1) 0 n same refl) ∙ ap (λ counts. 1 ∷ counts) are))
                     (record { inner = is.inner + 1; within = (omega arith, omega arith); total = omega (arith, same); rest = and_from _ _ fits is.rest })
@@ -148,13 +139,11 @@ pub left_first : (n size inner count : ℕ) → 0 < n → 0 < count → count �
 left_first n size inner count some first most total = elim (cases_lt count size) [
   | inl part ↦
       let parts = div-add-mod (n - 1) size in
-      let same : inner * size + count ≡ (n - 1) / size * size + 0 = omega (arith, some, total, parts, turned size ((n - 1) / size)) in
+      let same : inner * size + count ≡ (n - 1) / size * size + 0 = omega (arith, some, total, parts) in
       let place = sym (mod-mul-add inner size count part) ∙ ap (λ k. k % size) same ∙ mod-mul-add ((n - 1) / size) size 0 (omega (arith, first, most)) in
       absurd (omega (arith, place, first))
   | inr whole ↦ omega (arith, whole, most)
-] where
-  turned : (a b : ℕ) → a * b ≡ b * a
-  turned a b = omega arith
+]
 
 -- A number is written without leading zeros.
 zero_value : byte_value 48 ≡ 0

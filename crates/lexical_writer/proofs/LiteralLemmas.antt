@@ -1,36 +1,33 @@
 -- What is laid out is a literal with the digits of the amount.
-use Rattle.lexical_writer.proofs.Common.{ℕ, ◌≡◌, ◌<◌, ◌≤◌, ◌+◌, ◌-◌, ◌*◌, ◌%◌, ◌==◌, ◌&&◌, ◌||◌, not, max, nat_le, nat_lt, ◌⊎◌, if◌then◌else◌, Bool, true}
-use Rattle.lexical_writer.proofs.Common.{false, IsTrue, List, [], ◌∷◌, ◌++◌, drop, inl, inr, cond, length, Option, Some, None, Result, Ok, Err, IfOk, is_some}
-use Rattle.lexical_writer.proofs.Common.{option_to_list, unwrap_or, refl, sym, subst, ap, ◌∙◌, arith, mod-lt, cases_lt, false≢true, nat_tests, number_digits_of}
-use Rattle.lexical_writer.proofs.Common.{AllBelowBase, digits_of, number_from_digits, byte_value, Record, raw, effective_exponent_radix, Literal, is_absent}
-use Rattle.lexical_writer.proofs.Common.{is_minus, is_present, text_of, has, lacks_options, IsSyntax, Grammar, digits_in, number, at_least, character, grouped}
-use Rattle.lexical_writer.proofs.Common.{size_of, values_of, Amount, Layout, WriteError, Style, all_below_base_digits_of, ByteSet, Reads, notation_of}
-use Rattle.lexical_writer.proofs.Common.{begins_decimal, HasNumber, given_fraction, IsLaidOut, Pattern}
-use Rattle.lexical_literal.specs.Literal.{IsSpelled, begins, begins_with, condition, may_begin, is_none_or_one, is_plus, has_leading_zero, is_float}
-use Rattle.lexical_literal.specs.Literal.{is_zero_led, is_none_or_prefix, requirement}
-use Rattle.lexical_literal.specs.Notation.{Notation, all_conditions, number_of, point_of, exponent_character_of, radix_of}
-use Rattle.lexical_writer.specs.Digits.{no_groups, only_if}
-use Rattle.lexical_writer.specs.Layout.{fraction_pattern, fraction_text, given_power, has_exponent, has_point, has_zero, after_zero, base_byte, integer_pattern}
-use Rattle.lexical_writer.specs.Layout.{laid_out, least_digits, led_digits, literal_of, one_if, options_of}
-use Rattle.std.proofs.lemmas.Bool.{agree_below_at, and_from, false_from_ne_true, lt-ltb, ltb-true, or_left, or_right}
-use Rattle.lexical_util.specs.Layout as layout
-use Rattle.lexical_util.specs.Layout.{Flag, separators_in}
-use Rattle.lexical_util.specs.Record.{separator_allowed}
-use Rattle.lexical_util.specs.Roles as sets
-use Rattle.lexical_util.specs.Unfoldable.{cased, IsPunctuation, Lawful, Holds}
-use Rattle.lexical_util.specs.declared.format_flags.Part.{Part}
-use Rattle.lexical_util.specs.declared.format_flags.Part.TheVariants as parts
-use Rattle.lexical_literal.specs.Groups.{higher, is_grouped}
-use Rattle.lexical_literal.specs.Run.{is_run}
-use Rattle.lexical_literal.specs.Syntax.{FitIfAny, contradiction, fault, first_fault, limits}
-use Rattle.lexical_literal.specs.declared.syntax.Condition.{Condition}
-use Rattle.lexical_literal.specs.declared.syntax.Condition.TheVariants as conditions
-use Rattle.lexical_literal.specs.declared.syntax.Conditions.{Conditions}
-use Rattle.lexical_literal.specs.declared.syntax.ConditionsError.{ConditionsError}
+use Rattle.lexical_writer.proofs.Common.{AllBelowBase, Amount, Bool, ByteSet, Conditions, Err, Grammar, HasNumber, IfOk, IsLaidOut, IsSyntax, IsTrue, Layout}
+use Rattle.lexical_writer.proofs.Common.{List, Literal, None, Notation, Ok, Option, Options, Part, Pattern, Reads, Record, Result, Some, Style, WriteError, []}
+use Rattle.lexical_writer.proofs.Common.{all_below_base_digits_of, and_from, ap, arith, at_least, begins_decimal, begins_with, byte_value, cases_lt, character}
+use Rattle.lexical_writer.proofs.Common.{cond, digits_in, digits_of, effective_exponent_radix, eq-eqb, exponent_character_of, false, false≢true, given_fraction}
+use Rattle.lexical_writer.proofs.Common.{given_power, grouped, has, has_exponent, has_leading_zero, has_point, if◌then◌else◌, inl, inr, is_absent, is_float}
+use Rattle.lexical_writer.proofs.Common.{is_grouped, is_minus, is_none_or_one, is_plus, is_present, is_some, lacks_options, laid_out, length, literal_of}
+use Rattle.lexical_writer.proofs.Common.{lt-ltb, ltb-true, max, mod-lt, nat_le, nat_lt, nat_tests, no_groups, not, notation_of, number, number_digits_of}
+use Rattle.lexical_writer.proofs.Common.{number_from_digits, one_if, only_if, option_to_list, point_of, raw, refl, refusal, separators_in, size_of, subst, sym}
+use Rattle.lexical_writer.proofs.Common.{text_of, true, unwrap_or, values_of, ℕ, ◌%◌, ◌&&◌, ◌*◌, ◌++◌, ◌+◌, ◌-◌, ◌<◌, ◌==◌, ◌||◌, ◌∙◌, ◌∷◌, ◌≡◌, ◌≤◌, ◌⊎◌}
+use Rattle.std.proofs.lemmas.Bool.{agree_below_at, false_from_ne_true, not-false, or_left, or_right}
+use Rattle.std.specs.List.{AllByRecursion}
 use Rattle.std.specs.Option.{option_or}
-use Rattle.lexical_literal.specs.declared.syntax.Options.{Options}
+use Rattle.lexical_literal.specs.Literal.{IsSpelled, begins, condition, is_none_or_prefix, is_zero_led, may_begin, requirement}
+use Rattle.lexical_literal.specs.Notation.{all_conditions, number_of, radix_of}
+use Rattle.lexical_util.specs.Layout.{Flag}
+use Rattle.lexical_util.specs.Record.{separator_allowed}
+use Rattle.lexical_util.specs.Unfoldable.{Holds, IsPunctuation, Lawful, cased}
+use Rattle.lexical_literal.specs.Groups.{higher}
+use Rattle.lexical_literal.specs.Run.{is_run}
+use Rattle.lexical_literal.specs.Syntax.{FitIfAny, contradiction, fault, first_fault, forbids_zeros, limits, missing}
+use Rattle.lexical_literal.specs.declared.syntax.Condition.{Condition}
+use Rattle.lexical_literal.specs.declared.syntax.ConditionsError.{ConditionsError}
 use Rattle.lexical_literal.proofs.RunLemmas.{rest_of_none}
-use Rattle.lexical_writer.specs.Layout.{pattern_of, refusal, sign_of, takes_zeros}
+use Rattle.lexical_util.specs.Layout as layout
+use Rattle.lexical_util.specs.Roles as sets
+use Rattle.lexical_util.specs.declared.format_flags.Part.TheVariants as parts
+use Rattle.lexical_literal.specs.declared.syntax.Condition.TheVariants as conditions
+use Rattle.lexical_writer.specs.Layout.{after_zero, base_byte, fraction_pattern, fraction_text, has_zero, integer_pattern, least_digits, led_digits, options_of}
+use Rattle.lexical_writer.specs.Layout.{pattern_of, sign_of, takes_zeros}
 use Rattle.lexical_writer.specs.declared.layout.WriteError.TheVariants as errors
 use Rattle.lexical_writer.proofs.DigitLemmas.{character_value, decimal_first, grouped_digits, grouped_present, least_below, least_number, values_below}
 use Rattle.lexical_writer.proofs.DigitLemmas.{zero_first}
@@ -49,64 +46,47 @@ no_contradiction : (r : Record) (c : Conditions) → contradiction r c ≡ None 
 unfolding fault
 no_contradiction r c none = (grind (arith, nat_tests), grind (arith, nat_tests))
 
--- Groups have the sizes that conditions require, which are at least 2.
-first_none : (r : Record) (c : Conditions) (d : Condition) (ds : List Condition) → first_fault r c (d ∷ ds) ≡ None
-    → (fault r c d ≡ None) × (first_fault r c ds ≡ None)
-first_none r c d ds none = either_none (fault r c d) (first_fault r c ds) none where
-  either_none : (a b : Option ConditionsError) → option_or a b ≡ None → (a ≡ None) × (b ≡ None)
-  either_none None b none = (refl, none)
-  either_none (Some x) b none = cc
+each_none : (r : Record) (c : Conditions) (ds : List Condition) → first_fault r c ds ≡ None → AllByRecursion (λ d. fault r c d ≡ None) ds
+each_none r c [] none = tt
+each_none r c (d ∷ ds) none = let both = either_none (fault r c d) (first_fault r c ds) none in (both.0, each_none r c ds both.1)
+  where
+    either_none : (a b : Option ConditionsError) → option_or a b ≡ None → (a ≡ None) × (b ≡ None)
+    either_none None b none = (refl, none)
+    either_none (Some x) b none = cc
 
+-- Groups have the sizes that conditions require, which are at least 2.
 at_least_2 : (r : Record) (c : Conditions) (d : Condition) → limits d ≡ (2, 8) → fault r c d ≡ None → has c d ≡ true → 2 ≤ number_of c d
 unfolding fault
 at_least_2 r c d two none set = grind (arith, nat_tests)
-
-no_faults : (r : Record) (c : Conditions) → contradiction r c ≡ None → (fault r c conditions.IntegerGroupSize ≡ None)
-    × (fault r c conditions.HigherGroupSize ≡ None) × (fault r c conditions.LeadingZero ≡ None) × (fault r c conditions.DecimalFirstDigit ≡ None)
-no_faults r c none =
-    let prefix = first_none r c conditions.BasePrefix (drop 1 all_conditions) none in
-    let suffix = first_none r c conditions.BaseSuffix (drop 2 all_conditions) prefix.1 in
-    let sign = first_none r c conditions.NegativeSign (drop 3 all_conditions) suffix.1 in
-    let last = first_none r c conditions.IntegerGroupSize (drop 4 all_conditions) sign.1 in
-    let higher = first_none r c conditions.HigherGroupSize (drop 5 all_conditions) last.1 in
-    let fraction = first_none r c conditions.FractionGroupSize (drop 6 all_conditions) higher.1 in
-    let zero = first_none r c conditions.LeadingZero (drop 7 all_conditions) fraction.1 in
-    let decimal = first_none r c conditions.DecimalFirstDigit [] zero.1 in
-    (last.0, higher.0, zero.0, decimal.0)
 
 least : (r : Record) (c : Conditions) → contradiction r c ≡ None
     → (has c conditions.IntegerGroupSize ≡ true → 2 ≤ number_of c conditions.IntegerGroupSize)
     × (has c conditions.HigherGroupSize ≡ true → 2 ≤ number_of c conditions.HigherGroupSize)
 least r c none =
-    let are = no_faults r c none in
-    (at_least_2 r c conditions.IntegerGroupSize refl are.0, at_least_2 r c conditions.HigherGroupSize refl are.1)
+    let (prefix, (suffix, (sign, (last, (higher, rest))))) = each_none r c all_conditions none in
+    (at_least_2 r c conditions.IntegerGroupSize refl last, at_least_2 r c conditions.HigherGroupSize refl higher)
 
 -- Where a flag forbids leading zeros, no condition is on the first digit.
-zero_unset : (r : Record) (c : Conditions) → (r.flag layout.no_integer_leading_zeros || r.flag layout.no_float_leading_zeros) ≡ true
-    → fault r c conditions.LeadingZero ≡ None → has c conditions.LeadingZero ≡ false
+unset : (r : Record) (c : Conditions) (d : Condition) → missing r c d ≡ forbids_zeros r → fault r c d ≡ None
+    → (r.flag layout.no_integer_leading_zeros || r.flag layout.no_float_leading_zeros) ≡ true → has c d ≡ false
 unfolding fault
-zero_unset r c set none = grind (arith, nat_tests)
-
-decimal_unset : (r : Record) (c : Conditions) → (r.flag layout.no_integer_leading_zeros || r.flag layout.no_float_leading_zeros) ≡ true
-    → fault r c conditions.DecimalFirstDigit ≡ None → has c conditions.DecimalFirstDigit ≡ false
-unfolding fault
-decimal_unset r c set none = grind (arith, nat_tests)
-
-some_flag : (r : Record) (float : Bool) → r.flag (if float then layout.no_float_leading_zeros else layout.no_integer_leading_zeros) ≡ true
-    → (r.flag layout.no_integer_leading_zeros || r.flag layout.no_float_leading_zeros) ≡ true
-some_flag r true set = or_right (r.flag layout.no_integer_leading_zeros) _ set
-some_flag r false set = or_left _ _ set
+unset r c d is none set = grind (arith, nat_tests)
 
 no_led_digits : (r : Record) (c : Conditions) (float : Bool) (digits : List ℕ) → contradiction r c ≡ None
     → r.flag (if float then layout.no_float_leading_zeros else layout.no_integer_leading_zeros) ≡ true → led_digits c false digits ≡ 0
 no_led_digits r c float digits none set =
-    let some = some_flag r float set in
-    let are = no_faults r c none in
-    unset _ _ _ _ (zero_unset r c some are.2) (decimal_unset r c some are.3)
+    let some = some_flag float set in
+    let (prefix, (suffix, (sign, (last, (higher, (fraction, (zero, (decimal, end)))))))) = each_none r c all_conditions none in
+    neither _ _ _ _ (unset r c conditions.LeadingZero refl zero some) (unset r c conditions.DecimalFirstDigit refl decimal some)
   where
-    unset : (zero decimal other : Bool) (n : ℕ) → zero ≡ false → decimal ≡ false
+    some_flag : (float : Bool) → r.flag (if float then layout.no_float_leading_zeros else layout.no_integer_leading_zeros) ≡ true
+        → (r.flag layout.no_integer_leading_zeros || r.flag layout.no_float_leading_zeros) ≡ true
+    some_flag true set = or_right (r.flag layout.no_integer_leading_zeros) _ set
+    some_flag false set = or_left _ _ set
+
+    neither : (zero decimal other : Bool) (n : ℕ) → zero ≡ false → decimal ≡ false
         → (if not false && (zero || (decimal && other)) then n else 0) ≡ 0
-    unset zero decimal other n first second = grind arith
+    neither zero decimal other n first second = grind arith
 
 record AreRequired (m : Notation) (pattern : Pattern) : Type 0 where
   last : pattern.last ≡ m.number conditions.IntegerGroupSize
@@ -222,9 +202,6 @@ internal_allowed r parts.Fraction set = grind arith
 internal_allowed r parts.Exponent set = grind arith
 
 -- Tests of sizes.
-equal_test : (a b : ℕ) → a ≡ b → (a == b) ≡ true
-equal_test a b same = grind (arith, nat_tests)
-
 within_test : (count most size : ℕ) → 0 < count → count ≤ most → most ≡ size → (nat_lt 0 count && nat_le count size) ≡ true
 within_test count most size some within same = grind (arith, nat_tests)
 
@@ -291,10 +268,6 @@ zero_led : (D : ByteSet) (prefix : Option ℕ) (run : List ℕ) → (is_some pre
     → not (is_absent (after_zero prefix) && has_leading_zero D run) ≡ true
 zero_led D None run none = ap not (none refl)
 zero_led D (Some byte) run none = refl
-
-not_false : (test : Bool) → not test ≡ false → test ≡ true
-not_false true is = refl
-not_false false is = absurd (false≢true (sym is))
 
 by_kind : (kind led : Bool) → (kind ≡ false → not led ≡ true) → (kind || not led) ≡ true
 by_kind true led none = refl
@@ -419,7 +392,7 @@ module _ (g : Grammar) (style : Style) (amount : Amount) (is : IsSyntax g)
         | inl some ↦
             let are = required g style is.conditions set some in
             right_groups m radix pattern (no_separator pattern.lowercase) parts.Integer (between parts.Integer _ _ _ _ refl refl some).0
-            (equal_test _ _ are.last) (equal_test _ _ are.size) (let two = are.two in omega (arith, two)) some digits all
+            (eq-eqb _ _ are.last) (eq-eqb _ _ are.size) (let two = are.two in omega (arith, two)) some digits all
             (λ inner count first most total. within_test count pattern.higher (higher m) first most are.size)
         | inr none ↦ single_fits m radix pattern (no_separator pattern.lowercase) parts.Integer digits all (omega (arith, none))
       ]
@@ -435,9 +408,9 @@ module _ (g : Grammar) (style : Style) (amount : Amount) (is : IsSyntax g)
             let last : fraction_groups.last ≡ (length fraction_digits - 1) % size + 1 = are.1 ∙ sym (ap (λ k. (length fraction_digits - 1) % k + 1) are.0) in
             let least = mod-lt (length fraction_digits - 1) some in
             right_groups m radix fraction_groups (no_separator fraction_groups.lowercase) parts.Fraction (between parts.Fraction _ _ _ _ refl refl some).0
-            (within_test _ size _ (omega (arith, last)) (omega (arith, last, least)) are.0) (equal_test _ _ are.0)
+            (within_test _ size _ (omega (arith, last)) (omega (arith, last, least)) are.0) (eq-eqb _ _ are.0)
             (omega (arith, last)) some fraction_digits all
-            (λ inner count first most total. equal_test _ _ (left_first (length fraction_digits) size inner count (omega (arith, total, first)) first most
+            (λ inner count first most total. eq-eqb _ _ (left_first (length fraction_digits) size inner count (omega (arith, total, first)) first most
             (total ∙ ap (λ k. inner * size + count + k) last) ∙ are.0))
         | inr none ↦ single_fits m radix fraction_groups (no_separator fraction_groups.lowercase) parts.Fraction fraction_digits all (omega (arith, none))
       ]
@@ -498,7 +471,7 @@ module _ (g : Grammar) (style : Style) (amount : Amount) (is : IsSyntax g)
   met layout.required_exponent_sign set = some_sign exponent (given_power amount).negative _ _ set
   met layout.no_exponent_without_fraction set = some_point set
   met layout.no_integer_leading_zeros set = by_kind (is_float l) (is_zero_led m l) (λ kind. no_lead false (sym is_float_if ∙ kind) set)
-  met layout.no_float_leading_zeros set = by_kind (not (is_float l)) (is_zero_led m l) (λ kind. no_lead true (sym is_float_if ∙ not_false _ kind) set)
+  met layout.no_float_leading_zeros set = by_kind (not (is_float l)) (is_zero_led m l) (λ kind. no_lead true (sym is_float_if ∙ not-false _ kind) set)
   met layout.required_exponent_notation set = some_exponent set
   met _ set = refl
 

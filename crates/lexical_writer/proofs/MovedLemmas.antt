@@ -1,9 +1,8 @@
 -- Digits whose point has moved, and the zeros that they end with.
-use Rattle.lexical_writer.proofs.Common.{ℕ, zero, suc, ◌≡◌, ◌<◌, ◌≤◌, ◌+◌, ◌-◌, ◌==◌, ◌&&◌, Bool, true, false, List, [], ◌∷◌, ◌++◌, length, take, drop}
-use Rattle.lexical_writer.proofs.Common.{replicate, Option, Some, None, is_some, unwrap_or, get_or, append-nil, refl, sym, ap, ◌∙◌, arith, if◌then◌else◌}
-use Rattle.lexical_writer.proofs.Common.{false≢true, nat_tests, append_assoc, cons_option, digit_of, is_absent, digits_in, trimmed}
+use Rattle.lexical_writer.proofs.Common.{Bool, List, None, Option, Some, [], ap, append-nil, append_assoc, arith, cons_option, digit_of, digits_in, drop, false}
+use Rattle.lexical_writer.proofs.Common.{false≢true, filter_map-append, get_or, if◌then◌else◌, is_absent, is_some, length, nat_tests, refl, replicate, suc, sym}
+use Rattle.lexical_writer.proofs.Common.{take, trimmed, true, unwrap_or, zero, ℕ, ◌&&◌, ◌++◌, ◌+◌, ◌-◌, ◌<◌, ◌==◌, ◌∙◌, ◌∷◌, ◌≡◌}
 use Rattle.std.proofs.lemmas.List.{take_more}
-use Rattle.std.proofs.lemmas.List.Elements.{filter_map-append}
 use Rattle.lexical_writer.proofs.DigitLemmas.{left_of}
 
 -- Zeros at the end are left out.
@@ -27,10 +26,6 @@ trimmed_behind (x ∷ xs) ys some = ap (λ (t : List ℕ). if x == 0 && is_absen
 pub trimmed_zeros : (k : ℕ) → trimmed (replicate k 0) ≡ []
 trimmed_zeros zero = refl
 trimmed_zeros (suc k) = ap (λ (t : List ℕ). if 0 == 0 && is_absent t then [] else 0 ∷ t) (trimmed_zeros k)
-
-pub none_from : (digits : List ℕ) → length digits ≤ 0 → digits ≡ []
-none_from [] none = refl
-none_from (d ∷ digits) none = absurd (omega (arith, none))
 
 pub some_from : (digits : List ℕ) → 0 < length digits → is_absent digits ≡ false
 some_from [] some = absurd (omega (arith, some))

@@ -1,30 +1,19 @@
 -- A number times one power and over others, prime by prime.
-use Rattle.lexical_writer.proofs.Common.{ℕ, zero, suc, ◌≡◌, ◌<◌, ◌≤◌, ◌+◌, ◌-◌, ◌*◌, ◌/◌, ◌%◌, ◌^◌, inl, inr, refl, sym, ap, ◌∙◌, subst, arith}
-use Rattle.lexical_writer.proofs.Common.{cases_lt, mod-lt, one-le-pow, pow-suc, pow-zero, ◌⊎◌, Err, Option, None, Result, Some, WriteError}
-use Rattle.std.specs.Option.{SomeIff, ok_or}
-use Rattle.std.proofs.Math.Nat.{le-mul_of_pos_right}
+use Rattle.lexical_writer.proofs.Common.{Err, IsOver, None, Option, Result, Some, SomeIff, WriteError, ap, arith, cases_lt, eq_of_mul-eq-mul_right, inl, inr}
+use Rattle.lexical_writer.proofs.Common.{le-mul_of_pos_right, mod-lt, mod-mul-add, mul-le-mul_right, ok_or, one-le-pow, pow-add, pow-suc, pow-zero, subst, suc}
+use Rattle.lexical_writer.proofs.Common.{sym, zero, ℕ, ◌%◌, ◌*◌, ◌+◌, ◌-◌, ◌/◌, ◌<◌, ◌^◌, ◌∙◌, ◌≡◌, ◌≤◌}
 use Rattle.std.proofs.lemmas.Nat.{div-add-mod', mul-pow}
-use Rattle.lexical_writer.specs.Moved.{IsOver}
 use Rattle.lexical_writer.specs.declared.layout.WriteError.TheVariants as errors
-use Rattle.lexical_writer.proofs.PlainLemmas.{cancelled, pow_twice}
-use lib.Pow.{pow-add}
+use Rattle.lexical_writer.proofs.PlainLemmas.{pow_twice}
 
 -- A multiple and what is left of a larger one.
 pub left_over : (n m p l : ℕ) → n * p ≡ m * p + l → (n - m) * p ≡ l
 left_over n m p l is = elim (cases_lt n m) [
   | inl less ↦
-      let more = split (m - n) n p in
-      let whole : m * p ≡ (m - n + n) * p = ap (λ m. m * p) {x = m} {y = m - n + n} (omega (arith, less)) in
-      let none : n - m ≡ 0 = omega (arith, less) in
-      ap (λ n. n * p) none ∙ omega (arith, is, more, whole)
-  | inr fits ↦
-      let more = split (n - m) m p in
-      let whole : n * p ≡ (n - m + m) * p = ap (λ n. n * p) {x = n} {y = n - m + m} (omega (arith, fits)) in
-      omega (arith, is, more, whole)
+      let few : n ≤ m = omega (arith, less) in
+      omega (arith, is, mul-le-mul_right p few, ap (λ k. k * p) {x = n - m} {y = 0} (omega (arith, less)))
+  | inr fits ↦ omega (arith, is, ap (λ k. k * p) {x = n} {y = n - m + m} (omega (arith, fits)))
 ]
-  where
-    split : (c n p : ℕ) → (c + n) * p ≡ c * p + n * p
-    split c n p = omega arith
 
 -- A multiple of a number is 0, or it is not below this number.
 pub too_small : (k p l : ℕ) → k * p ≡ l → 0 < l → l < p → ⊥
@@ -34,11 +23,11 @@ too_small (suc k) p l is some below = omega (arith, is, below)
 pub once : (n : ℕ) → n ≡ n ^ 1
 once n = sym (pow-suc n 0 ∙ ap (λ p. p * n) (pow-zero n) ∙ omega arith)
 
-pub grouped : (a b c : ℕ) → (a * b) * c ≡ a * (b * c)
-grouped a b c = omega arith
+pub split_power : (p x y : ℕ) → y ≤ x → p ^ x ≡ p ^ (x - y) * p ^ y
+split_power p x y less = ap (λ k. p ^ k) {x = x} {y = (x - y) + y} (omega (arith, less)) ∙ pow-add p (x - y) y
 
-pub swapped : (a b c : ℕ) → (a * b) * c ≡ (a * c) * b
-swapped a b c = omega arith
+pub one_less : (p k : ℕ) → 0 < k → p ^ k ≡ p ^ (k - 1) * p
+one_less p k some = ap (λ k. p ^ k) {x = k} {y = suc (k - 1)} (omega (arith, some)) ∙ pow-suc p (k - 1)
 
 -- What is not at most a limit is more.
 pub over : (n : ℕ) → (n ≤ 2 ^ 128 - 1 → ⊥) → 2 ^ 128 - 1 < n
@@ -52,29 +41,6 @@ over_if o v a b result is given value = subst (IsOver a b) (sym is) (go o given)
     go : (o : Option ℕ) → SomeIff o (v ≤ 2 ^ 128 - 1) v → IsOver a b (ok_or o errors.Radix)
     go None large = (v, value, over v large)
     go (Some n) is = (ap (λ n. n * b) is.1 ∙ value, subst (λ n. n ≤ 2 ^ 128 - 1) (sym is.1) is.0)
-
--- A number times powers of a unit, and without those that are on both sides.
-module _ (unit n up down : ℕ) (some : 0 < unit) where
-  abbrev common : ℕ
-  common = unit ^ (up - (up - down))
-
-  downs : unit ^ down ≡ unit ^ (down - up) * common
-  downs = ap (λ k. unit ^ k) {x = down} {y = (down - up) + (up - (up - down))} (omega arith) ∙ pow-add unit (down - up) (up - (up - down))
-
-  ups : unit ^ up ≡ unit ^ (up - down) * common
-  ups = ap (λ k. unit ^ k) {x = up} {y = (up - down) + (up - (up - down))} (omega arith) ∙ pow-add unit (up - down) (up - (up - down))
-
-  left_is : (m : ℕ) → m * unit ^ down ≡ (m * unit ^ (down - up)) * common
-  left_is m = ap (λ p. m * p) downs ∙ sym (grouped m (unit ^ (down - up)) common)
-
-  right_is : n * unit ^ up ≡ (n * unit ^ (up - down)) * common
-  right_is = ap (λ p. n * p) ups ∙ sym (grouped n (unit ^ (up - down)) common)
-
-  pub brought : (m : ℕ) → m * unit ^ down ≡ n * unit ^ up → m * unit ^ (down - up) ≡ n * unit ^ (up - down)
-  brought m is = cancelled _ _ common (one-le-pow (up - (up - down)) unit some) (sym (left_is m) ∙ is ∙ right_is)
-
-  pub given_back : (m : ℕ) → m * unit ^ (down - up) ≡ n * unit ^ (up - down) → m * unit ^ down ≡ n * unit ^ up
-  given_back m is = left_is m ∙ ap (λ k. k * common) is ∙ sym right_is
 
 -- `Divides p n` holds if `n` is a multiple of `p`.
 abbrev pub Divides : ℕ → ℕ → Type 0
@@ -97,13 +63,9 @@ small_factor (suc most) p a b prime fits some below is = elim (cases_lt 1 a) [
         | inl positive ↦ positive
         | inr none ↦ absurd (prime.1 a more below (t, omega (arith, whole, none)))
       ] in
-      let all : b * p ≡ (t * is.0) * p + (p % a) * b =
-      ap (λ p. b * p) (sym whole) ∙ spread b t a (p % a) ∙ ap (λ m. t * m + (p % a) * b) is.1 ∙ omega (arith, sym (grouped t is.0 p)) in
+      let all : b * p ≡ (t * is.0) * p + (p % a) * b = omega (arith, ap (λ m. b * m) whole, ap (λ m. t * m) is.1) in
       small_factor most p (p % a) b prime (omega (arith, fits, less)) rest (omega (arith, less, below)) (b - t * is.0, sym (left_over b (t * is.0) p _ all))
 ]
-  where
-    spread : (b t a r : ℕ) → b * (t * a + r) ≡ t * (a * b) + r * b
-    spread b t a r = omega arith
 
 -- A prime that divides a product divides one of its factors.
 pub one_factor : (p a b : ℕ) → IsPrime p → (Divides p a → ⊥) → Divides p (a * b) → Divides p b
@@ -115,11 +77,8 @@ one_factor p a b prime none is =
       | inl positive ↦ positive
       | inr least ↦ absurd (none (a / p, omega (arith, whole, least)))
     ] in
-    let all : is.0 * p ≡ ((a / p) * b) * p + (a % p) * b = sym is.1 ∙ ap (λ a. a * b) (sym whole) ∙ spread (a / p) p (a % p) b in
+    let all : is.0 * p ≡ ((a / p) * b) * p + (a % p) * b = omega (arith, is.1, ap (λ m. m * b) whole) in
     small_factor (a % p) p (a % p) b prime (omega arith) rest less (is.0 - (a / p) * b, sym (left_over is.0 ((a / p) * b) p _ all))
-  where
-    spread : (t p r b : ℕ) → (t * p + r) * b ≡ (t * b) * p + r * b
-    spread t p r b = omega arith
 
 pub no_product : (p a b : ℕ) → IsPrime p → (Divides p a → ⊥) → (Divides p b → ⊥) → Divides p (a * b) → ⊥
 no_product p a b prime first second is = second (one_factor p a b prime first is)
@@ -128,45 +87,22 @@ pub no_power : (p a k : ℕ) → IsPrime p → (Divides p a → ⊥) → Divides
 no_power p a zero prime none is = too_small is.0 p 1 (sym is.1 ∙ pow-zero a) (omega arith) (omega (arith, prime.0))
 no_power p a (suc k) prime none is = no_product p (a ^ k) a prime (no_power p a k prime none) none (is.0, sym (pow-suc a k) ∙ is.1)
 
--- A power of a prime that divides a product divides the factor of which the other one is no multiple of the prime.
-pub power_factor : (p s q k x : ℕ) → IsPrime p → (Divides p q → ⊥) → s * q ≡ k * p ^ x → Divides (p ^ x) s
-power_factor p s q k zero prime none is = (s, sym (ap (λ m. s * m) (pow-zero p) ∙ omega arith))
-power_factor p s q k (suc x) prime none is =
-    let once : s * q ≡ (k * p ^ x) * p = is ∙ ap (λ m. k * m) (pow-suc p x) ∙ sym (grouped k (p ^ x) p) in
-    let first = one_factor p q s prime none (k * p ^ x, turned q s ∙ once) in
-    let rest = power_factor p first.0 q k x prime none
-    (cancelled _ _ p (omega (arith, prime.0)) (swapped first.0 q p ∙ ap (λ s. s * q) (sym first.1) ∙ once)) in
-    (rest.0, first.1 ∙ ap (λ s. s * p) rest.1 ∙ grouped rest.0 (p ^ x) p ∙ sym (ap (λ m. rest.0 * m) (pow-suc p x)))
-  where
-    turned : (a b : ℕ) → a * b ≡ b * a
-    turned a b = omega arith
+-- A number without factors of a prime divides none of its powers.
+pub power_factor : (p w k m t : ℕ) → IsPrime p → (Divides p w → ⊥) → m * w ≡ t * p ^ k → (n : ℕ) × (m ≡ n * p ^ k) × (n * w ≡ t)
+power_factor p w zero m t prime none is =
+    (m, sym (ap (λ q. m * q) (pow-zero p) ∙ omega arith), is ∙ ap (λ q. t * q) (pow-zero p) ∙ omega arith)
+power_factor p w (suc k) m t prime none is =
+    let once : m * w ≡ (t * p ^ k) * p = omega (arith, is, ap (λ q. t * q) (pow-suc p k)) in
+    let first = one_factor p w m prime none (t * p ^ k, omega (arith, once)) in
+    let rest = power_factor p w k first.0 t prime none (eq_of_mul-eq-mul_right p (omega (arith, prime.0)) _ _
+    (omega (arith, once, ap (λ m. m * w) first.1))) in
+    (rest.0, omega (arith, first.1, ap (λ m. m * p) rest.1, ap (λ q. rest.0 * q) (pow-suc p k)), rest.2)
 
--- If a number has factors `p`, what divides `p` divides it, and so does what divides what is left.
-through : (n rest p i q : ℕ) → n ≡ rest * p ^ suc i → Divides q p → Divides q n
-through n rest p i q is d = (
-  (rest * p ^ i) * d.0,
-  is ∙ ap (λ x. rest * x) (pow-suc p i) ∙ sym (grouped rest (p ^ i) p)
-      ∙ ap (λ k. (rest * p ^ i) * k) d.1 ∙ sym (grouped (rest * p ^ i) d.0 q),
-)
-
-pub divides_more : (n rest x q : ℕ) → n ≡ rest * x → Divides q rest → Divides q n
-divides_more n rest x q is d = (d.0 * x, is ∙ ap (λ rest. rest * x) d.1 ∙ swapped d.0 q x)
-
--- A factor of a number that is not 0 is neither 0 nor larger.
-pub factor_some : (a b n : ℕ) → a * b ≡ n → 0 < n → (0 < a) × (a ≤ n)
-factor_some zero b n is some = absurd (omega (arith, is, some))
-factor_some (suc a) zero n is some = absurd (omega (arith, is, some))
-factor_some (suc a) (suc b) n is some = (omega arith, omega (arith, is))
-
--- `IsLeft q n` holds if no number from 2 on below `q` divides `n`.
-abbrev pub IsLeft : ℕ → ℕ → Type 0
-IsLeft p n = (q : ℕ) → 2 ≤ q → q < p → Divides q n → ⊥
-
--- A number `p` is taken from the radix and the base, which no smaller number divides.
-module _ (p number radix base r b i j places up down : ℕ) (two : 2 ≤ p) (is_radix : radix ≡ r * p ^ i) (is_base : base ≡ b * p ^ j)
-    (none_radix : IsLeft p radix) (none_base : IsLeft p base) (apart_radix : Divides p r → ⊥) (apart_base : Divides p b → ⊥) where
+-- All factors of a prime are taken from a number, the radix and the base.
+module _ (p number radix base n r b f i j places up down : ℕ) (two : 2 ≤ p) (is_number : number ≡ n * p ^ f) (is_radix : radix ≡ r * p ^ i)
+    (is_base : base ≡ b * p ^ j) where
   abbrev pub above : ℕ
-  above = up * j
+  above = f + up * j
 
   abbrev pub below : ℕ
   below = places * i + down * j
@@ -174,89 +110,93 @@ module _ (p number radix base r b i j places up down : ℕ) (two : 2 ≤ p) (is_
   abbrev pub rest : ℕ
   rest = r ^ places * b ^ down
 
-  some : 0 < p
-  some = omega (arith, two)
-
-  positive : (k : ℕ) → 0 < p ^ k
-  positive k = one-le-pow k p some
-
-  -- It is a prime, if it divides one of them.
-  prime : (x : ℕ) → (x ≡ below - above) ⊎ (x ≡ above - below) → 0 < x → IsPrime p
-  prime x is more = (
-    two,
-    go i j is_radix is_base (elim is [
-      | inl is ↦ (λ none. omega (arith, is, more, none))
-      | inr is ↦ (λ none. omega (arith, is, more, none))
-    ]),
-  )
-    where
-      go : (i j : ℕ) → radix ≡ r * p ^ i → base ≡ b * p ^ j → (((places * i + down * j) + up * j ≡ 0) → ⊥) → (q : ℕ) → 2 ≤ q → q < p → Divides q p → ⊥
-      go zero zero is_r is_b more q least less d = more (omega arith)
-      go (suc i) j is_r is_b more q least less d = none_radix q least less (through radix r p i q is_r d)
-      go zero (suc j) is_r is_b more q least less d = none_base q least less (through base b p j q is_b d)
-
   factored : (n rest i k : ℕ) → n ≡ rest * p ^ i → n ^ k ≡ rest ^ k * p ^ (k * i)
   factored n rest i k is = ap (λ n. n ^ k) is ∙ mul-pow rest (p ^ i) k ∙ ap (λ m. rest ^ k * m) (pow_twice p i k)
 
-  left_side : (m : ℕ) → m * (radix ^ places * base ^ down) ≡ (m * rest) * p ^ below
-  left_side m = (λ k. m * (factored radix r i places is_radix k * factored base b j down is_base k))
-      ∙ turned m (r ^ places) (p ^ (places * i)) (b ^ down) (p ^ (down * j)) ∙ sym (ap (λ q. (m * rest) * q) (pow-add p (places * i) (down * j)))
-    where
-      turned : (m a x c y : ℕ) → m * ((a * x) * (c * y)) ≡ (m * (a * c)) * (x * y)
-      turned m a x c y = omega arith
+  paired : (a x c y : ℕ) → (a * p ^ x) * (c * p ^ y) ≡ (a * c) * p ^ (x + y)
+  paired a x c y = omega (arith, ap (λ q. a * c * q) (pow-add p x y))
 
-  right_side : number * base ^ up ≡ (number * b ^ up) * p ^ above
-  right_side = ap (λ q. number * q) (factored base b j up is_base) ∙ sym (grouped number (b ^ up) (p ^ above))
+  bottom : radix ^ places * base ^ down ≡ rest * p ^ below
+  bottom = (λ k. factored radix r i places is_radix k * factored base b j down is_base k) ∙ paired (r ^ places) (places * i) (b ^ down) (down * j)
 
-  -- Its powers are left on one side alone.
-  plain : (m : ℕ) → m * (radix ^ places * base ^ down) ≡ number * base ^ up → (m * rest) * p ^ (below - above) ≡ (number * b ^ up) * p ^ (above - below)
-  plain m is = brought p (number * b ^ up) above below some (m * rest) (sym (left_side m) ∙ is ∙ right_side)
+  top : number * base ^ up ≡ (n * b ^ up) * p ^ above
+  top = (λ k. is_number k * factored base b j up is_base k) ∙ paired n f (b ^ up) (up * j)
 
-  -- The number that it does not divide often enough is not whole.
-  pub not_whole : ((n : ℕ) → n * p ^ (below - above) ≡ number → ⊥) → IsOver (number * base ^ up) (radix ^ places * base ^ down) (Err errors.Fraction)
-  not_whole none m is = elim (cases_lt above below) [
-    | inr enough ↦ none number (ap (λ k. number * p ^ k) {x = below - above} {y = 0} (omega (arith, enough))
-        ∙ ap (λ q. number * q) (pow-zero p) ∙ omega arith)
-    | inl less ↦
-        let it = prime (below - above) (inl refl) (omega (arith, less)) in
-        let factor = power_factor p number (b ^ up) (m * rest) (below - above) it (no_power p b up it apart_base)
-        (sym (plain m is ∙ ap (λ k. (number * b ^ up) * p ^ k) {x = above - below} {y = 0} (omega (arith, less))
-        ∙ ap (λ q. (number * b ^ up) * q) (pow-zero p) ∙ omega arith)) in
-        none factor.0 (sym factor.1)
-  ]
+  pub times_is : (m : ℕ) → below ≤ above → m * rest ≡ n * b ^ up → (m * p ^ (above - below)) * (radix ^ places * base ^ down) ≡ number * base ^ up
+  times_is m enough is = omega (
+    arith,
+    ap (λ q. m * p ^ (above - below) * q) bottom,
+    ap (λ q. q * (p ^ (above - below) * p ^ below)) is,
+    ap (λ q. n * b ^ up * q) (split_power p above below enough),
+    top,
+  )
 
-  -- Otherwise, what is left is written, times what is above.
-  module _ (left : ℕ) (is_left : left * p ^ (below - above) ≡ number) where
-    moved_up : (number * b ^ up) * p ^ (above - below) ≡ ((left * b ^ up) * p ^ (above - below)) * p ^ (below - above)
-    moved_up = ap (λ n. (n * b ^ up) * p ^ (above - below)) (sym is_left) ∙ turned left (p ^ (below - above)) (b ^ up) (p ^ (above - below))
-      where
-        turned : (l x b y : ℕ) → ((l * x) * b) * y ≡ ((l * b) * y) * x
-        turned l x b y = omega arith
+  module _ (prime : IsPrime p) (apart_radix : Divides p r → ⊥) (apart_base : Divides p b → ⊥) where
+    plain : (m x : ℕ) → x ≤ below → x ≤ above → m * (radix ^ places * base ^ down) ≡ number * base ^ up
+        → (m * rest) * p ^ (below - x) ≡ (n * b ^ up) * p ^ (above - x)
+    plain m x low high is = eq_of_mul-eq-mul_right (p ^ x) (one-le-pow x p (omega (arith, two))) _ _ (omega (
+      arith,
+      ap (λ q. m * rest * q) (split_power p below x low),
+      ap (λ q. m * q) bottom,
+      is,
+      top,
+      ap (λ q. n * b ^ up * q) (split_power p above x high),
+    ))
 
-    onward : (m : ℕ) → m * (radix ^ places * base ^ down) ≡ number * base ^ up → m * rest ≡ (left * b ^ up) * p ^ (above - below)
-    onward m is = cancelled _ _ (p ^ (below - above)) (positive (below - above)) (plain m is ∙ moved_up)
+    -- Too few are above the line.
+    pub not_whole : (Divides p n → ⊥) → above < below → IsOver (number * base ^ up) (radix ^ places * base ^ down) (Err errors.Fraction)
+    not_whole apart less m is =
+        let all = plain m above (omega (arith, less)) (omega arith) is in
+        let none = ap (λ k. n * b ^ up * p ^ k) {x = above - above} {y = 0} (omega arith) ∙ ap (λ q. n * b ^ up * q) (pow-zero p) in
+        no_product p n (b ^ up) prime apart (no_power p b up prime apart_base)
+        (m * rest * p ^ (below - above - 1), omega (arith, all, none, ap (λ q. m * rest * q) (one_less p (below - above) (omega (arith, less)))))
 
-    pub times_is : (n : ℕ) → n * rest ≡ left * b ^ up → (n * p ^ (above - below)) * (radix ^ places * base ^ down) ≡ number * base ^ up
-    times_is n is = left_side (n * p ^ (above - below)) ∙ given_back p (number * b ^ up) above below some ((n * p ^ (above - below)) * rest)
-        (ap (λ k. k * p ^ (below - above)) (swapped n (p ^ (above - below)) rest ∙ ap (λ k. k * p ^ (above - below)) is) ∙ sym moved_up) ∙ sym right_side
-
-    pub not_times : ((n : ℕ) → n * rest ≡ left * b ^ up → ⊥) → IsOver (number * base ^ up) (radix ^ places * base ^ down) (Err errors.Fraction)
-    not_times none m is = elim (cases_lt 0 (above - below)) [
-      | inr least ↦ none m (onward m is ∙ ap (λ k. (left * b ^ up) * p ^ k) {x = above - below} {y = 0} (omega (arith, least))
-          ∙ ap (λ q. (left * b ^ up) * q) (pow-zero p) ∙ omega arith)
-      | inl more ↦
-          let it = prime (above - below) (inr refl) more in
-          let factor = power_factor p m rest (left * b ^ up) (above - below) it
-          (no_product p (r ^ places) (b ^ down) it (no_power p r places it apart_radix) (no_power p b down it apart_base)) (onward m is) in
-          none factor.0 (cancelled _ _ (p ^ (above - below)) (positive (above - below))
-          (swapped factor.0 rest (p ^ (above - below)) ∙ ap (λ m. m * rest) (sym factor.1) ∙ onward m is))
-    ]
-
-    pub error_is : (error : WriteError) → IsOver (left * b ^ up) rest (Err error) → IsOver (number * base ^ up) (radix ^ places * base ^ down) (Err error)
-    error_is errors.Fraction none = not_times none
-    error_is errors.Radix it = (
+    -- The error of what is left is that of the whole.
+    pub error_is : (error : WriteError) → below ≤ above → IsOver (n * b ^ up) rest (Err error)
+        → IsOver (number * base ^ up) (radix ^ places * base ^ down) (Err error)
+    error_is errors.Fraction enough none = λ m is.
+        let nothing = ap (λ k. m * rest * p ^ k) {x = below - below} {y = 0} (omega arith) ∙ ap (λ q. m * rest * q) (pow-zero p) in
+        let all : m * rest ≡ (n * b ^ up) * p ^ (above - below) = omega (arith, nothing, plain m below (omega arith) enough is) in
+        let left = power_factor p rest (above - below) m (n * b ^ up) prime
+        (no_product p (r ^ places) (b ^ down) prime (no_power p r places prime apart_radix) (no_power p b down prime apart_base)) all in
+        none left.0 left.2
+    error_is errors.Radix enough it = (
       it.0 * p ^ (above - below),
-      times_is it.0 it.1,
-      omega (arith, it.2, le-mul_of_pos_right it.0 (positive (above - below))),
+      times_is it.0 enough it.1,
+      omega (arith, it.2, le-mul_of_pos_right it.0 (one-le-pow (above - below) p (omega (arith, two)))),
     )
-    error_is _ none = absurd none
+    error_is _ enough none = absurd none
+
+-- `IsLeft p n` holds if no number from 2 on below `p` divides `n`.
+abbrev pub IsLeft : ℕ → ℕ → Type 0
+IsLeft p n = (q : ℕ) → 2 ≤ q → q < p → n % q ≡ 0 → ⊥
+
+pub multiple : (k q n : ℕ) → 0 < q → n ≡ k * q → n % q ≡ 0
+multiple k q n some is = ap (λ n. n % q) {x = n} {y = k * q + 0} (omega (arith, is)) ∙ mod-mul-add k q 0 some
+
+divides_of : (n q : ℕ) → n % q ≡ 0 → Divides q n
+divides_of n q none = (n / q, let whole = div-add-mod' n q in omega (arith, whole, none))
+
+-- A number that divides another one is prime if no smaller one divides that.
+pub prime_of : (p n : ℕ) → 2 ≤ p → IsLeft p n → n % p ≡ 0 → IsPrime p
+prime_of p n two left none = (
+  two,
+  λ q least less d. let whole = divides_of n p none in
+      left q least less (multiple (whole.0 * d.0) q n (omega (arith, least)) (omega (arith, whole.1, ap (λ p. whole.0 * p) d.1))),
+)
+
+pub next_left : (p n r x : ℕ) → n ≡ r * x → IsLeft p n → (Divides p r → ⊥) → IsLeft (p + 1) r
+next_left p n r x is left apart q least less none = let d = divides_of r q none in elim (cases_lt q p) [
+  | inl before ↦ left q least before (multiple (d.0 * x) q n (omega (arith, least)) (omega (arith, is, ap (λ r. r * x) d.1)))
+  | inr from ↦ apart (d.0, d.1 ∙ ap (λ q. d.0 * q) {x = q} {y = p} (omega (arith, from, less)))
+]
+
+pub skipped : (p n : ℕ) → 2 ≤ p → IsLeft p n → (n % p ≡ 0 → ⊥) → IsLeft (p + 1) n
+skipped p n two left none = next_left p n n 1 (omega arith) left (λ d. none (multiple d.0 p n (omega (arith, two)) d.1))
+
+-- What no number up to 36 divides is 1.
+pub one_left : (n p : ℕ) → 0 < n → n ≤ 36 → 36 < p → IsLeft p n → n ≡ 1
+one_left n p some few last left = elim (cases_lt 1 n) [
+  | inl more ↦ absurd (left n (omega (arith, more)) (omega (arith, few, last)) (multiple 1 n n some (omega arith)))
+  | inr least ↦ omega (arith, some, least)
+]

@@ -1,58 +1,32 @@
--- Which whole number a literal represents.
-use Rattle.lexical_writer.proofs.Common.{ℕ, ◌≡◌, ◌<◌, ◌≤◌, ◌+◌, ◌-◌, ◌*◌, ◌/◌, ◌%◌, ◌^◌, ◌==◌, ◌&&◌, ◌||◌, ◌⊎◌, inl, inr, if◌then◌else◌, Bool, true}
-use Rattle.lexical_writer.proofs.Common.{false}
-use Rattle.lexical_writer.proofs.Common.{List, append-nil, [], ◌∷◌, ◌++◌, length, replicate, AllBelowBase, length-append, number_after_append}
-use Rattle.lexical_writer.proofs.Common.{is_absent, trimmed}
-use Rattle.lexical_writer.proofs.Common.{refl, sym, ap, ◌∙◌, subst, arith, cases_lt, false≢true, nat_lt, nat_tests, not, mod-lt, pow-zero}
-use Rattle.lexical_writer.proofs.Common.{Err, Ok, Result, WriteError, Option, Some, None, cons_option, digit_of, get_or, take, number_after}
-use Rattle.lexical_writer.proofs.Common.{number_from_digits_after}
-use Rattle.lexical_writer.proofs.Common.{number_from_digits}
-use Rattle.lexical_writer.proofs.Common.{effective_exponent_base, effective_exponent_radix, Record, is_minus, Parts, digits_in, number}
-use Rattle.std.specs.Option.{SomeIff, ok_or}
+-- Which whole number a literal represents, by its digits and its exponent.
+use Rattle.lexical_writer.proofs.Common.{AllBelowBase, Amount, Bool, Ending, Err, IsEnding, IsMoved, IsOver, IsSize, List, None, Ok, Option, Parts, Record}
+use Rattle.lexical_writer.proofs.Common.{Result, Some, SomeIff, WriteError, [], ap, append-nil, arith, below, can_move, cases_lt, cons_option, denominator}
+use Rattle.lexical_writer.proofs.Common.{digit_of, digits_in, digits_of, down_of, effective_exponent_base, effective_exponent_radix, eq-eqb}
+use Rattle.lexical_writer.proofs.Common.{eq_of_mul-eq-mul_right, eqb-true, false, false≢true, filter_map-append, first_digits_of, get_or, if◌then◌else◌, inl}
+use Rattle.lexical_writer.proofs.Common.{inr, is_minus, le-ltb, le-mul_of_pos_right, length, mantissa, nat_lt, nat_tests, not, number, number_after}
+use Rattle.lexical_writer.proofs.Common.{number_after_append, number_from_digits, number_from_digits_after, numerator, ok_or, one-le-pow, pow-add}
+use Rattle.lexical_writer.proofs.Common.{pow-le-pow_right, pow-suc, pow-zero, refl, subst, suc, sym, take, true, up_of, zero, ℕ, ◌&&◌, ◌*◌, ◌++◌, ◌+◌, ◌-◌, ◌<◌}
+use Rattle.lexical_writer.proofs.Common.{◌==◌, ◌^◌, ◌||◌, ◌∙◌, ◌∷◌, ◌≡◌, ◌≤◌, ◌⊎◌}
 use Rattle.std.specs.Result.{is_ok}
-use Rattle.std.proofs.Math.Nat.{pow-le-pow_right}
-use Rattle.std.proofs.lemmas.List.{length-replicate}
-use Rattle.std.proofs.lemmas.List.Elements.{filter_map-append}
-use Rattle.std.proofs.lemmas.Nat.{div-add-mod'}
-use Rattle.lexical_util.specs.Layout as layout
+use Rattle.std.proofs.lemmas.Bool.{ne_eqb}
 use Rattle.lexical_literal.specs.Parts.{literal_of}
-use Rattle.lexical_literal.specs.Read.{mantissa}
-use Rattle.lexical_value.specs.Float.{is_binary}
-use Rattle.lexical_value.specs.Value.{denominator, numerator}
-use Rattle.lexical_writer.specs.Moved.{IsOver, IsQuotient, IsSize, can_move, has_zeros, is_unknown, places_of}
+use Rattle.lexical_number.specs.Float.{is_power_of_two}
+use Rattle.lexical_util.specs.Layout as layout
+use Rattle.lexical_writer.specs.Moved.{is_unknown, places_of}
 use Rattle.lexical_writer.specs.declared.layout.WriteError.TheVariants as errors
-use Rattle.lexical_writer.specs.declared.moved.Quotient.{Quotient}
-use Rattle.lexical_writer.proofs.MovedLemmas.{absent_is, first_left, trimmed_is, up_to}
-use Rattle.lexical_writer.proofs.PlainLemmas.{pow_twice, zeros_after}
-use Rattle.lexical_writer.proofs.PrimeLemmas.{brought, given_back, grouped, left_over, over_if, swapped, too_small}
-use lib.Pow.{pow-add}
-
--- A quotient of a number with one digit more.
-pub one_more : (radix divisor n d : ℕ) (it : Quotient) (size : Option ℕ) → 0 < divisor → IsQuotient n divisor it
-    → ((q : ℕ) → SomeIff it.size (q ≤ 2 ^ 128 - 1) q
-    → SomeIff size (q * radix + (it.rest * radix + d) / divisor ≤ 2 ^ 128 - 1) (q * radix + (it.rest * radix + d) / divisor))
-    → IsQuotient (n * radix + d) divisor (record { size = size; rest = (it.rest * radix + d) % divisor })
-one_more radix divisor n d it size some is longer =
-    let part = it.rest * radix + d in (
-      is.0 * radix + part / divisor,
-      ap (λ n. n * radix + d) is.1 ∙ spread is.0 divisor it.rest radix d ∙ ap (λ part. (is.0 * radix) * divisor + part) (sym (div-add-mod' part divisor))
-          ∙ joined (is.0 * radix) divisor (part / divisor) (part % divisor),
-      mod-lt part some,
-      longer is.0 is.3,
-    )
-  where
-    spread : (q b r x d : ℕ) → (q * b + r) * x + d ≡ (q * x) * b + (r * x + d)
-    spread q b r x d = omega arith
-
-    joined : (q b p r : ℕ) → q * b + (p * b + r) ≡ (q + p) * b + r
-    joined q b p r = omega arith
+use Rattle.lexical_writer.proofs.MovedLemmas.{up_to}
+use Rattle.lexical_writer.proofs.PlainLemmas.{pow_twice}
+use Rattle.lexical_writer.proofs.PrimeLemmas.{left_over, one_less, over_if, split_power}
 
 -- The byte at an index is a digit, or it is none.
-pub digit_read : (radix n i d : ℕ) (bytes : List ℕ) (o : Option ℕ) → i < length bytes → o ≡ digit_of (get_or bytes i 0) radix → o ≡ Some d
+pub digit_at : (radix n i d : ℕ) (bytes : List ℕ) (o : Option ℕ) → i < length bytes → o ≡ digit_of (get_or bytes i 0) radix → o ≡ Some d
     → number_after radix n (take (i + 1) bytes) ≡ number_after radix n (take i bytes) * radix + d
-digit_read radix n i d bytes o inside is some =
+digit_at radix n i d bytes o inside is some =
     ap (number_from_digits_after radix n) (up_to radix i bytes o inside is ∙ ap (λ o. digits_in radix (take i bytes) ++ cons_option o []) some)
     ∙ number_after_append radix n (digits_in radix (take i bytes)) (d ∷ [])
+
+pub digit_below : (radix byte d : ℕ) (o : Option ℕ) → o ≡ digit_of byte radix → o ≡ Some d → d < radix
+digit_below radix byte d o is some = (subst (λ o. AllBelowBase radix (cons_option o [])) (sym is ∙ some) (below radix (byte ∷ []))).0
 
 pub byte_passed : (radix n i : ℕ) (bytes : List ℕ) (o : Option ℕ) → i < length bytes → o ≡ digit_of (get_or bytes i 0) radix → o ≡ None
     → number_after radix n (take (i + 1) bytes) ≡ number_after radix n (take i bytes)
@@ -60,102 +34,125 @@ byte_passed radix n i bytes o inside is none =
     ap (number_from_digits_after radix n) (up_to radix i bytes o inside is ∙ ap (λ o. digits_in radix (take i bytes) ++ cons_option o []) none
     ∙ append-nil (digits_in radix (take i bytes)))
 
--- Digits that are left without the zeros at the end do not end with 0.
-ends_well : (digits : List ℕ) → (trimmed digits ≡ []) ⊎ ((front : List ℕ) × (d : ℕ) × (trimmed digits ≡ front ++ (d ∷ [])) × (0 < d))
-ends_well [] = inl refl
-ends_well (x ∷ xs) = go (x == 0 && is_absent (trimmed xs)) refl (ends_well xs)
+-- Two pieces are read one after the other.
+pub number_of : (radix : ℕ) (i f : List ℕ) → number_after radix (number radix i) f ≡ number radix (i ++ f)
+number_of radix i f = sym (ap (number_from_digits radix) (filter_map-append _ i f) ∙ number_after_append radix 0 (digits_in radix i) (digits_in radix f))
+
+-- Digits represent 0 if and only if both pieces have none without leading zeros.
+none_left : (radix n : ℕ) → 2 ≤ radix → (length (digits_of radix n) == 0) ≡ (n == 0)
+none_left radix zero two = refl
+none_left radix (suc n) two = go (digits_of radix (suc n)) (first_digits_of radix (suc n) two (omega arith)) ∙ sym (not_zero n)
   where
-    go : (test : Bool) → (x == 0 && is_absent (trimmed xs)) ≡ test
-        → (trimmed xs ≡ []) ⊎ ((front : List ℕ) × (d : ℕ) × (trimmed xs ≡ front ++ (d ∷ [])) × (0 < d))
-        → ((if test then [] else x ∷ trimmed xs) ≡ [])
-        ⊎ ((front : List ℕ) × (d : ℕ) × ((if test then [] else x ∷ trimmed xs) ≡ front ++ (d ∷ [])) × (0 < d))
-    go true is rest = inl refl
-    go false is (inl none) = inr ([], x, ap (λ (ds : List ℕ). x ∷ ds) none, some)
-      where
-        some : 0 < x
-        some = grind (arith, nat_tests)
-    go false is (inr some) = inr (x ∷ some.0, some.1, ap (λ (ds : List ℕ). x ∷ ds) some.2, some.3)
+    not_zero : (n : ℕ) → (suc n == 0) ≡ false
+    not_zero n = grind (arith, nat_tests)
 
-last_below : (radix : ℕ) (digits : List ℕ) (d : ℕ) → AllBelowBase radix (digits ++ (d ∷ [])) → d < radix
-last_below radix [] d all = all.0
-last_below radix (x ∷ digits) d all = last_below radix digits d all.1
+    go : (digits : List ℕ) → 0 < get_or digits 0 0 → (length digits == 0) ≡ false
+    go [] some = absurd (omega (arith, some))
+    go (d ∷ digits) some = not_zero (length digits)
 
--- The radix does not divide their number, which so is not 0.
-pub no_multiple : (radix : ℕ) (digits : List ℕ) (k : ℕ) → is_absent (trimmed digits) ≡ false → AllBelowBase radix (trimmed digits)
-    → number_from_digits radix (trimmed digits) ≡ k * radix → ⊥
-no_multiple radix digits k some all is = elim (ends_well digits) [
-  | inl none ↦ false≢true (sym some ∙ ap is_absent none)
-  | inr it ↦
-      let front = number_from_digits radix it.0 in
-      let whole : k * radix ≡ front * radix + it.1 = sym is ∙ ap (number_from_digits radix) it.2 ∙ number_after_append radix 0 it.0 (it.1 ∷ []) in
-      too_small (k - front) radix it.1 (left_over k front radix it.1 whole) it.3 (last_below radix it.0 it.1 (subst (AllBelowBase radix) it.2 all))
-]
+grows : (radix n : ℕ) (digits : List ℕ) → 2 ≤ radix → 0 < n → 0 < number_from_digits_after radix n digits
+grows radix n [] two some = some
+grows radix n (d ∷ digits) two some = grows radix (n * radix + d) digits two (more n radix d some two)
+  where
+    more : (n radix d : ℕ) → 0 < n → 2 ≤ radix → 0 < n * radix + d
+    more n radix d some two = grind arith
 
-pub shorter : (digits : List ℕ) → length (trimmed digits) ≤ length digits
-shorter digits =
-    let is = trimmed_is digits in
-    let all = ap length is.1 ∙ length-append (trimmed digits) (replicate is.0 0) in
-    omega (arith, all)
+pub both_none : (radix : ℕ) (i f : List ℕ) → 2 ≤ radix → (length (digits_of radix (number radix i)) == 0
+    && length (digits_of radix (number radix f)) == 0) ≡ (number radix (i ++ f) == 0)
+both_none radix i f two =
+    (λ j. none_left radix (number radix i) two j && none_left radix (number radix f) two j) ∙ go (number radix i) ∙ ap (λ n. n == 0) (number_of radix i f)
+  where
+    go : (n : ℕ) → ((n == 0) && (number radix f == 0)) ≡ (number_after radix n f == 0)
+    go zero = refl
+    go (suc n) = let some = grows radix (suc n) (digits_in radix f) two (omega arith) in grind (arith, nat_tests)
 
--- Digits with the zeros at their end.
-pub with_zeros : (radix : ℕ) (digits : List ℕ) (k : ℕ) → length digits ≡ length (trimmed digits) + k
-    → number_from_digits radix digits ≡ number_from_digits radix (trimmed digits) * radix ^ k
-with_zeros radix digits k counts =
-    let is = trimmed_is digits in
-    let zeros : List ℕ = replicate is.0 0 in
-    let size = length-replicate {A = ℕ} is.0 0 in
-    let all : length digits ≡ length (trimmed digits) + is.0 = ap length is.1 ∙ length-append (trimmed digits) zeros
-    ∙ ap (λ k. length (trimmed digits) + k) size in
-    ap (number_from_digits radix) is.1 ∙ number_after_append radix 0 (trimmed digits) zeros ∙ zeros_after radix (number_from_digits radix (trimmed digits)) is.0
-    ∙ ap (λ k. number_from_digits radix (trimmed digits) * radix ^ k) {x = is.0} {y = k} (omega (arith, all, counts))
+-- Digits of a number, which is 0 if they have no last one.
+pub none_read : (radix : ℕ) → 0 < radix → IsEnding radix 0 (record { front = Some 0; last = 0; zeros = 0 })
+none_read radix some = (0, sym (ap (λ p. (0 * radix + 0) * p) (pow-zero radix) ∙ omega arith), some, (λ none. refl), (omega arith, refl))
 
--- What a unit to the power of one exponent and over that of another makes of a number, of which the first is divided out.
-module _ (unit n up down : ℕ) (two : 2 ≤ unit) where
-  some : 0 < unit
-  some = omega (arith, two)
+pub zero_number : (radix n : ℕ) (it : Ending) → IsEnding radix n it → it.last ≡ 0 → n ≡ 0
+zero_number radix n it is none = is.1 ∙ (λ j. (is.3 none j * radix + none j) * radix ^ it.zeros) ∙ omega arith
 
-  -- The number is a multiple of what it is divided by.
-  pub whole_is : (q : ℕ) → n ≡ q * unit ^ (down - up) → (q * unit ^ (up - down)) * unit ^ down ≡ n * unit ^ up
-  whole_is q is = given_back unit n up down some (q * unit ^ (up - down)) (swapped q (unit ^ (up - down)) (unit ^ (down - up))
-      ∙ ap (λ n. n * unit ^ (up - down)) (sym is))
+pub some_number : (radix n : ℕ) (it : Ending) → IsEnding radix n it → 0 < it.last → 0 < n
+some_number radix n it is some =
+    omega (arith, is.1, some, le-mul_of_pos_right (is.0 * radix + it.last) (one-le-pow it.zeros radix (let below = is.2 in omega (arith, below))))
 
-  alone : up < down → n * unit ^ (up - down) ≡ n
-  alone less = ap (λ k. n * unit ^ k) {x = up - down} {y = 0} (omega (arith, less)) ∙ ap (λ p. n * p) (pow-zero unit) ∙ omega arith
+-- Digits with one more.
+pub zero_read : (radix n : ℕ) (it : Ending) → IsEnding radix n it
+    → IsEnding radix (n * radix + 0) (record { front = it.front; last = it.last; zeros = it.zeros + 1 })
+zero_read radix n it is =
+    let digits = is.0 * radix + it.last in (
+      is.0,
+      omega (arith, ap (λ n. n * radix) is.1, ap (λ p. digits * p) (pow-suc radix it.zeros))
+          ∙ ap (λ k. digits * radix ^ k) {x = suc it.zeros} {y = it.zeros + 1} (omega arith),
+      is.2,
+      is.3,
+      is.4,
+    )
 
-  -- It is none, and something is left.
-  pub not_whole : (q rest : ℕ) → n ≡ q * unit ^ (down - up) + rest → rest < unit ^ (down - up) → 0 < rest → (m : ℕ) → m * unit ^ down ≡ n * unit ^ up → ⊥
-  not_whole q rest is below more m value = elim (cases_lt up down) [
-    | inl less ↦ too_small (m - q) (unit ^ (down - up)) rest
-        (left_over m q (unit ^ (down - up)) rest (brought unit n up down some m value ∙ alone less ∙ is)) more below
-    | inr enough ↦
-        let one : unit ^ (down - up) ≡ 1 = ap (λ k. unit ^ k) {x = down - up} {y = 0} (omega (arith, enough)) ∙ pow-zero unit in
-        absurd (omega (arith, one, below, more))
+pub digit_read : (radix n d : ℕ) (it : Ending) (front : Option ℕ) → (d ≡ 0 → ⊥) → d < radix
+    → ((q : ℕ) → SomeIff it.front (q ≤ 2 ^ 128 - 1) q
+    → SomeIff front ((q * radix + it.last) * radix ^ it.zeros ≤ 2 ^ 128 - 1) ((q * radix + it.last) * radix ^ it.zeros))
+    → IsEnding radix n it → IsEnding radix (n * radix + d) (record { front = front; last = d; zeros = 0 })
+digit_read radix n d it front some below given is = (
+  (is.0 * radix + it.last) * radix ^ it.zeros,
+  omega (arith, ap (λ n. n * radix) is.1, ap (λ p. ((is.0 * radix + it.last) * radix ^ it.zeros * radix + d) * p) (pow-zero radix)),
+  below,
+  (λ none. absurd (some none)),
+  given is.0 is.4,
+)
+
+-- A unit, of which the radix is a power, divides the number of digits as often as the last one.
+module _ (unit bits q last rest factors : ℕ) (two : 2 ≤ unit) (is_last : last ≡ rest * unit ^ factors) (apart : (k : ℕ) → rest ≡ k * unit → ⊥)
+    (some : 0 < rest) (below : last < unit ^ bits) where
+  abbrev pub left : ℕ
+  left = q * unit ^ (bits - factors) + rest
+
+  positive : (k : ℕ) → 0 < unit ^ k
+  positive k = one-le-pow k unit (omega (arith, two))
+
+  pub fewer : factors < bits
+  fewer = elim (cases_lt factors bits) [
+    | inl less ↦ less
+    | inr many ↦
+        let more = pow-le-pow_right {n = unit} (omega (arith, two)) {i = bits} {j = factors} many in
+        absurd (omega (arith, more, le-mul_of_pos_right (unit ^ factors) some, is_last, below))
   ]
 
-  -- The radix would have to divide it.
-  pub not_often : (radix bits : ℕ) → radix ≡ unit ^ bits → 0 < bits → bits ≤ down - up → ((k : ℕ) → n ≡ k * radix → ⊥)
-      → (m : ℕ) → m * unit ^ down ≡ n * unit ^ up → ⊥
-  not_often radix bits is positive less none m value =
-      let power : unit ^ (down - up) ≡ unit ^ ((down - up) - bits) * radix =
-      ap (λ k. unit ^ k) {x = down - up} {y = ((down - up) - bits) + bits} (omega (arith, less)) ∙ pow-add unit ((down - up) - bits) bits
-      ∙ ap (λ p. unit ^ ((down - up) - bits) * p) (sym is) in
-      none (m * unit ^ ((down - up) - bits)) (sym (alone (omega (arith, positive, less))) ∙ sym (brought unit n up down some m value)
-      ∙ ap (λ p. m * p) power ∙ sym (grouped m (unit ^ ((down - up) - bits)) radix))
+  left_apart : (k : ℕ) → left ≡ k * unit → ⊥
+  left_apart k is = apart (k - q * unit ^ (bits - factors - 1)) (sym (left_over k (q * unit ^ (bits - factors - 1)) unit rest
+      (omega (arith, is, ap (λ p. q * p) (one_less unit (bits - factors) (omega (arith, fewer)))))))
 
-  pub power_small : (radix bits : ℕ) → radix ≡ unit ^ bits → down - up < bits → unit ^ (down - up) ≤ radix
-  power_small radix bits is less = subst (λ r. unit ^ (down - up) ≤ r) (sym is)
-      (pow-le-pow_right {n = unit} some {i = down - up} {j = bits} (omega (arith, less)))
+  module _ (n zeros up down above : ℕ) (is_number : n ≡ (q * unit ^ bits + last) * (unit ^ bits) ^ zeros) (is_above : above ≡ up + zeros * bits + factors) where
+    top : n * unit ^ up ≡ left * unit ^ above
+    top =
+        let whole : q * unit ^ bits + last ≡ left * unit ^ factors =
+        omega (arith, ap (λ p. q * p) (split_power unit bits factors (omega (arith, fewer))), is_last) in
+        let power = ap (λ k. unit ^ k) is_above ∙ pow-add unit (up + zeros * bits) factors ∙ ap (λ p. p * unit ^ factors) (pow-add unit up (zeros * bits)) in
+        ap (λ m. m * unit ^ up) (is_number ∙ (λ j. whole j * pow_twice unit bits zeros j)) ∙ omega (arith, ap (λ p. left * p) power)
 
--- An exponent of at most 64 bits.
-pub near : (n : ℕ) → n ≤ 2 ^ 64 - 1 → nat_lt (2 ^ 64 - 1) n ≡ false
-near n few = grind (arith, nat_tests)
+    pub not_whole : above < down → (m : ℕ) → m * unit ^ down ≡ n * unit ^ up → ⊥
+    not_whole less m is =
+        let all : m * unit ^ (down - above) ≡ left = eq_of_mul-eq-mul_right (unit ^ above) (positive above) _ _
+        (omega (arith, ap (λ p. m * p) (split_power unit down above (omega (arith, less))), is, top)) in
+        left_apart (m * unit ^ (down - above - 1)) (omega (arith, all, ap (λ p. m * p) (one_less unit (down - above) (omega (arith, less)))))
 
-pub far : (n : ℕ) → (n ≤ 2 ^ 64 - 1 → ⊥) → nat_lt (2 ^ 64 - 1) n ≡ true
-far n large = grind (arith, nat_tests)
+    pub whole_is : down ≤ above → (left * unit ^ (above - down)) * unit ^ down ≡ n * unit ^ up
+    whole_is enough = omega (arith, ap (λ p. left * p) (split_power unit above down enough), top)
 
-zero_of : (test : Bool) → ◌≡◌ {A = ℕ} (if test then 0 else 0) 0
-zero_of true = refl
-zero_of false = refl
+-- A radix and a base that are powers of a unit.
+pub over_unit : (unit bits base_bits radix base n up down places : ℕ) (result : Result ℕ WriteError) → radix ≡ unit ^ bits → base ≡ unit ^ base_bits
+    → IsOver (n * unit ^ (up * base_bits)) (unit ^ (places * bits + down * base_bits)) result
+    → IsOver (n * base ^ up) (radix ^ places * base ^ down) result
+over_unit unit bits base_bits radix base n up down places result is_radix is_base over =
+    let powers : (k : ℕ) → base ^ k ≡ unit ^ (k * base_bits) = λ k. ap (λ b. b ^ k) is_base ∙ pow_twice unit base_bits k in
+    subst (λ m. IsOver m (radix ^ places * base ^ down) result) (ap (λ p. n * p) (sym (powers up)))
+    (subst (λ d. IsOver (n * unit ^ (up * base_bits)) d result) (pow-add unit (places * bits) (down * base_bits)
+    ∙ sym (λ j. (ap (λ b. b ^ places) is_radix ∙ pow_twice unit bits places) j * powers down j)) over)
+
+-- A number that is not at most a limit.
+pub far : (most n : ℕ) → (n ≤ most → ⊥) → nat_lt most n ≡ true
+far most n large = grind (arith, nat_tests)
 
 -- The value of a literal in a few numbers.
 module _ (r : Record) (parts : Parts) where
@@ -168,23 +165,20 @@ module _ (r : Record) (parts : Parts) where
   abbrev e : ℕ
   e = number (effective_exponent_radix r) parts.exponent.now
 
-  abbrev left : Bool
-  left = is_minus parts.exponent_sign.now
+  abbrev minus : Bool
+  minus = is_minus parts.exponent_sign.now
 
-  abbrev fraction : List ℕ
-  fraction = digits_in radix parts.fraction.now
+  abbrev whole : ℕ
+  whole = mantissa r.byte (literal_of parts)
 
-  abbrev pub whole : ℕ
-  whole = number_from_digits radix (digits_in radix parts.integer.now ++ fraction)
-
-  pub mantissa_is : mantissa r.byte (literal_of parts) ≡ whole
-  mantissa_is = ap (number_from_digits radix) (filter_map-append _ parts.integer.now parts.fraction.now)
+  abbrev fraction : ℕ
+  fraction = length (digits_in radix parts.fraction.now)
 
   -- What is found out of a literal whose exponent is not too large.
   pub sized : (result : Result ℕ WriteError) → places_of r parts ≤ 2 ^ 64 - 1 → (is_unknown r parts ≡ true → result ≡ Err errors.Radix)
       → (is_unknown r parts ≡ false → IsOver (numerator r.byte (literal_of parts)) (denominator r.byte (literal_of parts)) result) → IsSize r parts result
   sized result few unknown known = record {
-    far = λ more. absurd (false≢true (sym (near (places_of r parts) few) ∙ more));
+    far = λ more. absurd (false≢true (sym (le-ltb (2 ^ 64 - 1) (places_of r parts) few) ∙ more));
     unknown = λ less. unknown;
     known = λ less. known;
   }
@@ -198,119 +192,129 @@ module _ (r : Record) (parts : Parts) where
       go false true first second = absurd (false≢true (sym (ap is_ok (is.unknown first second))))
       go false false first second = (is.known first second).0
 
-  pub known_is : (can_move r parts || is_binary r.byte) ≡ true → is_unknown r parts ≡ false
-  known_is can = ap (λ test. not test && nat_lt (2 ^ 128 - 1) (mantissa r.byte (literal_of parts))) can
-
-  pub unknown_is : (can_move r parts || is_binary r.byte) ≡ false → is_unknown r parts ≡ nat_lt (2 ^ 128 - 1) whole
-  unknown_is none = (λ i. not (none i) && nat_lt (2 ^ 128 - 1) (mantissa_is i))
-
-  -- The digits of both pieces.
-  abbrev pub all : List ℕ
-  all = digits_in radix parts.integer.now ++ (fraction ++ [])
-
-  pub whole_all : number_from_digits radix all ≡ whole
-  whole_all = ap (λ (ds : List ℕ). number_from_digits radix (digits_in radix parts.integer.now ++ ds)) (append-nil fraction)
-
-  -- Some digit is left without the zeros at the end.
-  pub some_left : is_absent (trimmed all) ≡ false → has_zeros radix parts ≡ false
-  some_left some = go (is_absent (trimmed (digits_in radix parts.integer.now))) (is_absent (trimmed fraction)) refl refl
+  pub exact_of : (q : ℕ) → q ≡ radix → 0 < number q (parts.integer.now ++ parts.fraction.now) → places_of r parts ≡ e
+  exact_of q is some =
+      ap (λ none. if none then 0 else e) (not_zero whole (subst (λ q. 0 < number q (parts.integer.now ++ parts.fraction.now)) is some))
     where
-      go : (a b : Bool) → is_absent (trimmed (digits_in radix parts.integer.now)) ≡ a → is_absent (trimmed fraction) ≡ b → (a && b) ≡ false
-      go false b first second = refl
-      go true false first second = refl
-      go true true first second = absurd (false≢true (sym some ∙ ap is_absent (first_left (digits_in radix parts.integer.now) fraction [] refl
-          (absent_is (trimmed fraction) second)) ∙ first))
+      not_zero : (n : ℕ) → 0 < n → (n == 0) ≡ false
+      not_zero n some = grind (arith, nat_tests)
 
-  -- Without a fraction and an exponent, the literal is the number of its digits.
-  pub integer_size : (o : Option ℕ) (n : ℕ) (result : Result ℕ WriteError) → result ≡ ok_or o errors.Radix → SomeIff o (n ≤ 2 ^ 128 - 1) n → n ≡ whole
-      → e ≡ 0 → length fraction ≡ 0 → IsSize r parts result
-  integer_size o n result is given number none places =
-      sized result (omega (arith, no_places)) (λ unknown. absurd (false≢true (sym (known_is (can (base == radix) (is_binary r.byte) _ no_places)) ∙ unknown)))
-      (λ known. over_if o n _ _ result is given value)
-    where
-      no_places : places_of r parts ≡ 0
-      no_places = ap (λ e. if has_zeros radix parts then 0 else e) none ∙ zero_of (has_zeros radix parts)
+  module _ (exact : places_of r parts ≡ e) (other : ℕ) (same : (other ≡ base) ⊎ (places_of r parts ≡ 0)) where
+    power_is : base ^ e ≡ other ^ places_of r parts
+    power_is = elim same [
+      | inl own ↦ sym (λ j. own j ^ exact j)
+      | inr none ↦ ap (λ k. base ^ k) (sym exact ∙ none) ∙ pow-zero base ∙ sym (ap (λ k. other ^ k) none ∙ pow-zero other)
+    ]
 
-      can : (a b : Bool) (n : ℕ) → n ≡ 0 → ((a || n == 0) || b) ≡ true
-      can a b n is = grind (arith, nat_tests)
+    pub numerator_is : numerator r.byte (literal_of parts) ≡ whole * other ^ up_of parts (places_of r parts)
+    numerator_is = ap (λ p. whole * p) (by minus)
+      where
+        by : (test : Bool) → (if test then 1 else base ^ e) ≡ other ^ (if test then 0 else places_of r parts)
+        by true = sym (pow-zero other)
+        by false = power_is
 
-      sides : (test : Bool) (p : ℕ) → p ≡ 1 → ((if test then 1 else p) ≡ 1) × ((if test then p else 1) ≡ 1)
-      sides true p one = (refl, one)
-      sides false p one = (one, refl)
+    pub denominator_is : denominator r.byte (literal_of parts) ≡ radix ^ fraction * other ^ down_of parts (places_of r parts)
+    denominator_is = ap (λ p. radix ^ fraction * p) (by minus)
+      where
+        by : (test : Bool) → (if test then base ^ e else 1) ≡ other ^ (if test then places_of r parts else 0)
+        by true = power_is
+        by false = sym (pow-zero other)
 
-      value : n * denominator r.byte (literal_of parts) ≡ numerator r.byte (literal_of parts)
-      value =
-          let one = sides left (base ^ e) (ap (λ k. base ^ k) none ∙ pow-zero base) in
-          (λ i. n * ((ap (λ k. radix ^ k) places ∙ pow-zero radix) i * one.1 i)) ∙ unit n ∙ number ∙ sym ((λ i. mantissa_is i * one.0 i) ∙ once whole)
-        where
-          unit : (n : ℕ) → n * (1 * 1) ≡ n
-          unit n = omega arith
+    pub over_is : (up down places : ℕ) (result : Result ℕ WriteError) → up ≡ up_of parts (places_of r parts) → down ≡ down_of parts (places_of r parts)
+        → places ≡ fraction → IsOver (whole * other ^ up) (radix ^ places * other ^ down) result
+        → IsOver (numerator r.byte (literal_of parts)) (denominator r.byte (literal_of parts)) result
+    over_is up down places result ups downs counts over =
+        subst (λ n. IsOver n (denominator r.byte (literal_of parts)) result) (sym (numerator_is ∙ ap (λ k. whole * other ^ k) (sym ups)))
+        (subst (λ d. IsOver (whole * other ^ up) d result) (sym (denominator_is ∙ sym (λ j. radix ^ counts j * other ^ downs j))) over)
 
-          once : (n : ℕ) → n * 1 ≡ n
-          once n = omega arith
+  -- What is found out of a literal by its digits.
+  module _ (q other size : ℕ) (result : Result ℕ WriteError) (test : Bool) (is_radix : q ≡ radix) (is_size : size ≡ places_of r parts)
+      (few : places_of r parts ≤ 2 ^ 64 - 1) (is_base : ((size ≡ 0) × (other ≡ q)) ⊎ ((size ≡ 0 → ⊥) × (other ≡ base)))
+      (tested : test ≡ (other == q || (is_power_of_two q && is_power_of_two other))) where
+    -- Without an exponent, the base does not count.
+    unknown_if : is_unknown r parts ≡ (not test && nat_lt (2 ^ 128 - 1) (number q (parts.integer.now ++ parts.fraction.now)))
+    unknown_if =
+        ap (λ known. not known && nat_lt (2 ^ 128 - 1) whole) (go (places_of r parts == 0) (elim is_base [
+          | inl own ↦ own.1 ∙ is_radix ∙ sym (ap (λ k. if k == 0 then radix else base) (sym is_size ∙ own.0))
+          | inr it ↦ it.1 ∙ sym (ap (λ none. if none then radix else base) (ne_eqb _ 0 (λ none. it.0 (is_size ∙ none))))
+        ]) ∙ ap (λ q. other == q || (is_power_of_two q && is_power_of_two other)) (sym is_radix) ∙ sym tested)
+        ∙ ap (λ q. not test && nat_lt (2 ^ 128 - 1) (number q (parts.integer.now ++ parts.fraction.now))) (sym is_radix)
+      where
+        go : (none : Bool) → other ≡ (if none then radix else base)
+            → ((base == radix || none) || (is_power_of_two radix && is_power_of_two base))
+            ≡ (other == radix || (is_power_of_two radix && is_power_of_two other))
+        go true is = let same = ap (λ k. k == radix) is ∙ eq-eqb radix radix refl in grind arith
+        go false is =
+            let plain : ((base == radix || false) || (is_power_of_two radix && is_power_of_two base))
+            ≡ (base == radix || (is_power_of_two radix && is_power_of_two base)) = grind arith in
+            plain ∙ sym (ap (λ k. k == radix || (is_power_of_two radix && is_power_of_two k)) is)
+
+    pub found : (up down places : ℕ) → (not test && nat_lt (2 ^ 128 - 1) (number q (parts.integer.now ++ parts.fraction.now))) ≡ false
+        → places_of r parts ≡ e → up ≡ up_of parts size → down ≡ down_of parts size → places ≡ length (digits_in q parts.fraction.now)
+        → IsOver (number q (parts.integer.now ++ parts.fraction.now) * other ^ up) (q ^ places * other ^ down) result → IsSize r parts result
+    found up down places known exact ups downs counts over =
+        let same : (other ≡ base) ⊎ (places_of r parts ≡ 0) = elim is_base [ inl own ↦ inr (sym is_size ∙ own.0) | inr it ↦ inl it.1 ] in
+        sized result few (λ unknown. absurd (false≢true (sym (unknown_if ∙ known) ∙ unknown)))
+        (λ _. over_is exact other same up down places result
+        (ups ∙ ap (λ k. up_of parts k) is_size) (downs ∙ ap (λ k. down_of parts k) is_size)
+        (counts ∙ ap (λ q. length (digits_in q parts.fraction.now)) is_radix)
+        (subst (λ q. IsOver (number q (parts.integer.now ++ parts.fraction.now) * other ^ up) (q ^ places * other ^ down) result) is_radix over))
+
+    pub not_found : (not test && nat_lt (2 ^ 128 - 1) (number q (parts.integer.now ++ parts.fraction.now))) ≡ true → result ≡ Err errors.Radix
+        → IsSize r parts result
+    not_found unknown is = sized result few (λ _. is) (λ known. absurd (false≢true (sym known ∙ unknown_if ∙ unknown)))
+
+  zero_of : (test : Bool) → ◌≡◌ {A = ℕ} (if test then 0 else 0) 0
+  zero_of true = refl
+  zero_of false = refl
 
   -- Without digits, the literal is 0.
-  pub zero_size : trimmed all ≡ [] → places_of r parts ≤ 2 ^ 64 - 1 → IsSize r parts (Ok 0)
-  zero_size none few =
-      let counts : length all ≡ length (trimmed all) + length all = let none = ap (λ (ds : List ℕ). length ds) none in omega (arith, none) in
-      let nothing : mantissa r.byte (literal_of parts) ≡ 0 = mantissa_is ∙ sym whole_all ∙ with_zeros radix all (length all) counts
-      ∙ ap (λ (ds : List ℕ). number_from_digits radix ds * radix ^ length all) none ∙ omega arith in
-      sized (Ok 0) few (λ unknown. absurd (known _ _ nothing unknown))
-      (λ known. (sym (ap (λ n. n * (if left then 1 else base ^ e)) nothing ∙ empty _ _), omega arith))
+  pub zero_size : whole ≡ 0 → places_of r parts ≤ 2 ^ 64 - 1 → IsSize r parts (Ok 0)
+  zero_size none few = sized (Ok 0) few (λ unknown. absurd (known _ _ none unknown))
+      (λ known. (sym (ap (λ n. n * (if minus then 1 else base ^ e)) none ∙ omega arith), omega arith))
     where
       known : (test : Bool) (n : ℕ) → n ≡ 0 → (test && nat_lt (2 ^ 128 - 1) n) ≡ true → ⊥
       known test n is more = grind (arith, nat_tests)
 
-      empty : (a b : ℕ) → 0 * a ≡ 0 * b
-      empty a b = omega arith
+  -- Without a fraction and an exponent, it is the number of its digits.
+  pub integer_size : (q n : ℕ) (o : Option ℕ) (result : Result ℕ WriteError) → q ≡ radix → result ≡ ok_or o errors.Radix
+      → SomeIff o (n ≤ 2 ^ 128 - 1) n → n ≡ number q (parts.integer.now ++ parts.fraction.now) → e ≡ 0 → 0 ≡ length (digits_in q parts.fraction.now)
+      → IsSize r parts result
+  integer_size q n o result is_radix is given all none places =
+      let no_places : places_of r parts ≡ 0 = ap (λ e. if whole == 0 then 0 else e) none ∙ zero_of (whole == 0) in
+      found q q 0 result true is_radix (sym no_places) (omega (arith, no_places)) (inl (refl, refl)) (sym (equal q)) 0 0 0 refl (no_places ∙ sym none)
+      (sym (zero_of minus)) (sym (zero_of minus)) places (over_if o n _ _ result is given (ap (λ p. n * (p * p)) (pow-zero q) ∙ omega (arith, all)
+      ∙ sym (ap (λ p. number q (parts.integer.now ++ parts.fraction.now) * p) (pow-zero q))))
+    where
+      equal : (n : ℕ) → (n == n || (is_power_of_two n && is_power_of_two n)) ≡ true
+      equal n = grind (arith, nat_tests)
 
-  -- If some digit is not 0, the exponent is `up`, or `down` below 0.
-  module _ (some : has_zeros radix parts ≡ false) (up down : ℕ) (ups : up ≡ (if left then 0 else places_of r parts))
-      (downs : down ≡ (if left then places_of r parts else 0)) where
-    same : base ^ places_of r parts ≡ base ^ e
-    same = ap (λ zeros. base ^ (if zeros then 0 else e)) some
+  -- The digits of a number whose point has moved are worth the literal.
+  moved_worth : can_move r parts ≡ true → 0 < radix → (front rest : ℕ)
+      → front * radix ^ (fraction + down_of parts (places_of r parts)) ≡ (whole * radix ^ up_of parts (places_of r parts)) * radix ^ rest
+      → (n : ℕ) → whole ≡ n → front * denominator r.byte (literal_of parts) ≡ numerator r.byte (literal_of parts) * radix ^ rest
+  moved_worth can positive front rest worth zero none =
+      let nothing : front ≡ 0 = eq_of_mul-eq-mul_right (radix ^ (fraction + down_of parts (places_of r parts))) (one-le-pow _ radix positive) front 0
+      (worth ∙ ap (λ n. (n * radix ^ up_of parts (places_of r parts)) * radix ^ rest) none ∙ omega arith) in
+      ap (λ n. n * denominator r.byte (literal_of parts)) nothing ∙ sym (ap (λ n. (n * (if minus then 1 else base ^ e)) * radix ^ rest) none ∙ omega arith)
+  moved_worth can positive front rest worth (suc n) is =
+      let exact = exact_of radix refl (omega (arith, is)) in
+      let same = either (base == radix) (places_of r parts) refl can in
+      ap (λ d. front * d) (denominator_is exact radix same ∙ sym (pow-add radix fraction (down_of parts (places_of r parts)))) ∙ worth
+      ∙ sym (ap (λ n. n * radix ^ rest) (numerator_is exact radix same))
+    where
+      either : (test : Bool) (n : ℕ) → (base == radix) ≡ test → (test || n == 0) ≡ true → (radix ≡ base) ⊎ (n ≡ 0)
+      either true n is can = inl (sym (eqb-true base radix is))
+      either false n is can = inr (eqb-true n 0 can)
 
-    pub numerator_is : numerator r.byte (literal_of parts) ≡ whole * base ^ up
-    numerator_is = λ i. mantissa_is i * by left ups i
-      where
-        by : (test : Bool) → up ≡ (if test then 0 else places_of r parts) → (if test then 1 else base ^ e) ≡ base ^ up
-        by true is = sym (ap (λ k. base ^ k) is ∙ pow-zero base)
-        by false is = sym (ap (λ k. base ^ k) is ∙ same)
-
-    pub denominator_is : denominator r.byte (literal_of parts) ≡ radix ^ length fraction * base ^ down
-    denominator_is = ap (λ p. radix ^ length fraction * p) (by left downs)
-      where
-        by : (test : Bool) → down ≡ (if test then places_of r parts else 0) → (if test then base ^ e else 1) ≡ base ^ down
-        by true is = sym (ap (λ k. base ^ k) is ∙ same)
-        by false is = sym (ap (λ k. base ^ k) is ∙ pow-zero base)
-
-    -- Both are powers of a unit, times the number of the digits without the zeros at their end.
-    pub unit_over : (unit bits base_bits zeros t places : ℕ) (result : Result ℕ WriteError) → whole ≡ t * radix ^ zeros → places ≡ length fraction
-        → radix ≡ unit ^ bits → (base ≡ unit ^ base_bits) ⊎ (places_of r parts ≡ 0)
-        → IsOver (t * unit ^ (zeros * bits + up * base_bits)) (unit ^ (places * bits + down * base_bits)) result
-        → IsOver (numerator r.byte (literal_of parts)) (denominator r.byte (literal_of parts)) result
-    unit_over unit bits base_bits zeros t places result is counts is_radix is_base over =
-        let top : t * unit ^ (zeros * bits + up * base_bits) ≡ numerator r.byte (literal_of parts) =
-        ap (λ p. t * p) (pow-add unit (zeros * bits) (up * base_bits)) ∙ sym (grouped t (unit ^ (zeros * bits)) (unit ^ (up * base_bits)))
-        ∙ sym (numerator_is ∙ (λ i. (is ∙ ap (λ p. t * p) (powers zeros)) i * base_power up up_none i)) in
-        let bottom : unit ^ (places * bits + down * base_bits) ≡ denominator r.byte (literal_of parts) =
-        pow-add unit (places * bits) (down * base_bits)
-        ∙ sym (denominator_is ∙ (λ i. (ap (λ k. radix ^ k) (sym counts) ∙ powers places) i * base_power down down_none i)) in
-        subst (λ n. IsOver n (denominator r.byte (literal_of parts)) result) top
-        (subst (λ n. IsOver (t * unit ^ (zeros * bits + up * base_bits)) n result) bottom over)
-      where
-        powers : (k : ℕ) → radix ^ k ≡ unit ^ (k * bits)
-        powers k = ap (λ b. b ^ k) is_radix ∙ pow_twice unit bits k
-
-        up_none : places_of r parts ≡ 0 → up ≡ 0
-        up_none none = ups ∙ ap (λ k. if left then 0 else k) none ∙ zero_of left
-
-        down_none : places_of r parts ≡ 0 → down ≡ 0
-        down_none none = downs ∙ ap (λ k. if left then k else 0) none ∙ zero_of left
-
-        base_power : (k : ℕ) → (places_of r parts ≡ 0 → k ≡ 0) → base ^ k ≡ unit ^ (k * base_bits)
-        base_power k none = elim is_base [
-          | inl power ↦ ap (λ b. b ^ k) power ∙ pow_twice unit base_bits k
-          | inr no_places ↦ ap (λ k. base ^ k) (none no_places) ∙ pow-zero base ∙ sym (ap (λ k. unit ^ (k * base_bits)) (none no_places)
-              ∙ ap (λ k. unit ^ k) {x = 0 * base_bits} {y = 0} (omega arith) ∙ pow-zero unit)
-        ]
+  pub moved_is : (amount : Amount) → can_move r parts ≡ true → 0 < radix
+      → IsMoved radix (whole * radix ^ up_of parts (places_of r parts)) (radix ^ (fraction + down_of parts (places_of r parts))) amount
+      → IsMoved radix (numerator r.byte (literal_of parts)) (denominator r.byte (literal_of parts)) amount
+  moved_is amount can positive m = record {
+    worth = moved_worth can positive _ _ m.worth whole refl;
+    integer = m.integer;
+    digits = m.digits;
+    fraction = m.fraction;
+    some = m.some;
+    exponent = m.exponent;
+  }

@@ -1,6 +1,6 @@
 -- A float as an amount, to which the rules for literals apply then.
-use Rattle.std.specs.Prelude.{ℕ, ◌≡◌, ◌*◌, ◌%◌, ◌^◌, ◌<◌, ◌≤◌, ◌&&◌, ◌||◌, ◌⊎◌, ◌++◌, not, nat_le, nat_lt, if◌then◌else◌, Bool, true, false, is_some, length}
-use Rattle.std.specs.Prelude.{Option, None, Some}
+use Rattle.std.specs.Prelude.{ℕ, ◌≡◌, ◌+◌, ◌-◌, ◌*◌, ◌%◌, ◌^◌, ◌<◌, ◌≤◌, ◌&&◌, ◌||◌, ◌⊎◌, ◌++◌, not, nat_le, nat_lt, if◌then◌else◌, Bool, true, false, is_some}
+use Rattle.std.specs.Prelude.{length, List, Option, None, Some, unwrap_or}
 use Rattle.std.specs.Float.{Float, Format}
 use Rattle.std.specs.Float.Ieee.{round}
 use Rattle.std.specs.Int.Digits.{number_from_digits}
@@ -13,11 +13,11 @@ use Rattle.lexical_literal.specs.declared.syntax.Condition.TheVariants as condit
 use Rattle.lexical_literal.specs.declared.syntax.Grammar.{Grammar}
 use Rattle.lexical_value.specs.Float.{is_binary, is_decimal}
 use Rattle.lexical_number.specs.Float.{raised_down, raised_up}
+use Rattle.lexical_number.specs.Number.{number, places as digit_count}
 use Rattle.lexical_writer.specs.Digits.{values_of}
-use Rattle.lexical_writer.specs.Layout.{HasNumber, allows_exponent, given_fraction, laid_out, literal_of, needs_exponent, one_if}
-use Rattle.lexical_writer.specs.Rounded.{decimals_in, rounded}
+use Rattle.lexical_writer.specs.Layout.{HasNumber, allows_exponent, given_fraction, laid_out, needs_exponent, one_if}
+use Rattle.lexical_writer.specs.Rounded.{rounded}
 use Rattle.lexical_writer.specs.declared.layout.Amount.{Amount}
-use Rattle.lexical_writer.specs.declared.layout.Layout.{Layout}
 use Rattle.lexical_writer.specs.declared.layout.ExponentStyle.{ExponentStyle}
 use Rattle.lexical_writer.specs.declared.layout.ExponentStyle.TheVariants as exponents
 use Rattle.lexical_writer.specs.declared.layout.Power.{Power}
@@ -110,6 +110,25 @@ pub record IsWrittenWith (g : Grammar) (style : Style) (num den : ℕ) (shown ne
   pub decided : shown ≡ is_shown g style size (is_far (raw g.word) num den) (is_long (raw g.word) places units)
   pub same : shown ≡ true → (negative ≡ sign) × (e ≡ size)
 
+-- `units_at num den places e` is `num` over `den` and over ten to the power of `e - 400`, in units of the last of `places` decimal digits
+-- behind the point, rounded.
+abbrev pub units_at : ℕ → ℕ → ℕ → ℕ → ℕ
+units_at num den places e = rounded (num * 10 ^ places * 10 ^ 400) (den * 10 ^ e)
+
+-- `IsRaised num den places e` holds if `e - 400` is the least exponent of ten with which `num` over `den` is below ten where it is rounded
+-- to `places` digits, or 0 for the number 0.
+pub record IsRaised (num den places e : ℕ) : Type 0 where
+  pub below : units_at num den places e < 10 * 10 ^ places
+  pub least : 0 < num → 10 * 10 ^ places ≤ units_at (num * 10) den places e
+  pub zero : num ≡ 0 → e ≡ 400
+
+-- `IsWrittenAt g style num den places exponent` holds if `num` over `den` is written in `g` by `style` with this exponent, less 400, or with
+-- none, and if its units have at most 800 digits then.
+abbrev pub IsWrittenAt : Grammar → Style → ℕ → ℕ → ℕ → Option ℕ → Type 0
+IsWrittenAt g style num den places exponent =
+    let e = unwrap_or exponent 400 in
+    IsWrittenWith g style num den (is_some exponent) (nat_lt e 400) (e - 400 + (400 - e)) × (units_at num den places e < 10 ^ 800)
+
 -- `power_if shown negative e` is the exponent `e`, if it is shown.
 abbrev pub power_if : Bool → Bool → ℕ → Option Power
 power_if shown negative e = if shown then Some (record { negative = negative; source = sources.Number e }) else None
@@ -124,12 +143,6 @@ first_refusal sign fraction radix =
 abbrev pub float_error : Grammar → Style → Bool → Bool → Option WriteError
 float_error g style negative fraction = first_refusal (negative && has g.conditions conditions.NegativeSign)
     ((lacks_options g.options && not (is_some style.decimals)) && fraction) (not (is_decimal (bytes_of g.word) || is_binary (bytes_of g.word)))
-
--- `IsWorth f r decimals x negative num den` holds if `num` over `den`, with a minus sign if `negative` is true, is what is written of the
--- float `x` of `f`: its value or, in radix 10 and without a number of decimals, a number that is read as `x`.
-abbrev pub IsWorth : Format → Record → Option ℕ → Float → Bool → ℕ → ℕ → Type 0
-IsWorth f r decimals x negative num den = HasValue x negative num den
-    ⊎ ((decimals ≡ None) × (r.byte layout.mantissa_radix ≡ 10) × (x ≡ round f negative num den))
 
 -- `HasShape g style num den shown negative e places units` holds if `num` over `den` is written in `g` by `style` with these digits, of which
 -- `places` are behind the point, and in radix 10 with the exponent `e`, if it is `shown`.
@@ -164,7 +177,21 @@ pub record IsTextOf (g : Grammar) (style : Style) (negative : Bool) (num den : �
   pub number : HasNumber g amount l
   pub text : l ≡ laid_out g style amount
 
+-- `IsWorth f x g style negative num den` holds if `num` over `den`, with a minus sign if `negative` is true, is what is written of the float `x`
+-- of `f`: its value or, in radix 10 and without a number of decimals, a number that is read as `x`.
+pub record IsWorth (f : Format) (x : Float) (g : Grammar) (style : Style) (negative : Bool) (num den : ℕ) : Type 0 where
+  pub some : 0 < den
+  pub near : style.decimals ≡ None → x ≡ round f negative num den
+  pub exact : HasValue x negative num den ⊎ ((style.decimals ≡ None) × ((raw g.word).byte layout.mantissa_radix ≡ 10))
+
+-- `IsFormOf f x g style negative bytes after shown minus e places` holds if `bytes`, with `after` zeros behind them, are the digits of what is
+-- written of the float `x`, of which `places` are behind the point, with the exponent `e`, if it is `shown`.
+abbrev pub IsFormOf : Format → Float → Grammar → Style → Bool → List ℕ → ℕ → Bool → Bool → ℕ → ℕ → Type 0
+IsFormOf f x g style negative bytes after shown minus e places =
+    let radix = (raw g.word).byte layout.mantissa_radix in
+    (num : ℕ) × (den : ℕ) × IsWorth f x g style negative num den × HasShape g style num den shown minus e places (number radix bytes * radix ^ after)
+    × (digit_count radix bytes ≡ length bytes)
+
 -- `IsFloatOf f x g style l` holds if the literal `l` is what is written for the float `x` of `f` by `style`.
 abbrev pub IsFloatOf : Format → Float → Grammar → Style → Literal → Type 0
-IsFloatOf f x g style l = (negative : Bool) × (num : ℕ) × (den : ℕ) × (0 < den) × IsWorth f (raw g.word) style.decimals x negative num den
-    × IsTextOf g style negative num den l
+IsFloatOf f x g style l = (negative : Bool) × (num : ℕ) × (den : ℕ) × IsWorth f x g style negative num den × IsTextOf g style negative num den l

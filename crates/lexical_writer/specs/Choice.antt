@@ -3,16 +3,16 @@ use Rattle.std.specs.Prelude.{ℕ, ◌≡◌, ◌+◌, ◌==◌, ◌&&◌, ◌||
 use Rattle.std.specs.Float.{Float, Format, binary64}
 use lib.Ieee.Exact.{HasValue as HasFraction}
 use Rattle.lexical_util.specs.Layout as layout
-use Rattle.lexical_util.specs.Record.{bytes_of, raw}
+use Rattle.lexical_util.specs.Record.{Record, bytes_of, raw}
 use Rattle.lexical_forms.specs.FormList.{FormList}
 use Rattle.lexical_forms.specs.Forms.{HasKind, IsFirst}
 use Rattle.lexical_literal.specs.Notation.{lacks_options}
-use Rattle.lexical_literal.specs.Read.{exact}
-use Rattle.lexical_literal.specs.Literal.{Literal, is_float}
-use Rattle.lexical_literal.specs.Read.{Read}
+use Rattle.lexical_literal.specs.Read.{exact, Read}
+use Rattle.lexical_literal.specs.Literal.{Literal, is_float, is_minus}
 use Rattle.lexical_literal.specs.declared.syntax.Grammar.{Grammar}
 use Rattle.lexical_number.specs.Numeral.{with_sign}
 use Rattle.lexical_value.specs.Float.{is_binary, is_decimal, nearest}
+use Rattle.lexical_value.specs.Integer.{integer_size}
 use Rattle.lexical_value.specs.Kind.{IsWorth, float_worth}
 use Rattle.lexical_writer.specs.Conversion.{IsNear, SameFraction}
 use Rattle.lexical_writer.specs.Layout.{HasValue}
@@ -52,6 +52,10 @@ IsExactly z read = (value : Float) × (negative : Bool) × (size : ℕ) × (z �
 abbrev pub IsWhole : ℤ → Read → Type 0
 IsWhole z read = IsWorth read.kind.integers (bytes_of read.format) read.literal z
     ⊎ (IsExactly z read ⊎ ((read.kind ≡ exact) × (has_float read ≡ false) × HasValue (raw read.format) read.literal z))
+
+-- `IsWrittenWhole z r l` holds if the literal `l` has the value `z` in the format `r`, and so have its integer digits with its sign.
+abbrev pub IsWrittenWhole : ℤ → Record → Literal → Type 0
+IsWrittenWhole z r l = HasValue r l z × (z ≡ with_sign (is_minus l.sign) (integer_size r.byte l))
 
 -- `IsReal f value read` holds if `read` is worth the float `value` of `f` by its kind, or if it is of the exact kind, and `value` is nearest to it.
 abbrev pub IsReal : Format → Float → Read → Type 0

@@ -16,7 +16,7 @@ use Rattle.lexical_literal.specs.declared.syntax.Grammar.{Grammar}
 use Rattle.lexical_number.specs.Number.{number}
 use Rattle.lexical_value.specs.Float.{nearest}
 use Rattle.lexical_value.specs.Value.{denominator, numerator}
-use Rattle.lexical_writer.specs.Layout.{IsLaidOut, allows_exponent, laid_out, literal_of as written, needs_exponent, number_of_size, plain_style}
+use Rattle.lexical_writer.specs.Layout.{IsLaidOut, allows_exponent, laid_out, needs_exponent, number_of_size, plain_style, refusal}
 use Rattle.lexical_writer.specs.Moved.{IsMoved, IsSize, can_move, places_of, too_far}
 use Rattle.lexical_writer.specs.declared.layout.Amount.{Amount}
 use Rattle.lexical_writer.specs.declared.layout.ExponentStyle.{ExponentStyle}
@@ -102,17 +102,14 @@ is_wish r parts g style = (has_power parts && not (needs_exponent g) && can_move
 abbrev pub IsKept : Record → Parts → Grammar → Style → Result Layout WriteError → Type 0
 IsKept r parts g style result = MatchResult (amount_of r parts (raw g.word)) (λ amount. IsLaidOut g style amount result) (λ error. result ≡ Err error)
 
--- `moved_error g amount` is why `amount`, which has no exponent, is not written where the point has moved, or `None` if it is. A text
--- that makes no wish has at most 800 bytes.
-abbrev pub moved_error : Grammar → Amount → Option WriteError
-moved_error g amount =
-    if lacks_options g.options && is_some amount.fraction then Some errors.Fraction
-    else (if nat_lt 800 (length (text_of (laid_out g plain_style amount))) then Some errors.Long else None)
+-- `is_too_long g amount` is true if `amount` can be written, but with more than 800 bytes by a style that makes no wish.
+abbrev pub is_too_long : Grammar → Amount → Bool
+is_too_long g amount = not (is_some (refusal g amount)) && nat_lt 800 (length (text_of (laid_out g plain_style amount)))
 
 -- `IsShort g style amount result` holds if `result` is what is written for `amount`, or why it is not.
 abbrev pub IsShort : Grammar → Style → Amount → Result Layout WriteError → Type 0
-IsShort g style amount (Ok layout) = (moved_error g amount ≡ None) × (written layout ≡ laid_out g style amount)
-IsShort g style amount (Err error) = moved_error g amount ≡ Some error
+IsShort g style amount result =
+    (is_too_long g amount ≡ true → result ≡ Err errors.Long) × (is_too_long g amount ≡ false → IsLaidOut g style amount result)
 
 -- `or_limit whole limit error` is why a number is not written that is not whole, or has more than 128 bits: `Fraction` where only whole
 -- numbers can be written and it is not whole, and otherwise `limit`.
@@ -124,8 +121,9 @@ or_limit whole limit _ = limit
 abbrev pub IsPlain : Record → Parts → Grammar → Style → Result Layout WriteError → Type 0
 IsPlain r parts g style result =
     (nat_lt (2 ^ 64 - 1) (places_of r parts) ≡ true → result ≡ Err (or_limit (lacks_options g.options) errors.Long (too_far parts)))
-    × (nat_lt (2 ^ 64 - 1) (places_of r parts) ≡ false → (amount : Amount)
-    × IsMoved (r.byte layout.mantissa_radix) (is_minus parts.exponent_sign.now) (places_of r parts) parts amount × IsShort g style amount result)
+    × (nat_lt (2 ^ 64 - 1) (places_of r parts) ≡ false → (amount : Amount) × (amount.negative ≡ is_minus parts.sign.now)
+    × IsMoved (r.byte layout.mantissa_radix) (numerator r.byte (literal_of parts)) (denominator r.byte (literal_of parts)) amount
+    × IsShort g style amount result)
 
 -- `IsByValue limit r parts g style result` holds if `result` is what is written for the whole number that `parts` represent, or why it is
 -- not: `limit`, unless only whole numbers can be written, and `parts` are none.

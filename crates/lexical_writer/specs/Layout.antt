@@ -1,7 +1,6 @@
 -- How a number is laid out as a literal.
-use Rattle.std.specs.Prelude.{ℕ, ◌≡◌, suc, ℤ, pos, negsuc, ◌+◌, ◌-◌, ◌%◌, ◌*◌, ◌==◌, ◌&&◌, ◌||◌}
-use Rattle.std.specs.Prelude.{not, max, Bool, false, true, if◌then◌else◌, List, ◌++◌, length, Option, Some, None}
-use Rattle.std.specs.Prelude.{Result, Ok, Err, is_some, option_to_list, unwrap_or}
+use Rattle.std.specs.Prelude.{ℕ, ◌≡◌, suc, ℤ, pos, negsuc, ◌+◌, ◌-◌, ◌%◌, ◌*◌, ◌==◌, ◌&&◌, ◌||◌, not, max, Bool, false, true, if◌then◌else◌, List, ◌++◌, length}
+use Rattle.std.specs.Prelude.{Option, Some, None, Result, Ok, Err, is_some, option_to_list, unwrap_or}
 use Rattle.std.specs.Int.Digits.{digits_of}
 use Rattle.lexical_util.specs.Layout as layout
 use Rattle.lexical_util.specs.Record.{Record, raw, effective_exponent_radix}

@@ -1,7 +1,7 @@
 -- How the point of a number moves, so that the number needs no exponent, and which whole number it is.
 use Rattle.std.specs.Prelude.{ℕ, ◌≡◌, ◌<◌, ◌≤◌, ◌+◌, ◌-◌, ◌*◌, ◌==◌, ◌^◌, ◌&&◌, ◌||◌, not, nat_lt, true, false}
-use Rattle.std.specs.Prelude.{Bool, if◌then◌else◌, List, [], ◌∷◌, ◌++◌, length, take, drop, replicate}
-use Rattle.std.specs.Prelude.{None, Result, Ok, Err, is_some}
+use Rattle.std.specs.Prelude.{Bool, if◌then◌else◌, List, [], ◌∷◌, ◌++◌, length, None, Result, Ok, Err, is_some}
+use Rattle.std.specs.Int.Digits.{number_from_digits}
 use Rattle.std.specs.Option.{SomeIff}
 use Rattle.lexical_util.specs.Layout as layout
 use Rattle.lexical_util.specs.Record.{Record, effective_exponent_base, effective_exponent_radix}
@@ -9,7 +9,7 @@ use Rattle.lexical_literal.specs.Literal.{is_absent, is_present, is_minus}
 use Rattle.lexical_literal.specs.Parts.{literal_of}
 use Rattle.lexical_literal.specs.Read.{mantissa}
 use Rattle.lexical_literal.specs.declared.literal.Parts.{Parts}
-use Rattle.lexical_number.specs.Number.{digits_in, number}
+use Rattle.lexical_number.specs.Number.{number}
 use Rattle.lexical_value.specs.Float.{is_binary}
 use Rattle.lexical_value.specs.Value.{denominator, numerator}
 use Rattle.lexical_writer.specs.Digits.{values_of}
@@ -17,43 +17,40 @@ use Rattle.lexical_writer.specs.Layout.{given_fraction}
 use Rattle.lexical_writer.specs.declared.layout.Amount.{Amount}
 use Rattle.lexical_writer.specs.declared.layout.WriteError.{WriteError}
 use Rattle.lexical_writer.specs.declared.layout.WriteError.TheVariants as errors
-use Rattle.lexical_writer.specs.declared.moved.Quotient.{Quotient}
+use Rattle.lexical_writer.specs.declared.moved.Ending.{Ending}
 
 -- `trimmed digits` are `digits` without the zeros that they end with.
 abbrev pub trimmed : List ℕ → List ℕ
 trimmed [] = []
 trimmed (digit ∷ digits) = if digit == 0 && is_absent (trimmed digits) then [] else digit ∷ trimmed digits
 
--- `moved_integer left n integer fraction` are the digits before a point that was between the digits `integer` and `fraction`, and
--- has moved by `n` digits: to the left if `left` is true, and otherwise to the right. Behind the digits are zeros.
-abbrev pub moved_integer : Bool → ℕ → List ℕ → List ℕ → List ℕ
-moved_integer left n integer fraction =
-    if left then take (length integer - n) integer else integer ++ (take n fraction ++ replicate (n - length fraction) 0)
+-- `up_of parts n` and `down_of parts n` are the exponents of the powers by which a number with the exponent `n` is multiplied and divided.
+abbrev pub up_of : Parts → ℕ → ℕ
+up_of parts n = if is_minus parts.exponent_sign.now then 0 else n
 
--- `moved_fraction left n integer fraction` are the digits behind this point. Before the digits are zeros.
-abbrev pub moved_fraction : Bool → ℕ → List ℕ → List ℕ → List ℕ
-moved_fraction left n integer fraction =
-    if left then replicate (n - length integer) 0 ++ (drop (length integer - n) integer ++ fraction) else drop n fraction
+abbrev pub down_of : Parts → ℕ → ℕ
+down_of parts n = if is_minus parts.exponent_sign.now then n else 0
 
--- `IsMoved radix left n parts amount` holds if `amount` has the digits of `parts` in `radix`, and no exponent, where the point has
--- moved by `n` digits. There is a zero before the point, which a layout leaves out if it is not needed, and the fraction does
--- not end with zeros.
-pub record IsMoved (radix : ℕ) (left : Bool) (n : ℕ) (parts : Parts) (amount : Amount) : Type 0 where
-  pub negative : amount.negative ≡ is_minus parts.sign.now
-  pub integer : values_of radix amount.integer ≡ 0 ∷ moved_integer left n (digits_in radix parts.integer.now) (digits_in radix parts.fraction.now)
-  pub fraction : values_of radix (given_fraction amount)
-      ≡ trimmed (moved_fraction left n (digits_in radix parts.integer.now) (digits_in radix parts.fraction.now))
+-- `IsWorth radix amount num den` holds if the digits of `amount` in `radix` represent `num` over `den`.
+abbrev pub IsWorth : ℕ → Amount → ℕ → ℕ → Type 0
+IsWorth radix amount num den = number_from_digits radix (values_of radix amount.integer ++ values_of radix (given_fraction amount)) * den
+    ≡ num * radix ^ length (values_of radix (given_fraction amount))
+
+-- `IsMoved radix num den amount` holds if `amount` has the size `num` over `den` and no exponent. It has a digit before the point, which a
+-- layout leaves out if it is a zero that is not needed, and its fraction does not end with zeros.
+pub record IsMoved (radix num den : ℕ) (amount : Amount) : Type 0 where
+  pub worth : IsWorth radix amount num den
+  pub integer : is_present (values_of radix amount.integer) ≡ true
+  pub digits : List ℕ
+  pub fraction : values_of radix (given_fraction amount) ≡ trimmed digits
   pub some : is_some amount.fraction ≡ is_present (values_of radix (given_fraction amount))
   pub exponent : amount.exponent ≡ None
-
--- `has_zeros radix parts` is true if all integer and fraction digits of `parts` are zeros.
-abbrev pub has_zeros : ℕ → Parts → Bool
-has_zeros radix parts = is_absent (trimmed (digits_in radix parts.integer.now)) && is_absent (trimmed (digits_in radix parts.fraction.now))
 
 -- `places_of r parts` is by how many digits the point of `parts` moves in place of an exponent whose base is the mantissa radix: not at all
 -- if all digits are zeros.
 abbrev pub places_of : Record → Parts → ℕ
-places_of r parts = if has_zeros (r.byte layout.mantissa_radix) parts then 0 else number (effective_exponent_radix r) parts.exponent.now
+places_of r parts =
+    if mantissa r.byte (literal_of parts) == 0 then 0 else number (effective_exponent_radix r) parts.exponent.now
 
 -- `can_move r parts` is true if the point of `parts` can move in place of the exponent: if the exponent base is the mantissa radix, or if
 -- it moves by no digit.
@@ -84,6 +81,7 @@ pub record IsSize (r : Record) (parts : Parts) (result : Result ℕ WriteError) 
   pub known : nat_lt (2 ^ 64 - 1) (places_of r parts) ≡ false → is_unknown r parts ≡ false
       → IsOver (numerator r.byte (literal_of parts)) (denominator r.byte (literal_of parts)) result
 
--- `IsQuotient n divisor it` holds if `it` is `n` over `divisor`.
-abbrev pub IsQuotient : ℕ → ℕ → Quotient → Type 0
-IsQuotient n divisor it = (q : ℕ) × (n ≡ q * divisor + it.rest) × (it.rest < divisor) × SomeIff it.size (q ≤ 2 ^ 128 - 1) q
+-- `IsEnding radix n it` holds if `it` are digits of `n` in `radix`.
+abbrev pub IsEnding : ℕ → ℕ → Ending → Type 0
+IsEnding radix n it = (q : ℕ) × (n ≡ (q * radix + it.last) * radix ^ it.zeros) × (it.last < radix) × (it.last ≡ 0 → q ≡ 0)
+    × SomeIff it.front (q ≤ 2 ^ 128 - 1) q

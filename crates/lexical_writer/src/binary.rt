@@ -1,6 +1,6 @@
 //! How a float is written in a radix that is a power of two.
 
-ghost use Rattle.std.specs.Prelude.{ℕ, ◌≡◌, ◌+◌, ◌-◌, ◌*◌, ◌/◌, ◌%◌, ◌^◌, ◌<◌, ◌≤◌, ◌||◌, ◌⊎◌, true, nat_le, nat_lt, is_some, suc, None, IfOk, IfSome};
+ghost use Rattle.std.specs.Prelude.{◌≡◌, ◌+◌, ◌-◌, ◌*◌, ◌/◌, ◌%◌, ◌^◌, ◌<◌, ◌≤◌, ◌||◌, true, is_some, None, IfOk, IfSome};
 ghost use Rattle.lexical_util.specs.Layout as layout;
 ghost use Rattle.lexical_util.specs.Record.{effective_exponent_base, raw};
 ghost use Rattle.lexical_writer.specs.Amount.{HasUnits};
@@ -9,7 +9,7 @@ ghost use Rattle.lexical_writer.specs.Rounded.{rounded};
 use crate::checked::Exact;
 use crate::form::{Shape, is_shown, least_places};
 use crate::layout::{Style, WriteError, allows_exponent};
-use crate::rounded::rounded;
+use crate::rounded::over_power;
 use lexical_literal::syntax::Syntax;
 use lexical_number::scaling::bits_of;
 use lexical_number::shortest::Units;
@@ -31,17 +31,6 @@ pub(crate) struct Binary {
 // What is added to the exponent of a power of two. Each number of bits of a digit divides it.
 const RAISED: u64 = 1200;
 
-// Returns a number over a power of two, rounded: the nearest, or the even one if two are as near.
-const fn over_power(number: u64, down: u64) -> u64
-    requires { number < 2 ^ 53 }
-    ensures { result ≡ rounded number (2 ^ down) }
-{
-    if down > 64 {
-        return 0;
-    }
-    rounded(number as u128, 1 << down) as u64
-}
-
 // Returns a float as an odd number, or 0, times two to the power of what is returned, less 1200.
 fn odd_of(units: Units) -> (u64, u64)
     ensures odd { 0 < result.0 → result.0 % 2 ≡ 1 }
@@ -60,12 +49,8 @@ impl Binary {
     pub(crate) fn of(units: Units, radix: u32, base: u32) -> Option<Binary>
         ensures { IfSome result (λ it. (radix ≡ 2 ^ it.bits) × (base ≡ 2 ^ it.base_bits)) }
     {
-        let Some(bits) = bits_of(radix) else {
-            return None;
-        };
-        let Some(base_bits) = bits_of(base) else {
-            return None;
-        };
+        let bits = bits_of(radix)?;
+        let base_bits = bits_of(base)?;
         let (number, power) = odd_of(units);
         Some(Binary {
             number,
@@ -101,7 +86,7 @@ impl Binary {
     {
         let power = self.power + self.bits * places;
         if power < low {
-            return (over_power(self.number, low - power), 0);
+            return (over_power(self.number as u128, low - power) as u64, 0);
         }
         let up = power - low;
         (self.number << (up % self.bits), up / self.bits)

@@ -17,12 +17,10 @@ pub(crate) fn without_zeros(bytes: &[u8], radix: u32) -> &[u8]
     requires { IsRadix radix }
     ensures { digits_in radix result.now ≡ digits_of radix (number radix bytes.now) }
 {
-    let mut index = 0;
-    while index < bytes.len() {
-        if let Some(1..) = char_to_digit(bytes[index], radix) {
+    for (index, byte) in bytes.iter().enumerate() {
+        if let Some(1..) = char_to_digit(*byte, radix) {
             return &bytes[index..];
         }
-        index += 1;
     }
     &[]
 }
@@ -153,13 +151,11 @@ fn put_digits<S: Sink>(sink: &mut S, bytes: &[u8], count: u128, run: &Run) -> u1
         → S.has start sink.new (text ++ grouped_front run.now.pattern count (digits_in run.now.radix bytes.now)) }
 {
     let mut left = count;
-    let mut index = 0;
-    while index < bytes.len() {
-        if let Some(digit) = char_to_digit(bytes[index], run.radix) {
+    for byte in bytes {
+        if let Some(digit) = char_to_digit(*byte, run.radix) {
             left -= 1;
             put_digit(sink, digit, left, run);
         }
-        index += 1;
     }
     left
 }
@@ -199,25 +195,15 @@ fn are_characters(bytes: &[u8], radix: u32) -> bool
     requires { IsRadix radix }
     ensures { result ≡ true → bytes.now ≡ map (character false) (digits_in radix bytes.now) }
 {
-    let mut index = 0;
-    while index < bytes.len() {
-        let Some(digit) = char_to_digit(bytes[index], radix) else {
+    for byte in bytes {
+        let Some(digit) = char_to_digit(*byte, radix) else {
             return false;
         };
-        if digit_to_char(digit) != bytes[index] {
+        if digit_to_char(digit) != *byte {
             return false;
         }
-        index += 1;
     }
     true
-}
-
-// Writes the digits among bytes as `put_padded` does.
-fn put_bytes<S: Sink>(sink: &mut S, bytes: &[u8], run: &Run)
-    ensures { (start : S) → (text : List ℕ) → S.has start sink.old text
-        → S.has start sink.new (text ++ grouped run.now.pattern (at_least run.now.least (digits_in run.now.radix bytes.now))) }
-{
-    put_padded(sink, &Padded::of(bytes), run);
 }
 
 // Writes uppercase digits as `put_padded` does.
@@ -229,7 +215,7 @@ fn put_characters<S: Sink>(sink: &mut S, bytes: &[u8], run: &Run)
     if run.pattern.higher == 0 && !run.pattern.lowercase && run.least <= bytes.len() as u128 {
         sink.put_all(bytes);
     } else {
-        put_bytes(sink, bytes, run);
+        put_padded(sink, &Padded::of(bytes), run);
     }
 }
 
@@ -250,12 +236,10 @@ fn begins_decimal(bytes: &[u8], radix: u32) -> bool
     requires { IsRadix radix }
     ensures { result ≡ begins_decimal (digits_in radix bytes.now) }
 {
-    let mut index = 0;
-    while index < bytes.len() {
-        if let Some(digit) = char_to_digit(bytes[index], radix) {
+    for byte in bytes {
+        if let Some(digit) = char_to_digit(*byte, radix) {
             return digit < 10;
         }
-        index += 1;
     }
     false
 }
@@ -386,7 +370,7 @@ impl Run<'_> {
                 if are_characters(bytes, self.radix) {
                     put_characters(sink, bytes, self);
                 } else {
-                    put_bytes(sink, bytes, self);
+                    put_padded(sink, &Padded::of(bytes), self);
                 }
             }
             Source::Number(number) => put_number(sink, number, self),

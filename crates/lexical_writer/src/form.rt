@@ -1,7 +1,6 @@
 //! How the digits of a float are written.
 
-ghost use Rattle.std.specs.Prelude.{◌≡◌, ◌+◌, ◌*◌, ◌%◌, ◌^◌, ◌<◌, ◌≤◌, ◌++◌, ◌⊎◌, ℕ, if◌then◌else◌, false, true, is_some, length, length as count, None};
-ghost use Rattle.std.specs.Prelude.{nat_lt, unwrap_or};
+ghost use Rattle.std.specs.Prelude.{◌≡◌, ◌+◌, ◌*◌, ◌%◌, ◌^◌, ◌<◌, ◌≤◌, ◌++◌, ◌⊎◌, ℕ, false, true, is_some, length, length as count, None, nat_lt, unwrap_or};
 ghost use Rattle.std.specs.Int.Digits.{digits_of, number_from_digits};
 ghost use Rattle.std.specs.Float.Ieee.{hid, ones};
 ghost use Rattle.lexical_util.specs.Layout as layout;

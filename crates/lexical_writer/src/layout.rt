@@ -1,15 +1,15 @@
 //! Numbers are laid out as literals.
 
-ghost use Rattle.std.specs.Prelude.{◌≡◌, false, ◌++◌, ◌&&◌, not, nat_lt, [], ℕ, IfOk, List, length, option_to_list};
+ghost use Rattle.std.specs.Prelude.{◌≡◌, false, ◌++◌, ◌&&◌, nat_lt, [], ℕ, IfOk, List, length};
 ghost use Rattle.std.specs.Int.Digits.{digits_of};
 ghost use Rattle.lexical_util.specs.Record.{raw};
 ghost use Rattle.lexical_util.specs.Rules.{IsRadix, Lawful};
 ghost use Rattle.lexical_literal.specs.Literal.{Reads, is_present, text_of};
 ghost use Rattle.lexical_literal.specs.Notation.{notation_of};
 ghost use Rattle.lexical_literal.specs.Syntax.{IsSyntax};
-ghost use Rattle.lexical_writer.specs.Digits.{no_groups, only_if, run_digits, run_text, size_of, values_of};
+ghost use Rattle.lexical_writer.specs.Digits.{no_groups, only_if, run_text, size_of, values_of};
 ghost use Rattle.lexical_writer.specs.Layout.{HasNumber, IsLaidOut, allows_exponent, base_byte, exponent_text, first_error, fraction_pattern, fraction_text};
-ghost use Rattle.lexical_writer.specs.Layout.{given_fraction, given_power, has_exponent, has_point, has_zero, integer_pattern, integer_text};
+ghost use Rattle.lexical_writer.specs.Layout.{has_exponent, has_point, has_zero, integer_pattern, integer_text};
 ghost use Rattle.lexical_writer.specs.Layout.{least_digits, led_digits, literal_of, needs_exponent, number_of_size, one_if, refusal, sign_of, wants_exponent};
 ghost use Rattle.lexical_writer.specs.Buffer.{IsTaken};
 
@@ -307,7 +307,10 @@ impl<'a> Amount<'a> {
             exponent: 0,
             point: 0,
         });
-        let power = self.power();
+        let power = self.exponent.unwrap_or(Power {
+            negative: false,
+            source: Source::Number(0),
+        });
         let exponent = self.has_exponent(syntax, style);
         let point = self.has_point(syntax, style);
         let prefix = base_byte(
@@ -329,20 +332,6 @@ impl<'a> Amount<'a> {
                 base_suffix(format.word()),
             ),
         })
-    }
-
-    // Returns the exponent, or one without digits.
-    #[inline]
-    fn power(&self) -> Power<'a>
-        ensures { result ≡ given_power self.now }
-    {
-        match self.exponent {
-            Some(power) => power,
-            None => Power {
-                negative: false,
-                source: Source::Number(0),
-            },
-        }
     }
 
     // Returns whether there is an exponent character.
@@ -401,7 +390,7 @@ impl<'a> Amount<'a> {
     {
         let radix = format.mantissa_radix();
         let run = Run {
-            source: self.fraction(),
+            source: self.fraction.unwrap_or(Source::Number(0)),
             radix,
             least: one_if(point & format.required_fraction_digits()),
             pattern: no_groups(style.lowercase),
@@ -438,7 +427,7 @@ impl<'a> Amount<'a> {
         let radix = format.mantissa_radix();
         format.required_integer_digits()
             || has_digits(self.integer, radix)
-            || !has_digits(self.fraction(), radix)
+            || !has_digits(self.fraction.unwrap_or(Source::Number(0)), radix)
     }
 
     // Returns how many integer digits there are with the zero that the conditions require before them, or 0 if they require
@@ -498,17 +487,6 @@ impl<'a> Amount<'a> {
             return zero;
         }
         zero.max(style.min_digits as u128)
-    }
-
-    // Returns the fraction digits, if there are any.
-    #[inline]
-    pub(crate) fn fraction(&self) -> Source<'a>
-        ensures { result ≡ given_fraction self.now }
-    {
-        match self.fraction {
-            Some(source) => source,
-            None => Source::Number(0),
-        }
     }
 }
 

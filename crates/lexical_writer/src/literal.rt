@@ -108,6 +108,7 @@ fn is_kept(format: NumberFormat, parts: &Parts, syntax: &Syntax) -> bool
 
 // Returns whether the point of a literal of `format` is to move in place of its exponent.
 fn is_wish(format: NumberFormat, parts: &Parts, syntax: &Syntax, style: Style) -> bool
+    requires { Lawful format }
     ensures { result ≡ is_wish (raw format) parts.now syntax.now style }
 {
     has_power(parts)
@@ -168,7 +169,6 @@ fn move_point<'a>(
     syntax: &Syntax,
     style: Style,
 ) -> Result<Layout<'a>, WriteError>
-    requires sign { is_refused parts.now syntax.now ≡ false }
     requires radix { is_same_radix (raw format) syntax.now ≡ true }
     requires lawful { Lawful format }
     requires can { can_move (raw format) parts.now ≡ true }
@@ -188,8 +188,6 @@ fn move_point<'a>(
 
 // Returns how a number is written whose point has moved, or why it is not.
 fn shorten<'a>(amount: &Amount<'a>, syntax: &Syntax, style: Style) -> Result<Layout<'a>, WriteError>
-    requires plain { amount.now.exponent ≡ None }
-    requires sign { (amount.now.negative && has syntax.now.conditions Condition.NegativeSign) ≡ false }
     ensures literal { IfOk result (λ layout. Reads (notation_of syntax.now) (written layout) (text_of (written layout))) }
     ensures number { IfOk result (λ layout. HasNumber syntax.now amount.now (written layout)) }
     ensures parts { IsShort syntax.now style amount.now result }
@@ -211,7 +209,6 @@ fn by_value<'a>(
     syntax: &Syntax,
     style: Style,
 ) -> Result<Layout<'a>, WriteError>
-    requires sign { is_refused parts.now syntax.now ≡ false }
     requires lawful { Lawful format }
     ensures literal { IfOk result (λ layout. Reads (notation_of syntax.now) (written layout) (text_of (written layout))) }
     ensures value { IfOk result (λ layout.

@@ -3,7 +3,7 @@
 mod rows;
 
 use crate::program::run;
-use crate::tests::rows::{ANSWERS, EDITS, REFUSALS};
+use crate::tests::rows::{ANSWERS, REFUSALS};
 use std::alloc::Global;
 use std::io;
 use std::io::Write;
@@ -84,14 +84,6 @@ fn check<R: Abort + AllocGlobal>(
 fn each_row_is_printed_with_its_status(rt: HostRuntime) -> Result<(), Fail> {
     for (args, text, status) in ANSWERS.iter().chain(&REFUSALS) {
         check(&rt, args, text, *status)?;
-    }
-    Ok(())
-}
-
-#[test]
-fn each_setting_makes_the_edit_of_its_name(rt: HostRuntime) -> Result<(), Fail> {
-    for (setting, text) in &EDITS {
-        check(&rt, &["edit", "0x100000000000", setting], text, 0)?;
     }
     Ok(())
 }

@@ -425,6 +425,7 @@ languages! {
 
 texts! {
     NAMES: [Language::ALL.len()] = |index| Language::ALL[index].name().as_bytes();
+    TITLES: [Language::ALL.len()] = |index| Language::ALL[index].title().as_bytes();
 }
 
 calls! {
@@ -443,10 +444,13 @@ calls! {
     fn peltzivar_language(name: *const u8, len: usize) -> *const Forms {
         let name = input(name, len).unwrap_or_default();
         // `eq_ignore_ascii_case` has 3 kB of code.
-        let is_named = |it: &[u8]| it.len() == name.len() && it.iter().copied().eq(name.iter().map(u8::to_ascii_uppercase));
-        let index = NAMES.split(|byte| *byte == 0).position(is_named);
-        index.and_then(|index| CALLS.get(index)).map_or(ptr::null(), |call| call())
+        let upper = u8::to_ascii_uppercase;
+        let is_named = |it: &[u8]| it.len() == name.len() && it.iter().zip(name).all(|(a, b)| upper(a) == upper(b));
+        let index = |all: &[u8]| all.split(|byte| *byte == 0).position(is_named);
+        index(NAMES).or_else(|| index(TITLES)).and_then(|index| CALLS.get(index)).map_or(ptr::null(), |call| call())
     }
 
     fn peltzivar_language_name(index: usize) -> *const u8 { at(NAMES, index) }
+
+    fn peltzivar_language_title(index: usize) -> *const u8 { at(TITLES, index) }
 }

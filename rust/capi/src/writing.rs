@@ -97,7 +97,10 @@ fn has_radixes(syntax: &literal::Syntax) -> bool {
 /// Writes a text, as `finish` does. All calls share it.
 #[inline(never)]
 unsafe fn print(written: &Written<'_>, to: (*mut u8, usize, Out<usize>)) -> WriteStatus {
-    finish(to, |text| written.write_to(text))
+    finish(to, |text| match written.short() {
+        Some(short) => text.write_str(str::from_utf8_unchecked(short)),
+        None => written.write_to(text),
+    })
 }
 
 /// Returns the status of an error.
@@ -240,19 +243,19 @@ calls! {
     fn peltzivar_forms_format_i64(
         forms: *const Forms, value: i64, style: Option<&Style>, text: *mut u8, len: usize, needed: Out<usize>
     ) -> WriteStatus {
-        write_number((forms, style), (text, len, needed), Ok(&Whole { value: i128::from(value) }))
+        write_number((forms, style), (text, len, needed), Ok(&Whole::of(i128::from(value))))
     }
 
     fn peltzivar_forms_format_u64(
         forms: *const Forms, value: u64, style: Option<&Style>, text: *mut u8, len: usize, needed: Out<usize>
     ) -> WriteStatus {
-        write_number((forms, style), (text, len, needed), Ok(&Whole { value: i128::from(value) }))
+        write_number((forms, style), (text, len, needed), Ok(&Whole::of(i128::from(value))))
     }
 
     fn peltzivar_forms_format_i128(
         forms: *const Forms, value: I128, style: Option<&Style>, text: *mut u8, len: usize, needed: Out<usize>
     ) -> WriteStatus {
-        write_number((forms, style), (text, len, needed), Ok(&Whole { value: i128::from(value) }))
+        write_number((forms, style), (text, len, needed), Ok(&Whole::of(i128::from(value))))
     }
 
     fn peltzivar_forms_format_f64(

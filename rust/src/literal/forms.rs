@@ -2,9 +2,9 @@
 
 use core::{fmt, ops, ops::Range, slice};
 
+use crate::literal::exclude::has_letter_behind_zero;
 use crate::literal::list::Furthest;
 use crate::literal::stop::Stopped;
-use crate::literal::token::has_letter_behind_zero;
 use crate::literal::value::Decimal;
 use crate::literal::{
     Form, FormError, Forms, FromLiteral, Kind, Literal, Number, ParseError, ReadError, ReadErrorKind, Special,

@@ -33,16 +33,19 @@ pub struct Language(&'static Definition);
 /// What a language consists of.
 struct Definition {
     name: &'static str,
+    title: &'static str,
     forms: Forms<'static>,
 }
 
 impl Language {
-    /// Returns the language with a [name][Self::name], in either case, such as `c_sharp`.
+    /// Returns the language with a [name][Self::name] or a [title][Self::title], such as `c_sharp` or `C#`, whatever the case
+    /// of ASCII letters is.
     ///
     /// ```
     /// use peltzivar::literal::Language;
     ///
     /// let language = Language::from_name("c_sharp").unwrap();
+    /// assert_eq!(Language::from_name("c#"), Some(language));
     /// assert_eq!(language.parse::<u8>("0b1111_0000"), Ok(0xF0));
     /// assert_eq!("JAVVA".parse::<Language>().unwrap_err().to_string(), "unknown language; did you mean `JAVA`?");
     /// ```
@@ -50,8 +53,11 @@ impl Language {
     pub const fn from_name(name: &str) -> Option<Language> {
         let mut index = 0;
         while index < Language::ALL.len() {
-            if is_same(Language::ALL[index].name().as_bytes(), name.as_bytes()) {
-                return Some(Language::ALL[index]);
+            let language = Language::ALL[index];
+            if is_same(language.name().as_bytes(), name.as_bytes())
+                || is_same(language.title().as_bytes(), name.as_bytes())
+            {
+                return Some(language);
             }
             index += 1;
         }
@@ -62,6 +68,12 @@ impl Language {
     #[must_use]
     pub const fn name(&self) -> &'static str {
         self.0.name
+    }
+
+    /// Returns the name for people, such as `C#` or `Haskell 2010`.
+    #[must_use]
+    pub const fn title(&self) -> &'static str {
+        self.0.title
     }
 
     /// Returns the forms of literals, with the spellings of NaN and infinity. A language in which these are names, or do not
@@ -173,7 +185,7 @@ const fn is_same(name: &[u8], other: &[u8]) -> bool {
     index == name.len() && index == other.len()
 }
 
-/// Finds the language with a name, as [`Language::from_name`] does.
+/// Finds the language with a name or a title, as [`Language::from_name`] does.
 impl FromStr for Language {
     type Err = LanguageError;
 
@@ -231,10 +243,10 @@ impl fmt::Debug for Language {
     }
 }
 
-/// Defines the constants: the documentation and the name of each, the name, the syntax, the suffixes and the kind of each form, the
+/// Defines the constants: the documentation, the name and the title of each, the name, the syntax, the suffixes and the kind of each form, the
 /// special values, if there are any, and rules for tokens, if the language has them.
 macro_rules! languages {
-    ($($(#[$about:meta])+ $name:ident = { $($form:literal: $syntax:expr $(=> $suffixes:expr)? $(; $kind:expr)?),+ $(,)? } $(, $specials:expr)?
+    ($($(#[$about:meta])+ $name:ident: $title:literal = { $($form:literal: $syntax:expr $(=> $suffixes:expr)? $(; $kind:expr)?),+ $(,)? } $(, $specials:expr)?
         $(=> $tokens:expr)?;)+) => {
         impl Language {
             /// All languages, in alphabetical order.
@@ -245,6 +257,7 @@ macro_rules! languages {
                 $(assert!($syntax.supports_floats());)+
                 const DEFINITION: &Definition = &Definition {
                     name: stringify!($name),
+                    title: $title,
                     forms: Forms::new_or_panic(const { &[$(Form::new($form, $syntax)$(.with_suffixes(const { &$suffixes }))?$(.with_kind($kind))?),+] })
                         $(.with_specials($specials))?
                         $(.with_tokens(const { &$tokens }))?,

@@ -3,7 +3,7 @@
 //! Numbers that have several forms, such as `10`, `0x1F` and `0b1`.
 
 use crate::literal::cause::ReadError;
-use crate::literal::exclude::{excludes, is_settled, sign_size};
+use crate::literal::exclude::{excludes, has_letter_behind_zero, is_settled, lacks_longer, sign_size};
 use crate::literal::kind::Kind;
 use crate::literal::literal::Literal;
 use crate::literal::specials::{Special, Specials};
@@ -30,13 +30,13 @@ impl Form {
     /// Returns the same form with the suffixes that its tokens may have.
     #[must_use]
     pub const fn with_suffixes(&self, suffixes: &'static Suffixes) -> Form {
-        Form { name: self.name, syntax: self.syntax, suffixes: Some(suffixes), kind: self.kind }
+        Form { suffixes: Some(suffixes), ..*self }
     }
 
     /// Returns the same form with another kind, which its literals have.
     #[must_use]
     pub const fn with_kind(&self, kind: Kind) -> Form {
-        Form { name: self.name, syntax: self.syntax, suffixes: self.suffixes, kind }
+        Form { kind, ..*self }
     }
 
     /// Returns the kind.
@@ -190,13 +190,13 @@ impl<'a> Forms<'a> {
     /// ```
     #[must_use]
     pub const fn with_specials(self, specials: Specials<'a>) -> Forms<'a> {
-        Forms { forms: self.forms, specials, tokens: self.tokens }
+        Forms { specials, ..self }
     }
 
     /// Returns the same forms with rules for tokens, without which there are none.
     #[must_use]
     pub const fn with_tokens(self, tokens: &'a Tokens) -> Forms<'a> {
-        Forms { forms: self.forms, specials: self.specials, tokens: Some(tokens) }
+        Forms { tokens: Some(tokens), ..self }
     }
 
     /// Returns the forms.
@@ -371,19 +371,41 @@ impl<'a> Forms<'a> {
     }
 
     // Returns the longest front of `text` that is a literal of a form, with the index of the form, the first of equals, or
-    // why there is none.
+    // why there is none. Forms that end behind the zero, as a decimal one does in `0x1F`, are asked if no other goes on.
+    #[inline(always)]
     const fn find_front(&self, text: &[u8]) -> Result<(usize, Found), FormError> {
-        let mut longest = None;
-        let mut form = 0;
-        while form < self.forms.len() {
-            let (_, found) = self.forms[form].syntax.front(text);
-            longest = longer(longest, form, found);
-            form += 1;
+        if has_letter_behind_zero(text) {
+            if let Some((form, found)) = self.longest_past(text, sign_size(text) + 1) {
+                return Ok((form, found));
+            }
         }
-        match longest {
+        match self.longest_past(text, 0) {
             Some((form, found)) => Ok((form, found)),
             None => Err(self.error_at(text, self.furthest(text))),
         }
+    }
+
+    // Returns the longest front of `text` with more than `size` bytes that is a literal of a form, with the index of the form, the first
+    // of equals, if there is one.
+    #[inline(never)]
+    const fn longest_past(&self, text: &[u8], size: usize) -> Option<(usize, Found)> {
+        let mut reached = size;
+        let mut longest = None;
+        let mut form = 0;
+        while form < self.forms.len() {
+            let syntax = &self.forms[form].syntax;
+            if !lacks_longer(syntax.as_grammar(), text, reached) {
+                let (_, found) = syntax.front(text);
+                if let Some(found) = found {
+                    if found.size > reached {
+                        reached = found.size;
+                        longest = Some((form, found));
+                    }
+                }
+            }
+            form += 1;
+        }
+        longest
     }
 
     // Returns why `text` is not a literal of the form that goes furthest.
@@ -393,16 +415,6 @@ impl<'a> Forms<'a> {
         let it = &self.as_slice()[form];
         let Err(error) = stop.refuse::<()>(&it.syntax, text) else { unreachable!() };
         FormError { form, name: it.name, error }
-    }
-}
-
-// Returns the longer of two fronts, the first of equals.
-#[inline(always)]
-const fn longer(longest: Option<(usize, Found)>, form: usize, found: Option<Found>) -> Option<(usize, Found)> {
-    match (longest, found) {
-        (_, None) => longest,
-        (Some((_, best)), Some(found)) if best.size >= found.size => longest,
-        (_, Some(found)) => Some((form, found)),
     }
 }
 

@@ -2,16 +2,15 @@
 
 //! Tokens: numbers in the middle of a text, each with its suffix.
 
-use crate::literal::exclude::sign_size;
+use crate::literal::exclude::{has_letter_behind_zero, is_over, lacks_longer, sign_size};
 use crate::literal::list::{Form, FormError, Forms, Tokens};
 use crate::literal::literal::Literal;
-use crate::literal::step::{is_digit, is_point, role_at};
+use crate::literal::step::is_point;
 use crate::literal::stop::{byte_at, Begun, Found, Stopped};
 use crate::literal::suffix::{
     byte_before, has_word_byte, is_followed, is_stopped, is_word_byte, kind_with, suffix_size, suffix_words, word_size,
 };
-use crate::literal::syntax::{Condition, Grammar, Syntax};
-use crate::word::Part;
+use crate::literal::syntax::Syntax;
 
 /// A number that a text begins with, and what follows it.
 ///
@@ -105,7 +104,9 @@ impl<'a> Forms<'a> {
         let Some(tokens) = self.tokens else {
             return Err(TokenError::NoTokens);
         };
-        match self.leading(tokens, text, has_letter_behind_zero(text)) {
+        let sign = sign_size(text);
+        let reached = if has_letter_behind_zero(text) { sign + 1 } else { sign };
+        match self.leading(tokens, text, reached) {
             Some(token) => Ok(token),
             None => self.token_of(tokens, text),
         }
@@ -114,7 +115,7 @@ impl<'a> Forms<'a> {
     // Returns the token that `text` begins with.
     #[cold]
     const fn token_of<'t>(&self, tokens: &Tokens, text: &'t [u8]) -> Result<Token<'t>, TokenError> {
-        if let Some(token) = self.leading(tokens, text, false) {
+        if let Some(token) = self.leading(tokens, text, sign_size(text)) {
             return Ok(token);
         }
         let back = tokens.gives_points_back;
@@ -140,18 +141,15 @@ impl<'a> Forms<'a> {
         Err(stopped(it, text, form, candidate))
     }
 
-    // Returns the token that `text` begins with, if reading the forms of the list once tells it. If `excluding` is true, a form of
-    // which no literal goes on behind the first byte and the sign is not asked.
-    const fn leading<'t>(&self, tokens: &Tokens, text: &'t [u8], excluding: bool) -> Option<Token<'t>> {
+    // Returns the token that `text` begins with, if its literal has more than `start` bytes, and reading the forms of the list once
+    // tells it.
+    const fn leading<'t>(&self, tokens: &Tokens, text: &'t [u8], start: usize) -> Option<Token<'t>> {
         let back = tokens.gives_points_back;
-        let sign = sign_size(text);
-        let mut reached = sign;
+        let mut reached = start;
         let mut form = 0;
         while form < self.forms.len() {
             let it = &self.forms[form];
-            if is_excluded(it.syntax.as_grammar(), text, sign, excluding) {
-                reached = larger(reached, sign + 1);
-            } else {
+            if !lacks_longer(it.syntax.as_grammar(), text, reached) {
                 let begun = it.syntax.begin_small(text, true);
                 let size = begun.at.size;
                 if begun.complete
@@ -278,47 +276,6 @@ const fn are_past(forms: &[Form], but: usize, back: bool, text: &[u8], size: usi
     true
 }
 
-// Returns whether the form is not asked: there is not the prefix that is required, or, if `excluding` is true, no literal begins
-// with more than one byte behind the sign, which has this length.
-#[inline(always)]
-const fn is_excluded(grammar: Grammar, text: &[u8], sign: usize, excluding: bool) -> bool {
-    lacks_prefix(grammar, text) || (excluding && is_over(grammar, text, sign + 1))
-}
-
-// Returns whether a zero and a letter are behind the sign.
-#[inline(always)]
-pub(crate) const fn has_letter_behind_zero(text: &[u8]) -> bool {
-    let sign = sign_size(text);
-    sign + 1 < text.len() && text[sign] == b'0' && text[sign + 1] > b'9'
-}
-
-// Returns whether the text ends behind the first `size` bytes, or a byte follows that plays no role.
-#[inline(always)]
-const fn is_over(grammar: Grammar, text: &[u8], size: usize) -> bool {
-    match byte_at(text, size) {
-        None => true,
-        Some(byte) => has_no_role(grammar, byte),
-    }
-}
-
-// Returns whether `byte` plays no role, and is not the zero of a prefix.
-#[inline(always)]
-const fn has_no_role(grammar: Grammar, byte: u8) -> bool {
-    byte != b'0' && matches!(role_at(grammar, Part::Integer, byte), None) && !is_digit(grammar, Part::Exponent, byte)
-}
-
-// Returns whether there is not the base prefix that is required.
-#[inline(always)]
-const fn lacks_prefix(grammar: Grammar, text: &[u8]) -> bool {
-    grammar.conditions.has(Condition::BasePrefix) && !has_prefix(grammar, text, sign_size(text))
-}
-
-// Returns whether a zero and a base prefix are at `index`.
-#[inline(always)]
-const fn has_prefix(grammar: Grammar, text: &[u8], index: usize) -> bool {
-    index + 1 < text.len() && text[index] == b'0' && grammar.view().is_base_prefix(text[index + 1])
-}
-
 // Returns the larger of two sizes.
 #[inline(always)]
 const fn larger(one: usize, other: usize) -> usize {
@@ -354,8 +311,7 @@ impl Form {
     // point more that is given back.
     #[inline(always)]
     const fn is_past(&self, back: bool, text: &[u8], size: usize) -> bool {
-        let grammar = self.syntax.as_grammar();
-        lacks_prefix(grammar, text) || is_over(grammar, text, size) || self.stops(back, text, size)
+        lacks_longer(self.syntax.as_grammar(), text, size) || self.stops(back, text, size)
     }
 
     // Returns by reading whether no literal begins with more than the first `size` bytes of `text`, or only with a point more that is

@@ -12,7 +12,7 @@ mod error;
 pub(crate) mod float;
 pub(crate) mod integer;
 pub(crate) mod kind;
-mod scaled;
+pub(crate) mod scaled;
 pub(crate) mod number {
     pub(crate) mod big;
     pub(crate) mod binary;
@@ -309,7 +309,7 @@ const fn decimal_size(double: bool, literal: &Literal) -> Option<u64> {
 
 /// Makes the calls for floats, also in constants.
 macro_rules! floats {
-    ($($type:ident $to_float:ident $binary_to_float:ident $worth:ident,)*) => {
+    ($($type:ident $to_float:ident $worth:ident,)*) => {
         $(
             impl Literal<'_> {
                 #[doc = concat!("Returns the value, rounded once to the nearest `", stringify!($type), "`, or to the even")]
@@ -322,22 +322,11 @@ macro_rules! floats {
                 /// [`Syntax::supports_floats`] finds out once for all literals.
                 pub const fn $to_float(self) -> Result<$type, ValueError> {
                     let double = <$type as Float>::DOUBLE && !self.is_single();
-                    match decimal_size(double, &self) {
-                        Some(bits) => self.$worth(double, bits),
-                        None => self.$binary_to_float(),
-                    }
-                }
-
-                #[doc = concat!("Returns the same as [`", stringify!($to_float), "`][Self::", stringify!($to_float), "],")]
-                /// where the mantissa radix and the exponent base are powers of two. A program that only calls this has no
-                /// table of powers of ten.
-                ///
-                /// # Errors
-                ///
-                /// If they are not both powers of two, or if an integer is too large for its kind.
-                pub const fn $binary_to_float(self) -> Result<$type, ValueError> {
-                    let double = <$type as Float>::DOUBLE && !self.is_single();
-                    match binary_size(double, &self) {
+                    let bits = match decimal_size(double, &self) {
+                        None => binary_size(double, &self),
+                        bits => bits,
+                    };
+                    match bits {
                         Some(bits) => self.$worth(double, bits),
                         None => Err(ValueError::of::<$type>(ValueErrorKind::UnsupportedRadix, self.text.len(), self.kind())),
                     }
@@ -373,7 +362,7 @@ macro_rules! floats {
     };
 }
 
-floats! { f64 to_f64 binary_to_f64 f64_worth, f32 to_f32 binary_to_f32 f32_worth, }
+floats! { f64 to_f64 f64_worth, f32 to_f32 f32_worth, }
 
 impl Syntax {
     /// Returns the value of the literal `text`. That of `-0` is 0 in each integer type.

@@ -44,14 +44,13 @@ mod written;
 
 pub use layout::{ExponentStyle, Grouping, Style, WriteError};
 
-use choice::choose;
+use choice::{choose, LONGEST};
 #[doc(hidden)]
 pub use choice::{Real, Whole, Writable};
 use float_digits::FloatDigits;
-use layout::Amount;
 use near::float_instead;
 pub use written::Written;
-use written::{lay_out, FloatText, Text};
+use written::{Text, Value, ValueText};
 
 /// A type that can be [written][Syntax::format_integer]: each integer type of Rust.
 pub trait WriteInteger: Integer {}
@@ -248,9 +247,8 @@ impl Syntax {
     pub fn format_float<T: WriteFloat>(&self, value: T, style: Style) -> Result<Written<'static>, WriteError> {
         let (mut digits, mut text) = (FloatDigits::new(), [0; 40]);
         let length = float::format_float(self, value, style, &mut digits)?.write(&mut text);
-        let float =
-            FloatText { bits: value.bits().unwrap_or(0), lay_out: lay_out::<T>, syntax: *self, style, text, length };
-        Ok(Written { text: Text::Float(float) })
+        let value = Value::of_float(value);
+        Ok(Written { text: Text::Value(ValueText { value, syntax: *self, style, text, length }) })
     }
 
     /// Returns a literal, which may be of another syntax, as a literal of this syntax with the same value.
@@ -301,9 +299,6 @@ impl Syntax {
     }
 }
 
-/// The longest text that is read back.
-const LONGEST: usize = 4096;
-
 impl<'a> Forms<'a> {
     /// Returns the value of an integer as a number of one of these forms. [Reading][Self::read] the text returns the same
     /// value, also as a float that is exactly this integer.
@@ -326,10 +321,7 @@ impl<'a> Forms<'a> {
     /// another one. It is [`WriteError::ReadBack`] if the text is read as another number, [`WriteError::TooLarge`] if it is too
     /// large for its kind, and [`WriteError::Buffer`] for a text of more than 4,096 bytes, which is not read back.
     pub fn format_integer<T: WriteInteger>(&self, value: T, style: Style) -> Result<Written<'static>, WriteError> {
-        let (negative, size) = value.sign_and_size();
-        let (syntax, style) = self.syntax_for(&Whole { value }, style)?;
-        let layout = literal::lay_out(&Amount::of_size(negative, size), &syntax, style)?;
-        Ok(Written { text: Text::Number(layout) })
+        self.format_value(&Whole::of(value), Value::of_integer(value), style)
     }
 
     /// Returns the value of a float as a number of one of these forms, or as one of the spellings of NaN and infinity.
@@ -350,14 +342,13 @@ impl<'a> Forms<'a> {
     ///
     /// As [`format_integer`][Self::format_integer], and [`WriteError::Special`] for NaN and infinity without a spelling.
     pub fn format_float<T: WriteFloat>(&self, value: T, style: Style) -> Result<Written<'a>, WriteError> {
-        match self.syntax_for(&Real { value }, style) {
-            Ok((syntax, style)) => syntax.format_float(value, style),
+        match self.format_value(&Real { value }, Value::of_float(value), style) {
             Err(WriteError::Special) => {
                 let sign = value.bits().filter(|bits| *bits > u64::MAX >> if T::DOUBLE { 1 } else { 33 });
                 let spelling = value.bits().map_or(Spelling::Nan, |_| Spelling::Inf);
                 self.format_special(Special { sign: sign.map(|_| Sign::Minus), spelling })
             }
-            Err(error) => Err(error),
+            written => written,
         }
     }
 
@@ -382,11 +373,12 @@ impl<'a> Forms<'a> {
     /// As [`format_integer`][Self::format_integer].
     pub fn format_literal<'b>(&self, literal: &Literal<'b>, style: Style) -> Result<Written<'b>, WriteError> {
         match literal.other_value() {
-            None => self.syntax_for(literal, style).and_then(|(syntax, style)| syntax.format_literal(literal, style)),
-            Some(Other::Integer(value)) => self.format_integer(value, style),
-            Some(Other::Single(value)) => {
-                self.syntax_for(&Real { value }, style).and_then(|(syntax, style)| syntax.format_float(value, style))
+            None => {
+                let (form, _, style) = self.choose_long(literal, style, |chosen, _| chosen)?;
+                self[form].syntax().format_literal(literal, style)
             }
+            Some(Other::Integer(value)) => self.format_integer(value, style),
+            Some(Other::Single(value)) => self.format_value(&Real { value }, Value::of_float(value), style),
             Some(Other::TooLarge) => Err(WriteError::TooLarge),
         }
     }
@@ -411,10 +403,43 @@ impl<'a> Forms<'a> {
         Err(WriteError::Special)
     }
 
-    /// Returns the syntax of the form that writes a number, and the style in which it does.
-    fn syntax_for(&self, number: &dyn Writable, style: Style) -> Result<(Syntax, Style), WriteError> {
-        let (form, _, style) = choose(self, number, style, &mut [0; LONGEST])?;
-        Ok((self[form].syntax(), style))
+    /// Returns a value as a number of one of these forms.
+    fn format_value(&self, number: &impl Writable, value: Value, style: Style) -> Result<Written<'static>, WriteError> {
+        let mut text = [0; 40];
+        match choose(self, number, style, &mut text) {
+            Ok((form, length, style)) => {
+                let syntax = self.as_slice()[form].syntax();
+                Ok(Written { text: Text::Value(ValueText { value, syntax, style, text, length }) })
+            }
+            Err(WriteError::Buffer(_)) => self.format_long(number, value, style),
+            Err(error) => Err(error),
+        }
+    }
+
+    /// Returns a value, where the text of a form that is asked has more than 40 bytes. That of another form can be short.
+    #[cold]
+    #[inline(never)]
+    fn format_long(&self, number: &dyn Writable, value: Value, style: Style) -> Result<Written<'static>, WriteError> {
+        self.choose_long(number, style, |(form, length, style), long| {
+            let mut text = [0; 40];
+            let size = length.min(text.len());
+            text[..size].copy_from_slice(&long[..size]);
+            let syntax = self.as_slice()[form].syntax();
+            Written { text: Text::Value(ValueText { value, syntax, style, text, length }) }
+        })
+    }
+
+    /// Passes the form of a number, the length of the text and the style, and the text, which may have any length that is read back.
+    #[inline(never)]
+    fn choose_long<R>(
+        &self,
+        number: &dyn Writable,
+        style: Style,
+        then: impl FnOnce((usize, usize, Style), &[u8]) -> R,
+    ) -> Result<R, WriteError> {
+        let buffer = &mut [0; LONGEST];
+        let chosen = choose(self, number, style, buffer)?;
+        Ok(then(chosen, &buffer[..chosen.1]))
     }
 
     /// Passes the text of a number in one of these forms, for programs with few bytes.
@@ -429,9 +454,12 @@ impl<'a> Forms<'a> {
         style: Style,
         then: impl FnOnce(&[u8]) -> R,
     ) -> Result<R, WriteError> {
-        let buffer = &mut [0; LONGEST];
-        let (_, length, _) = choose(self, number, style, buffer)?;
-        Ok(then(&buffer[..length]))
+        let buffer = &mut [0; 40];
+        match choose(self, number, style, buffer) {
+            Ok((_, length, _)) => Ok(then(&buffer[..length])),
+            Err(WriteError::Buffer(_)) => self.choose_long(number, style, |_, text| then(text)),
+            Err(error) => Err(error),
+        }
     }
 
     /// Does the same for the value of a literal.
@@ -448,7 +476,7 @@ impl<'a> Forms<'a> {
     ) -> Result<R, WriteError> {
         match literal.other_value() {
             None => self.written(literal, style, then),
-            Some(Other::Integer(value)) => self.written(&Whole { value }, style, then),
+            Some(Other::Integer(value)) => self.written(&Whole::of(value), style, then),
             Some(Other::Single(value)) => self.written(&Real { value }, style, then),
             Some(Other::TooLarge) => Err(WriteError::TooLarge),
         }

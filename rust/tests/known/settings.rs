@@ -70,14 +70,10 @@ fn a_refused_setting_has_a_sentence() {
     let rows = [
         ("no_special=1", Some("no_special"), FLAG),
         ("no_special=", Some("no_special"), FLAG),
-        ("no_special=none", Some("no_special"), FLAG),
-        ("no_special='1'", Some("no_special"), FLAG),
         ("no_special=true=true", Some("no_special"), FLAG),
         ("digit_separator=_", Some("digit_separator"), "digit_separator takes a character such as '_', a number from 0 to 255, or `none`"),
         ("base_prefix=0x100", Some("base_prefix"), "base_prefix takes a character such as '_', a number from 0 to 255, or `none`"),
-        ("base_suffix=''", Some("base_suffix"), "base_suffix takes a character such as '_', a number from 0 to 255, or `none`"),
         ("mantissa_radix=none", Some("mantissa_radix"), "mantissa_radix takes a number, 2 to 36 in a lawful format"),
-        ("radix=256", Some("radix"), "radix takes a number, 2 to 36 in a lawful format"),
         ("exponent_base=ten", Some("exponent_base"), "exponent_base takes a number, 2 to 36 in a lawful format, or `none`"),
         ("exponent_radix=0010", Some("exponent_radix"), "exponent_radix takes a number, 2 to 36 in a lawful format, or `none`"),
         ("radix", None, "expected NAME=VALUE"),
@@ -86,13 +82,6 @@ fn a_refused_setting_has_a_sentence() {
         ("RADIX=7", None, "unknown setting name; did you mean `radix`?"),
         ("digit_seperator=_", None, "unknown setting name; did you mean `digit_separator`?"),
         ("no-special=true", None, "unknown setting name; did you mean `no_special`?"),
-        ("prefix='x'", None, "unknown setting name; did you mean `base_prefix`?"),
-        ("thousands=','", None, "unknown setting name; did you mean `digit_separator`?"),
-        ("decimal_separator=','", None, "unknown setting name"),
-        ("exponent='p'", None, "unknown setting name"),
-        ("colour=7", None, "unknown setting name"),
-        ("no_exponent=true", None, "unknown setting name; did you mean `no_exponent_notation`?"),
-        ("base=16", None, "unknown setting name; did you mean `radix`?"),
     ];
     for (text, name, sentence) in rows {
         let error = text.parse::<Edit>().unwrap_err();

@@ -1,14 +1,14 @@
 -- What one pass over several forms finds.
 use Rattle.std.specs.Prelude.{ℕ, ◌≡◌, ◌+◌, ◌*◌, ◌<◌, ◌≤◌, [], ◌∷◌, false, if◌then◌else◌, nat_lt, IfErr, IfOk, IsErr, IsSomeAnd, List, Option, get_or}
-use Rattle.std.specs.Prelude.{Some, None, Result, All, length, slice_get}
+use Rattle.std.specs.Prelude.{Some, None, Result, All, length, slice_get, take}
 use Rattle.lexical_util.specs.Ascii.{ByteSet}
 use Rattle.lexical_util.specs.Roles.{other_case, signs}
 use Rattle.lexical_util.specs.declared.feature_format.roles.Role.{Role}
 use Rattle.lexical_util.specs.declared.feature_format.roles.Role.TheVariants as roles
 use Rattle.lexical_literal.specs.Additions.Stop.{IsCountedFront, IsStopped}
 use Rattle.lexical_literal.specs.Cause.{IsRefusal}
-use Rattle.lexical_forms.specs.Forms.{HasFront, IsFirst, IsFormError, IsGreatest, NoForm, Reaches, reach}
-use Rattle.lexical_literal.specs.Front.{IsValidUpTo, NoFront, NoLiteral}
+use Rattle.lexical_forms.specs.Forms.{GoesTo, HasFront, IsFirst, IsFormError, IsGreatest, NoForm, Reaches, ReadsIn, reach}
+use Rattle.lexical_literal.specs.Front.{IsValidUpTo, NoFrontBy, NoLiteral, NoneBy}
 use Rattle.lexical_literal.specs.Read.{Read}
 use Rattle.lexical_literal.specs.Notation.{Notation, notation_of, set_of_role}
 use Rattle.lexical_literal.specs.declared.cause.Refusal.{Refusal}
@@ -32,11 +32,6 @@ greater size (Some best) form found = if nat_lt (size best.1) (size found) then 
 abbrev pub further : Option (ℕ × Stopped) → ℕ → Stopped → Option (ℕ × Stopped)
 further furthest form stop = greater (λ (stop : Stopped). stop.size) furthest form stop
 
--- `longer longest form found` is the front `longest`, or that of the form with the index `form` if it has a longer one.
-abbrev pub longer : Option (ℕ × Found) → ℕ → Option Found → Option (ℕ × Found)
-longer longest form None = longest
-longer longest form (Some found) = greater (λ (found : Found). found.size) longest form found
-
 -- `PlaysNoRole m byte` holds if `byte` plays no role, and is not the zero of a prefix.
 pub record PlaysNoRole (m : Notation) (byte : ℕ) : Type 0 where
   pub not_zero : byte ≡ 48 → ⊥
@@ -58,10 +53,6 @@ IsStranger m byte = IsSpare m byte × IsSpare m (other_case byte)
 abbrev pub IsNoBetter : Notation → List ℕ → ℕ → Type 0
 IsNoBetter m text size = (error : Refusal) → IsRefusal m text error → reach error ≤ 2 * size
 
--- `GoesTo text g size` holds if some literal of the form `g` begins with the first `size` bytes of `text`, and none with more.
-abbrev pub GoesTo : List ℕ → Form → ℕ → Type 0
-GoesTo text g size = IsValidUpTo (notation_of g.syntax) text size
-
 -- `IsBehind m text furthest` holds if no error of `text` has a greater reach than one that goes as far as `furthest` and whose cause is a
 -- wrong byte, or if `text` is right up to the first byte behind the sign at most, where `furthest` is `None`.
 abbrev pub IsBehind : Notation → List ℕ → Option Furthest → Type 0
@@ -70,7 +61,7 @@ IsBehind m text (Some best) = IsNoBetter m text best.stop.size
 
 -- `IsRefusedAt text stop g` holds if `text` is not a literal of the form `g`, and reading it stops at `stop`.
 abbrev pub IsRefusedAt : List ℕ → Stopped → Form → Type 0
-IsRefusedAt text stop g = IsStopped (notation_of g.syntax) text stop × NoLiteral (notation_of g.syntax) text
+IsRefusedAt text stop g = IsStopped (notation_of g.syntax) text stop × NoneBy (ReadsIn g) text
 
 -- `AreBelow forms text start end most` holds if each error of `text` in the forms with indexes from `start` to `end` has a reach below `most`.
 abbrev pub AreBelow : List Form → List ℕ → ℕ → ℕ → ℕ → Type 0
@@ -101,12 +92,30 @@ pub record IsFoundForm (forms : List Form) (text : List ℕ) (result : Result (�
   pub none : IsErr result → NoForm forms text
   pub furthest : IfErr result (Leads forms text (length forms))
 
+-- `NoFrontPast m text size` holds if no front of `text` with more than `size` bytes is a literal. `IsFrontPast m text size found` holds if
+-- `found` has the longest front, which has more, and the lengths of its parts.
+abbrev pub NoFrontPast : Notation → List ℕ → ℕ → Type 0
+NoFrontPast m text size = (more : ℕ) → size < more → more ≤ length text → NoLiteral m (take more text)
+
+abbrev pub IsFrontPast : Notation → List ℕ → ℕ → Found → Type 0
+IsFrontPast m text size found = (size < found.size) × IsCountedFront m text found
+
+-- `IsLongestPast forms text size longest` holds if `longest` has the longest front of `text` with more than `size` bytes that is a literal of a
+-- form, of the first form of equals, or if it is `None`, and there is no such front.
+pub record IsFirstPast (forms : List Form) (text : List ℕ) (size index : ℕ) (found : Found) : Type 0 where
+  pub longest : IsGreatest (HasFront text) forms index found.size
+  pub counted : IsSomeAnd (slice_get forms index) (λ g. IsFrontPast (notation_of g.syntax) text size found)
+
+abbrev pub IsLongestPast : List Form → List ℕ → ℕ → Option (ℕ × Found) → Type 0
+IsLongestPast forms text size None = All (λ g. NoFrontPast (notation_of g.syntax) text size) forms
+IsLongestPast forms text size (Some best) = IsFirstPast forms text size best.0 best.1
+
 -- `IsFoundFrontForm forms text result` holds if `result` has the longest front of `text` that is a literal of a form, of the
 -- first form of equals, and the lengths of its parts, or the error of a text for which there is no such front.
 pub record IsFoundFrontForm (forms : List Form) (text : List ℕ) (result : Result (ℕ × Found) FormError) : Type 0 where
   pub longest : IfOk result (λ found. IsGreatest (HasFront text) forms found.0 found.1.size)
   pub found : IfOk result (λ found. IsSomeAnd (slice_get forms found.0) (λ g. IsCountedFront (notation_of g.syntax) text found.1))
-  pub none : IsErr result → All (λ g. NoFront (notation_of g.syntax) text) forms
+  pub none : IsErr result → All (λ g. NoFrontBy (ReadsIn g) text) forms
   pub error : IfErr result (IsFormError forms text)
 
 -- `IsFurthestForm forms text furthest` holds if `furthest` has the index of the form that goes furthest in `text`, the first of

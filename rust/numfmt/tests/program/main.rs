@@ -4,7 +4,7 @@
 
 mod rows;
 
-use rows::{ANSWERS, EDITS, REFUSALS};
+use rows::{ANSWERS, REFUSALS};
 use std::ffi::{OsStr, OsString};
 use std::fs::File;
 use std::os::unix::ffi::OsStrExt;
@@ -26,14 +26,6 @@ fn run<A: AsRef<OsStr>>(args: &[A]) -> (Option<i32>, String) {
 fn prints_the_text_of_each_row_and_ends_with_its_status() {
     for (args, text, status) in ANSWERS.into_iter().chain(REFUSALS) {
         assert_eq!(run(args), (Some(status.into()), text.into()), "{args:?}");
-    }
-}
-
-#[test]
-fn makes_the_edit_of_the_name_of_each_setting() {
-    for (setting, text) in EDITS {
-        let printed = run(&["edit", "0x100000000000", setting]);
-        assert_eq!(printed, (Some(0), text.into()), "{setting}");
     }
 }
 

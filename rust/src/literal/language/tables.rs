@@ -169,6 +169,25 @@ const DEFAULT: Kind = Kind::new(IntegerKind::AtMost(31), FloatKind::Single).unwr
 /// The suffix of a float of 32 bits, of C and of Kotlin.
 const FLOAT: &[(&[u8], Kind)] = &[(b"f", SINGLE), (b"F", SINGLE)];
 
+/// What goes on a number of Ada: `16#FF#`, `16:FF:` and `1.x`, but not `1..2`.
+const ADA_WORDS: Suffixes = Suffixes::new(&[], &[], ADA_STOPS);
+const ADA_STOPS: &[Stop] = &[
+    Stop::new(b"", b"#", b""),
+    Stop::new(b"", b":", b"0123456789ABCDEFabcdef"),
+    Stop::new(b"", b".", &NO_NAME),
+    Stop::new(b"", b".", &LETTERS),
+];
+
+/// Kinds of Fortran, of so many bytes or by a name: `1_8`, `1.0_dp`. `1._8`, whose point is not given back, is refused.
+const FORTRAN_WORDS: Suffixes =
+    Suffixes::new(&[], &[], &[Stop::new(b"", b".", b"_0123456789")]).any_word(b"_").with_kinds(&[
+        (b"_1", whole(IntegerKind::AtMost(7))),
+        (b"_2", whole(IntegerKind::AtMost(15))),
+        (b"_8", AT_MOST_63),
+        (b"_10", Kind::EXACT),
+        (b"_16", Kind::EXACT),
+    ]);
+
 /// Words behind integers and floats, in this case.
 const fn words(integers: &'static [&'static [u8]], floats: &'static [&'static [u8]]) -> Suffixes {
     Suffixes::new(integers, floats, &[])
@@ -177,19 +196,31 @@ const fn words(integers: &'static [&'static [u8]], floats: &'static [&'static [u
 /// A digit behind a decimal point.
 const POINT_AND_DIGIT: &[Stop] = &[Stop::new(b"", b".", b"0123456789")];
 
-/// Suffixes of integers of C: `1u`, `1LL`, `1ul`.
+/// Suffixes of integers of C: `1u`, `1LL`, `1ul` and `1wb`. Decimal floats, such as `1.5dd`, are not hexadecimal.
 const C_INTEGERS: &[&[u8]] = &[
     b"u", b"U", b"l", b"L", b"ll", b"LL", b"ul", b"uL", b"ull", b"uLL", b"Ul", b"UL", b"Ull", b"ULL", b"lu", b"lU",
-    b"llu", b"llU", b"Lu", b"LU", b"LLu", b"LLU",
+    b"llu", b"llU", b"Lu", b"LU", b"LLu", b"LLU", b"wb", b"WB", b"uwb", b"uWB", b"Uwb", b"UWB", b"wbu", b"wbU", b"WBu",
+    b"WBU",
 ];
 const C_FLOATS: &[&[u8]] = &[b"f", b"F", b"l", b"L"];
+const C_DECIMAL_FLOATS: &[&[u8]] = &[b"f", b"F", b"l", b"L", b"df", b"dd", b"dl", b"DF", b"DD", b"DL"];
 
-/// What goes on a preprocessing number of C: `1.2.3`, `0xe+1` and `1'`.
-const C_STOPS: &[Stop] = &[Stop::new(b"", b".'", b""), Stop::new(b"eEpP", b"+-", b"")];
+/// What goes on a preprocessing number of C: `1.2.3`, `1'`, `1$x`, `1\u00E9` and `0xe+1`.
+const C_STOPS: &[Stop] = &[Stop::new(b"", b".'$", b""), Stop::new(b"", b"\\", b"uU"), Stop::new(b"eEpP", b"+-", b"")];
 const C_WORDS: Suffixes = Suffixes::new(C_INTEGERS, C_FLOATS, C_STOPS).with_kinds(FLOAT);
+const C_DECIMALS: Suffixes = Suffixes::new(C_INTEGERS, C_DECIMAL_FLOATS, C_STOPS).with_kinds(FLOAT);
 
-/// Suffixes of C++, and of its users: `1_km`.
-const C_PLUS_PLUS_WORDS: Suffixes = C_WORDS.any_word(b"_");
+/// Suffixes of C++, of its library, such as `1ms` and `1.5if`, and of its users: `1_km`.
+const C_PLUS_PLUS_INTEGERS: &[&[u8]] = &[
+    b"u", b"U", b"l", b"L", b"ll", b"LL", b"ul", b"uL", b"ull", b"uLL", b"Ul", b"UL", b"Ull", b"ULL", b"lu", b"lU",
+    b"llu", b"llU", b"Lu", b"LU", b"LLu", b"LLU", b"h", b"min", b"s", b"ms", b"us", b"ns", b"d", b"y", b"i", b"il",
+    b"if",
+];
+const C_PLUS_PLUS_FLOATS: &[&[u8]] =
+    &[b"f", b"F", b"l", b"L", b"h", b"min", b"s", b"ms", b"us", b"ns", b"i", b"il", b"if"];
+const C_PLUS_PLUS_WORDS: Suffixes = Suffixes::new(C_PLUS_PLUS_INTEGERS, C_PLUS_PLUS_FLOATS, C_STOPS)
+    .any_word(b"_")
+    .with_kinds(&[(b"f", SINGLE), (b"F", SINGLE), (b"if", SINGLE)]);
 
 /// Units of CSS: any word, such as `px`. A name may also have `-` and escapes: `1px-x`, `1-x` and `1--x` are refused.
 const CSS_WORDS: Suffixes = Suffixes::new(&[], &[], CSS_STOPS).any_word(&LETTERS);
@@ -248,9 +279,10 @@ const JAVA_FLOATS: Suffixes = words(&[b"f", b"d"], &[b"f", b"d"]).either_case(tr
 /// The suffix of big integers of JavaScript. A name, which `$` and `\\` may begin, does not follow a number.
 const BIG: Suffixes = Suffixes::new(&[b"n"], &[], &[Stop::new(b"", b"$\\", b"")]);
 
-/// A second point of Julia and Lua: `1..2` is no number, and no range.
+/// A second point of Julia, Lua and NASM: `1..2` is no number, and no range.
 const JULIA_WORDS: Suffixes = Suffixes::new(&[], &[], &[Stop::new(b"", b".", b"")]);
 const LUA_WORDS: Suffixes = JULIA_WORDS;
+const NASM_WORDS: Suffixes = JULIA_WORDS;
 
 /// Suffixes of Kotlin.
 const KOTLIN_INTEGERS: &[&[u8]] = &[b"u", b"U", b"L", b"uL", b"UL"];
@@ -292,8 +324,11 @@ const OCAML_WORDS: Suffixes = Suffixes::new(&[b"l", b"L", b"n"], &[], &[Stop::ne
 ]);
 const OCAML_DECIMALS: Suffixes = OCAML_WORDS.with_kinds(&[(b"l", AT_MOST_31), (b"L", AT_MOST_63), (b"n", AT_MOST_63)]);
 
-/// What may not follow a decimal number of Perl: `1.2.3` is a string, and the point of `1.x` may be of the number or not.
+/// What may not follow a decimal number of Perl, of which `1.2.3` is a string, and the point of `1.x` may be of the number or not,
+/// and of SQL, which has neither.
 const PERL_STOPS: &[Stop] = &[Stop::new(b"", b".", b"0123456789"), Stop::new(b"", b".", &LETTERS)];
+
+const SQL_WORDS: Suffixes = Suffixes::new(&[], &[], PERL_STOPS);
 
 /// The suffix of imaginary numbers of Python, in either case.
 const PYTHON_WORDS: Suffixes = words(&[b"j"], &[b"j"]).either_case(true);
@@ -346,45 +381,47 @@ const POINTS_BACK: Tokens = Tokens::new(&[], &[]).gives_points_back(true);
 
 languages! {
     /// Ada's decimal literals (Reference Manual 2012, 2.4.1). A format cannot accept based literals, such as `16#FF#`, or
-    /// accept `1.0E-3` and `1E3` but reject `1E-3`. So `1E-3` is read here, but the first form never writes it.
-    ADA = {
+    /// accept `1.0E-3` and `1E3` but reject `1E-3`. So `1E-3` is read here, but the first form never writes it. At the end of a
+    /// text, the token of `1.` is `1`.
+    ADA: "Ada" = {
         "decimal": decimal(separated(b'_')
             .required_digits(true) // rejects `.5`, `1.`, `1e` and `.`
             .no_exponent_without_fraction(true) // rejects `1e3`, not `1.0e3`
-        ),
+        ) => ADA_WORDS,
         "integer with an exponent": decimal(separated(b'_')
             .required_digits(true) // rejects `.5`, `1.`, `1e` and `.`
-        ),
-    };
+        ) => ADA_WORDS,
+    } => POINTS_BACK;
 
-    /// C's integer and floating constants (C23, 6.4.4.1 and 6.4.4.2). A format cannot accept `1u`, `1L` and `1.0f`.
-    C = {
-        "decimal": decimal(C.no_integer_leading_zeros(true)) => C_WORDS, // rejects `08`, not `08.5`
+    /// C's integer and floating constants (C23, 6.4.4.1 and 6.4.4.2). The value of a decimal float has all
+    /// its digits: that of `16777217.0df` is not rounded to seven.
+    C: "C" = {
+        "decimal": decimal(C.no_integer_leading_zeros(true)) => C_DECIMALS, // rejects `08`, not `08.5`
         "octal": octal(C) => C_WORDS,
         "hexadecimal": prefixed(b'x', 16, C) => C_WORDS,
         "binary": prefixed(b'b', 2, C) => C_WORDS,
         "hexadecimal float": binary_floats(b'x', 16, C.required_exponent_notation(true)) => C_WORDS, // rejects `0x1.8`
     } => Tokens::new(&[], &[]);
 
-    /// CSS's numbers, with signs (CSS Syntax Module Level 3, 4.3.12). A format cannot accept a unit, as in `10px` and `5%`. A
-    /// token has a word as its unit. It ends before `%`, and before a `-` that follows a digit: of `1p2-x`, it is `1p2`.
-    CSS = { "decimal": numbers(b'e', b'.', NumberFormatBuilder::new()
+    /// CSS's numbers, with signs (CSS Syntax Module Level 3, 4.3.12). A token has a word as its unit. It ends before `%`, and
+    /// before a `-` that follows a digit: of `1p2-x`, it is `1p2`.
+    CSS: "CSS" = { "decimal": numbers(b'e', b'.', NumberFormatBuilder::new()
         .no_special(true) // rejects `NaN` and `inf`
         .required_fraction_digits(true) // rejects `1.`, not `.5`
-    ) => CSS_WORDS } => Tokens::new(&[], &[]);
+    ) => CSS_WORDS } => POINTS_BACK;
 
     /// Numbers in CSV, as German spreadsheets write cells of the format `#.##0,00` (RFC 4180): `1.234,50`.
     /// `0.123` is refused for its leading zero, since its groups are right. LibreOffice reads `-0` as 0.
-    CSV_DE = { "decimal": grouped(numbers(b'e', b',', SPREADSHEET.digit_separator(NonZeroU8::new(b'.')))) };
+    CSV_DE: "CSV (German)" = { "decimal": grouped(numbers(b'e', b',', SPREADSHEET.digit_separator(NonZeroU8::new(b'.')))) };
 
     /// Numbers in CSV, as English spreadsheets write cells of the format `#,##0.00`, in quotes (RFC 4180): `"1,234.50"`.
     /// Remove the quotes, as CSV readers do. A format cannot accept the minus sign U+2212 of Gnumeric: replace it by `-`.
     /// LibreOffice reads `-0` as 0.
-    CSV_EN = { "decimal": grouped(numbers(b'e', b'.', SPREADSHEET.digit_separator(NonZeroU8::new(b',')))) };
+    CSV_EN: "CSV (English)" = { "decimal": grouped(numbers(b'e', b'.', SPREADSHEET.digit_separator(NonZeroU8::new(b',')))) };
 
-    /// C++'s integer and floating literals (C++17, 5.13.2 and 5.13.4). A format cannot accept `1u`, `1L`, `1.0f` and suffixes
-    /// of users.
-    C_PLUS_PLUS = {
+    /// C++'s integer and floating literals (C++20, 5.13.2 and 5.13.4). The standard library has the suffixes of durations and
+    /// dates, and `i`, `il` and `if` of imaginary numbers.
+    C_PLUS_PLUS: "C++" = {
         "decimal": decimal(C.no_integer_leading_zeros(true)) => C_PLUS_PLUS_WORDS, // rejects `08`, not `08.5`
         "octal": octal(C) => C_PLUS_PLUS_WORDS,
         "hexadecimal": prefixed(b'x', 16, C) => C_PLUS_PLUS_WORDS,
@@ -392,16 +429,16 @@ languages! {
         "hexadecimal float": binary_floats(b'x', 16, C.required_exponent_notation(true)) => C_PLUS_PLUS_WORDS, // rejects `0x1.8`
     } => Tokens::new(&[], &[]);
 
-    /// C#'s integer and real literals (C# standard, 6.4.5.3 and 6.4.5.4). A format cannot accept `1L`, `1f` and `1m`.
-    C_SHARP = {
+    /// C#'s integer and real literals (C# standard, 6.4.5.3 and 6.4.5.4).
+    C_SHARP: "C#" = {
         "decimal": decimal(JAVA.required_fraction_digits(true)) => C_SHARP_DECIMALS, // rejects `1.`, not `.5`
         "hexadecimal": prefixed(b'x', 16, JAVA.integer_leading_digit_separator(true)) => words(C_SHARP_INTEGERS, &[]).either_case(true), // accepts `0x_1F`
         "binary": prefixed(b'b', 2, JAVA.integer_leading_digit_separator(true)) => words(C_SHARP_INTEGERS, &[]).either_case(true), // accepts `0b_1`
-    } => Tokens::new(&[], &[]);
+    } => POINTS_BACK;
 
-    /// D's integers and floats (D Language Specification, Lexical, Integer Literals and Floating Point Literals). A format cannot
-    /// accept `1u`, `1L`, `1f` and `1i`. Compilers also accept leading zeros in `07` and `01f`, which the specification does not.
-    D = {
+    /// D's integers and floats (D Language Specification, Lexical, Integer Literals and Floating Point Literals). Compilers
+    /// also accept leading zeros in `07` and `01f`, which the specification does not.
+    D: "D" = {
         "decimal": decimal(RUST
             .required_fraction_digits(true) // rejects `1.` and `1.e5`, not `.5`
             .no_integer_leading_zeros(true) // rejects `08`, not `08.5`
@@ -422,7 +459,7 @@ languages! {
     } => POINTS_BACK;
 
     /// Elixir's integers and floats (Syntax reference 1.14, Numbers). Elixir refuses numbers from 1.8e308 on, which are infinity here.
-    ELIXIR = {
+    ELIXIR: "Elixir" = {
         "decimal": decimal(separated(b'_')
             .required_digits(true) // rejects `.5`, `1.`, `1e` and `.`
             .no_exponent_without_fraction(true) // rejects `1e5`, not `1.0e5`
@@ -432,19 +469,20 @@ languages! {
         "binary": prefixed(b'b', 2, separated(b'_').case_sensitive_base_prefix(true)), // rejects `0B1`
     } => POINTS_BACK;
 
-    /// Fortran's signed integers and reals (ISO/IEC 1539-1:2018, 7.4.3). A format cannot accept a kind, as in `1.0_8`, or
-    /// binary, octal and hexadecimal constants, such as `Z'FF'`. Integers have at most 31 bits, and `0.1`, but not `0.1d0`, is
-    /// an `f32`.
-    FORTRAN = {
-        "decimal": numbers(b'e', b'.', NumberFormatBuilder::new().no_special(true)); DEFAULT, // rejects `NaN` and `inf`
+    /// Fortran's signed integers and reals (ISO/IEC 1539-1:2018, 7.4.3). A format cannot accept binary, octal and hexadecimal
+    /// constants, such as `Z'FF'`. Integers have at most 31 bits, and `0.1`, but not `0.1d0`, is an `f32`. The suffix of a
+    /// token is its kind: `0.1_8` is no `f32`. Of a named kind, such as `_dp`, neither the name nor the value is known. Tokens
+    /// such as `1._8` and `1.eq.2` are refused.
+    FORTRAN: "Fortran" = {
+        "decimal": numbers(b'e', b'.', NumberFormatBuilder::new().no_special(true)) => FORTRAN_WORDS; DEFAULT, // rejects `NaN` and `inf`
         "double precision": numbers(b'd', b'.', NumberFormatBuilder::new()
             .no_special(true)
             .required_exponent_notation(true) // rejects `1.0`, which the first form reads
         ),
-    };
+    } => POINTS_BACK;
 
-    /// Go's integer and floating-point literals (Language Specification). A format cannot accept `1i`.
-    GO = {
+    /// Go's integer and floating-point literals (Language Specification).
+    GO: "Go" = {
         "decimal": decimal(separated(b'_').no_integer_leading_zeros(true)) => GO_WORDS, // rejects `08`, not `08.5`
         "octal": octal(separated(b'_')) => GO_POINTLESS,
         "hexadecimal": prefixed(b'x', 16, GO_PREFIXED) => GO_WORDS,
@@ -457,7 +495,7 @@ languages! {
     );
 
     /// Haskell's integers and floats (Haskell 2010 Report, 2.5). GHC reads more since 9.2: those of `HASKELL_GHC2021`.
-    HASKELL = {
+    HASKELL: "Haskell 2010" = {
         "decimal": decimal(TOKENS.required_digits(true)), // rejects `.5`, `1.`, `1e` and `.`
         "hexadecimal": prefixed(b'x', 16, TOKENS),
         "octal": prefixed(b'o', 8, TOKENS),
@@ -466,7 +504,7 @@ languages! {
     /// Haskell's integers and floats with the extensions of GHC that `GHC2021` has (GHC User's Guide 9.2, NumericUnderscores,
     /// BinaryLiterals and HexFloatLiterals). A format cannot accept `1_e5` but reject `1_.5`. GHC also accepts `_0.1`, which the
     /// guide does not.
-    HASKELL_GHC2021 = {
+    HASKELL_GHC2021: "Haskell GHC2021" = {
         "decimal": decimal(JAVA.required_digits(true)), // rejects `.5`, `1.`, `1e` and `.`
         "hexadecimal": binary_floats(b'x', 16, JAVA
             .integer_leading_digit_separator(true) // accepts `0x_1F`
@@ -476,10 +514,10 @@ languages! {
         "binary": prefixed(b'b', 2, JAVA.integer_leading_digit_separator(true)), // accepts `0b_1`
     } => POINTS_BACK;
 
-    /// Java's integer and floating-point literals (Language Specification 21, 3.10.1 and 3.10.2). A format cannot accept
-    /// `1L`, `1f` and `1d`. Values are those of `int` or, with `L`, of `long`: a hexadecimal, octal or binary integer from 2^31 on
-    /// is negative, as `0xffffffff`, which is -1. `2147483648`, which is lawful only after the operator `-`, is too large.
-    JAVA = {
+    /// Java's integer and floating-point literals (Language Specification 21, 3.10.1 and 3.10.2). Values are those of `int` or,
+    /// with `L`, of `long`: a hexadecimal, octal or binary integer from 2^31 on is negative, as `0xffffffff`, which is -1.
+    /// `2147483648`, which is lawful only after the operator `-`, is too large.
+    JAVA: "Java" = {
         "decimal": decimal(JAVA.no_integer_leading_zeros(true)) => JAVA_DECIMALS; AT_MOST_31, // rejects `08`, not `08.5`
         "octal": octal(JAVA) => JAVA_INTEGERS; WRAPS_32,
         "hexadecimal": prefixed(b'x', 16, JAVA) => JAVA_INTEGERS; WRAPS_32,
@@ -490,9 +528,9 @@ languages! {
         &[],
     );
 
-    /// JavaScript's numeric literals in strict code (ECMA-262, Numeric Literals). A format cannot accept `1n`. JavaScript
-    /// makes integers doubles, which it rounds from 2^53 on: take their values as `f64`.
-    JAVASCRIPT = {
+    /// JavaScript's numeric literals in strict code (ECMA-262, Numeric Literals). JavaScript makes integers doubles, which it
+    /// rounds from 2^53 on: take their values as `f64`.
+    JAVASCRIPT: "JavaScript" = {
         "decimal": decimal(without_zeros(separated(b'_'))) => BIG,
         "hexadecimal": prefixed(b'x', 16, separated(b'_')) => BIG,
         "octal": prefixed(b'o', 8, separated(b'_')) => BIG,
@@ -500,11 +538,11 @@ languages! {
     } => Tokens::new(&[], &[]);
 
     /// JSON's numbers (RFC 8259, 6. Numbers).
-    JSON = { "decimal": signed(decimal(without_zeros(TOKENS).required_digits(true))) }; // rejects `.5`, `1.`, `1e` and `.`
+    JSON: "JSON" = { "decimal": signed(decimal(without_zeros(TOKENS).required_digits(true))) }; // rejects `.5`, `1.`, `1e` and `.`
 
     /// JSON5's numbers (The JSON5 Data Interchange Format 1.0.0, 6. Numbers). As in JavaScript, they are doubles: take their values
     /// as `f64`.
-    JSON5 = {
+    JSON5: "JSON5" = {
         "decimal": signed(decimal(without_zeros(TOKENS)
             .no_positive_mantissa_sign(false) // accepts `+1`
             .no_special(false) // accepts `NaN` and `Infinity`
@@ -514,7 +552,7 @@ languages! {
     }, Specials { nan: Some(b"NaN"), inf: Some(b"Infinity"), infinity: None };
 
     /// Julia's integers and floats (Manual 1.11, Integers and Floating-Point Numbers). `0.1f0`, but not `0.1`, is an `f32`.
-    JULIA = {
+    JULIA: "Julia" = {
         "decimal": decimal(JULIA) => JULIA_WORDS,
         "32 bits": unsigned(numbers(b'f', b'.', JULIA.case_sensitive_exponent(true))); SINGLE, // accepts `1f3`, not `1F3`
         "hexadecimal": prefixed(b'x', 16, JULIA.case_sensitive_base_prefix(true)), // rejects `0X1F`
@@ -526,9 +564,8 @@ languages! {
         ),
     } => Tokens::new(&[], &[]);
 
-    /// Kotlin's integer and real literals (Kotlin language specification 1.9, Literals). A format cannot accept `1L`, `1f`
-    /// and `1u`.
-    KOTLIN = {
+    /// Kotlin's integer and real literals (Kotlin language specification 1.9, Literals).
+    KOTLIN: "Kotlin" = {
         "decimal": decimal(JAVA
             .required_fraction_digits(true) // rejects `1.`, not `.5`
             .no_integer_leading_zeros(true) // rejects `01`, not `01.0`
@@ -542,7 +579,7 @@ languages! {
 
     /// Lua's integers and floats (Reference Manual 5.4, 3.1). In Lua, a decimal integer from 2^63 on is a float: take its
     /// value as an `f64`. A hexadecimal one keeps its last 64 bits: `0xffffffffffffffff` is -1.
-    LUA = {
+    LUA: "Lua" = {
         "decimal": decimal(TOKENS) => LUA_WORDS,
         "hexadecimal": binary_floats(b'x', 16, TOKENS) => LUA_WORDS; LAST_64,
     } => Tokens::new(&[], &[]);
@@ -550,40 +587,40 @@ languages! {
     /// NASM's numeric constants (NASM manual, Numeric Constants and Floating-Point Constants). A format cannot accept `$0c8`,
     /// `0x_`, `0._` and `1e_`, which have separators alone, or `0h.` and `0op7`, which have no digit. NASM keeps the last 64 bits
     /// of an integer, with a sign: `0x10000000000000001` is 1, and `0xffffffffffffffff` -1.
-    NASM = {
+    NASM: "NASM" = {
         "decimal": decimal(NASM
             .required_integer_digits(true) // rejects `.5`, not `1.`
             .required_exponent_digits(false) // accepts `1e`
-        ); LAST_64,
-        "decimal, d": suffixed(b'd', 10, NASM); LAST_64,
-        "decimal, t": suffixed(b't', 10, NASM); LAST_64,
-        "hexadecimal, h": nameless(suffixed(b'h', 16, NASM)); LAST_64, // rejects `ffh`
-        "hexadecimal, x": nameless(suffixed(b'x', 16, NASM)); LAST_64, // rejects `ffx`
-        "octal, o": suffixed(b'o', 8, NASM); LAST_64,
-        "octal, q": suffixed(b'q', 8, NASM); LAST_64,
-        "binary, b": suffixed(b'b', 2, NASM); LAST_64,
-        "binary, y": suffixed(b'y', 2, NASM); LAST_64,
+        ) => NASM_WORDS; LAST_64,
+        "decimal, d": suffixed(b'd', 10, NASM) => NASM_WORDS; LAST_64,
+        "decimal, t": suffixed(b't', 10, NASM) => NASM_WORDS; LAST_64,
+        "hexadecimal, h": nameless(suffixed(b'h', 16, NASM)) => NASM_WORDS; LAST_64, // rejects `ffh`
+        "hexadecimal, x": nameless(suffixed(b'x', 16, NASM)) => NASM_WORDS; LAST_64, // rejects `ffx`
+        "octal, o": suffixed(b'o', 8, NASM) => NASM_WORDS; LAST_64,
+        "octal, q": suffixed(b'q', 8, NASM) => NASM_WORDS; LAST_64,
+        "binary, b": suffixed(b'b', 2, NASM) => NASM_WORDS; LAST_64,
+        "binary, y": suffixed(b'y', 2, NASM) => NASM_WORDS; LAST_64,
         "decimal, 0d": required_prefix(decimal(NASM_PREFIXED
             .base_prefix(NonZeroU8::new(b'd')) // accepts `0d1.5`
             .required_exponent_digits(false) // accepts `0d1e`
-        )); LAST_64,
+        )) => NASM_WORDS; LAST_64,
         "decimal, 0t": required_prefix(decimal(NASM_PREFIXED
             .base_prefix(NonZeroU8::new(b't')) // accepts `0t1.5`
             .required_exponent_digits(false) // accepts `0t1e`
-        )); LAST_64,
-        "hexadecimal, 0h": binary_floats(b'h', 16, NASM_PREFIXED); LAST_64,
-        "hexadecimal, 0x": binary_floats(b'x', 16, NASM_PREFIXED); LAST_64,
-        "octal, 0o": binary_floats(b'o', 8, NASM_PREFIXED); LAST_64,
-        "octal, 0q": binary_floats(b'q', 8, NASM_PREFIXED); LAST_64,
-        "binary, 0b": binary_floats(b'b', 2, NASM_PREFIXED); LAST_64,
-        "binary, 0y": binary_floats(b'y', 2, NASM_PREFIXED); LAST_64,
-    };
+        )) => NASM_WORDS; LAST_64,
+        "hexadecimal, 0h": binary_floats(b'h', 16, NASM_PREFIXED) => NASM_WORDS; LAST_64,
+        "hexadecimal, 0x": binary_floats(b'x', 16, NASM_PREFIXED) => NASM_WORDS; LAST_64,
+        "octal, 0o": binary_floats(b'o', 8, NASM_PREFIXED) => NASM_WORDS; LAST_64,
+        "octal, 0q": binary_floats(b'q', 8, NASM_PREFIXED) => NASM_WORDS; LAST_64,
+        "binary, 0b": binary_floats(b'b', 2, NASM_PREFIXED) => NASM_WORDS; LAST_64,
+        "binary, 0y": binary_floats(b'y', 2, NASM_PREFIXED) => NASM_WORDS; LAST_64,
+    } => Tokens::new(&[], &[]);
 
-    /// Nim's integers and floats, with the sign `-` (Nim Manual 1.6, Numeric literals). A format cannot accept the suffixes in
-    /// `1'i8`, `1i8` and `1.5f32`. A hexadecimal, octal or binary integer keeps its last 64 bits: `0xffffffffffffffff` is -1. Nim
-    /// also accepts the least integers, such as `-128i8`, which are too small here, and `0c17`, which the manual does not, but
-    /// refuses `-1u8`. Tokens with `'` are refused here, and so is `0b1f32`, whose digits are the bits of a float.
-    NIM = {
+    /// Nim's integers and floats, with the sign `-` (Nim Manual 1.6, Numeric literals). A hexadecimal, octal or binary integer
+    /// keeps its last 64 bits: `0xffffffffffffffff` is -1. Nim also accepts the least integers, such as `-128i8`, which are too
+    /// small here, and `0c17`, which the manual does not, but refuses `-1u8`. Tokens with `'` are refused here, and so is
+    /// `0b1f32`, whose digits are the bits of a float.
+    NIM: "Nim" = {
         "decimal": signed(decimal(separated(b'_').required_digits(true))) => NIM_DECIMALS; AT_MOST_63, // rejects `.5`, `1.`, `1e` and `.`
         "hexadecimal": signed(prefixed(b'x', 16, separated(b'_'))) => NIM_INTEGERS; LAST_64,
         "octal": signed(prefixed(b'o', 8, separated(b'_').case_sensitive_base_prefix(true))) => NIM_INTEGERS; LAST_64, // rejects `0O17`
@@ -591,9 +628,9 @@ languages! {
     } => POINTS_BACK;
 
     /// OCaml's integers and floats (Manual 5.2, 11.1 Lexical conventions). A format cannot accept `1._`, whose fraction has a
-    /// separator alone, or `1l`, `1L` and `1n`. An integer has 63 bits, so `0x7fffffffffffffff` is -1.
-    /// `4611686018427387904`, of which OCaml makes its least integer, -2^62, is too large.
-    OCAML = {
+    /// separator alone. An integer has 63 bits, so `0x7fffffffffffffff` is -1. `4611686018427387904`, of which OCaml makes its
+    /// least integer, -2^62, is too large.
+    OCAML: "OCaml" = {
         "decimal": decimal(RUST
             .required_integer_digits(true) // rejects `.5`, not `1.`
             .fraction_leading_digit_separator(true) // accepts `1._5`, not `_1` or `1e_5`
@@ -609,7 +646,7 @@ languages! {
     /// Perl's numeric literals (perldata 5.36, Scalar value constructors). Where Perl warns of a misplaced `_`, as in `1__0`, they
     /// are refused. A format cannot accept `07_7` and `01.4p0` but reject `0_7` and `0.4p0`. In Perl, an integer from 2^64 on is a
     /// float: take its value as an `f64`. A token is refused before a point that may be an operator, as in `1.x` and `0x1F.8`.
-    PERL = {
+    PERL: "Perl" = {
         "decimal": decimal(without_zeros(separated(b'_'))) => Suffixes::new(&[], &[], PERL_STOPS), // rejects `01.5`
         "octal": octal(separated(b'_')),
         "hexadecimal": prefixed(b'x', 16, separated(b'_')),
@@ -623,7 +660,7 @@ languages! {
 
     /// PHP's integers and floats (Manual, 8.1 and later, Integers and Floating point numbers). In PHP, an integer from 2^63 on is
     /// a float.
-    PHP = {
+    PHP: "PHP" = {
         "decimal": decimal(separated(b'_').no_integer_leading_zeros(true)), // rejects `08`, not `08.5`
         "octal": octal(separated(b'_')),
         "hexadecimal": prefixed(b'x', 16, separated(b'_')),
@@ -631,9 +668,9 @@ languages! {
         "binary": prefixed(b'b', 2, separated(b'_')),
     } => Tokens::new(&[], &[]);
 
-    /// Python's integers and floats (Language Reference 3.12, 2.4.5 and 2.4.6). A format cannot accept `00` and reject `01`,
-    /// or accept `1j`. CPython takes the `0o` of `0or x` for a prefix, and refuses it: its token here is `0`.
-    PYTHON = {
+    /// Python's integers and floats (Language Reference 3.12, 2.4.5 and 2.4.6). A format cannot accept `00` and reject `01`.
+    /// CPython takes the `0o` of `0or x` for a prefix, and refuses it: its token here is `0`.
+    PYTHON: "Python" = {
         "decimal": decimal(separated(b'_').no_integer_leading_zeros(true)) => PYTHON_WORDS, // rejects `01`, not `01.0`
         "hexadecimal": prefixed(b'x', 16, GO_PREFIXED),
         "octal": prefixed(b'o', 8, GO_PREFIXED),
@@ -643,16 +680,17 @@ languages! {
         PYTHON_KEYWORDS,
     );
 
-    /// R's numeric constants (R Language Definition 4.2, 10.3.1). A format cannot accept `1L` and `1i`. In R, all are doubles:
-    /// `9007199254740993` is 9007199254740992 there.
-    R = {
+    /// R's numeric constants (R Language Definition 4.2, 10.3.1). In R, all are doubles: `9007199254740993` is 9007199254740992
+    /// there.
+    R: "R" = {
         "decimal": decimal(TOKENS) => R_WORDS,
         "hexadecimal": prefixed(b'x', 16, TOKENS) => R_WORDS,
         "hexadecimal float": binary_floats(b'x', 16, TOKENS.required_exponent_notation(true)) => R_WORDS, // rejects `0x1.8`
     } => Tokens::new(&[], &[]);
 
-    /// Ruby's integers and floats (ISO/IEC 30170:2012, 8.7.6.2), with signs. A format cannot accept `1r` and `1i`.
-    RUBY = {
+    /// Ruby's integers and floats (ISO/IEC 30170:2012, 8.7.6.2), with signs. Of `1iif`, which is `1` and a name to
+    /// Ruby, the token is `1i`, since `if` is a keyword.
+    RUBY: "Ruby" = {
         "decimal": signed(decimal(without_zeros(RUBY).required_digits(true))) => RUBY_WORDS, // rejects `.5`, `1.`, `1e` and `.`
         "octal": signed(octal(RUBY)) => RUBY_WORDS,
         "hexadecimal": signed(prefixed(b'x', 16, RUBY)) => RUBY_WORDS,
@@ -668,10 +706,9 @@ languages! {
     )
     .gives_points_back(true);
 
-    /// Rust's integers and floats (Reference, Integer literals and Floating-point literals). A format cannot accept the
-    /// suffixes in `0x1F_u8` and `1f32`. At the end of a text, the token of `0b1.` is `0b1`, but rustc takes the point, and
-    /// refuses it.
-    RUST = {
+    /// Rust's integers and floats (Reference, Integer literals and Floating-point literals). At the end of a text, the
+    /// token of `0b1.` is `0b1`, but rustc takes the point, and refuses it.
+    RUST: "Rust" = {
         "decimal": decimal(RUST
             .required_integer_digits(true) // rejects `.5`
             .required_fraction_digits(true) // rejects `1.` and `1.e5`
@@ -687,9 +724,9 @@ languages! {
         "binary": prefixed(b'b', 2, RUST_PREFIXED) => RUST_PREFIXED_WORDS,
     } => POINTS_BACK;
 
-    /// Scala's integers and floats (Scala 3.3 Reference, Syntax). A format cannot accept `1L`, `1f` and `1d`. Values are those of
-    /// `Int` or, with `L`, of `Long`: `0xffffffff` is -1. `2147483648`, which is lawful only after the operator `-`, is too large.
-    SCALA = {
+    /// Scala's integers and floats (Scala 3.3 Reference, Syntax). Values are those of `Int` or, with `L`, of `Long`:
+    /// `0xffffffff` is -1. `2147483648`, which is lawful only after the operator `-`, is too large.
+    SCALA: "Scala" = {
         "decimal": decimal(JAVA
             .required_fraction_digits(true) // rejects `1.`, not `.5`
             .no_integer_leading_zeros(true) // rejects `01`, not `01.0`
@@ -701,10 +738,10 @@ languages! {
     ).gives_points_back(true);
 
     /// SQL's signed numeric literals (ISO/IEC 9075-2:2016, 5.3 `<literal>`). PostgreSQL reads `-0.0` as 0.
-    SQL = { "decimal": numbers(b'e', b'.', NumberFormatBuilder::new().no_special(true)) }; // rejects `NaN` and `inf`
+    SQL: "SQL" = { "decimal": numbers(b'e', b'.', NumberFormatBuilder::new().no_special(true)) => SQL_WORDS } => POINTS_BACK; // rejects `NaN` and `inf`
 
     /// Swift's numeric literals, with the sign `-` (The Swift Programming Language, Lexical Structure).
-    SWIFT = {
+    SWIFT: "Swift" = {
         "decimal": signed(decimal(RUST.required_digits(true))), // rejects `.5`, `1.`, `1e` and `.`
         "hexadecimal": signed(prefixed(b'x', 16, RUST.case_sensitive_base_prefix(true))), // rejects `0X1F`
         "octal": signed(prefixed(b'o', 8, RUST.case_sensitive_base_prefix(true))), // rejects `0O17`
@@ -717,7 +754,7 @@ languages! {
     } => POINTS_BACK;
 
     /// Tcl's numbers as operands of `expr` (expr manual 8.6, Operands).
-    TCL = {
+    TCL: "Tcl" = {
         "decimal": decimal(TOKENS
             .no_special(false) // accepts `Inf`
             .no_integer_leading_zeros(true) // rejects `08`, not `08.5`
@@ -729,7 +766,7 @@ languages! {
     }, Specials { nan: None, inf: Some(b"Inf"), infinity: Some(b"Infinity") } => Tokens::new(&[], &[b"eq", b"ne", b"in", b"ni"]);
 
     /// TOML's integers and floats (TOML 1.0.0, Integer and Float).
-    TOML = {
+    TOML: "TOML" = {
         "decimal": numbers(b'e', b'.', without_zeros(separated(b'_'))
             .required_digits(true) // rejects `.5`, `1.`, `1e` and `.`
             .no_positive_mantissa_sign(false) // accepts `+1`
@@ -742,7 +779,7 @@ languages! {
     }, Specials { nan: Some(b"nan"), inf: Some(b"inf"), infinity: None };
 
     /// The decimals of XML Schema, with signs (XML Schema 1.1, Part 2, 3.3.3).
-    XML_SCHEMA = { "decimal": numbers(b'e', b'.', NumberFormatBuilder::new()
+    XML_SCHEMA: "XML Schema" = { "decimal": numbers(b'e', b'.', NumberFormatBuilder::new()
         .no_special(true) // rejects `NaN` and `INF`, which are floats
         .no_exponent_notation(true) // rejects `1e5`
     ) };
@@ -750,7 +787,7 @@ languages! {
     /// YAML's integers and floats (YAML 1.2.2, 10.3.2 Tag Resolution). A format cannot accept `.inf` and `.INF` but reject
     /// `.iNF`, or accept `-.inf` but reject `-.nan`. Tools for YAML 1.1, such as PyYAML, read `YAML_1_1`: there, `010` is
     /// 8, and `1e3` is a string.
-    YAML = {
+    YAML: "YAML" = {
         "decimal": numbers(b'e', b'.', NumberFormatBuilder::new()),
         "octal": prefixed(b'o', 8, TOKENS.case_sensitive_base_prefix(true)), // rejects `0O17`
         "hexadecimal": prefixed(b'x', 16, TOKENS.case_sensitive_base_prefix(true)), // rejects `0X1F`
@@ -759,7 +796,7 @@ languages! {
     /// YAML 1.1's integers and floats (int.html and float.html of its type repository). A format cannot accept `1:30`, which is
     /// 90 there, `1._`, whose fraction has a separator alone, or `-.inf` but reject `-.nan` and `.iNF`. PyYAML reads `-.5` and
     /// `._5` as strings.
-    YAML_1_1 = {
+    YAML_1_1: "YAML 1.1" = {
         "decimal": numbers(b'e', b'.', YAML_1_1
             .no_special(false) // accepts `.nan` and `.inf`
             .no_integer_leading_zeros(true) // rejects `08`, not `08.5`

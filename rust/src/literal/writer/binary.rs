@@ -8,7 +8,7 @@ use crate::literal::value::number::shortest::Units;
 use crate::literal::writer::checked::Exact;
 use crate::literal::writer::form::{is_shown, least_places, Shape};
 use crate::literal::writer::layout::{allows_exponent, Style, WriteError};
-use crate::literal::writer::rounded::rounded;
+use crate::literal::writer::rounded::over_power;
 
 // A float without its sign: an odd number, or 0, times two to the power of `power - 1200`. A digit of its radix has so many bits, and
 // its exponent base is two to the power of `base_bits`.
@@ -23,14 +23,6 @@ pub(crate) struct Binary {
 // What is added to the exponent of a power of two. Each number of bits of a digit divides it.
 const RAISED: u64 = 1200;
 
-// Returns a number over a power of two, rounded: the nearest, or the even one if two are as near.
-const fn over_power(number: u64, down: u64) -> u64 {
-    if down > 64 {
-        return 0;
-    }
-    rounded(number as u128, 1 << down) as u64
-}
-
 // Returns a float as an odd number, or 0, times two to the power of what is returned, less 1200.
 fn odd_of(units: Units) -> (u64, u64) {
     if units.size == 0 {
@@ -43,12 +35,8 @@ fn odd_of(units: Units) -> (u64, u64) {
 impl Binary {
     // Returns a float in a radix and with an exponent base, if both are powers of two.
     pub(crate) fn of(units: Units, radix: u32, base: u32) -> Option<Binary> {
-        let Some(bits) = bits_of(radix) else {
-            return None;
-        };
-        let Some(base_bits) = bits_of(base) else {
-            return None;
-        };
+        let bits = bits_of(radix)?;
+        let base_bits = bits_of(base)?;
         let (number, power) = odd_of(units);
         Some(Binary { number, power, bits: bits as u64, base_bits: base_bits as u64 })
     }
@@ -63,7 +51,7 @@ impl Binary {
     fn units(&self, places: u64, low: u64) -> (u64, u64) {
         let power = self.power + self.bits * places;
         if power < low {
-            return (over_power(self.number, low - power), 0);
+            return (over_power(self.number as u128, low - power) as u64, 0);
         }
         let up = power - low;
         (self.number << (up % self.bits), up / self.bits)

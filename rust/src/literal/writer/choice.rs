@@ -14,7 +14,7 @@ use crate::literal::value::number::numeral::Magnitude;
 use crate::literal::writer::checked::is_integer;
 use crate::literal::writer::float::format_float;
 use crate::literal::writer::float_digits::FloatDigits;
-use crate::literal::writer::layout::{Amount, ExponentStyle, Style, WriteError};
+use crate::literal::writer::layout::{Amount, ExponentStyle, Layout, Style, WriteError};
 use crate::literal::writer::literal::lay_out;
 use crate::literal::writer::near::format_near;
 
@@ -29,30 +29,39 @@ pub trait Writable {
     /// Returns whether a float is rounded in a style.
     fn is_rounded(&self, style: Style) -> bool;
 
-    /// Returns whether a literal of the exact kind is the number if it is written for it.
-    fn is_plain(&self, literal: &Literal) -> bool;
-
     /// Writes the number as a literal of `syntax` to the beginning of a buffer, as far as it has room, and returns the length of
-    /// the text.
+    /// the text, and whether it has a decimal point or an exponent.
     ///
     /// # Errors
     ///
     /// If no literal has the number, returns why.
-    fn write(&self, syntax: &Syntax, style: Style, buffer: &mut [u8]) -> Result<usize, WriteError>;
+    fn write(&self, syntax: &Syntax, style: Style, buffer: &mut [u8]) -> Result<(usize, bool), WriteError>;
 
-    /// Returns whether a literal is worth the number in a style, of which `own` is what its form alone reads. A number that is
-    /// rounded is that of `own`.
+    /// Returns whether a literal of a syntax and a kind, with a decimal point or an exponent or without, is the number if it is
+    /// written for it.
+    fn is_plain(&self, syntax: &Syntax, kind: Kind, float: bool) -> bool;
+
+    /// Returns whether a literal is worth the number in a style, of which `own` is what its form alone reads.
     fn is_read_as(&self, style: Style, own: &Literal, literal: &Literal) -> bool;
 }
 
-/// The value of an integer type.
+/// The value of an integer type, by its sign and its size.
 #[derive(Clone, Copy)]
-pub struct Whole<T> {
-    /// The value.
-    pub value: T,
+pub struct Whole {
+    negative: bool,
+    size: u128,
 }
 
-impl<T: Integer> Writable for Whole<T> {
+impl Whole {
+    /// Returns the value.
+    #[inline(always)]
+    pub fn of<T: Integer>(value: T) -> Whole {
+        let (negative, size) = value.sign_and_size();
+        Whole { negative, size }
+    }
+}
+
+impl Writable for Whole {
     fn radix(&self) -> u32 {
         10
     }
@@ -65,22 +74,25 @@ impl<T: Integer> Writable for Whole<T> {
         false
     }
 
-    fn is_plain(&self, literal: &Literal) -> bool {
-        !has_float(literal)
-    }
-
-    fn write(&self, syntax: &Syntax, style: Style, buffer: &mut [u8]) -> Result<usize, WriteError> {
-        let (negative, size) = self.value.sign_and_size();
+    fn write(&self, syntax: &Syntax, style: Style, buffer: &mut [u8]) -> Result<(usize, bool), WriteError> {
         // A list asks each form, so a refusal is to take few steps.
-        if negative && syntax.conditions().has(Condition::NegativeSign) {
+        if self.negative && syntax.conditions().has(Condition::NegativeSign) {
             return Err(WriteError::Negative);
         }
-        Ok(lay_out(&Amount::of_size(negative, size), syntax, style)?.write(buffer))
+        let amount = Amount::of_size(self.negative, self.size);
+        Ok(put(&lay_out(&amount, syntax, style)?, buffer))
+    }
+
+    fn is_plain(&self, syntax: &Syntax, kind: Kind, float: bool) -> bool {
+        if float {
+            is_exact(kind) && !has_floats(syntax)
+        } else {
+            is_kept(kind.integers(), self.size)
+        }
     }
 
     fn is_read_as(&self, _: Style, _: &Literal, literal: &Literal) -> bool {
-        let (negative, size) = self.value.sign_and_size();
-        is_worth(literal, negative, size)
+        is_worth(literal, self.negative, self.size)
     }
 }
 
@@ -104,23 +116,17 @@ impl<F: Float> Writable for Real<F> {
         style.decimals.is_some()
     }
 
-    fn is_plain(&self, _: &Literal) -> bool {
-        true
-    }
-
-    fn write(&self, syntax: &Syntax, style: Style, buffer: &mut [u8]) -> Result<usize, WriteError> {
+    fn write(&self, syntax: &Syntax, style: Style, buffer: &mut [u8]) -> Result<(usize, bool), WriteError> {
         let mut digits = FloatDigits::new();
-        Ok(format_float(syntax, self.value, style, &mut digits)?.write(buffer))
+        Ok(put(&format_float(syntax, self.value, style, &mut digits)?, buffer))
     }
 
-    fn is_read_as(&self, style: Style, own: &Literal, literal: &Literal) -> bool {
-        if style.decimals.is_some() {
-            return is_same::<F>(own, literal);
-        }
-        match self.value.bits() {
-            Some(bits) => bits_in::<F>(literal) == Some(bits),
-            None => false,
-        }
+    fn is_plain(&self, syntax: &Syntax, kind: Kind, float: bool) -> bool {
+        is_nearest(kind, float) && has_floats(syntax)
+    }
+
+    fn is_read_as(&self, _: Style, own: &Literal, literal: &Literal) -> bool {
+        is_same::<F>(own, literal)
     }
 }
 
@@ -135,10 +141,7 @@ fn float_of<F: Float>(literal: &Literal) -> Option<F> {
 
 // Returns the bits of what a literal is worth as a float, if it is one.
 fn bits_in<F: Float>(literal: &Literal) -> Option<u64> {
-    match float_of::<F>(literal) {
-        Some(value) => value.bits(),
-        None => None,
-    }
+    float_of::<F>(literal)?.bits()
 }
 
 // Returns whether two literals are worth the same float.
@@ -162,13 +165,13 @@ impl Writable for Literal<'_> {
         false
     }
 
-    fn is_plain(&self, literal: &Literal) -> bool {
-        is_exact(self.kind()) && (self.is_float() || !has_float(literal))
+    fn write(&self, syntax: &Syntax, style: Style, buffer: &mut [u8]) -> Result<(usize, bool), WriteError> {
+        let mut digits = FloatDigits::new();
+        Ok(put(&format_near::<f64>(self, syntax, style, &mut digits)?, buffer))
     }
 
-    fn write(&self, syntax: &Syntax, style: Style, buffer: &mut [u8]) -> Result<usize, WriteError> {
-        let mut digits = FloatDigits::new();
-        Ok(format_near::<f64>(self, syntax, style, &mut digits)?.write(buffer))
+    fn is_plain(&self, syntax: &Syntax, kind: Kind, float: bool) -> bool {
+        is_exact(self.kind()) & is_exact(kind) & (self.is_float() | !(float & has_floats(syntax)))
     }
 
     fn is_read_as(&self, style: Style, own: &Literal, literal: &Literal) -> bool {
@@ -201,9 +204,40 @@ fn is_same_size(own: Magnitude, magnitude: Magnitude) -> bool {
     }
 }
 
-// Returns whether a literal is worth a float, and no integer.
-fn has_float(literal: &Literal) -> bool {
-    literal.is_float() && supports_floats(literal.format())
+// Writes a literal to the beginning of a buffer, as far as it has room, and returns the length of the text, and whether it has a
+// decimal point or an exponent.
+fn put(layout: &Layout, buffer: &mut [u8]) -> (usize, bool) {
+    let float = layout.point.is_some() | layout.exponent_character.is_some();
+    (layout.write(buffer), float)
+}
+
+// Returns whether literals of a syntax have floats.
+fn has_floats(syntax: &Syntax) -> bool {
+    supports_floats(syntax.format().view())
+}
+
+// Returns whether literals of a kind, with a decimal point or an exponent or without, are worth the nearest float.
+const fn is_nearest(kind: Kind, float: bool) -> bool {
+    match (kind.floats(), kind.integers()) {
+        (FloatKind::Nearest, IntegerKind::Exact) => true,
+        (FloatKind::Nearest, _) => float,
+        (FloatKind::Single, _) => false,
+    }
+}
+
+// Returns whether an integer of this size, also below 0, is known to be worth itself by a kind: one that has fewer bits than the kind is.
+const fn is_kept(kind: IntegerKind, size: u128) -> bool {
+    match kind {
+        IntegerKind::Exact => true,
+        IntegerKind::AtMost(bits) => is_low(bits, size),
+        IntegerKind::Wraps(_) | IntegerKind::WrapsModulo(_) => false,
+    }
+}
+
+// Returns whether a number has fewer than `bits` bits. No kind has more than 64.
+const fn is_low(bits: u8, size: u128) -> bool {
+    let width = if bits < 64 { bits } else { 64 };
+    size < 1 << width.saturating_sub(1)
 }
 
 // Returns whether a literal is worth an integer: as an integer, or as a float that is exactly this integer.
@@ -237,6 +271,9 @@ const fn is_exact(kind: Kind) -> bool {
     matches!(kind.integers(), IntegerKind::Exact) && matches!(kind.floats(), FloatKind::Nearest)
 }
 
+// The longest text that is read back.
+pub(crate) const LONGEST: usize = 4096;
+
 /// Writes a number by the first form whose text the list reads as this number, to the beginning of a buffer, and returns the
 /// index of the form, the length of the text, and the style in which it is written. Forms of the number's radix are asked first,
 /// then decimal ones, and then the others, each in the order of the list, and all forms with floats write a float before those of
@@ -247,7 +284,7 @@ const fn is_exact(kind: Kind) -> bool {
 ///
 /// If there is no such form, returns the error of the form that is asked first, but [`WriteError::Fraction`] gives way to another one.
 /// It is [`WriteError::ReadBack`] if the text is read as another number, [`WriteError::TooLarge`] if it is too large for its kind,
-/// and [`WriteError::Buffer`] if it does not fit the buffer.
+/// and [`WriteError::Buffer`] if it does not fit the buffer. With a text of up to 4,096 bytes that does not, the search ends.
 pub fn choose<N: Writable + ?Sized>(
     forms: &Forms,
     number: &N,
@@ -274,6 +311,7 @@ pub fn choose<N: Writable + ?Sized>(
             let whole = floats && syntax.options().is_none();
             match write_in(forms, index, whole, number, style, buffer) {
                 Ok((length, style)) => return Ok((index, length, style)),
+                Err(other) if is_short(other) => return Err(other),
                 Err(other) => error = first_reason(error, other),
             }
         }
@@ -336,14 +374,17 @@ fn write_in<N: Writable + ?Sized>(
         Ok(length) => return Ok((length, style)),
         Err(error) => error,
     };
-    if !number.is_integer() || !matches!(style.exponent, ExponentStyle::Always) {
+    if is_short(error) || !number.is_integer() || !matches!(style.exponent, ExponentStyle::Always) {
         return Err(error);
     }
     let style = Style { exponent: ExponentStyle::AsNumber, ..style };
-    match write_by(forms, index, number, style, buffer) {
-        Ok(length) => Ok((length, style)),
-        Err(error) => Err(error),
-    }
+    let length = write_by(forms, index, number, style, buffer)?;
+    Ok((length, style))
+}
+
+// Returns whether a text needs a longer buffer.
+const fn is_short(error: WriteError) -> bool {
+    matches!(error, WriteError::Buffer(length) if length <= LONGEST)
 }
 
 // Writes a number by one form, and returns the length of the text, or why it is not used.
@@ -356,36 +397,45 @@ fn write_by<N: Writable + ?Sized>(
 ) -> Result<usize, WriteError> {
     let it = &forms.as_slice()[index];
     let syntax = it.syntax();
-    let size = number.write(&syntax, style, buffer)?;
+    let (size, float) = number.write(&syntax, style, buffer)?;
     // A text that is longer than a `usize` has the size `usize::MAX`.
     if size == usize::MAX || size > buffer.len() {
         return Err(WriteError::Buffer(size));
     }
+    let plain = number.is_plain(&syntax, it.kind(), float);
+    // A list reads what the first form reads as this form does.
+    if plain && index == 0 {
+        return Ok(size);
+    }
     let text = &buffer[..size];
-    match forms.read(text) {
-        Ok(Number::Literal { literal, form }) => {
-            if form == index && is_exact(it.kind()) && number.is_plain(&literal) {
-                return Ok(size);
-            }
-            let Some(own) = own_literal(&syntax, text) else {
-                return Err(WriteError::ReadBack);
-            };
-            if number.is_read_as(style, &own, &literal) {
-                return Ok(size);
-            }
-            let large = !literal.is_float() && own_numeral(&literal).is_err();
-            Err(if large { WriteError::TooLarge } else { WriteError::ReadBack })
-        }
-        _ => Err(WriteError::ReadBack),
+    let Ok(Number::Literal { literal, form }) = forms.read(text) else {
+        return Err(WriteError::ReadBack);
+    };
+    if plain && form == index {
+        return Ok(size);
+    }
+    let Some(own) = own_literal(&syntax, text) else {
+        return Err(WriteError::ReadBack);
+    };
+    if number.is_read_as(style, &own, &literal) {
+        return Ok(size);
+    }
+    Err(mismatch(&literal))
+}
+
+// Returns why a text is not used that is read as this literal, which is another number or has no value.
+fn mismatch(literal: &Literal) -> WriteError {
+    if !literal.is_float() && own_numeral(literal).is_err() {
+        WriteError::TooLarge
+    } else {
+        WriteError::ReadBack
     }
 }
 
 // Returns the literal of a syntax that a text is, by the calls that lists share.
 fn own_literal<'a>(syntax: &Syntax, text: &'a [u8]) -> Option<Literal<'a>> {
     let alone = [Form::new("", *syntax)];
-    let Some(list) = Forms::new(&alone) else {
-        return None;
-    };
+    let list = Forms::new(&alone)?;
     match list.read(text) {
         Ok(Number::Literal { literal, .. }) => Some(literal),
         _ => None,

@@ -9,12 +9,10 @@ use crate::literal::writer::sink::Sink;
 
 // Returns what follows the zeros that the digits among bytes begin with.
 pub(crate) fn without_zeros(bytes: &[u8], radix: u32) -> &[u8] {
-    let mut index = 0;
-    while index < bytes.len() {
-        if let Some(1..) = char_to_digit(bytes[index], radix) {
+    for (index, byte) in bytes.iter().enumerate() {
+        if let Some(1..) = char_to_digit(*byte, radix) {
             return &bytes[index..];
         }
-        index += 1;
     }
     &[]
 }
@@ -113,13 +111,11 @@ fn put_digit<S: Sink>(sink: &mut S, digit: u32, left: u128, run: &Run) {
 // Writes the digits among bytes in groups, which are the first of `count` digits, and returns how many are left.
 fn put_digits<S: Sink>(sink: &mut S, bytes: &[u8], count: u128, run: &Run) -> u128 {
     let mut left = count;
-    let mut index = 0;
-    while index < bytes.len() {
-        if let Some(digit) = char_to_digit(bytes[index], run.radix) {
+    for byte in bytes {
+        if let Some(digit) = char_to_digit(*byte, run.radix) {
             left -= 1;
             put_digit(sink, digit, left, run);
         }
-        index += 1;
     }
     left
 }
@@ -148,22 +144,15 @@ fn put_padded<S: Sink>(sink: &mut S, padded: &Padded, run: &Run) {
 
 // Returns whether all bytes are uppercase digits.
 fn are_characters(bytes: &[u8], radix: u32) -> bool {
-    let mut index = 0;
-    while index < bytes.len() {
-        let Some(digit) = char_to_digit(bytes[index], radix) else {
+    for byte in bytes {
+        let Some(digit) = char_to_digit(*byte, radix) else {
             return false;
         };
-        if digit_to_char(digit) != bytes[index] {
+        if digit_to_char(digit) != *byte {
             return false;
         }
-        index += 1;
     }
     true
-}
-
-// Writes the digits among bytes as `put_padded` does.
-fn put_bytes<S: Sink>(sink: &mut S, bytes: &[u8], run: &Run) {
-    put_padded(sink, &Padded::of(bytes), run);
 }
 
 // Writes uppercase digits as `put_padded` does.
@@ -171,7 +160,7 @@ fn put_characters<S: Sink>(sink: &mut S, bytes: &[u8], run: &Run) {
     if run.pattern.higher == 0 && !run.pattern.lowercase && run.least <= bytes.len() as u128 {
         sink.put_all(bytes);
     } else {
-        put_bytes(sink, bytes, run);
+        put_padded(sink, &Padded::of(bytes), run);
     }
 }
 
@@ -186,12 +175,10 @@ fn put_number<S: Sink>(sink: &mut S, number: u128, run: &Run) {
 
 // Returns whether the first of the digits among bytes is decimal.
 fn begins_decimal(bytes: &[u8], radix: u32) -> bool {
-    let mut index = 0;
-    while index < bytes.len() {
-        if let Some(digit) = char_to_digit(bytes[index], radix) {
+    for byte in bytes {
+        if let Some(digit) = char_to_digit(*byte, radix) {
             return digit < 10;
         }
-        index += 1;
     }
     false
 }
@@ -276,7 +263,7 @@ impl Run<'_> {
                 if are_characters(bytes, self.radix) {
                     put_characters(sink, bytes, self);
                 } else {
-                    put_bytes(sink, bytes, self);
+                    put_padded(sink, &Padded::of(bytes), self);
                 }
             }
             Source::Number(number) => put_number(sink, number, self),

@@ -254,7 +254,7 @@ impl<'a> Amount<'a> {
         }
         let conditions = syntax.conditions();
         let options = syntax.options().unwrap_or(Options { exponent: 0, point: 0 });
-        let power = self.power();
+        let power = self.exponent.unwrap_or(Power { negative: false, source: Source::Number(0) });
         let exponent = self.has_exponent(syntax, style);
         let point = self.has_point(syntax, style);
         let prefix = base_byte(style.prefix | conditions.has(Condition::BasePrefix), base_prefix(format.word()));
@@ -270,15 +270,6 @@ impl<'a> Amount<'a> {
             exponent: exponent_run(power.source, format, style, exponent),
             suffix: base_byte(style.suffix | conditions.has(Condition::BaseSuffix), base_suffix(format.word())),
         })
-    }
-
-    // Returns the exponent, or one without digits.
-    #[inline]
-    fn power(&self) -> Power<'a> {
-        match self.exponent {
-            Some(power) => power,
-            None => Power { negative: false, source: Source::Number(0) },
-        }
     }
 
     // Returns whether there is an exponent character.
@@ -318,7 +309,7 @@ impl<'a> Amount<'a> {
     fn fraction_run(&self, format: FormatView, conditions: Conditions, style: Style, point: bool) -> Run<'a> {
         let radix = format.mantissa_radix();
         let run = Run {
-            source: self.fraction(),
+            source: self.fraction.unwrap_or(Source::Number(0)),
             radix,
             least: one_if(point & format.required_fraction_digits()),
             pattern: no_groups(style.lowercase),
@@ -343,7 +334,9 @@ impl<'a> Amount<'a> {
     #[inline]
     fn has_zero(&self, format: FormatView) -> bool {
         let radix = format.mantissa_radix();
-        format.required_integer_digits() || has_digits(self.integer, radix) || !has_digits(self.fraction(), radix)
+        format.required_integer_digits()
+            || has_digits(self.integer, radix)
+            || !has_digits(self.fraction.unwrap_or(Source::Number(0)), radix)
     }
 
     // Returns how many integer digits there are with the zero that the conditions require before them, or 0 if they require
@@ -387,15 +380,6 @@ impl<'a> Amount<'a> {
             return zero;
         }
         zero.max(style.min_digits as u128)
-    }
-
-    // Returns the fraction digits, if there are any.
-    #[inline]
-    pub(crate) fn fraction(&self) -> Source<'a> {
-        match self.fraction {
-            Some(source) => source,
-            None => Source::Number(0),
-        }
     }
 }
 

@@ -4,10 +4,11 @@ use core::fmt::{self, Write};
 use core::str;
 
 use crate::literal::value::number::float::Float;
-use crate::literal::writer::float;
+use crate::literal::value::number::integer::Integer;
 use crate::literal::writer::float_digits::FloatDigits;
-use crate::literal::writer::layout::{Layout, Style, WriteError};
+use crate::literal::writer::layout::{Amount, Layout, Style, WriteError};
 use crate::literal::writer::sink::{Sink, Window};
+use crate::literal::writer::{float, literal};
 use crate::literal::Syntax;
 
 /// A number as a literal of a syntax, or NaN or infinity, which prints the text. Nothing is allocated.
@@ -21,31 +22,54 @@ pub struct Written<'a> {
 #[allow(clippy::large_enum_variant, reason = "nothing is allocated")]
 pub(super) enum Text<'a> {
     Number(Layout<'a>),
-    Float(FloatText),
+    Value(ValueText),
     Special(Option<u8>, &'a str),
 }
 
-/// A call of [`lay_out`] for a type. A program has only those for the types that it writes.
-pub(super) type LayOut = for<'b> fn(u64, &Syntax, Style, &'b mut FloatDigits) -> Option<Layout<'b>>;
+/// The value of a type, by its sign and by an integer that is its size, or the bits of it, and how it is laid out. A program has
+/// only those calls for the types that it writes.
+#[derive(Clone, Copy)]
+pub(super) struct Value {
+    negative: bool,
+    size: u128,
+    lay_out: for<'b> fn(bool, u128, &Syntax, Style, &'b mut FloatDigits) -> Option<Layout<'b>>,
+}
 
-/// Returns the layout of the float of a type with these bits.
-pub(super) fn lay_out<'b, T: Float>(
-    bits: u64,
+impl Value {
+    /// Returns an integer.
+    pub(super) fn of_integer<T: Integer>(value: T) -> Value {
+        let (negative, size) = value.sign_and_size();
+        let lay_out = |negative, size, syntax: &Syntax, style, _: &mut FloatDigits| {
+            literal::lay_out(&Amount::of_size(negative, size), syntax, style).ok()
+        };
+        Value { negative, size, lay_out }
+    }
+
+    /// Returns a float.
+    pub(super) fn of_float<T: Float>(value: T) -> Value {
+        let sign = if T::DOUBLE { 1 << 63 } else { 1 << 31 };
+        let bits = value.bits().unwrap_or(0);
+        Value { negative: bits >= sign, size: (bits % sign).into(), lay_out: lay_out::<T> }
+    }
+}
+
+/// Returns the layout of the float of a type with this sign, and with these bits but for that of the sign.
+fn lay_out<'b, T: Float>(
+    negative: bool,
+    bits: u128,
     syntax: &Syntax,
     style: Style,
     digits: &'b mut FloatDigits,
 ) -> Option<Layout<'b>> {
-    let sign = if T::DOUBLE { 1 << 63 } else { 1 << 31 };
-    let size = T::from_magnitude(bits % sign);
-    let value = if bits < sign { size } else { size.negated() };
+    let size = T::from_magnitude(bits as u64);
+    let value = if negative { size.negated() } else { size };
     float::format_float(syntax, value, style, digits).ok()
 }
 
-/// The bits of a float, which can be laid out, and the text, if it is short, with its length.
+/// A value, which can be laid out, and the text, if it is short, with its length.
 #[derive(Clone, Copy)]
-pub(super) struct FloatText {
-    pub(super) bits: u64,
-    pub(super) lay_out: LayOut,
+pub(super) struct ValueText {
+    pub(super) value: Value,
     pub(super) syntax: Syntax,
     pub(super) style: Style,
     pub(super) text: [u8; 40],
@@ -57,20 +81,30 @@ impl Text<'_> {
     fn layout<'b>(&'b self, digits: &'b mut FloatDigits) -> Option<Layout<'b>> {
         match self {
             Text::Number(layout) => Some(*layout),
-            Text::Float(FloatText { bits, lay_out, syntax, style, .. }) => lay_out(*bits, syntax, *style, digits),
+            Text::Value(ValueText { value: Value { negative, size, lay_out }, syntax, style, .. }) => {
+                lay_out(*negative, *size, syntax, *style, digits)
+            }
             Text::Special(..) => None,
+        }
+    }
+
+    /// Returns the text of a value, if it is short.
+    fn short(&self) -> Option<&[u8]> {
+        match self {
+            Text::Value(ValueText { text, length, .. }) => text.get(..*length),
+            _ => None,
         }
     }
 
     /// Writes the text to the beginning of a buffer, and returns its length.
     pub(super) fn write(&self, buffer: &mut [u8]) -> usize {
+        if let Some(text) = self.short().filter(|text| text.len() <= buffer.len()) {
+            buffer[..text.len()].copy_from_slice(text);
+            return text.len();
+        }
         match self {
             Text::Number(layout) => layout.write(buffer),
-            Text::Float(FloatText { text, length, .. }) if *length <= text.len().min(buffer.len()) => {
-                buffer[..*length].copy_from_slice(&text[..*length]);
-                *length
-            }
-            Text::Float(_) => self.layout(&mut FloatDigits::new()).map_or(0, |layout| layout.write(buffer)),
+            Text::Value(_) => self.layout(&mut FloatDigits::new()).map_or(0, |layout| layout.write(buffer)),
             Text::Special(sign, word) => {
                 let mut window = Window { bytes: buffer, length: 0 };
                 sign.iter().for_each(|sign| window.put(*sign));
@@ -121,6 +155,13 @@ impl fmt::Display for Written<'_> {
 }
 
 impl Written<'_> {
+    /// Returns the text if it is short, and known.
+    #[doc(hidden)]
+    #[must_use]
+    pub fn short(&self) -> Option<&[u8]> {
+        self.text.short()
+    }
+
     /// Prints the text to a writer that is no formatter, which takes 3 kB less of a program.
     ///
     /// # Errors

@@ -1,8 +1,6 @@
 -- Few digits fit, and of more those behind the zeros may.
-use Rattle.lexical_literal.proofs.Common.{◌≡◌, ◌%◌, ◌^◌, ◌++◌, [], append-nil, sym, ap, subst, ◌∙◌, arith, Literal, cut, cuts_of, number, places}
-use Rattle.lexical_literal.specs.Parts.{literal_of}
-use Rattle.lexical_number.specs.Small.{IsSmall}
-use Rattle.lexical_number.proofs.SmallLemmas.{fitting_word}
+use Rattle.lexical_literal.proofs.Common.{◌≡◌, ◌%◌, ◌^◌, ◌++◌, [], append-nil, sym, ap, subst, ◌∙◌, arith, Literal, cut, cuts_of, number, places, literal_of}
+use Rattle.lexical_literal.proofs.Common.{IsSmall, fitting_word}
 use Rattle.lexical_literal.proofs.literal.small_exponent.Goals as goal
 
 pub returns-then-fits : goal.returns-then-fits

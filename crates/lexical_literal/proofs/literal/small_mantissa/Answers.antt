@@ -1,7 +1,5 @@
 -- Few digits fit, and of more those behind the zeros may.
-use Rattle.lexical_literal.proofs.Common.{◌≡◌, ◌%◌, ◌^◌, ◌++◌, sym, ap, subst, ◌∙◌, arith, Literal, cut, cuts_of, number, places}
-use Rattle.lexical_number.specs.Small.{IsSmall}
-use Rattle.lexical_number.proofs.SmallLemmas.{fitting_word}
+use Rattle.lexical_literal.proofs.Common.{◌≡◌, ◌%◌, ◌^◌, ◌++◌, sym, ap, subst, ◌∙◌, arith, Literal, cut, cuts_of, number, places, IsSmall, fitting_word}
 use Rattle.lexical_literal.proofs.literal.small_mantissa.Goals as goal
 
 pub returns-then-fits : goal.returns-then-fits

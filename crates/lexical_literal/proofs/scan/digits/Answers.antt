@@ -1,9 +1,7 @@
 -- The first digit, and those behind it.
 use Rattle.lexical_literal.proofs.Common.{ℕ, ◌≡◌, ◌+◌, ◌&&◌, Bool, List, true, false, get_or, refl, sym, ap, subst, ◌∙◌, arith, raw, Part, radix_of, Grammar}
 use Rattle.lexical_literal.proofs.Common.{◌==◌, if◌then◌else◌, steps_of, HasRoles, IsReadOn, IsRunOn, at_stage, awaits_integer, digits_piece, has_digit}
-use Rattle.lexical_literal.proofs.Common.{is_signed, part_of, Reading, Stage}
-use Rattle.lexical_literal.specs.Additions.Scan.{IsDigitAt, may_read}
-use Rattle.lexical_literal.specs.Additions.Step.{digits_of}
+use Rattle.lexical_literal.proofs.Common.{is_signed, part_of, Reading, Stage, IsDigitAt, may_read, digits_of}
 use Rattle.lexical_literal.specs.declared.step.Stage.TheVariants as stages
 use Rattle.lexical_literal.proofs.ScanLemmas.{read_first}
 use Rattle.lexical_literal.proofs.StepLemmas.{awaited_part}
@@ -39,7 +37,8 @@ returns-then-awaits_integer-clause-run c =
     let part = c.args.part in
     let naught : (get_or text c.args.begun.size 0 == 48) ≡ true = ap (λ b. b == 48) c.if-text-begun-eq48.true in
     let begun : awaits_integer c.args.begun.stage ≡ true = sym c.awaits_integer.ensures ∙ c.if-awaits_integer.true in
-    first_digit g text part _ c.with_digit-one.result c.behind_zero.result c.in-Some.value stages.Bare true c.requires.ready.roles c.requires.part c.requires.none
+    first_digit g text part _ c.with_digit-one.result c.behind_zero.result c.in-Some.value stages.Bare
+    true c.requires.ready.roles c.requires.part c.requires.none
     c.requires.signed c.requires.first c.in-Some.ensures.some c.with_digit-one.ensures (λ j. naught j && begun j) refl
     (subst (λ part. IsRunOn (steps_of g) (radix_of (raw g.word) part) text part (record c.with_digit-one.result { stage = stages.Bare }) c.behind_zero.result)
     (sym (awaited_part c.args.begun.stage begun) ∙ c.requires.part) c.behind_zero.ensures.run)
@@ -52,6 +51,7 @@ returns-else-text-begun-eq48-clause-run c =
           begun_later (get_or text c.args.begun.size 0 == 48) _ (sym w.awaits_integer.ensures ∙ w.if-awaits_integer.false)
       | else-text-begun-eq48-via-else-text-begun-eq48 w ↦ no_zero (get_or text c.args.begun.size 0) _ w.if-text-begun-eq48.false
     ] in
-    first_digit c.args.grammar text c.args.part _ c.with_digit-one.result c.more_groups.result c.in-Some.value c.digits_of-stage.result false c.requires.ready.roles
+    first_digit c.args.grammar text c.args.part _ c.with_digit-one.result c.more_groups.result c.in-Some.value c.digits_of-stage.result
+    false c.requires.ready.roles
     c.requires.part c.requires.none c.requires.signed c.requires.first c.in-Some.ensures.some c.with_digit-one.ensures other (sym c.digits_of-stage.ensures)
     c.more_groups.ensures.run

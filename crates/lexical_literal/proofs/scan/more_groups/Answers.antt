@@ -1,6 +1,5 @@
 -- Digits, then a separator and the digit behind it.
-use Rattle.lexical_literal.proofs.Common.{◌≡◌, ◌≤◌, refl, sym, ap, subst, ◌∙◌, arith, raw, radix_of, length, steps_of, IsRunOn, part_of, Reading}
-use Rattle.lexical_literal.specs.Additions.Step.{is_run}
+use Rattle.lexical_literal.proofs.Common.{◌≡◌, ◌≤◌, refl, sym, ap, subst, ◌∙◌, arith, raw, radix_of, length, steps_of, IsRunOn, part_of, Reading, is_run}
 use Rattle.lexical_literal.proofs.SumLemmas.{both_runs, more_separated, pushed, same_run}
 use Rattle.lexical_literal.proofs.scan.more_groups.Goals as goal
 

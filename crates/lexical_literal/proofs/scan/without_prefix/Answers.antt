@@ -1,6 +1,5 @@
 -- Nothing but the base prefix may follow its zero.
-use Rattle.lexical_literal.proofs.Common.{◌+◌, get_or, sym, subst, steps_of}
-use Rattle.lexical_literal.specs.Additions.Scan.{IsRefused}
+use Rattle.lexical_literal.proofs.Common.{◌+◌, get_or, sym, subst, steps_of, IsRefused}
 use Rattle.lexical_literal.proofs.PassedLemmas.{zero_passed}
 use Rattle.lexical_literal.proofs.scan.without_prefix.Goals as goal
 

@@ -1,5 +1,4 @@
-use Rattle.lexical_literal.proofs.Common.{◌-◌, ◌+◌, ◌≡◌, ◌≤◌, notation_of, length, kind_set}
-use Rattle.lexical_literal.specs.Cause.{first_in}
+use Rattle.lexical_literal.proofs.Common.{◌-◌, ◌+◌, ◌≡◌, ◌≤◌, notation_of, length, kind_set, first_in}
 use Rattle.lexical_literal.proofs.span.first.Given as goal
 
 abbrev pub invariant-loop-rest : goal.invariant-loop-rest

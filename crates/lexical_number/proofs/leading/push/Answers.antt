@@ -1,5 +1,5 @@
 -- A digit is kept or cut off.
-use Rattle.std.proofs.Common.{arith, refl}
+use Rattle.lexical_number.proofs.Common.{arith, refl}
 use Rattle.lexical_number.proofs.LeadingLemmas.{keep, drop_digit}
 use Rattle.lexical_number.proofs.leading.push.Goals as goal
 

@@ -1,5 +1,5 @@
 -- Leading digits are the number, or not fewer than the limit.
-use Rattle.std.proofs.Common.{arith}
+use Rattle.lexical_number.proofs.Common.{arith}
 use Rattle.lexical_number.proofs.LeadingLemmas.{digits_le, few, starts}
 use Rattle.lexical_number.proofs.leading.saturating.Goals as goal
 

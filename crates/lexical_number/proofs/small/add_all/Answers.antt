@@ -1,6 +1,6 @@
 -- One byte, a digit or not.
-use Rattle.lexical_number.proofs.Common.{◌+◌, ◌*◌, ◌%◌, ◌^◌, Some, None, get_or, sym, ap, ◌∙◌, arith, refl}
-use Rattle.std.proofs.Math.Nat.{mod-add-mod, mod-mod}
+use Rattle.lexical_number.proofs.Common.{◌+◌, ◌*◌, ◌%◌, ◌^◌, Some, None, get_or, sym, ap, ◌∙◌, arith, refl, mod-add-mod}
+use Rattle.std.proofs.Math.Nat.{mod-mod}
 use Rattle.lexical_number.proofs.DigitLemmas.{at}
 use Rattle.lexical_number.proofs.SmallLemmas.{push_same}
 use Rattle.lexical_number.proofs.small.add_all.Goals as goal

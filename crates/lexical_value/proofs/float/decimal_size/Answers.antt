@@ -1,8 +1,5 @@
 -- The numbers, or the digits and the exponent, make the value.
-use Rattle.lexical_value.proofs.Common.{raw, format_of, number, places}
-use Rattle.std.proofs.Common.{◌≡◌, ◌++◌, false, refl}
-use lib.Ieee.{round}
-use Rattle.lexical_literal.specs.Read.{exponent}
+use Rattle.lexical_value.proofs.Common.{raw, format_of, number, places, ◌≡◌, ◌++◌, false, refl, round, exponent}
 use Rattle.lexical_value.proofs.FloatLemmas.{decimals, of_value}
 use Rattle.lexical_value.proofs.float.decimal_size.Goals as goal
 

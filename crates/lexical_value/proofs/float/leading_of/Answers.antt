@@ -1,8 +1,6 @@
 -- All digits, or the leading ones.
-use Rattle.lexical_value.proofs.Common.{raw, mantissa, number_after, number}
-use Rattle.std.proofs.Common.{◌≡◌, ◌++◌, sym, subst, ◌∙◌}
+use Rattle.lexical_value.proofs.Common.{raw, mantissa, number_after, number, ◌≡◌, ◌++◌, sym, subst, ◌∙◌, Leads}
 use Rattle.lexical_literal.specs.Parts.{literal_of}
-use Rattle.lexical_number.specs.Leading.{Leads}
 use Rattle.lexical_number.proofs.LeadingLemmas.{starts}
 use Rattle.lexical_number.proofs.DigitLemmas.{number_after-append}
 use Rattle.lexical_value.proofs.float.leading_of.Goals as goal

@@ -1,8 +1,6 @@
 -- The leading digits and the exponent make the value.
-use Rattle.lexical_value.proofs.Common.{IsNearestBits, raw, mantissa, format_of}
-use Rattle.std.proofs.Common.{ap, ◌∙◌, sym, refl}
+use Rattle.lexical_value.proofs.Common.{IsNearestBits, raw, mantissa, format_of, ap, ◌∙◌, sym, refl, exponent}
 use Rattle.lexical_util.specs.Layout as layout
-use Rattle.lexical_literal.specs.Read.{exponent}
 use Rattle.lexical_value.proofs.FloatLemmas.{by_bits, of_value}
 use Rattle.lexical_value.proofs.float.long_binary_size.Goals as goal
 

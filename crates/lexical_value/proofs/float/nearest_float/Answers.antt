@@ -1,9 +1,6 @@
 -- The size is the nearest float, and the sign is that of the literal.
-use Rattle.lexical_value.proofs.Common.{raw, format_of}
-use Rattle.std.proofs.Common.{◌≡◌, ap, ◌∙◌, subst, false}
+use Rattle.lexical_value.proofs.Common.{raw, format_of, ◌≡◌, ap, ◌∙◌, subst, false, round, denominator, numerator}
 use Rattle.std.specs.Prelude.{from_bits}
-use lib.Ieee.{round}
-use Rattle.lexical_value.specs.Value.{denominator, numerator}
 use Rattle.lexical_value.proofs.FloatLemmas.{not_nan}
 use Rattle.lexical_value.proofs.float.nearest_float.Goals as goal
 use Rattle.lexical_value.proofs.float.nearest_float.Goals.{then-has_decimal_floats, else-has_decimal_floats+in-Some}

@@ -1,6 +1,6 @@
 -- The other sign is that of the rounded fraction.
-use Rattle.lexical_value.proofs.Common.{format_of, ap, ◌∙◌, sym}
-use lib.Ieee.{neg, round}
+use Rattle.lexical_value.proofs.Common.{format_of, ap, ◌∙◌, sym, round}
+use lib.Ieee.{neg}
 use Rattle.core.proofs.dec2flt.Patterns.{neg-round}
 use Rattle.lexical_value.proofs.float.signed.Goals as goal
 

@@ -1,7 +1,5 @@
 -- The lowest bits of a number are those of its lowest 64 bits.
-use Rattle.std.proofs.Common.{◌%◌, ◌^◌, Some, ap, ◌∙◌, sym}
-use Rattle.lexical_value.specs.Kind.{width, worth, wrapped}
-use Rattle.lexical_number.specs.Numeral.{size_of}
+use Rattle.lexical_value.proofs.Common.{◌%◌, ◌^◌, Some, ap, ◌∙◌, sym, width, worth, wrapped, size_of}
 use Rattle.lexical_value.proofs.KindLemmas.{lowest_bits}
 use Rattle.lexical_value.proofs.kind.fewer.Goals as goal
 

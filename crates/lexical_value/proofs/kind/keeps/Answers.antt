@@ -1,7 +1,5 @@
 -- A number of fewer bits than the kind has is worth itself.
-use Rattle.std.proofs.Common.{ap, ◌∙◌}
-use Rattle.lexical_value.specs.Kind.{worth}
-use Rattle.lexical_number.specs.Numeral.{size_of}
+use Rattle.lexical_value.proofs.Common.{ap, ◌∙◌, worth, size_of}
 use Rattle.lexical_value.proofs.KindLemmas.{at_most_keeps, modulo_keeps, wraps_keeps}
 use Rattle.lexical_value.proofs.kind.keeps.Goals as goal
 

@@ -1,8 +1,5 @@
 -- The format is that of the syntax, and the kind is exact.
-use Rattle.lexical_value.proofs.Common.{raw, format_of}
-use Rattle.std.proofs.Common.{◌≡◌, ◌||◌, Ok, Err, subst, false}
-use Rattle.lexical_value.specs.Float.{is_binary, is_decimal, nearest}
-use Rattle.lexical_value.specs.Kind.{float_worth}
+use Rattle.lexical_value.proofs.Common.{raw, format_of, ◌≡◌, ◌||◌, Ok, Err, subst, false, is_binary, is_decimal, nearest, float_worth}
 use Rattle.lexical_value.proofs.KindLemmas.{exact_float, exact_radix}
 use Rattle.lexical_value.proofs.parse.parse_float.Goals as goal
 

@@ -1,9 +1,7 @@
 -- The format is that of the syntax, and the kind is exact.
-use Rattle.lexical_value.proofs.Common.{raw}
-use Rattle.std.proofs.Common.{subst}
-use Rattle.lexical_literal.specs.declared.kind.Kind.{Kind}
-use Rattle.lexical_value.specs.Integer.{IsInteger, IsNoInteger}
-use Rattle.lexical_value.specs.Kind.{IsNotWorth, IsWorth}
+use Rattle.lexical_value.proofs.Common.{raw, subst, Kind, IsNoInteger, IsNotWorth}
+use Rattle.lexical_value.specs.Integer.{IsInteger}
+use Rattle.lexical_value.specs.Kind.{IsWorth}
 use Rattle.lexical_value.proofs.KindLemmas.{exact_error}
 use Rattle.lexical_value.proofs.parse.parse_integer.Goals as goal
 

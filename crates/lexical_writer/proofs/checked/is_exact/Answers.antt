@@ -1,13 +1,9 @@
 -- The number is the float that has its bits.
-use Rattle.lexical_writer.proofs.Common.{ℕ, ◌≡◌, ◌+◌, ◌-◌, ◌*◌, ◌%◌, ◌^◌, ◌<◌, ◌≤◌, ap, arith, subst, sym, ◌∙◌, format_of}
-use lib.Ieee.{emax, low, prec, round}
+use Rattle.lexical_writer.proofs.Common.{ap, arith, emax, format_of, low, prec, round, subst, sym, ◌%◌, ◌*◌, ◌+◌, ◌-◌, ◌<◌, ◌^◌, ◌∙◌, ◌≡◌}
 use lib.Ieee.Exact.{HasValue}
 use lib.Count.{count_leading_zeros, leading_length}
 use Rattle.lexical_writer.proofs.FloatLemmas.{exact}
 use Rattle.lexical_writer.proofs.checked.is_exact.Goals as goal
-
-once : (a : ℕ) → a * 1 ≡ a
-once a = omega arith
 
 pub returns-clause-value : goal.returns-clause-value
 returns-clause-value g c same =
@@ -17,7 +13,7 @@ returns-clause-value g c same =
     let up = c.args.exact.up in
     let down = c.args.exact.down in
     let value : g.F.Float.value c.args.value ≡ round f c.args.negative (n * 2 ^ up) (2 ^ down) =
-    c.is_same.ensures same _ _ c.nearest_binary-size.ensures ∙ ap (round f c.args.negative (n * 2 ^ up)) (once (2 ^ down)) in
+    c.is_same.ensures same _ _ c.nearest_binary-size.ensures ∙ ap (round f c.args.negative (n * 2 ^ up)) {x = 2 ^ down * 1} (omega arith) in
     let limit = c.limits_of-limit.ensures.limit ∙ ap (λ d. 2 ^ prec (format_of d)) c.DOUBLE.ensures in
     let least = c.limits_of-limit.ensures.least ∙ ap (λ d. low (format_of d)) c.DOUBLE.ensures in
     let most = c.limits_of-limit.ensures.most.0 ∙ ap (λ d. emax (format_of d) + 1) c.DOUBLE.ensures in
@@ -32,4 +28,4 @@ returns-clause-value g c same =
 pub returns-clause-near : goal.returns-clause-near
 returns-clause-near g c same =
     c.is_same.ensures same _ _ c.nearest_binary-size.ensures
-    ∙ ap (round (format_of g.F.Float.DOUBLE) c.args.negative (c.args.exact.number * 2 ^ c.args.exact.up)) (once (2 ^ c.args.exact.down))
+    ∙ ap (round (format_of g.F.Float.DOUBLE) c.args.negative (c.args.exact.number * 2 ^ c.args.exact.up)) {x = 2 ^ c.args.exact.down * 1} (omega arith)

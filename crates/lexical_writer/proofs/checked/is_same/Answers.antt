@@ -1,6 +1,5 @@
 -- Floats with the same bits are the same.
-use Rattle.lexical_writer.proofs.Common.{ap, sym, ◌∙◌, format_of, eqb-true}
-use Rattle.std.specs.Prelude.{from_bits}
+use Rattle.lexical_writer.proofs.Common.{ap, eqb-true, format_of, from_bits, sym, ◌∙◌}
 use Rattle.lexical_writer.proofs.checked.is_same.Goals as goal
 
 pub returns-in-Some-Some : goal.returns-in-Some-Some

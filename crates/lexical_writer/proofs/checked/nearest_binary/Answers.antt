@@ -1,7 +1,6 @@
 -- The nearest float to a number of one word.
-use Rattle.lexical_writer.proofs.Common.{◌≡◌, ◌*◌, ◌^◌, ◌≤◌, arith, false, subst, ◌∙◌, format_of}
-use Rattle.std.specs.Prelude.{from_bits}
-use lib.Ieee.{hid, ones, round}
+use Rattle.lexical_writer.proofs.Common.{arith, false, format_of, from_bits, round, subst, ◌*◌, ◌^◌, ◌∙◌, ◌≡◌, ◌≤◌}
+use lib.Ieee.{hid, ones}
 use Rattle.lexical_number.proofs.LeadingLemmas.{leads_all}
 use Rattle.lexical_writer.proofs.checked.nearest_binary.Goals as goal
 

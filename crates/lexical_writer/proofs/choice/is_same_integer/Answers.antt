@@ -1,10 +1,6 @@
 -- Both literals are worth the same integer.
-use Rattle.lexical_writer.proofs.Common.{ℕ, ℤ, ◌≡◌, ◌∙◌, Bool, IsFalse, IsSomeAnd, Some, ap, arith, inl, raw, refl, subst, sym}
-use Rattle.lexical_literal.specs.Literal.{is_float}
-use Rattle.lexical_literal.specs.Read.{Read}
-use Rattle.lexical_number.specs.Numeral.{magnitude_size, with_sign}
-use Rattle.lexical_value.specs.Kind.{integer_worth}
-use Rattle.lexical_writer.specs.Choice.{IsWhole}
+use Rattle.lexical_writer.proofs.Common.{Bool, IsFalse, IsSomeAnd, IsWhole, Read, Some, ap, arith, inl, integer_worth, is_float, magnitude_size, raw, refl}
+use Rattle.lexical_writer.proofs.Common.{subst, sym, with_sign, ℕ, ℤ, ◌∙◌, ◌≡◌}
 use Rattle.lexical_writer.proofs.choice.is_same_integer.Goals as goal
 
 worth_is : (read : Read) (s : Bool) (n : ℕ) (z : ℤ) → IsFalse (is_float read.literal)

@@ -1,8 +1,7 @@
 -- The only form of the list reads the text.
-use Rattle.lexical_writer.proofs.Common.{ℕ, ◌≡◌, ◌∙◌, Grammar, IfOk, IsSomeAnd, List, Reads, [], ◌∷◌, ap, notation_of, slice_get, zero, suc, subst}
+use Rattle.lexical_writer.proofs.Common.{Form, Grammar, IfOk, IsNumber, IsSomeAnd, List, Reads, ReadsForm, [], ap, notation_of, slice_get, subst, suc, zero, ℕ}
+use Rattle.lexical_writer.proofs.Common.{◌∙◌, ◌∷◌, ◌≡◌}
 use Rattle.lexical_forms.specs.FormList.{FormList}
-use Rattle.lexical_forms.specs.Forms.{IsNumber, ReadsForm}
-use Rattle.lexical_forms.specs.declared.list.Form.{Form}
 use Rattle.lexical_writer.proofs.choice.own_literal.Goals as goal
 
 only : (P : Form → Type 0) (form : Form) (index : ℕ) → IsSomeAnd (slice_get (form ∷ []) index) P → P form
@@ -11,11 +10,11 @@ only P form (suc index) here = absurd here
 
 pub returns-in-Ok-Literal : goal.returns-in-Ok-Literal
 returns-in-Ok-Literal c =
-    let number = subst (λ r. IfOk r (IsNumber c.in-Some.list c.args.text.now)) c.in-Ok-Literal.is c.read.ensures.found in
-    let both = subst (IsNumber c.in-Some.list c.args.text.now) c.in-Ok-Literal.field-0-is number in
+    let number = subst (λ r. IfOk r (IsNumber c.in_ok-list.list c.args.text.now)) c.in-Ok-Literal.is c.read.ensures.found in
+    let both = subst (IsNumber c.in_ok-list.list c.args.text.now) c.in-Ok-Literal.field-0-is number in
     let index = c.in-Ok-Literal.field-0-1 in
     let read = c.in-Ok-Literal.literal in
-    let one : c.in-Some.list.forms ≡ c.new.result ∷ [] = ap (λ (list : FormList). list.forms) c.in-Some.ensures.1 in
+    let one : c.in_ok-list.list.forms ≡ c.new.result ∷ [] = ap (λ (list : FormList). list.forms) c.in_ok-list.ensures.1 in
     let by = only (ReadsForm c.args.text.now read) c.new.result index
     (subst (λ (forms : List Form). IsSomeAnd (slice_get forms index) (ReadsForm c.args.text.now read)) one both.0.reads) in
     let kind = only (λ (form : Form). read.kind ≡ form.kind) c.new.result index

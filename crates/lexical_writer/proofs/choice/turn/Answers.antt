@@ -1,5 +1,5 @@
 -- The radix decides.
-use Rattle.lexical_writer.proofs.Common.{ℕ, ◌≡◌, ◌+◌, ◌==◌, if◌then◌else◌, ap, ◌∙◌, arith, nat_tests, raw}
+use Rattle.lexical_writer.proofs.Common.{ap, arith, if◌then◌else◌, nat_tests, raw, ℕ, ◌+◌, ◌==◌, ◌∙◌, ◌≡◌}
 use Rattle.lexical_util.specs.Layout as layout
 use Rattle.lexical_writer.proofs.choice.turn.Goals as goal
 

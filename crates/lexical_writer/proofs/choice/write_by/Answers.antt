@@ -1,21 +1,22 @@
 -- The list reads the text as the number.
-use Rattle.lexical_writer.proofs.Common.{ℕ, ◌≡◌, ◌<◌, ◌≤◌, ◌-◌, ◌^◌, IfOk, List, Option, Some, IsSomeAnd, inl, inr, length, min, refl, slice_get, take}
-use Rattle.lexical_writer.proofs.Common.{ap, sym, ◌∙◌, subst, arith, cases_lt, rules, text_of, Grammar, IsSyntax, Reads, notation_of}
+use Rattle.lexical_writer.proofs.Common.{Form, Grammar, IfOk, IsNumber, IsSomeAnd, IsSyntax, List, Option, Read, Reads, ReadsForm, Some, ap, arith, cases_lt}
+use Rattle.lexical_writer.proofs.Common.{inl, inr, is_float, length, min, notation_of, refl, rules, slice_get, subst, sym, take, text_of, ℕ, ◌-◌, ◌<◌, ◌^◌, ◌∙◌}
+use Rattle.lexical_writer.proofs.Common.{◌≡◌, ◌≤◌}
 use Rattle.std.proofs.lemmas.Option.{slice_get_read}
-use Rattle.lexical_forms.specs.Forms.{IsNumber, ReadsForm}
-use Rattle.lexical_literal.specs.Read.{Read, exact}
-use Rattle.lexical_forms.specs.declared.list.Form.{Form}
 use Rattle.lexical_writer.specs.Buffer.{IsTaken}
+use Rattle.lexical_writer.proofs.ChoiceLemmas.{first_reads}
 use Rattle.lexical_writer.proofs.choice.write_by.Goals as goal
 
--- A literal of a form of the exact kind is one of its syntax.
+-- A literal of a form is one of its syntax, and has its kind.
 same_form : (g : Grammar) (form : Form) (text : List ℕ) (read : Read) (found : Option Form) → found ≡ Some form → g ≡ form.syntax
-    → IsSomeAnd found (ReadsForm text read) → IsSomeAnd found (λ form. read.kind ≡ form.kind) → form.kind ≡ exact
-    → (read.kind ≡ exact) × (read.format ≡ g.word) × Reads (notation_of g) read.literal text
-same_form g form text read found here is reads kinds plain =
-    let by : ReadsForm text read form = subst (λ o. IsSomeAnd o (ReadsForm text read)) here reads in
-    let kind : read.kind ≡ form.kind = subst (λ o. IsSomeAnd o (λ (form : Form). read.kind ≡ form.kind)) here kinds in
-    (kind ∙ plain, by.0 ∙ sym (ap (λ (g : Grammar). g.word) is), subst (λ (g : Grammar). Reads (notation_of g) read.literal text) (sym is) by.1)
+    → IsSomeAnd found (ReadsForm text read) → IsSomeAnd found (λ form. read.kind ≡ form.kind)
+    → (read.kind ≡ form.kind) × (read.format ≡ g.word) × Reads (notation_of g) read.literal text
+same_form g form text read found here is reads kinds =
+    let by : ReadsForm text read form = subst (λ o. IsSomeAnd o (ReadsForm text read)) here reads in (
+      subst (λ o. IsSomeAnd o (λ (form : Form). read.kind ≡ form.kind)) here kinds,
+      by.0 ∙ sym (ap (λ (g : Grammar). g.word) is),
+      subst (λ (g : Grammar). Reads (notation_of g) read.literal text) (sym is) by.1,
+    )
 
 -- The buffer has the whole text.
 taken : (text old bytes : List ℕ) (size : ℕ) → IsTaken text old bytes size → size ≤ length bytes → size < 2 ^ 64 - 1 → text ≡ take size bytes
@@ -26,9 +27,31 @@ taken text old bytes size is fits short =
 short : (size n : ℕ) → size ≡ min n (2 ^ 64 - 1) → (size ≡ 2 ^ 64 - 1 → ⊥) → size < 2 ^ 64 - 1
 short size n is other = elim (cases_lt size (2 ^ 64 - 1)) [ inl less ↦ less | inr least ↦ absurd (other (omega (arith, is, least))) ]
 
-pub returns-then-is_plain-clause-value : goal.returns-then-is_plain-clause-value
-returns-then-is_plain-clause-value g c =
+pub returns-then-index-eq0-clause-value : goal.returns-then-index-eq0-clause-value
+returns-then-index-eq0-clause-value g c =
     let text = take c.in_ok-size.size c.write.new.buffer in
+    let form = c.index-as_slice-index.result in
+    let syntax = c.syntax-syntax.result in
+    let written = c.in_ok-size.ensures in
+    let whole = taken (text_of written.0) c.args.buffer.now c.write.new.buffer c.in_ok-size.size written.3 c.if-size-buffer.false
+    (short _ _ written.3.counted c.if-size.false) in
+    let here = ap (λ forms. slice_get forms c.args.index) (sym c.as_slice.ensures.list)
+    ∙ slice_get_read c.as_slice.result.now (length c.as_slice.result.now) c.args.index form refl
+    (subst (λ (forms : List Form). c.args.index < length forms) (sym c.as_slice.ensures.list) c.requires) c.index-as_slice-index.is in
+    let first = first_reads c.args.forms.now.forms form text written.0 c.args.index here c.if-index-eq0.true
+    (subst (λ (g : Grammar). Reads (notation_of g) written.0 text) c.syntax-syntax.ensures (subst (Reads (notation_of syntax) written.0) whole written.1)) in (
+      record { format = form.syntax.word; literal = written.0; kind = form.kind },
+      c.args.index,
+      first.0,
+      first.1,
+      c.is_plain-plain.ensures c.if-plain.true c.args.style _ (sym c.kind.ensures) (ap (λ (g : Grammar). g.word) (sym c.syntax-syntax.ensures))
+          (sym written.4) written.2,
+    )
+
+pub returns-then-form-index-clause-value : goal.returns-then-form-index-clause-value
+returns-then-form-index-clause-value g c =
+    let text = take c.in_ok-size.size c.write.new.buffer in
+    let form = c.index-as_slice-index.result in
     let syntax = c.syntax-syntax.result in
     let lawful : IsSyntax syntax = search rules in
     let literal = c.in-Ok-Literal.literal in
@@ -37,20 +60,18 @@ returns-then-is_plain-clause-value g c =
     let written = c.in_ok-size.ensures in
     let whole = taken (text_of written.0) c.args.buffer.now c.write.new.buffer c.in_ok-size.size written.3 c.if-size-buffer.false
     (short _ _ written.3.counted c.if-size.false) in
-    let kind : c.index-as_slice-index.result.kind ≡ exact = sym c.kind.ensures ∙ c.is_exact.ensures c.if-is_exact.true in
     let here = ap (slice_get c.args.forms.now.forms) c.if-form-index.true
     ∙ ap (λ forms. slice_get forms c.args.index) (sym c.as_slice.ensures.list)
-    ∙ slice_get_read c.as_slice.result.now (length c.as_slice.result.now) c.args.index c.index-as_slice-index.result refl
+    ∙ slice_get_read c.as_slice.result.now (length c.as_slice.result.now) c.args.index form refl
     (subst (λ (forms : List Form). c.args.index < length forms) (sym c.as_slice.ensures.list) c.requires) c.index-as_slice-index.is in
-    let by = same_form syntax c.index-as_slice-index.result text literal (slice_get c.args.forms.now.forms c.in-Ok-Literal.form)
-    here c.syntax-syntax.ensures both.0.reads both.1 kind in
+    let by = same_form syntax form text literal (slice_get c.args.forms.now.forms c.in-Ok-Literal.form) here c.syntax-syntax.ensures both.0.reads both.1 in
     let same : written.0 ≡ literal.literal = c.literal_facts.ensures.one_reading syntax lawful written.0 literal.literal text
     (subst (Reads (notation_of syntax) written.0) whole written.1) by.2 in (
       literal,
       c.in-Ok-Literal.form,
       both.0,
       both.1,
-      c.is_plain.ensures c.if-is_plain.true by.0 syntax c.args.style by.1
+      c.is_plain-plain.ensures c.if-plain-2.true c.args.style literal (by.0 ∙ sym c.kind.ensures) by.1 (ap is_float (sym same) ∙ sym written.4)
           (subst (g.N.Writable.has c.args.number.now c.args.style syntax) same written.2),
     )
 

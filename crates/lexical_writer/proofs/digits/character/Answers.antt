@@ -1,5 +1,5 @@
 -- The character is that of the digit, in either case.
-use Rattle.lexical_writer.proofs.Common.{ap, sym, ◌∙◌, character, get_or_from_slice_get}
+use Rattle.lexical_writer.proofs.Common.{ap, character, get_or_from_slice_get, sym, ◌∙◌}
 use Rattle.std.specs.Char.{to_ascii_lowercase}
 use Rattle.lexical_base.specs.Digits.{digit_characters}
 use Rattle.lexical_writer.proofs.digits.character.Goals as goal

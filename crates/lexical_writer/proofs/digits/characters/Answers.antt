@@ -1,6 +1,6 @@
 -- One more digit is written before those that have been written.
-use Rattle.lexical_writer.proofs.Common.{false, ◌∙◌, map, ap, length, ◌++◌, append-nil, arith, drop_all, pow-le-pow_left, digits_of, character}
-use Rattle.std.proofs.lemmas.Int.Digits.{length-digits_of-le, length-digits_of_step}
+use Rattle.lexical_writer.proofs.Common.{ap, append-nil, arith, character, digits_of, drop_all, false, length, length-digits_of-le, length-digits_of_step, map}
+use Rattle.lexical_writer.proofs.Common.{pow-le-pow_left, ◌++◌, ◌∙◌}
 use Rattle.lexical_writer.proofs.DigitLemmas.{one_more}
 use Rattle.lexical_writer.proofs.digits.characters.Goals as goal
 

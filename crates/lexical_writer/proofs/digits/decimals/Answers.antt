@@ -1,7 +1,6 @@
 -- Two more digits are written before those that have been written.
-use Rattle.lexical_writer.proofs.Common.{false, ◌≤◌, ◌∙◌, ◌-◌, ◌/◌, ℕ, length, map, ap, ◌++◌, append-nil, arith, drop_all, digits_of, character}
-use Rattle.std.proofs.Math.Nat.{div-div-eq-div-mul}
-use Rattle.std.proofs.lemmas.Int.Digits.{length-digits_of-le, length-digits_of_step}
+use Rattle.lexical_writer.proofs.Common.{ap, append-nil, arith, character, digits_of, div-div-eq-div-mul, drop_all, false, length, length-digits_of-le}
+use Rattle.lexical_writer.proofs.Common.{length-digits_of_step, map, ℕ, ◌++◌, ◌-◌, ◌/◌, ◌∙◌, ◌≤◌}
 use Rattle.lexical_writer.proofs.DigitLemmas.{two_more}
 use Rattle.lexical_writer.proofs.digits.decimals.Goals as goal
 

@@ -1,4 +1,4 @@
-use Rattle.lexical_writer.proofs.Common.{false, length, drop, map, ◌++◌, ◌≡◌, ◌≤◌, digits_of, character}
+use Rattle.lexical_writer.proofs.Common.{character, digits_of, drop, false, length, map, ◌++◌, ◌≡◌, ◌≤◌}
 use Rattle.lexical_writer.proofs.digits.decimals.Given as goal
 
 -- The digits that are left come before those that have been written.

@@ -1,5 +1,5 @@
 -- Enough uppercase digits without groups are written as they are.
-use Rattle.lexical_writer.proofs.Common.{◌≡◌, false, subst, sym, ◌++◌, arith, nat_tests, digits_in}
+use Rattle.lexical_writer.proofs.Common.{arith, digits_in, false, nat_tests, subst, sym, ◌++◌, ◌≡◌}
 use Rattle.lexical_writer.proofs.DigitLemmas.{plain_text}
 use Rattle.lexical_writer.proofs.digits.put_characters.Goals as goal
 

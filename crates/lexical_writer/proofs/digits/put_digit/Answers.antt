@@ -1,5 +1,5 @@
 -- A separator follows where a group ends.
-use Rattle.lexical_writer.proofs.Common.{[], ◌∷◌, append_assoc}
+use Rattle.lexical_writer.proofs.Common.{[], append_assoc, ◌∷◌}
 use Rattle.lexical_writer.proofs.digits.put_digit.Goals as goal
 
 pub returns : goal.returns

@@ -1,7 +1,7 @@
 -- The parts are written one after the other.
-use Rattle.lexical_writer.proofs.Common.{ℕ, ◌≡◌, ◌+◌, ◌-◌, List, ◌++◌, length, replicate, subst, sym, ◌∙◌, ap, arith, append_assoc, length-append}
-use Rattle.lexical_writer.proofs.Common.{digits_in, at_least, grouped, padded_values}
-use Rattle.std.proofs.lemmas.List.{length-replicate, replicate-append-replicate}
+use Rattle.lexical_writer.proofs.Common.{List, ap, append_assoc, arith, at_least, digits_in, grouped, length, length-append, length-replicate, padded_values}
+use Rattle.lexical_writer.proofs.Common.{replicate, subst, sym, ℕ, ◌++◌, ◌+◌, ◌-◌, ◌∙◌, ◌≡◌}
+use Rattle.std.proofs.lemmas.List.{replicate-append-replicate}
 use Rattle.lexical_writer.proofs.DigitLemmas.{padded_text}
 use Rattle.lexical_writer.proofs.digits.put_padded.Goals as goal
 

@@ -1,5 +1,5 @@
 -- One more zero is written, with what follows it.
-use Rattle.lexical_writer.proofs.Common.{ℕ, List, ◌≡◌, ◌-◌, ◌∷◌, ◌++◌, replicate, suc, ap, sym, ◌∙◌, arith, append_assoc, character, grouped_front, separated}
+use Rattle.lexical_writer.proofs.Common.{List, ap, append_assoc, arith, character, grouped_front, replicate, separated, suc, sym, ℕ, ◌++◌, ◌-◌, ◌∙◌, ◌∷◌, ◌≡◌}
 use Rattle.lexical_writer.proofs.digits.put_zeros.Goals as goal
 
 pub loop-left-preserved : goal.loop-left-preserved

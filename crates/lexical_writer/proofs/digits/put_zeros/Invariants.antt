@@ -1,4 +1,4 @@
-use Rattle.lexical_writer.proofs.Common.{◌-◌, ◌++◌, ◌≡◌, ◌≤◌, List, ℕ, replicate, grouped_front}
+use Rattle.lexical_writer.proofs.Common.{List, grouped_front, replicate, ℕ, ◌++◌, ◌-◌, ◌≡◌, ◌≤◌}
 use Rattle.lexical_writer.specs.contracts.digits.put_zeros.{S-type}
 use Rattle.lexical_writer.proofs.digits.put_zeros.Given as goal
 

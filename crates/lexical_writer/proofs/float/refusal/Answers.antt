@@ -1,10 +1,7 @@
 -- What is refused is what the syntax and the style say.
-use Rattle.lexical_writer.proofs.Common.{◌≡◌, ◌&&◌, ◌||◌, ap, ◌∙◌, arith, not, is_some, has, lacks_options}
+use Rattle.lexical_writer.proofs.Common.{Conditions, ap, arith, first_refusal, has, is_binary, is_decimal, is_some, lacks_options, not, ◌&&◌, ◌||◌, ◌∙◌, ◌≡◌}
 use Rattle.lexical_util.specs.Record.{bytes_of}
 use Rattle.lexical_literal.specs.declared.syntax.Condition.TheVariants as conditions
-use Rattle.lexical_literal.specs.declared.syntax.Conditions.{Conditions}
-use Rattle.lexical_value.specs.Float.{is_binary, is_decimal}
-use Rattle.lexical_writer.specs.Amount.{first_refusal}
 use Rattle.lexical_writer.proofs.float.refusal.Goals as goal
 
 pub returns : goal.returns

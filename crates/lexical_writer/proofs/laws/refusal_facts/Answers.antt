@@ -1,12 +1,9 @@
 -- Which literals there are not.
-use Rattle.lexical_writer.proofs.Common.{ℕ, ◌≡◌, ◌*◌, ◌^◌, ◌&&◌, ◌||◌, not, if◌then◌else◌, Bool, true, false, Option, Some, None, List, [], ◌∷◌, length}
-use Rattle.lexical_writer.proofs.Common.{refl, ap, ◌∙◌, arith, pow-zero, false≢true, Record, raw, is_absent, is_minus, is_present, lacks_options, digits_in}
+use Rattle.lexical_writer.proofs.Common.{Bool, List, None, Option, Options, Record, Some, [], ap, arith, digits_in, exponent_character_of, false, false≢true}
+use Rattle.lexical_writer.proofs.Common.{if◌then◌else◌, is_absent, is_minus, is_none_or_one, is_plus, is_present, lacks_options, length, not, point_of}
+use Rattle.lexical_writer.proofs.Common.{pow-zero, power, raw, refl, true, ℕ, ◌&&◌, ◌*◌, ◌^◌, ◌||◌, ◌∙◌, ◌∷◌, ◌≡◌}
 use Rattle.lexical_util.specs.Layout as layout
-use Rattle.lexical_literal.specs.Literal.{is_none_or_one, is_plus}
-use Rattle.lexical_literal.specs.Notation.{exponent_character_of, point_of}
 use Rattle.lexical_literal.specs.declared.syntax.Condition.TheVariants as conditions
-use Rattle.lexical_literal.specs.declared.syntax.Options.{Options}
-use Rattle.lexical_value.specs.Value.{power}
 use Rattle.lexical_writer.proofs.laws.refusal_facts.Goals as goal
 
 no_minus : (sign : List ℕ) → (is_absent sign || is_plus sign) ≡ true → is_minus sign ≡ false

@@ -1,9 +1,7 @@
 -- The whole number has the value of the literal.
-use Rattle.lexical_writer.proofs.Common.{ap, subst, ◌∙◌, Amount, raw}
-use Rattle.std.proofs.lemmas.Result.{IfOk-weaker}
+use Rattle.lexical_writer.proofs.Common.{Amount, HasNumber, IfOk-weaker, IsSize, ap, number_of_size, raw, subst, ◌∙◌}
 use Rattle.lexical_util.specs.declared.format_flags.Part.TheVariants as part
-use Rattle.lexical_writer.specs.Layout.{HasNumber, literal_of as written, number_of_size}
-use Rattle.lexical_writer.specs.Moved.{IsSize}
+use Rattle.lexical_writer.specs.Layout.{literal_of as written}
 use Rattle.lexical_writer.proofs.LiteralLemmas.{radixes}
 use Rattle.lexical_writer.proofs.PlainLemmas.{same_number}
 use Rattle.lexical_writer.proofs.SizeLemmas.{value_of}

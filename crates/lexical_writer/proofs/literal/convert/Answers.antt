@@ -1,8 +1,6 @@
 -- The point moves only where it can.
-use Rattle.lexical_writer.proofs.Common.{◌≡◌, ◌&&◌, Bool, true, not, number, sym, ◌∙◌, arith, raw, effective_exponent_radix}
+use Rattle.lexical_writer.proofs.Common.{Bool, arith, can_move, effective_exponent_radix, needs_exponent, not, number, raw, sym, true, ◌&&◌, ◌∙◌, ◌≡◌}
 use Rattle.lexical_writer.specs.Conversion.{has_power, is_unwanted}
-use Rattle.lexical_writer.specs.Layout.{needs_exponent}
-use Rattle.lexical_writer.specs.Moved.{can_move}
 use Rattle.lexical_writer.proofs.literal.convert.Goals as goal
 
 third : (a b c d : Bool) → ((a && b && c) && d) ≡ true → c ≡ true

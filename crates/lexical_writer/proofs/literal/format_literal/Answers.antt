@@ -1,8 +1,7 @@
 -- The parts and the format are those of the literal.
-use Rattle.lexical_writer.proofs.Common.{IfOk, subst, sym, ◌∙◌, raw, Literal}
+use Rattle.lexical_writer.proofs.Common.{IfOk, Literal, SameFraction, literal_of, raw, subst, sym, ◌∙◌}
 use Rattle.lexical_util.specs.Rules.{Lawful}
-use Rattle.lexical_writer.specs.Conversion.{IsConverted, SameFraction}
-use Rattle.lexical_writer.specs.Layout.{literal_of}
+use Rattle.lexical_writer.specs.Conversion.{IsConverted}
 use Rattle.lexical_writer.proofs.literal.format_literal.Goals as goal
 
 -- A literal that was read has a lawful format.

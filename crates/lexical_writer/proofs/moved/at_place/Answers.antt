@@ -1,8 +1,8 @@
 -- A byte is passed.
-use Rattle.lexical_writer.proofs.Common.{◌≡◌, ◌-◌, if◌then◌else◌, is_some, ap, sym, ◌∙◌, arith}
+use Rattle.lexical_writer.proofs.Common.{ap, arith, if◌then◌else◌, is_some, sym, ◌-◌, ◌∙◌, ◌≡◌}
 use Rattle.lexical_writer.proofs.MovedLemmas.{passes}
+use Rattle.lexical_writer.proofs.moved.at_place.Goals.{else-is_some, then-is_some}
 use Rattle.lexical_writer.proofs.moved.at_place.Goals as goal
-use Rattle.lexical_writer.proofs.moved.at_place.Goals.{then-is_some, else-is_some}
 
 pub loop-left-preserved : goal.loop-left-preserved
 loop-left-preserved c =

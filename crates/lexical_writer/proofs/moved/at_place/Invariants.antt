@@ -1,4 +1,4 @@
-use Rattle.lexical_writer.proofs.Common.{length, take, drop, ◌-◌, ◌++◌, ◌≡◌, ◌≤◌, digits_in}
+use Rattle.lexical_writer.proofs.Common.{digits_in, drop, length, take, ◌++◌, ◌-◌, ◌≡◌, ◌≤◌}
 use Rattle.lexical_writer.proofs.moved.at_place.Given as goal
 
 -- The digits that have been passed, and as many of the others as are left, are those before the place.

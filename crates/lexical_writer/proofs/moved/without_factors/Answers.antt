@@ -1,6 +1,7 @@
 -- One factor less is left.
-use Rattle.lexical_writer.proofs.Common.{ℕ, zero, suc, ◌≡◌, ◌<◌, ◌≤◌, ◌+◌, ◌*◌, ◌/◌, ◌^◌, ap, sym, ◌∙◌, arith, pow-suc}
+use Rattle.lexical_writer.proofs.Common.{ap, arith, cases_lt, inl, inr, pow-suc, suc, zero, ℕ, ◌*◌, ◌+◌, ◌/◌, ◌<◌, ◌^◌, ◌∙◌, ◌≡◌, ◌≤◌}
 use Rattle.std.proofs.lemmas.Nat.{div-add-mod'}
+use Rattle.lexical_value.proofs.ScaledLemmas.{far_power}
 use Rattle.lexical_writer.proofs.moved.without_factors.Goals as goal
 
 -- What is left is smaller.
@@ -16,13 +17,21 @@ loop-rest-preserved c =
     let prime = c.args.prime in
     let parts = div-add-mod' l.rest prime in
     let whole : (l.rest / prime) * prime ≡ l.rest = omega (arith, parts, c.loop-rest-test.true) in
-    let less = smaller l.rest prime (l.rest / prime) whole c.requires.2 l.invariant.some in
+    let less = smaller l.rest prime (l.rest / prime) whole c.requires.1 l.invariant.some in
     record {
       some = less.0;
-      number = l.invariant.number ∙ ap (λ n. n * prime ^ l.factors) (sym whole) ∙ swapped (l.rest / prime) prime (prime ^ l.factors)
-          ∙ ap (λ p. (l.rest / prime) * p) (sym (pow-suc prime l.factors) ∙ ap (λ k. prime ^ k) {x = suc l.factors} {y = l.factors + 1} (omega arith));
+      number = l.invariant.number ∙ omega (arith, ap (λ n. n * prime ^ l.factors) whole, ap (λ p. (l.rest / prime) * p) (pow-suc prime l.factors))
+          ∙ ap (λ k. (l.rest / prime) * prime ^ k) {x = suc l.factors} {y = l.factors + 1} (omega arith);
       few = let few = l.invariant.few in omega (arith, few, less.1);
     }
-  where
-    swapped : (a b c : ℕ) → (a * b) * c ≡ a * (c * b)
-    swapped a b c = omega arith
+
+pub returns-clause-few : goal.returns-clause-few
+returns-clause-few c =
+    let l = c.loop-rest in
+    let number = l.invariant.number in
+    elim (cases_lt l.factors 128) [
+      | inl less ↦ less
+      | inr many ↦
+          let more = far_power l.rest c.args.prime l.factors c.requires.1 l.invariant.some many in
+          absurd (omega (arith, more, number, c.ranges.number.fits))
+    ]

@@ -1,4 +1,4 @@
-use Rattle.lexical_writer.proofs.Common.{◌≡◌, ◌<◌, ◌≤◌, ◌+◌, ◌*◌, ◌^◌}
+use Rattle.lexical_writer.proofs.Common.{◌*◌, ◌+◌, ◌<◌, ◌^◌, ◌≡◌, ◌≤◌}
 use Rattle.lexical_writer.proofs.moved.without_factors.Given as goal
 
 -- The factors that have been divided out.

@@ -1,6 +1,6 @@
 -- A zero is passed, or the digits up to one that is not 0 are returned.
-use Rattle.lexical_writer.proofs.Common.{ℕ, ◌≡◌, ◌<◌, ◌≤◌, ◌+◌, ◌-◌, ◌++◌, [], List, Option, get_or, length, take, ap, sym, ◌∙◌, arith, cons_option, digit_of}
-use Rattle.lexical_writer.proofs.Common.{digits_in, trimmed}
+use Rattle.lexical_writer.proofs.Common.{List, Option, [], ap, arith, cons_option, digit_of, digits_in, get_or, length, sym, take, trimmed, ℕ, ◌++◌, ◌+◌, ◌-◌}
+use Rattle.lexical_writer.proofs.Common.{◌<◌, ◌∙◌, ◌≡◌, ◌≤◌}
 use Rattle.lexical_writer.proofs.MovedLemmas.{last_some, last_zero, up_to}
 use Rattle.lexical_writer.proofs.moved.without_last_zeros.Goals as goal
 

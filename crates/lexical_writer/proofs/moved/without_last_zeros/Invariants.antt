@@ -1,4 +1,4 @@
-use Rattle.lexical_writer.proofs.Common.{length, take, ◌≡◌, ◌≤◌, digits_in, trimmed}
+use Rattle.lexical_writer.proofs.Common.{digits_in, length, take, trimmed, ◌≡◌, ◌≤◌}
 use Rattle.lexical_writer.proofs.moved.without_last_zeros.Given as goal
 
 -- What has been passed are zeros.

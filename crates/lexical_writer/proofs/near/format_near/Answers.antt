@@ -1,10 +1,5 @@
 -- The float that is rounded is the nearest to the literal.
-use Rattle.lexical_writer.proofs.Common.{◌⊎◌, inr, subst, raw, format_of}
-use Rattle.lexical_value.specs.Float.{nearest}
-use Rattle.lexical_writer.specs.Conversion.{SameFraction}
-use Rattle.lexical_writer.specs.Layout.{literal_of}
-use Rattle.lexical_writer.specs.Rounded.{IsRounded, decimals_in}
-use Rattle.lexical_writer.proofs.FloatLemmas.{if_ok}
+use Rattle.lexical_writer.proofs.Common.{IfOk-weaker, IsRounded, SameFraction, decimals_in, format_of, inr, literal_of, nearest, raw, subst, ◌⊎◌}
 use Rattle.lexical_writer.proofs.near.format_near.Goals as goal
 
 pub returns-in-Ok-float_instead-clause-rounded : goal.returns-in-Ok-float_instead-clause-rounded
@@ -13,7 +8,7 @@ returns-in-Ok-float_instead-clause-rounded g c n some =
     let to = raw c.args.syntax.now.word in
     let value = nearest (format_of g.F.Float.DOUBLE) from.byte c.args.literal.now.literal in
     let places = decimals_in c.args.syntax.now n in
-    if_ok (λ layout. IsRounded (g.F.Float.value c.in-Ok-float_instead.value) to (literal_of layout) places)
-    (λ layout. SameFraction from c.args.literal.now.literal to (literal_of layout) ⊎ IsRounded value to (literal_of layout) places) c.format_float.result
+    IfOk-weaker c.format_float.result (λ layout. IsRounded (g.F.Float.value c.in-Ok-float_instead.value) to (literal_of layout) places)
+    (λ layout. SameFraction from c.args.literal.now.literal to (literal_of layout) ⊎ IsRounded value to (literal_of layout) places)
     (λ layout is. inr (subst (λ x. IsRounded x to (literal_of layout) places) c.in-Ok-float_instead.ensures.nearest is))
     (c.format_float.ensures.rounded n some)

@@ -1,8 +1,26 @@
 -- The word where the form that goes furthest stops is a literal.
 use Rattle.lexical_forms.proofs.Common.{ap, sym, subst, ◌+◌, ◌∙◌, IsFurthestForm, NoForm}
+use Rattle.lexical_forms.specs.Forms.{IsFormError}
 use Rattle.lexical_forms.specs.Suffix.{word_size}
 use Rattle.lexical_forms.proofs.TokenLemmas.{some_form}
 use Rattle.lexical_forms.proofs.list.Forms.fail.Goals as goal
+
+pub returns-in-Err : goal.returns-in-Err
+returns-in-Err c =
+    let furthest = subst (IsFurthestForm c.args.self.now.forms c.args.text.now) c.in-Some.is c.requires.furthest in
+    let stop = c.in-Some.stop.size in (
+      c.requires.refused,
+      (
+        stop + c.word_size.result,
+        record {
+          index = c.in-Some.field-0-0;
+          stop = stop;
+          furthest = furthest.0;
+          end = ap (λ n. stop + n) (c.word_size.ensures.size ∙ ap word_size c.split_at.ensures.back);
+        },
+        subst (λ t. IsFormError c.args.self.now.forms t c.error_at.result) c.split_at-2.ensures.front c.error_at.ensures,
+      ),
+    )
 
 pub returns-in-Ok : goal.returns-in-Ok
 returns-in-Ok c =

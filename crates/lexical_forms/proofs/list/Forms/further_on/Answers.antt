@@ -1,6 +1,7 @@
 -- A form leads those that do not go beyond the first byte behind the sign.
 use Rattle.lexical_forms.proofs.Common.{◌+◌, None, arith, get_or, notation_of, sign_size, slice_get, subst}
 use Rattle.lexical_forms.specs.Additions.Forms.{IsBehind, IsLed, IsRefusedAt}
+use Rattle.lexical_forms.specs.Forms.{ReadsIn}
 use Rattle.lexical_forms.proofs.FormLemmas.{each, leads_first, led_out, one_size, reach_up_to}
 use Rattle.lexical_forms.proofs.list.Forms.further_on.Goals as goal
 
@@ -20,5 +21,5 @@ returns-in-None-2 c =
     let stop = c.args.stop in
     led_out forms text c.args.form None (subst (IsLed forms text c.args.form) c.in-None.is c.requires.furthest)
     (each (IsRefusedAt text stop) (λ g. IsBehind (notation_of g.syntax) text None) (slice_get forms c.args.form)
-    (λ g is n goes. let most = one_size (notation_of g.syntax) text n stop.size goes is.0.valid in
+    (λ g is n goes. let most = one_size (ReadsIn g) text n stop.size goes is.0.valid in
     omega (arith, most, c.if-stop-sign.false, c.requires.sign)) c.requires.refused)

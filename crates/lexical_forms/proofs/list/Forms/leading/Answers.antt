@@ -1,11 +1,12 @@
 -- The first form with a literal behind which no literal goes on.
-use Rattle.lexical_forms.proofs.Common.{◌≡◌, ◌+◌, All, Some, ap, get_or, inl, sym, subst, take, arith, ◌-◌, slice_get-get_or, notation_of, Grammar, raw}
-use Rattle.lexical_forms.proofs.Common.{cuts_of, IsWithin, FormList}
+use Rattle.lexical_forms.proofs.Common.{◌≡◌, All, Some, ap, get_or, inl, sym, subst, take, arith, ◌-◌, slice_get-get_or, notation_of, Grammar, raw}
+use Rattle.lexical_forms.proofs.Common.{cuts_of, FormList}
+use Rattle.lexical_forms.specs.Additions.Forms.{NoFrontPast}
 use Rattle.lexical_forms.specs.Additions.Token.{FrontsWithin}
 use Rattle.std.proofs.Common.{if◌then◌else◌, slice_get}
-use Rattle.lexical_forms.proofs.LeadingLemmas.{front_of, fronts_more, fronts_within, sums_of_front}
+use Rattle.lexical_forms.proofs.LeadingLemmas.{front_of, fronts_more, fronts_past, sums_of_front}
 use Rattle.lexical_forms.proofs.list.Forms.leading.Goals as goal
-use Rattle.lexical_forms.proofs.list.Forms.leading.Goals.{then-is_excluded, else-is_excluded+else-begun+else-gives_back}
+use Rattle.lexical_forms.proofs.list.Forms.leading.Goals.{then-not-lacks_longer+else-begun+else-gives_back, else-not-lacks_longer}
 
 pub token_at-requires-clause-sums : goal.token_at-requires-clause-sums
 token_at-requires-clause-sums c =
@@ -18,15 +19,15 @@ pub token_at-requires-clause-leading : goal.token_at-requires-clause-leading
 token_at-requires-clause-leading c =
     let it = get_or c.self.inside.forms.now c.loop-form.form c.index-self-form.result in let size = c.begin-begun.result.at.size in
     let found = c.begin-begun.ensures.found in let is = found.literal c.if-begun.true in
-    let sign = c.sign_size-sign.ensures.size in let low = c.loop-form.invariant.sign in let reached = c.if-reached-size.true in
+    let low = c.loop-form.invariant.sign in let reached = c.if-reached-size.true in
     rw (← c.self.view_is) (record {
       at = slice_get-get_or c.self.inside.forms.now c.loop-form.form c.index-self-form.result c.loop-form-test.true;
       longest = size;
       front = front_of c.args.text.now it size found.begun.begun.within is.0 is.1 (c.is_longest.ensures.within c.if-is_longest.true);
       size_is = ap (λ b. if b then size - 1 else size) (sym (c.is_longest.ensures.kept c.if-is_longest.true));
       own = inl (c.is_longest.ensures.within c.if-is_longest.true);
-      plain = c.are_past.ensures c.if-are_past.true (omega (arith, sign, low, reached));
-      suffixed = c.are_past-then-are_past.ensures c.if-are_past-2.true (omega (arith, sign, low, reached));
+      plain = c.are_past.ensures c.if-are_past.true (omega (arith, low, reached));
+      suffixed = c.are_past-then-are_past.ensures c.if-are_past-2.true (omega (arith, low, reached));
       before = (c.loop-form.reached, reached, c.loop-form.invariant.fronts);
     })
 
@@ -42,23 +43,22 @@ before_point-requires-clause-before c = subst (λ (l : FormList). All (FrontsWit
 pub loop-form-preserved : goal.loop-form-preserved
 loop-form-preserved c =
     let forms = c.self.inside.forms.now in let text = c.args.text.now in let i = c.loop-form.form in let it = c.index-self-form.result in
-    let sign = c.sign_size-sign.ensures.size in let low = c.loop-form.invariant.sign in
-    elim c.if-is_excluded.branch [
-      | then-is_excluded w ↦ (
+    let low = c.loop-form.invariant.sign in
+    elim c.if-not-lacks_longer.branch [
+      | then-not-lacks_longer+else-begun+else-gives_back w ↦ (
           let one = w.larger-reached.ensures.one in let other = w.larger-reached.ensures.other in let is = w.reached-is in
-          let past = subst (λ (g : Grammar). IsWithin (notation_of g) text (c.sign_size-sign.result + 1)) c.grammar.ensures.value
-          (c.is_excluded.ensures w.if-is_excluded.true) in
           record {
             sign = omega (arith, low, one, is);
-            fronts = fronts_more forms text i it c.loop-form.reached c.if-is_excluded.reached c.loop-form-test.true (omega (arith, one, is))
-                c.loop-form.invariant.fronts (λ n front. let own = fronts_within text (c.sign_size-sign.result + 1) (get_or forms i it) past n front
-                in omega (arith, own, other, is));
-          })
-      | else-is_excluded+else-begun+else-gives_back w ↦ (
-          let one = w.larger-reached-else-is_excluded.ensures.one in let other = w.larger-reached-else-is_excluded.ensures.other in let is = w.reached-is in
-          record {
-            sign = omega (arith, low, one, is);
-            fronts = fronts_more forms text i it c.loop-form.reached c.if-is_excluded.reached c.loop-form-test.true (omega (arith, one, is))
+            fronts = fronts_more forms text i it c.loop-form.reached c.if-not-lacks_longer.reached c.loop-form-test.true (omega (arith, one, is))
                 c.loop-form.invariant.fronts (λ n front. let own = w.bound.ensures n front in omega (arith, own, other, is));
+          })
+      | else-not-lacks_longer w ↦ (
+          let is = w.reached-is in
+          record {
+            sign = omega (arith, low, is);
+            fronts = fronts_more forms text i it c.loop-form.reached c.if-not-lacks_longer.reached c.loop-form-test.true (omega (arith, is))
+                c.loop-form.invariant.fronts (λ n front. let own = fronts_past text c.loop-form.reached (get_or forms i it)
+                (subst (λ (g : Grammar). NoFrontPast (notation_of g) text c.loop-form.reached) c.grammar.ensures.value
+                (c.lacks_longer.ensures.front w.if-not-lacks_longer.false)) n front in omega (arith, own, is));
           })
     ]

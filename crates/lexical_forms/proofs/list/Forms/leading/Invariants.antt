@@ -1,10 +1,10 @@
-use Rattle.lexical_forms.proofs.Common.{◌≤◌, ◌-◌, All, take, length}
+use Rattle.lexical_forms.proofs.Common.{◌≤◌, ◌-◌, All, take, length, sign_size}
 use Rattle.lexical_forms.specs.Additions.Token.{FrontsWithin}
 use Rattle.lexical_forms.proofs.list.Forms.leading.Given as goal
 
 abbrev pub invariant-loop-form : goal.invariant-loop-form
 invariant-loop-form l = record {
-  sign : l.sign ≤ l.reached;
+  sign : sign_size l.text ≤ l.reached;
   fronts : All (FrontsWithin l.text l.reached) (take l.form l.self-inside.forms.now);
 }
 

@@ -1,9 +1,7 @@
 -- A separator, the case of a letter, or a byte.
 use Rattle.lexical_literal.proofs.Common.{ℕ, ◌≡◌, ◌≢◌, Bool, true, false, Option, Some, refl, sym, ap, ◌∙◌, arith, nat_tests, Notation, notation_of, place_of}
-use Rattle.lexical_literal.proofs.Common.{blame, mask_of, role_at, part_of, bare, Blame, Group, Summary, grammar_at, group_at}
-use Rattle.lexical_literal.specs.Additions.Explained.{cases, otherwise, requirements, separators}
-use Rattle.std.proofs.Common.{◌==◌, if◌then◌else◌}
-use Rattle.lexical_literal.specs.Additions.GroupSize.{goes}
+use Rattle.lexical_literal.proofs.Common.{blame, mask_of, role_at, part_of, bare, Blame, Group, Summary, grammar_at, group_at, cases, otherwise, requirements}
+use Rattle.lexical_literal.proofs.Common.{separators, ◌==◌, if◌then◌else◌, goes}
 use Rattle.lexical_literal.specs.declared.cause.ReadErrorKind.TheVariants as causes
 use Rattle.lexical_literal.proofs.cause.Spot.blame.Goals as goal
 

@@ -1,7 +1,4 @@
-use Rattle.lexical_literal.proofs.Common.{◌&&◌, sym, ap, ◌∙◌, Some, notation_of, mask_of, bare, Grammar, grammar_at, group_at}
-use Rattle.lexical_literal.specs.Cause.{case_set}
-use Rattle.lexical_util.specs.Roles.{other_case}
-use Rattle.lexical_literal.specs.Additions.GroupSize.{goes}
+use Rattle.lexical_literal.proofs.Common.{◌&&◌, sym, ap, ◌∙◌, Some, notation_of, mask_of, bare, Grammar, grammar_at, group_at, case_set, other_case, goes}
 use Rattle.lexical_literal.proofs.CauseLemmas.{no_mask}
 use Rattle.lexical_literal.proofs.cause.Spot.case_flags.Goals as goal
 

@@ -1,9 +1,8 @@
 -- The cause is a wrong byte if nothing else is the cause.
 use Rattle.lexical_literal.proofs.Common.{ℕ, ◌≡◌, ◌&&◌, Bool, true, false, not, Option, None, Some, refl, sym, subst, arith, nat_tests, Notation, notation_of}
 use Rattle.lexical_literal.proofs.Common.{if◌then◌else◌, is_byte, place_of, blame, mask_of, part_of, role_at, bare, Blame, Group, Summary, grammar_at, group_at}
-use Rattle.lexical_literal.specs.Additions.Explained.{cases, requirements, separators}
+use Rattle.lexical_literal.proofs.Common.{cases, requirements, separators, goes}
 use Rattle.std.specs.Prelude.{◌==◌}
-use Rattle.lexical_literal.specs.Additions.GroupSize.{goes}
 use Rattle.lexical_literal.specs.declared.cause.ReadErrorKind.TheVariants as causes
 use Rattle.lexical_literal.proofs.cause.Spot.is_byte.Goals as goal
 use Rattle.lexical_literal.proofs.cause.Spot.is_byte.Goals.{then-not-is_free, else-not-is_free}

@@ -1,5 +1,4 @@
-use Rattle.lexical_literal.proofs.Common.{ap, ◌∙◌, notation_of, grammar_at, group_at}
-use Rattle.lexical_literal.specs.Additions.GroupSize.{goes}
+use Rattle.lexical_literal.proofs.Common.{ap, ◌∙◌, notation_of, grammar_at, group_at, goes}
 use Rattle.lexical_literal.proofs.CauseLemmas.{as_bare}
 use Rattle.lexical_literal.proofs.cause.Spot.is_free.Goals as goal
 

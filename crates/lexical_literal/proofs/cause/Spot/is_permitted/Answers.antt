@@ -1,8 +1,6 @@
 -- The flag is added to those that require nothing.
 use Rattle.lexical_literal.proofs.Common.{◌≡◌, ◌^◌, ◌*◌, ◌%◌, ◌||◌, bit_or, sym, ap, ◌∙◌, arith, Flag, bit, raw, notation_of, ◌==◌, no_condition, bare}
-use Rattle.lexical_literal.proofs.Common.{with_rules, grammar_at, group_at}
-use Rattle.std.proofs.lemmas.Nat.{one_shl}
-use Rattle.lexical_literal.specs.Additions.GroupSize.{goes}
+use Rattle.lexical_literal.proofs.Common.{with_rules, grammar_at, group_at, one_shl, goes}
 use Rattle.lexical_literal.proofs.CauseLemmas.{flag_or, flag_pow}
 use Rattle.lexical_literal.proofs.cause.Spot.is_permitted.Goals as goal
 

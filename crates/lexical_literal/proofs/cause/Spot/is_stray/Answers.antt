@@ -1,7 +1,5 @@
 -- The cause is a wrong byte, or the prefix is one of the conditions that are to blame.
-use Rattle.lexical_literal.proofs.Common.{◌∙◌, ◌≡◌, ◌||◌, ◌&&◌, Bool, true, false, not, arith, sym, notation_of, bare, grammar_at, group_at}
-use Rattle.lexical_literal.specs.Additions.GroupSize.{goes}
-use Rattle.lexical_literal.specs.Cause.{requiring}
+use Rattle.lexical_literal.proofs.Common.{◌∙◌, ◌≡◌, ◌||◌, ◌&&◌, Bool, true, false, not, arith, sym, notation_of, bare, grammar_at, group_at, goes, requiring}
 use Rattle.lexical_literal.specs.declared.syntax.Condition.TheVariants as conditions
 use Rattle.lexical_literal.proofs.NumberLemmas.{has_kept}
 use Rattle.lexical_literal.proofs.cause.Spot.is_stray.Goals as goal

@@ -1,6 +1,5 @@
 use Rattle.lexical_literal.proofs.Common.{◌≡◌, Bool, true, false, not, ◌&&◌, ◌||◌, sym, ap, ◌∙◌, arith, false≢true, has, is_same, notation_of, Condition}
-use Rattle.lexical_literal.proofs.Common.{Conditions, bare, with_rules, grammar_at, group_at}
-use Rattle.lexical_literal.specs.Additions.GroupSize.{goes}
+use Rattle.lexical_literal.proofs.Common.{Conditions, bare, with_rules, grammar_at, group_at, goes}
 use Rattle.lexical_literal.proofs.NumberLemmas.{has_only}
 use Rattle.lexical_literal.proofs.cause.Spot.is_unmet.Goals as goal
 use Rattle.lexical_literal.proofs.cause.Spot.is_unmet.Goals.{then-has, else-has}
@@ -20,7 +19,8 @@ returns-then-is_free c =
           let set = sym c.has.ensures ∙ w.if-has.true in
           let only : (d : Condition) → has c.only.result d ≡ (is_same c.args.condition d || false) =
           λ d. ap (λ (c : Conditions). has c d) c.only.ensures ∙ has_only conditions c.args.condition d set ∙ or_false _ in
-          ap not (c.allows.ensures ∙ (λ j. goes (with_rules m (λ f. c.bare.ensures f j) (λ d. only d j)) c.args.self.read (group_at c.args.self) c.args.self.byte))
+          ap not (c.allows.ensures ∙ (λ j. goes (with_rules m (λ f. c.bare.ensures f j) (λ d. only d j))
+          c.args.self.read (group_at c.args.self) c.args.self.byte))
           ∙ both (m.condition c.args.condition) (goes (bare m) c.args.self.read (group_at c.args.self) c.args.self.byte) _
           set (sym w.is_free.ensures ∙ sym w.value-is ∙ c.if-is_free.true)
       | else-has w ↦ absurd (false≢true (sym w.if-has.false ∙ sym w.value-is ∙ c.if-is_free.true))

@@ -1,7 +1,6 @@
 -- Each answer is made of the cause.
-use Rattle.lexical_literal.specs.Additions.Explained.{grammar_at, marks_at}
-use Rattle.lexical_literal.proofs.Common.{ap, ◌∙◌, notation_of, span_of, Blame, grammar_at}
-use Rattle.lexical_literal.specs.Cause.{error_of, first_unmet, lowest}
+use Rattle.lexical_literal.proofs.Common.{grammar_at, ap, ◌∙◌, notation_of, span_of, Blame, error_of, first_unmet, lowest}
+use Rattle.lexical_literal.specs.Additions.Explained.{marks_at}
 use Rattle.lexical_literal.proofs.cause.Spot.refusal.Goals as goal
 
 pub returns : goal.returns

@@ -1,8 +1,6 @@
 -- One flag is asked after the other.
-use Rattle.lexical_literal.proofs.Common.{ℕ, ◌≡◌, bit_and, ◌+◌, ◌&&◌, Bool, nat_lt, not, true, false, sym, ap, ◌∙◌, arith, nat_tests, bit, raw}
-use Rattle.std.proofs.Common.{◌==◌, if◌then◌else◌}
-use Rattle.std.proofs.lemmas.Nat.{one_shl}
-use Rattle.lexical_util.specs.Layout.{part}
+use Rattle.lexical_literal.proofs.Common.{ℕ, ◌≡◌, bit_and, ◌+◌, ◌&&◌, Bool, nat_lt, not, true, false, sym, ap, ◌∙◌, arith, nat_tests, bit, raw, ◌==◌}
+use Rattle.lexical_literal.proofs.Common.{if◌then◌else◌, one_shl, part}
 use Rattle.lexical_literal.proofs.CauseLemmas.{bit_below, flag_and, flag_not, is_unset, masked, one_flag}
 use Rattle.lexical_literal.proofs.cause.Spot.refusing.Goals as goal
 use Rattle.lexical_literal.proofs.cause.Spot.refusing.Goals.{then-mask-number-ne0, else-mask-number-ne0}

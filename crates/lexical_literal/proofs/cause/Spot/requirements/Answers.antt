@@ -1,21 +1,19 @@
 -- Flags that refuse alone, or those on leading zeros.
 use Rattle.lexical_literal.proofs.Common.{ℕ, ◌≡◌, ◌&&◌, Bool, true, false, not, ap, ◌∙◌, arith, nat_tests, list_any, all_conditions, has, notation_of}
-use Rattle.lexical_literal.proofs.Common.{number_of, Conditions, ◌==◌, if◌then◌else◌, grammar_at, group_at}
-use Rattle.lexical_literal.specs.Notation.{kept}
-use Rattle.lexical_literal.specs.Additions.GroupSize.{goes}
-use Rattle.lexical_literal.specs.Additions.Explained.{some_unmet, unmet}
-use Rattle.lexical_literal.specs.Cause.{bare, requiring}
-use Rattle.lexical_literal.specs.declared.cause.Spot.{Spot}
+use Rattle.lexical_literal.proofs.Common.{number_of, Conditions, ◌==◌, if◌then◌else◌, grammar_at, group_at, kept, goes, some_unmet, unmet, bare, requiring}
+use Rattle.lexical_literal.proofs.Common.{Spot}
 use Rattle.lexical_literal.proofs.NumberLemmas.{has_kept}
 use Rattle.lexical_literal.proofs.cause.Spot.requirements.Goals as goal
 
 -- No condition is to blame if none is kept.
-none_is : (t : Spot) (k : Conditions) (is : Bool) → let m = notation_of (grammar_at t) in k ≡ kept (unmet m t.read (group_at t) t.byte) (number_of (grammar_at t).conditions)
+none_is : (t : Spot) (k : Conditions) (is : Bool) → let m = notation_of (grammar_at t) in k
+    ≡ kept (unmet m t.read (group_at t) t.byte) (number_of (grammar_at t).conditions)
     → is ≡ not (list_any (has k) all_conditions) → is ≡ not (some_unmet m t.read (group_at t) t.byte)
 none_is t k is same none =
     let m = notation_of (grammar_at t) in
     none ∙ (λ j. not (list_any (λ d. (ap (λ (k : Conditions). has k d) same
-    ∙ has_kept (grammar_at t).conditions (λ d. goes (bare m) t.read (group_at t) t.byte && not (goes (requiring d (bare m)) t.read (group_at t) t.byte)) d) j) all_conditions))
+    ∙ has_kept (grammar_at t).conditions (λ d. goes (bare m) t.read (group_at t) t.byte
+    && not (goes (requiring d (bare m)) t.read (group_at t) t.byte)) d) j) all_conditions))
 
 none_alone : (a z : ℕ) (n : Bool) → a ≡ 0 → n ≡ true → z ≡ (if (a == 0) && n then z else a)
 none_alone a z n zero none = grind (arith, nat_tests)

@@ -1,9 +1,6 @@
 use Rattle.lexical_literal.proofs.Common.{◌≡◌, ◌&&◌, Bool, not, refl, sym, ap, ◌∙◌, arith, Flag, raw, notation_of, mask_of, adding, bare, is_one_of}
-use Rattle.lexical_literal.proofs.Common.{number_separator_flags, grammar_at, group_at}
+use Rattle.lexical_literal.proofs.Common.{number_separator_flags, grammar_at, group_at, w128, bit_not, goes, SEPARATORS}
 use Rattle.std.proofs.lemmas.Nat.{and_comm}
-use Rattle.std.specs.Int.{w128, bit_not}
-use Rattle.lexical_literal.specs.Additions.GroupSize.{goes}
-use Rattle.lexical_literal.specs.declared.cause.TheConstants.{SEPARATORS}
 use Rattle.lexical_literal.proofs.CauseLemmas.{flag_and, flag_not, mask_flags, masked_by, separators_mask}
 use Rattle.lexical_literal.proofs.cause.Spot.separators.Goals as goal
 

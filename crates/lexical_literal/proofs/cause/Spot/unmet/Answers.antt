@@ -1,7 +1,6 @@
 -- After a condition, and after the last.
 use Rattle.lexical_literal.proofs.Common.{ℕ, ◌≡◌, ◌≤◌, ◌&&◌, Bool, true, false, nat_lt, get_or, sym, ap, ◌∙◌, arith, nat_tests, all_conditions, is_same}
-use Rattle.lexical_literal.proofs.Common.{notation_of, number_of, Condition, Conditions, if◌then◌else◌, length, unmet, grammar_at, group_at}
-use Rattle.lexical_literal.specs.Notation.{order}
+use Rattle.lexical_literal.proofs.Common.{notation_of, number_of, Condition, Conditions, if◌then◌else◌, length, unmet, grammar_at, group_at, order}
 use Rattle.lexical_literal.specs.declared.syntax.Condition.TheVariants as conditions
 use Rattle.lexical_literal.proofs.NumberLemmas.{is_kept, number_next}
 use Rattle.lexical_literal.proofs.cause.Spot.unmet.Goals as goal
@@ -12,7 +11,8 @@ last d i n u end = grind (arith, nat_tests)
 
 pub returns : goal.returns
 returns c =
-    is_kept (unmet (notation_of (grammar_at c.args.self)) c.args.self.read (group_at c.args.self) c.args.self.byte) (number_of (grammar_at c.args.self).conditions)
+    is_kept (unmet (notation_of (grammar_at c.args.self)) c.args.self.read (group_at c.args.self) c.args.self.byte)
+    (number_of (grammar_at c.args.self).conditions)
     c.loop-index.unmet
     c.loop-index.invariant.all (λ d. c.loop-index.invariant.each d ∙ last d c.loop-index.index _ _ c.loop-index-test.false)
 

@@ -1,13 +1,13 @@
-use Rattle.lexical_literal.specs.Additions.Explained.{grammar_at, group_at}
-use Rattle.lexical_literal.proofs.Common.{◌≡◌, ◌&&◌, ◌-◌, nat_lt, all_conditions, notation_of, number_of, Condition, if◌then◌else◌, length, unmet}
-use Rattle.lexical_literal.specs.Notation.{order}
+use Rattle.lexical_literal.proofs.Common.{grammar_at, group_at, ◌≡◌, ◌&&◌, ◌-◌, nat_lt, all_conditions, notation_of, number_of, Condition, if◌then◌else◌}
+use Rattle.lexical_literal.proofs.Common.{length, unmet, order}
 use Rattle.lexical_literal.proofs.cause.Spot.unmet.Given as goal
 
 abbrev pub invariant-loop-index : goal.invariant-loop-index
 invariant-loop-index l = record {
   all : length l.unmet.numbers ≡ length all_conditions;
   each : (d : Condition) → number_of l.unmet d
-      ≡ (if nat_lt (order d) l.index && unmet (notation_of (grammar_at l.self)) l.self.read (group_at l.self) l.self.byte d then number_of (grammar_at l.self).conditions d
+      ≡ (if nat_lt (order d) l.index && unmet (notation_of (grammar_at l.self)) l.self.read (group_at l.self) l.self.byte d
+      then number_of (grammar_at l.self).conditions d
       else 0);
 }
 

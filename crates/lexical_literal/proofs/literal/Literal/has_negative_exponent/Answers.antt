@@ -1,6 +1,5 @@
 -- The sign of the exponent is what follows the parts before it, if it is there.
-use Rattle.lexical_literal.proofs.Common.{ap, ◌∙◌, Read}
-use Rattle.lexical_literal.specs.Literal.{is_minus}
+use Rattle.lexical_literal.proofs.Common.{ap, ◌∙◌, Read, is_minus}
 use Rattle.lexical_literal.proofs.MadeLemmas.{minus}
 use Rattle.lexical_literal.proofs.literal.Literal.has_negative_exponent.Goals as goal
 

@@ -1,6 +1,5 @@
 -- The sign is what the text begins with, if it is there.
-use Rattle.lexical_literal.proofs.Common.{ap, ◌∙◌, Read}
-use Rattle.lexical_literal.specs.Literal.{is_minus}
+use Rattle.lexical_literal.proofs.Common.{ap, ◌∙◌, Read, is_minus}
 use Rattle.lexical_literal.proofs.MadeLemmas.{minus}
 use Rattle.lexical_literal.proofs.literal.Literal.is_negative.Goals as goal
 

@@ -1,8 +1,7 @@
 -- The invariant has the number.
-use Rattle.lexical_literal.proofs.Common.{◌≡◌, IfSome, IsSome, subst, raw}
+use Rattle.lexical_literal.proofs.Common.{◌≡◌, IfSome, IsSome, subst, raw, Read, IsShort}
 use Rattle.lexical_util.specs.Layout as layout
-use Rattle.lexical_literal.specs.Read.{Read, mantissa}
-use Rattle.lexical_number.specs.Small.{IsShort}
+use Rattle.lexical_literal.specs.Read.{mantissa}
 use Rattle.lexical_literal.proofs.literal.Literal.mantissa.Goals as goal
 
 pub returns-clause-some : goal.returns-clause-some

@@ -1,10 +1,6 @@
 -- The invariant has the number.
-use Rattle.lexical_literal.proofs.Common.{◌≡◌, IfSome, IsSome, subst, sym, raw}
-use Rattle.lexical_util.specs.Record.{effective_exponent_radix}
-use Rattle.lexical_literal.specs.Additions.Literal.{cut}
-use Rattle.lexical_literal.specs.Additions.Step.{cuts_of}
-use Rattle.lexical_literal.specs.Read.{Read, exponent}
-use Rattle.lexical_number.specs.Small.{IsShort}
+use Rattle.lexical_literal.proofs.Common.{◌≡◌, IfSome, IsSome, subst, sym, raw, effective_exponent_radix, cut, cuts_of, Read, IsShort}
+use Rattle.lexical_literal.specs.Read.{exponent}
 use Rattle.lexical_literal.proofs.literal.Literal.scale.Goals as goal
 
 pub returns-clause-some : goal.returns-clause-some

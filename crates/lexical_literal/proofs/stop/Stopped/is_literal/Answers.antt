@@ -1,6 +1,5 @@
 -- What has been read is no literal if it does not end.
-use Rattle.lexical_literal.proofs.Common.{None, sym, ap, ◌∙◌, notation_of, Grammar, Group}
-use Rattle.lexical_literal.specs.Additions.GroupSize.{goes}
+use Rattle.lexical_literal.proofs.Common.{None, sym, ap, ◌∙◌, notation_of, Grammar, Group, goes}
 use Rattle.lexical_literal.proofs.StoppedLemmas.{same_group}
 use Rattle.lexical_literal.proofs.stop.Stopped.is_literal.Goals as goal
 

@@ -1,8 +1,6 @@
 -- What has been read decides what may follow, and so why what follows is refused.
-use Rattle.lexical_literal.proofs.Common.{◌≡◌, refl, sym, ap, subst, ◌∙◌, take, notation_of, Grammar, IsRefusal, marks_of, Group}
-use Rattle.std.specs.Prelude.{slice_get}
-use Rattle.lexical_literal.specs.Additions.Explained.{grammar_at, refusal_of, spot_of}
-use Rattle.lexical_literal.specs.Additions.GroupSize.{goes}
+use Rattle.lexical_literal.proofs.Common.{◌≡◌, refl, sym, ap, subst, ◌∙◌, take, notation_of, Grammar, IsRefusal, marks_of, Group, slice_get, grammar_at}
+use Rattle.lexical_literal.proofs.Common.{refusal_of, spot_of, goes}
 use Rattle.lexical_literal.proofs.BlameLemmas.{refusal_at}
 use Rattle.lexical_literal.proofs.StoppedLemmas.{refused_there}
 use Rattle.lexical_literal.proofs.StopLemmas.{goes_too, is_read_of}

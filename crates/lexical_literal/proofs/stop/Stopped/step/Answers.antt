@@ -5,7 +5,8 @@ use Rattle.lexical_literal.proofs.stop.Stopped.step.Goals as goal
 
 pub grow-requires : goal.grow-requires
 grow-requires c =
-    let small = small_group (notation_of c.args.syntax.now) c.grammar-grammar.ensures.ready c.grammar-grammar.ensures.sizes c.args.text.now c.args.self c.args.group
+    let small = small_group (notation_of c.args.syntax.now) c.grammar-grammar.ensures.ready c.grammar-grammar.ensures.sizes
+    c.args.text.now c.args.self c.args.group
     c.requires in omega (arith, small, c.requires.begun.within)
 
 pub returns-then-size-text-clause-stop : goal.returns-then-size-text-clause-stop
@@ -29,7 +30,8 @@ returns-in_default-grow-clause-stop c _ = let b = get_or c.args.text.now c.args.
 
 pub returns-clause-next : goal.returns-clause-next
 returns-clause-next c = let within = c.requires.begun.within in let b = get_or c.args.text.now c.args.self.size 0 in
-    let role = ap (λ (g : Grammar). role_at (steps_of g) (part_of c.args.self.read.stage) b) (sym c.grammar-grammar.ensures.value) ∙ c.in-Some.ensures.some.0 in (
+    let role = ap (λ (g : Grammar). role_at (steps_of g) (part_of c.args.self.read.stage) b) (sym c.grammar-grammar.ensures.value)
+    ∙ c.in-Some.ensures.some.0 in (
       role,
       underway_more _ c.grammar-grammar.ensures.ready c.grammar-grammar.ensures.sizes _ _ c.args.group c.requires c.in-Some.read c.in-Some-grow.group
           c.in-Some.role (omega (arith, within, c.if-size-text.false))

@@ -1,5 +1,4 @@
-use Rattle.lexical_literal.proofs.Common.{◌-◌, notation_of, length}
-use Rattle.lexical_literal.specs.Additions.Stop.{IsUnderway}
+use Rattle.lexical_literal.proofs.Common.{◌-◌, notation_of, length, IsUnderway}
 use Rattle.lexical_literal.proofs.stop.Stopped.walk.Given as goal
 
 abbrev pub invariant-loop-next : goal.invariant-loop-next

@@ -1,7 +1,7 @@
 -- Where none of the conditions before a place is one of them, the first is that at the place, or one behind it.
 use Rattle.lexical_literal.proofs.Common.{◌≡◌, ◌+◌, ◌∷◌, Some, false, drop, drop-cons, get_or, add-one, sym, ap, ◌∙◌, arith, all_conditions, has, if◌then◌else◌}
+use Rattle.lexical_literal.proofs.Common.{find}
 use Rattle.std.proofs.lemmas.List.{drop_all}
-use Rattle.std.specs.List.{find}
 use Rattle.lexical_literal.specs.declared.syntax.Condition.TheVariants as conditions
 use Rattle.lexical_literal.proofs.syntax.Conditions.first.Goals as goal
 

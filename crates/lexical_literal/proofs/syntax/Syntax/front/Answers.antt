@@ -1,6 +1,5 @@
 -- The longest front that is a literal, and the lengths of its parts.
-use Rattle.lexical_literal.proofs.Common.{subst, notation_of}
-use Rattle.lexical_literal.specs.Additions.Stop.{IsLongest}
+use Rattle.lexical_literal.proofs.Common.{subst, notation_of, IsLongest}
 use Rattle.lexical_literal.proofs.StoppedLemmas.{found_there, front_literal, fronted, no_front}
 use Rattle.lexical_literal.proofs.syntax.Syntax.front.Goals as goal
 

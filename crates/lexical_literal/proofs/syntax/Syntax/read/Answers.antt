@@ -1,7 +1,6 @@
 -- A text with a byte that is refused is no literal.
-use Rattle.lexical_literal.proofs.Common.{ℕ, List, Result, Ok, Err, IsErrAnd, arith, notation_of, Grammar, IsRefusal, NoLiteral, Read}
+use Rattle.lexical_literal.proofs.Common.{ℕ, List, Result, Ok, Err, IsErrAnd, arith, notation_of, Grammar, IsRefusal, NoLiteral, Read, IsRead}
 use Rattle.lexical_literal.specs.Cause.{Explained}
-use Rattle.lexical_literal.specs.Parts.{IsRead}
 use Rattle.lexical_literal.proofs.StoppedLemmas.{none_whole}
 use Rattle.lexical_literal.proofs.PieceLemmas.{is_read, measured_cut}
 use Rattle.lexical_literal.proofs.syntax.Syntax.read.Goals as goal

@@ -1,8 +1,6 @@
 -- The parts that were cut are those of the literal.
-use Rattle.lexical_literal.proofs.Common.{ap, ◌∙◌, raw, cut, cuts_of}
+use Rattle.lexical_literal.proofs.Common.{ap, ◌∙◌, raw, cut, cuts_of, effective_exponent_radix, literal_of}
 use Rattle.lexical_util.specs.Layout as layout
-use Rattle.lexical_util.specs.Record.{effective_exponent_radix}
-use Rattle.lexical_literal.specs.Parts.{literal_of}
 use Rattle.lexical_literal.proofs.MantissaLemmas.{made_sums}
 use Rattle.lexical_literal.proofs.syntax.Syntax.summed.Goals as goal
 

@@ -1,7 +1,6 @@
 -- Both numbers are floats.
-use Rattle.std.proofs.Common.{arith}
+use Rattle.lexical_number.proofs.Common.{arith, IsTenTo-get_or}
 use Rattle.std.specs.Float.{binary32}
-use Rattle.core.proofs.dec2flt.ExactLemmas.{IsTenTo-get_or}
 use Rattle.lexical_number.specs.declared.float.TheConstants.{TENS_F32}
 use Rattle.lexical_number.proofs.TenLemmas.{divided, multiplied}
 use Rattle.lexical_number.proofs.float.F32Float.by_ten_to.Goals as goal

@@ -1,7 +1,6 @@
 -- The bits are those of the value.
-use Rattle.std.specs.Bool.{passes}
+use Rattle.lexical_number.proofs.Common.{passes, of_bits-to_bits}
 use lib.Ieee.{binary64}
-use lib.Ieee.Bits.{of_bits-to_bits}
 use Rattle.lexical_number.proofs.float.F64Float.bits.Goals as goal
 
 pub returns-else-is_nan-clause-value : goal.returns-else-is_nan-clause-value

@@ -1,5 +1,5 @@
 -- A number of one word is led by itself.
-use Rattle.std.proofs.Common.{arith}
+use Rattle.lexical_number.proofs.Common.{arith}
 use Rattle.lexical_number.proofs.LeadingLemmas.{leads_all}
 use Rattle.lexical_number.proofs.leading.Leading.whole.Goals as goal
 

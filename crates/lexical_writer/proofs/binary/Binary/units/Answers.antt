@@ -1,12 +1,9 @@
 -- Bits are cut, or zeros come behind the digits.
-use Rattle.lexical_writer.proofs.Common.{ℕ, ◌≡◌, ◌+◌, ◌-◌, ◌*◌, ◌/◌, ◌%◌, ◌^◌, ◌<◌, ◌≤◌, ap, arith, sym, subst, ◌∙◌, pow-zero, mod-lt}
-use Rattle.std.proofs.Math.Nat.{div-eq_of_lt, mod-eq_of_lt, mul-le-mul_left}
+use Rattle.lexical_writer.proofs.Common.{ap, arith, div-eq_of_lt, mod-eq_of_lt, mod-lt, mul-le-mul_left, pow-zero, subst, sym, ℕ, ◌%◌, ◌*◌, ◌+◌, ◌-◌, ◌/◌, ◌<◌}
+use Rattle.lexical_writer.proofs.Common.{◌^◌, ◌∙◌, ◌≡◌, ◌≤◌}
 use Rattle.lexical_writer.proofs.BinaryLemmas.{cut_units, moved_exact, moved_units, odd_left}
 use Rattle.lexical_writer.proofs.FloatLemmas.{twos}
 use Rattle.lexical_writer.proofs.binary.Binary.units.Goals as goal
-
-once : (n : ℕ) → n * 1 ≡ n
-once n = omega arith
 
 shifted : (n up b : ℕ) → n < 2 ^ 53 → 1 ≤ b → b ≤ 5 → n * 2 ^ (up % b) % 2 ^ 64 ≡ n * 2 ^ (up % b)
 shifted n up b small some few =
@@ -17,7 +14,7 @@ shifted n up b small some few =
 pub returns-then-power-low-clause-value : goal.returns-then-power-low-clause-value
 returns-then-power-low-clause-value c =
     let it = c.args.self.now in
-    ap (λ p. c.over_power.result * p) (pow-zero (2 ^ it.bits)) ∙ once c.over_power.result ∙ c.over_power.ensures
+    ap (λ p. c.over_power.result * p) (pow-zero (2 ^ it.bits)) ∙ omega (arith, c.over_power.ensures.value)
     ∙ cut_units it.number it.power it.bits c.args.places c.args.low (omega (arith, c.if-power-low.true))
 
 pub returns-clause-value : goal.returns-clause-value
@@ -42,5 +39,5 @@ returns-clause-last c least less odd =
     let value : it.number * 2 ^ (up % it.bits) % 2 ^ 64 * (2 ^ it.bits) ^ (up / it.bits) ≡ it.number * 2 ^ up =
     ap (λ m. m * (2 ^ it.bits) ^ (up / it.bits)) (shifted it.number up it.bits it.limits.0 it.radixes.0 it.radixes.1)
     ∙ (λ i. it.number * 2 ^ mod-eq_of_lt few i * (2 ^ it.bits) ^ div-eq_of_lt few i)
-    ∙ ap (λ p. it.number * 2 ^ up * p) (pow-zero (2 ^ it.bits)) ∙ once (it.number * 2 ^ up) in
+    ∙ ap (λ p. it.number * 2 ^ up * p) (pow-zero (2 ^ it.bits)) ∙ omega arith in
     subst (λ m. 0 < m % 2 ^ it.bits) (sym value) (odd_left it.number up it.bits odd few)

@@ -1,8 +1,8 @@
 -- What the list reads is the number.
-use Rattle.lexical_writer.proofs.Common.{◌∙◌, inl, inr, sym}
+use Rattle.lexical_writer.proofs.Common.{inl, inr, sym, ◌∙◌}
 use Rattle.lexical_writer.proofs.ChoiceLemmas.{rounded_number}
+use Rattle.lexical_writer.proofs.choice.LiteralWritable.is_read_as.Goals.{else-is_float, then-is_float}
 use Rattle.lexical_writer.proofs.choice.LiteralWritable.is_read_as.Goals as goal
-use Rattle.lexical_writer.proofs.choice.LiteralWritable.is_read_as.Goals.{then-is_float, else-is_float}
 
 pub returns-then-is_some : goal.returns-then-is_some
 returns-then-is_some c equal kind g word has =

@@ -1,5 +1,5 @@
 -- What is written has the value of the literal, or its nearest float.
-use Rattle.lexical_writer.specs.Layout.{literal_of}
+use Rattle.lexical_writer.proofs.Common.{literal_of}
 use Rattle.lexical_writer.proofs.choice.LiteralWritable.write.Goals as goal
 
 pub returns : goal.returns
@@ -8,5 +8,6 @@ returns c =
       literal_of c.in_ok-format_near.field-0,
       written.literal,
       record { near = written.near; rounded = written.rounded; exact = written.exact },
-      c.write.ensures,
+      c.put.ensures.text,
+      c.put.ensures.float,
     )

@@ -1,8 +1,11 @@
 -- What is written is the float, or the float that is rounded.
-use Rattle.lexical_writer.proofs.Common.{format_of}
+use Rattle.lexical_writer.proofs.Common.{format_of, is_exact, sym, ◌||◌, ◌∙◌}
 use Rattle.lexical_writer.proofs.ChoiceLemmas.{plain_real}
 use Rattle.lexical_writer.proofs.choice.RealWritable.is_plain.Goals as goal
 
-pub returns : goal.returns
-returns g c equal kind grammar style word has =
-    plain_real (format_of g.F.Float.DOUBLE) (g.F.Float.value c.args.self.now.value) style.decimals grammar _ kind word has
+pub returns-then-is_nearest : goal.returns-then-is_nearest
+returns-then-is_nearest g c equal style read kind word float has =
+    plain_real (format_of g.F.Float.DOUBLE) (g.F.Float.value c.args.self.now.value) style.decimals c.args.syntax.now read word
+    (sym c.has_floats.ensures ∙ equal)
+    ((λ i. (kind i).floats) ∙ c.is_nearest.ensures.near c.if-is_nearest.true)
+    ((λ i. is_exact (kind i).integers || float i) ∙ c.is_nearest.ensures.plain c.if-is_nearest.true) has

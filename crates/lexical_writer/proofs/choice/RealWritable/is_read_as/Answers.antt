@@ -1,10 +1,10 @@
--- What the list reads is the float that is rounded.
-use Rattle.lexical_writer.proofs.Common.{◌∙◌, format_of, sym}
-use Rattle.lexical_writer.proofs.ChoiceLemmas.{rounded_real}
+-- What the list reads is the float in the style.
+use Rattle.lexical_writer.proofs.Common.{format_of}
+use Rattle.lexical_writer.proofs.ChoiceLemmas.{same_real}
 use Rattle.lexical_writer.proofs.choice.RealWritable.is_read_as.Goals as goal
 
-pub returns-then-is_some : goal.returns-then-is_some
-returns-then-is_some g c equal kind grammar word has =
+pub returns : goal.returns
+returns g c equal kind grammar word has =
     let same = c.is_same.ensures equal in
-    rounded_real (format_of g.F.Float.DOUBLE) (g.F.Float.value c.args.self.now.value) c.args.style.decimals grammar c.args.own.now c.args.literal.now
-    (sym c.is_some.ensures ∙ c.if-is_some.true) kind word has same.0 same.1 same.2
+    same_real (format_of g.F.Float.DOUBLE) (g.F.Float.value c.args.self.now.value) _ grammar c.args.own.now c.args.literal.now kind word has
+    same.0 same.1 same.2

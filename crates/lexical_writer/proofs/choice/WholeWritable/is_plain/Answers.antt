@@ -1,8 +1,17 @@
 -- What is written is the integer.
-use Rattle.lexical_writer.proofs.Common.{◌≡◌, not, subst, true}
-use Rattle.lexical_writer.proofs.ChoiceLemmas.{plain_whole}
+use Rattle.lexical_writer.proofs.Common.{Bool, Kind, ap, arith, false, is_float, not-true, sym, worth, ◌&&◌, ◌∙◌, ◌≡◌}
+use Rattle.lexical_writer.proofs.ChoiceLemmas.{kept_whole, no_float, plain_whole}
 use Rattle.lexical_writer.proofs.choice.WholeWritable.is_plain.Goals as goal
 
-pub returns : goal.returns
-returns g c equal kind grammar style word has =
-    plain_whole _ grammar c.args.literal.now kind word (subst (λ b. not b ≡ true) c.has_float.ensures equal) has
+and_false : (b : Bool) → (b && false) ≡ false
+and_false b = grind arith
+
+pub returns-then-is_exact : goal.returns-then-is_exact
+returns-then-is_exact c equal style read kind word float has = plain_whole _ c.args.syntax.now read (kind ∙ c.is_exact.ensures c.if-is_exact.true) word
+    (no_float c.args.syntax.now read _ word c.has_floats.ensures ((λ i. is_float read.literal && not-true _ equal i) ∙ and_false _)) has
+
+pub returns-else-float : goal.returns-else-float
+returns-else-float c equal style read kind word float has =
+    kept_whole c.args.self.now.negative c.args.self.now.size c.args.syntax.now read word (float ∙ c.if-float.false)
+    (λ negative. ap (λ (k : Kind). worth k.integers negative c.args.self.now.size) kind
+    ∙ ap (λ k. worth k negative c.args.self.now.size) (sym c.integers.ensures) ∙ c.is_kept.ensures equal negative) has

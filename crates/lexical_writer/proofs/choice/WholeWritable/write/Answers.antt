@@ -1,16 +1,19 @@
 -- What is written has the value.
-use Rattle.lexical_writer.proofs.Common.{Amount, subst}
-use Rattle.lexical_writer.specs.Layout.{HasNumber, literal_of}
+use Rattle.lexical_writer.proofs.Common.{Amount, HasNumber, literal_of, refl, subst, sym, with_sign}
 use Rattle.lexical_writer.proofs.PlainLemmas.{has_value}
 use Rattle.lexical_writer.proofs.choice.WholeWritable.write.Goals as goal
 
 pub returns : goal.returns
-returns g c =
+returns c =
     let written = c.in_ok-lay_out.ensures in
-    let amount = c.of_size.ensures in (
-      literal_of c.in_ok-lay_out.field-0,
+    let l = literal_of c.in_ok-lay_out.field-0 in
+    let number = subst (λ (a : Amount). HasNumber c.args.syntax.now a l) c.of_size-amount.ensures written.number in (
+      l,
       written.literal,
-      has_value c.args.syntax.now _ _ _ c.sign_and_size-negative.ensures.value written.lawful (literal_of c.in_ok-lay_out.field-0)
-          (subst (λ (a : Amount). HasNumber c.args.syntax.now a (literal_of c.in_ok-lay_out.field-0)) amount written.number),
-      c.write.ensures,
+      (
+        has_value c.args.syntax.now c.args.self.now.negative c.args.self.now.size _ refl written.lawful l number,
+        λ i. with_sign (sym number.sign i) (sym number.integer i),
+      ),
+      c.put.ensures.text,
+      c.put.ensures.float,
     )

@@ -1,7 +1,5 @@
 -- What is laid out is a literal with the digits of the amount.
-use Rattle.lexical_writer.proofs.Common.{IfOk, text_of, Layout, Reads, notation_of, HasNumber}
-use Rattle.lexical_writer.specs.Layout.{literal_of}
-use Rattle.std.proofs.lemmas.Result.{IfOk-weaker}
+use Rattle.lexical_writer.proofs.Common.{HasNumber, IfOk, IfOk-weaker, Layout, Reads, literal_of, notation_of, text_of}
 use Rattle.lexical_writer.proofs.LiteralLemmas.{written}
 use Rattle.lexical_writer.proofs.layout.Amount.lay_out.Goals as goal
 

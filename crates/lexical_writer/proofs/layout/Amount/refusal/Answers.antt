@@ -1,8 +1,7 @@
 -- What is refused is what the syntax and the amount say.
-use Rattle.lexical_writer.proofs.Common.{◌≡◌, ◌&&◌, ◌||◌, ap, ◌∙◌, arith, raw, has, lacks_options, first_error}
+use Rattle.lexical_writer.proofs.Common.{Conditions, ap, arith, first_error, has, lacks_options, raw, ◌&&◌, ◌||◌, ◌∙◌, ◌≡◌}
 use Rattle.lexical_util.specs.Layout as layout
 use Rattle.lexical_literal.specs.declared.syntax.Condition.TheVariants as conditions
-use Rattle.lexical_literal.specs.declared.syntax.Conditions.{Conditions}
 use Rattle.lexical_writer.proofs.layout.Amount.refusal.Goals as goal
 
 pub returns : goal.returns

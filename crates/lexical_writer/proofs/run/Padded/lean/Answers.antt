@@ -1,9 +1,9 @@
 -- The first digits that are not zeros, and what is behind them, are the digits of the number.
-use Rattle.lexical_writer.proofs.Common.{ℕ, List, ◌≡◌, ◌++◌, [], replicate, ap, sym, ◌∙◌, arith, append-nil, length, digits_of, number_from_digits}
-use Rattle.lexical_writer.proofs.Common.{digits_in, number, padded_values}
+use Rattle.lexical_writer.proofs.Common.{List, [], ap, append-nil, arith, digits_in, digits_of, length, number, number_from_digits, padded_values, replicate}
+use Rattle.lexical_writer.proofs.Common.{sym, ℕ, ◌++◌, ◌∙◌, ◌≡◌}
 use Rattle.lexical_writer.proofs.DigitLemmas.{behind_below, lean_front, no_number, zero_front, zeros_below, zeros_number}
+use Rattle.lexical_writer.proofs.run.Padded.lean.Goals.{else-some, then-some}
 use Rattle.lexical_writer.proofs.run.Padded.lean.Goals as goal
-use Rattle.lexical_writer.proofs.run.Padded.lean.Goals.{then-some, else-some}
 
 pub returns-then-count-gt0 : goal.returns-then-count-gt0
 returns-then-count-gt0 c =
