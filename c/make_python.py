@@ -16,7 +16,7 @@ SETTERS = HERE.parent.joinpath("rust/src/format_builder/setters.rs").read_text()
 ERRORS = HERE.parent.joinpath("rust/src/error.rs").read_text()
 FORMAT = HERE.parent.joinpath("docs/FORMAT.md").read_text()
 LANGUAGES = HERE.parent.joinpath("rust/src/literal/language/tables.rs").read_text()
-LANGUAGE_NAMES = re.findall(r"^    (\w+) = \{", LANGUAGES, re.M)
+LANGUAGE_NAMES = re.findall(r"^    (\w+): \"", LANGUAGES, re.M)
 # The setters, by the lowest bits of fields, and from 128 on by the order of groups.
 SET = [(name, int(bit)) for bit, name in re.findall(r"^\| (\d+)(?: to \d+)? \| `(\w+)` \|", FORMAT, re.M)]
 SET += [(name, number) for number, name in enumerate(re.findall(r"^\| `(\w+)` \| \d[\d ]* \|", FORMAT, re.M), 128)]

@@ -103,9 +103,9 @@ uint32_t peltzivar_version(void);
 typedef struct peltzivar_forms peltzivar_forms;
 typedef struct peltzivar_syntax peltzivar_syntax;
 
-/* Returns the forms of the language or file format with a name of len bytes in either case, such as "JSON" or
- * "C_SHARP", or a null pointer if there is none. They last as long as the program. LANGUAGES.md describes each, such
- * as which C `C` is.
+/* Returns the forms of the language or file format with a name or a title of len bytes, such as "C_SHARP" or "C#",
+ * whatever the case of ASCII letters is, or a null pointer if there is none. They last as long as the program.
+ * LANGUAGES.md describes each, such as which C `C` is.
  *
  * Numbers have a sign in CSS, CSV_DE, CSV_EN, FORTRAN, JSON, JSON5, NIM, RUBY, SQL, SWIFT, TOML, XML_SCHEMA, YAML and
  * YAML_1_1. In the other languages, `-` is an operator: they refuse `-5`, so read what is behind it. */
@@ -152,8 +152,10 @@ const peltzivar_forms *peltzivar_language_yaml(void);
 const peltzivar_forms *peltzivar_language_yaml_1_1(void);
 /* End */
 
-/* Returns the name of a language. The languages have the indices from 0 on, in alphabetical order. */
+/* Return the name of a language, such as "C_SHARP", and its title, which is its name for people, such as "C#". The
+ * languages have the indices from 0 on, in alphabetical order. */
 const char *peltzivar_language_name(size_t index);
+const char *peltzivar_language_title(size_t index);
 
 /* VALUES OF TEXTS */
 

@@ -1654,6 +1654,7 @@ class _Language(_Several, _Named):
     `read(text)` returns a `Literal` of one of its forms, or a `Special`. Raises LiteralError if the text is neither.
     `forms` has the same forms, with the syntax of each by its name, and the spellings of NaN and infinity. In the
     repository, docs/LANGUAGES.md describes each language, with its standard, and what no format can accept.
+    `Language("c#")` finds a language by its name or its title, whatever the case of ASCII letters is.
 
     Numbers have a sign in CSS, CSV_DE, CSV_EN, FORTRAN, JSON, JSON5, NIM, RUBY, SQL, SWIFT, TOML, XML_SCHEMA, YAML and
     YAML_1_1. In the other languages, `-` is an operator: they refuse `-5`, so read what is behind it.
@@ -1661,6 +1662,16 @@ class _Language(_Several, _Named):
 
     def __init__(self, name: str) -> None:
         _c.make(self, name, True)
+
+    @classmethod
+    def _missing_(cls, value: object) -> Any:
+        name = str(value).encode().lower()
+        return next((it for it in cls if name in (it.name.encode().lower(), it.title.encode().lower())), None)
+
+    @property
+    def title(self) -> str:
+        """The name for people, such as `C#` or `Haskell 2010`."""
+        return _TITLES[self.name]
 
     @functools.cached_property
     def forms(self) -> Forms:
@@ -1689,8 +1700,9 @@ class _Language(_Several, _Named):
         return f"languages.{self.name}"
 
 
+_TITLES: Dict[str, str] = dict(_c.LANGUAGES)
 _made = _Language
-_c.Language = _made("Language", [(it, it) for it in _c.LANGUAGES], module=__name__)
+_c.Language = _made("Language", [(it, it) for it in _TITLES], module=__name__)
 _c.Language.__doc__ = _Language.__doc__
 from ._peltzivar import Language
 

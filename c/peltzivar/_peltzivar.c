@@ -1025,7 +1025,8 @@ static int filled(PyObject *module) {
     for (int number = 0; number < PELTZIVAR_NO_SETTER; number++)
         if (peltzivar_setter_name((peltzivar_setter)number)[0])
             append(setters, Py_BuildValue("(si)", peltzivar_setter_name((peltzivar_setter)number), number));
-    for (size_t i = 0; peltzivar_language_name(i)[0]; i++) append(languages, shown(peltzivar_language_name(i)));
+    for (size_t i = 0; peltzivar_language_name(i)[0]; i++)
+        append(languages, Py_BuildValue("(ss)", peltzivar_language_name(i), peltzivar_language_title(i)));
     for (size_t i = 4; syntax_members.members[i].kind; i++) append(conditions, shown(syntax_members.members[i].name));
     peltzivar_fields new = PELTZIVAR_NEW_FIELDS;
     if (PyErr_Occurred() || PyModule_AddType(module, (PyTypeObject *)literal)) return -1;

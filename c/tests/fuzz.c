@@ -271,10 +271,10 @@ static void test_numbers(peltzivar_word word) {
     const uint8_t it = (uint8_t)draw();
     const peltzivar_edit edit = {it, (uint8_t)draw()};
     const peltzivar_word mask = peltzivar_setter_mask(it);
-    const char *const name = peltzivar_setter_name(it), *const texts[] = {peltzivar_role_name(it), peltzivar_part_name(it), peltzivar_language_name(it),
+    const char *const name = peltzivar_setter_name(it), *const texts[] = {peltzivar_role_name(it), peltzivar_part_name(it), peltzivar_language_name(it), peltzivar_language_title(it),
         peltzivar_description(it), peltzivar_rule_condition(it), peltzivar_value_description(it), peltzivar_write_description(it)};
     peltzivar_fields fields = peltzivar_fields_of(word);
-    for (int i = 0; i < 7; i++) CHECK(strlen(texts[i]) < PELTZIVAR_TEXT_SIZE);
+    for (int i = 0; i < 8; i++) CHECK(strlen(texts[i]) < PELTZIVAR_TEXT_SIZE);
     CHECK(!*name == !(mask.low | mask.high) && (!*name || peltzivar_setter_of_name(name, strlen(name)) == it) && peltzivar_flag(word, it) == !!(word.low & mask.low));
     CHECK(peltzivar_same_format(word, peltzivar_pack(&fields)) && peltzivar_edit_fields(&fields, &edit, 1) == !!*name && !peltzivar_separators_of(word, it | 4).internal);
     const bool is_digit = (peltzivar_mantissa_digit(word, it) & peltzivar_exponent_digit(word, it)) != PELTZIVAR_NO_DIGIT, is_sign = it == '+' || it == '-';

@@ -13,7 +13,6 @@ TESTS = pathlib.Path(__file__).resolve().parent
 C, TOP = TESTS.parent, TESTS.parent.parent
 SHARED = pathlib.Path(os.environ["PELTZIVAR_LIBRARY"]).absolute()
 ARCHIVE = SHARED.with_suffix(".a")
-ROWS = TESTS.parents[1] / "rust/tests/writing.txt"
 HEADER = "".join((C / it).read_text() for it in ("peltzivar.h", "peltzivar_words.h"))
 PAGE = (TOP / "docs/C-AND-PYTHON.md").read_text()
 STRICT = ["-Wall", "-Wextra", "-Wpedantic", "-Wconversion", "-Wshadow", "-Werror", "-pthread", "-I", C]
@@ -27,7 +26,7 @@ TYPES |= {"peltzivar_edit": "NumberedEdit", "peltzivar_special": "NumberedSpecia
 TYPES |= {"peltzivar_part": "u8", "peltzivar_role": "u8"}
 ERRORS = r"((?!SET_|RULE_|PART_|ROLE_|KIND_|SPELLING_|VALUE_|CONDITION_|WRITE_|STYLE_)\w+)"
 LIBRARY = ctypes.CDLL(str(SHARED))
-LIBRARY.peltzivar_language_name.restype = ctypes.c_char_p
+LIBRARY.peltzivar_language_name.restype = LIBRARY.peltzivar_language_title.restype = ctypes.c_char_p
 
 
 def run(*command, **options):
@@ -61,7 +60,7 @@ class Programs(unittest.TestCase):
                         self.skipTest(compiler)
                     language = ["-x", "c++"] if "++" in compiler else []
                     self.made(compiler, f"-std={standard}", *STRICT, *language, "-c", TESTS / "calls.c", name="calls.o")
-                    self.assertEqual(run(self.made(compiler, "-pthread", self.folder / "calls.o", ARCHIVE), ROWS), ("", 0))
+                    self.assertEqual(run(self.made(compiler, "-pthread", self.folder / "calls.o", ARCHIVE)), ("", 0))
 
     def test_the_calls_are_sound_with_the_checks_of_rust(self):
         build = self.folder / "checked"
@@ -70,7 +69,7 @@ class Programs(unittest.TestCase):
         on["CARGO_BUILD_TARGET"] = target
         command = ["make", "-s", "--no-print-directory", "-C", C, f"BUILD={build}", "build"]
         self.assertEqual(run(*command, env={**os.environ, **on}), ("", 0))
-        for name, *arguments in (["calls", ROWS], ["fuzz", "20000"]):
+        for name, *arguments in (["calls"], ["fuzz", "20000"]):
             program = self.made("cc", *STRICT, *SANITIZERS, TESTS / f"{name}.c", build / target / "release" / ARCHIVE.name)
             self.assertEqual(run(program, *arguments), ("", 0))
 
@@ -88,7 +87,7 @@ class Programs(unittest.TestCase):
         return program.stat().st_size
 
     def test_the_library_is_small_and_programs_have_at_most_the_sizes_of_the_page(self):
-        self.assertLessEqual(SHARED.stat().st_size, 327_000)
+        self.assertLessEqual(SHARED.stat().st_size, 331_000)
         calls = {
             "forms_read": 'peltzivar_literal it; return !peltzivar_forms_read(FORMS, "1.5", 3, &it, NULL);',
             "parse_f64": 'double it; return peltzivar_parse_f64(FORMS, "1.5", 3, &it, NULL) || it != 1.5;',
@@ -210,9 +209,10 @@ class Header(unittest.TestCase):
         return f"Out<{in_rust(kind)}>"
 
     def test_each_language_has_the_call_with_its_name(self):
-        names = [text.decode() for number in range(99) if (text := LIBRARY.peltzivar_language_name(number))]
-        calls = [getattr(LIBRARY, f"peltzivar_language_{it.lower()}")() for it in names]
-        self.assertEqual(calls, [LIBRARY.peltzivar_language(it.encode(), len(it)) for it in names])
+        names, titles = ([it for number in range(99) if (it := call(number))] for call in (LIBRARY.peltzivar_language_name, LIBRARY.peltzivar_language_title))
+        calls = [getattr(LIBRARY, f"peltzivar_language_{it.decode().lower()}")() for it in names]
+        for all_names in (names, titles, map(bytes.lower, titles)):
+            self.assertEqual(calls, [LIBRARY.peltzivar_language(it, len(it)) for it in all_names])
         self.assertEqual(len({*calls}), len(re.findall(r"peltzivar_language_\w+\(void\)", HEADER)))
 
     def test_numbers_in_comments(self):

@@ -32,10 +32,6 @@ WORD = r"\[.*?\]|\"[^\"]*\"|'[^']*'|#x\w+|\w+|."
 # All kinds of a byte, of which the last are not visible or have to be escaped.
 BYTES = "_',.~eExXhHpPzZ#&-\"`/ \\[]^\t\n\v\f\r"
 
-# Settings, and the phrases that the sentence has beside "decimal" and "NaN", or lacks.
-LINES = re.findall(r"^(.*) \| (.*)$", (TOP / "rust/tests/phrases.txt").read_text(), re.M)
-PHRASES = {settings: phrases.split("; ") for settings, phrases in LINES}
-
 
 def changes():
     """Yields settings that change a flag, or add a condition. A separator in a row needs a place."""
@@ -193,15 +189,6 @@ class Notations(unittest.TestCase):
         for syntax in FORMS:
             texts = [it.encode() for it in ROWS] + [random_text(syntax, at) for _ in range(1000 if EVERY else 100)]
             Texts(syntax).compare(texts)
-
-    def test_sentences_state_each_difference(self):
-        for settings, phrases in PHRASES.items():
-            sentence = Syntax.of(*settings.split()).sentence()
-            self.assertEqual({*sentence.split("; ")} ^ {"decimal", "NaN"}, {*phrases}, settings)
-        self.assertEqual([it for it, _ in FLAGS if f"{it}=" not in " ".join(PHRASES)], [])
-        flags = ("no_integer_leading_zeros", "no_positive_mantissa_sign", "integer_internal_digit_separator")
-        syntax = Syntax.of(digit_separator="'", integer_group_size=3, **dict.fromkeys(flags, True))
-        self.assertEqual(syntax.sentence(), "decimal; `'` between groups of three; no `+`; NaN; no leading zeros in integers")
 
     @unittest.skipUnless(shutil.which("node"), "node is missing")
     def test_javascript_matches_the_same_texts(self):

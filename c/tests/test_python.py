@@ -8,7 +8,6 @@ import gc
 import importlib.util
 import inspect
 import itertools
-import locale
 import math
 import os
 import pathlib
@@ -30,7 +29,6 @@ import weakref
 from array import array
 from decimal import Decimal
 from fractions import Fraction
-from unittest import mock
 
 TESTS = pathlib.Path(__file__).resolve().parent
 TOP = TESTS.parent.parent
@@ -47,9 +45,7 @@ EXPLANATIONS = (TOP / "docs/EXPLANATIONS.md").read_text()
 FLAGS = re.findall(r"^\| (\d+) \| `(\w+)` \| (?:true|false) \|", PAGE, re.M)
 GROUPS = re.findall(r"^\| `(\w+)` \| (\d[\d ]*) \|", PAGE, re.M)
 BYTES = re.findall(r"^\| (\d+) to \d+ \| `(\w+)` \|", PAGE, re.M)
-RULES = re.findall(r"^\| (\d+) \| (.*) \| `(Invalid\w+)` \| `+('.*')`+ \| `(\w+)` \| (.*) \|$", PAGE, re.M)
 CAUSES = re.findall(r"^\| (?:`(.*)` )?\| `(.*)` \| (\w+) ?(.*?) \| (\d+) \| (\d+)\.\.(\d+) \|$", EXPLANATIONS, re.M)
-CALLS = peltzivar._peltzivar
 OLDEST = re.search(r'requires-python = ">=(.*)"', (TESTS.parent / "pyproject.toml").read_text())[1]
 
 
@@ -102,17 +98,6 @@ class Words(unittest.TestCase):
             self.assertEqual([it.rules for it in error.reasons], [(rule,) for rule in rules])
             self.assertEqual(error.error, Error.INVALID_BASE_PREFIX)
         self.assertEqual([it.mask for it in view.reasons()], [0xFF << 120 | 0xFF << 104 | 0xFF << 88, 1 << 10 | 1 << 44])
-
-    def test_the_words_of_format_that_break_one_rule(self):
-        self.assertEqual([int(number) for number, *_ in RULES], [it.value for it in Rule])
-        for number, condition, error, description, word, sentence in RULES:
-            view = FormatView.parse(word)
-            rules = tuple(Rule)[:3] if number == "1" else (Rule(int(number)),)
-            self.assertEqual([(it.text, it.rules) for it in view.reasons()], [(sentence, rules)])
-            found = view.error()
-            self.assertEqual((found.name.replace("_", "").lower(), found.description), (error.lower(), description))
-            self.assertEqual(rules[0].condition, condition)
-            self.assertEqual((eval(repr(view)), FormatView.parse(str(view))), (view, view))
 
     def test_notes(self):
         self.assertEqual([it.mask for it in notes_of("digit_separator=95")], [0x1FFF << 32 | 0xFF << 64])
@@ -256,18 +241,6 @@ class Literals(unittest.TestCase):
                 with contextlib.nullcontext() if radix in radixes else self.assertRaisesRegex(ValueError, sentence):
                     self.assertEqual(call(), value)
 
-    def test_four_threads_read_refuse_and_write(self):
-        def work(letter, syntax=Syntax(Format())):
-            for number in range(3000):
-                text = syntax.format_number(number + 0.5)
-                self.assertEqual((text, syntax.read(text).value), (f"{number}.5", number + 0.5))
-                self.assertRaisesRegex(LiteralError, f"^unexpected character '{letter}'$", syntax.read, text + letter)
-
-        self.addCleanup(sys.setswitchinterval, sys.getswitchinterval())
-        sys.setswitchinterval(1e-6)
-        with concurrent.futures.ThreadPoolExecutor(4) as threads:
-            list(threads.map(work, "wxyz"))
-
     def test_values_that_are_refused(self):
         decimal, binary = Language.JSON, Language.C
         self.assertRaisesRegex(ValueError, "mantissa radix and the exponent base", float, Syntax(Format.of(radix=3)).read("12"))
@@ -310,16 +283,6 @@ class Literals(unittest.TestCase):
             if not isinstance(value, (peltzivar.Literal, FormatView)):
                 self.assertEqual(german.read(text).decimal(), Decimal(repr(value)) if isinstance(value, float) else value)
         grouped = Syntax.of(digit_separator="_", internal_digit_separator=True, integer_group_size=3)
-        for number, style, text in (
-            (Decimal("1234567.6789"), {"fraction_group": 3}, "1_234_567.678_9"),
-            (1234567, {"group": 0}, "1234567"),
-            (7, {"min_digits": 3}, "007"),
-            (1200, {"exponent": "always"}, "1_200e0"),
-            (1234.005, {"decimals": 2}, "1_234.01"),
-            (-0.004, {"decimals": 2}, "-0.00"),
-            (1e16, {"point": True}, "1.0e16"),
-        ):
-            self.assertEqual(grouped.format_number(number, **style), text)
         for number in (7, -(10**20), Decimal("1234.505"), Decimal("-0.004"), 2.675, 1e22):
             self.assertEqual(Syntax.of().format_number(number, decimals=2), format(number, ".2f"))
         self.assertEqual([grouped.format_number(it, decimals=2) for it in (Fraction(-1, 300), Language.C.read("0x10"))], ["-0.00", "16.00"])
@@ -375,15 +338,9 @@ class Literals(unittest.TestCase):
                         self.assertEqual(stated, wanted)
 
     def test_rules_of_tokens_are_those_of_the_list(self):
-        words = Suffixes("u uu", "f", kinds={"f": Kind(single=True)}, stops=[("f", "-", "-")], either_case=True)
-        point = Syntax.of("required_integer_digits=true")
-        for rules, rows in (
-            (Tokens(following="is"), {"1uU": "1|uU", "1.F": "1.|F", "1..F": "1.|", "1uis": "1|u", "1.5f-": "1.5|f", "1%": "1|"}),
-            (Tokens(gives_points_back=True), {"1.F": "1|", "1.is": "1|"}),
-            (Tokens(Forms({"octal": Syntax.of("radix=8", "exponent=none", "point=none")}, suffixes={"octal": Suffixes("o")})), {"17o": "17|o"}),
-        ):
-            forms = Forms({"": point}, suffixes={"": words}, tokens=rules)
-            self.assertEqual({text: "|".join((str((it := forms.token(text)).literal), it.suffix)) for text in rows}, rows)
+        words, point = Suffixes("u uu", "f", kinds={"f": Kind(single=True)}, stops=[("f", "-", "-")]), Syntax.of()
+        octal = Forms({"octal": Syntax.of("radix=8", "exponent=none", "point=none")}, suffixes={"octal": Suffixes("o")})
+        forms = Forms({"": point}, suffixes={"": words}, tokens=Tokens(octal))
         self.assertEqual((forms.token("0.1f").literal.value, forms.token("17o").literal.value, forms.token("17o").literal.form), (0.10000000149011612, 15, "octal"))
         self.assertRaisesRegex(LiteralError, "the number cannot end here", forms.token, "1.5f--")
         self.assertRaisesRegex(ValueError, "no tokens", Forms({"": point}).token, "1")
@@ -402,29 +359,9 @@ class Literals(unittest.TestCase):
                     self.assertRaisesRegex(ValueError, "read as another number", forms.format_number, number)
                 else:
                     self.assertEqual(forms.format_number(number), text)
-        for source, text, target, wanted in (("C", "0x1p3", "PYTHON", "8"), ("C", "0x1.8p1", "JAVA", "0x1.8p1"), ("PYTHON", "0o17", "C", "017")):
-            self.assertEqual(Language[target].format_number(Language[source].read(text)), wanted)
         self.assertEqual(Language.C.format_number(1234567, group=3), "1'234'567")
         for language, number, sentence in ((Language.C, -1, "sign '-'"), (Language.C, math.inf, "NaN or infinity"), (Language.JSON, Language.C.read("0x1p-3"), "radix")):
             self.assertRaisesRegex(ValueError, sentence, language.format_number, number)
-
-    def test_a_locale_plays_no_role(self):
-        """Tests C, too, which is in the same process."""
-        folder = tempfile.mkdtemp()
-        self.addCleanup(shutil.rmtree, folder)
-        if shutil.which("localedef"):
-            subprocess.run(["localedef", "-i", "de_DE", "-f", "UTF-8", f"{folder}/de_DE.UTF-8"], capture_output=True)
-        self.addCleanup(locale.setlocale, locale.LC_ALL, locale.setlocale(locale.LC_ALL))
-        for path in ({}, {"LOCPATH": folder}):
-            with contextlib.suppress(locale.Error), mock.patch.dict(os.environ, path):
-                locale.setlocale(locale.LC_ALL, "de_DE.UTF-8")
-                break
-        else:
-            self.skipTest("no locale de_DE.UTF-8")
-        self.assertEqual(f"{1.5:n}", "1,5")
-        literal = Language.JSON.read("12345678901234567890.5")
-        self.assertEqual((literal.value, literal.parts.fraction), (1.2345678901234567e19, "5"))
-        self.assertEqual([literal.syntax.format_number(it) for it in (1234.5, literal)], ["1234.5", literal.text])
 
     def test_causes_of_format(self):
         self.assertGreater(len(CAUSES), 10)
@@ -443,25 +380,6 @@ class Literals(unittest.TestCase):
                     self.assertEqual((error.edits, error.conditions), (edits, tuple(blamed.split()[len(flags) :])), (text, settings))
                     self.assertEqual(error.part is None, cause != "separator", (text, settings))
 
-    def test_each_status_error_and_cause_has_a_sentence_of_its_own(self):
-        header, causes = (TESTS.parent / "peltzivar.h").read_text(), set()
-        descriptions = [CALLS.describe(kind.lower(), int(number)) for kind, number in re.findall(r"PELTZIVAR_(VALUE|WRITE)_\w+ = ([1-9]\d*)", header)]
-        names = {it.name.lower() for it in Setter if it.value < 64 and "SPECIAL" not in it.name} | {*peltzivar._CONDITIONS} - {"higher_group_size"}
-        texts = ". + 01 1E5 1e5 1e+5 1e .5 1. +1 -1 01.5 _1 1_ 1__1 1_1 1._5 1.5_ 1.5__5 1e_5 1e5_ 1e5__5 0X1 1H 0x1 1e_ 1._"
-        for name, internal, text in itertools.product(names, (False, True), texts.split()):
-            internal |= "consecutive" in name or "group" in name  # These need another flag.
-            fields = {"base_prefix": "x", "base_suffix": "h", "digit_separator": "_", "internal_digit_separator": internal}
-            try:
-                Syntax.of(**fields, **{name: 3 if "group" in name else True}).read(text)
-            except LiteralError as error:
-                blamed = (*(it.name for it in error.edits), *error.conditions)[: 2 if error.part else 1]
-                causes.add((error.kind, error.part, *blamed, error.full_sentence))
-                self.assertRegex(error.full_sentence, f"^{re.escape(str(error))}{', which .*' + blamed[0] if blamed else ''}")
-        of_tokens = {ReadErrorKind.SUFFIX, ReadErrorKind.POINT, ReadErrorKind.STOP}
-        self.assertEqual(({it[0] for it in causes}, {name for it in causes for name in it[2:-1]}), ({*ReadErrorKind} - of_tokens, names))
-        for sentences in (descriptions, [it.description for it in Error], [it[-1] for it in causes], [it[:-1] for it in causes]):
-            self.assertEqual((len({*sentences}), all(sentences)), (len(sentences), True), sentences)
-
     def test_indexes_are_those_of_characters(self):
         for text, index in (("12\u00e9", 2), ("\u20ac", 0), ("1.5\U0001F600e", 3), ("1e\ud800", 2), ("1x\u00e9", 1)):
             with self.assertRaises(LiteralError) as caught:
@@ -479,6 +397,10 @@ class Literals(unittest.TestCase):
             copies = eval(repr(syntax)), pickle.loads(pickle.dumps(syntax)), copy.deepcopy(syntax)
             self.assertEqual({syntax, *copies}, {syntaxes[3] if syntax is syntaxes[3] else syntaxes[0]})
             self.assertEqual([it.read("-1").parts.integer for it in copies], ["1"] * 3)
+
+    def test_languages_have_titles(self):
+        self.assertTrue(all(it is Language(it.title) is Language(it.name.lower()) for it in Language))
+        self.assertEqual(Language.C_SHARP.title, "C#")
 
     def test_forms_of_languages(self):
         rows = [("10", "decimal", 10), ("017", "octal", 15), ("0x1F", "hexadecimal", 31), ("0x1.8p1", "hexadecimal float", 3.0)]
@@ -516,20 +438,12 @@ class Literals(unittest.TestCase):
 
     def test_a_literal_has_the_value_of_its_kind(self):
         java, syntax = languages.JAVA, Syntax(Format())
-        rows = {"0xffffffff": -1, "0x7fffffff": 2147483647, "037777777777": -1, "2147483647": 2147483647}
-        for text, value in rows.items():
-            literal = java.read(text)
-            self.assertEqual([literal.value, int(literal), float(literal), java.parse(text, int), java.parse(text)], [value] * 5)
         literal = java.read("0xffffffff")
         self.assertEqual((literal.digits(Part.INTEGER), literal.decimal(), literal.fraction()), ("ffffffff", 2**32 - 1, 2**32 - 1))
         self.assertEqual(languages.RUBY.forms["decimal"].format_number(literal), "-1")
         for call in (int, float, lambda it: java.parse(it.text, int), lambda it: it.value, languages.RUBY.forms["decimal"].format_number):
             self.assertRaisesRegex(ValueError, "too large|above", call, java.read("3000000000"))
-        self.assertEqual(languages.FORTRAN.read("0.1").value, 0.10000000149011612)
-        of = lambda *bits, **kind: Forms({"": syntax}, kinds={"": Kind(*bits, **kind)})
-        self.assertEqual([of(wraps=8).parse("200", int), of(wraps=8, modulo=True).parse("456", int), of(64).parse(str(2**64 - 1), int)], [-56, -56, 2**64 - 1])
-        self.assertNotEqual(of(8).read("1"), syntax.read("1"))
-        self.assertEqual(pickle.loads(pickle.dumps(of(wraps=8))), of(wraps=8))
+        self.assertNotEqual(Forms({"": syntax}, kinds={"": Kind(8)}).read("1"), syntax.read("1"))
         for wrong in ({"at_most": 0}, {"wraps": 65}, {"at_most": 8, "wraps": 8}, {"modulo": True}):
             self.assertRaises(ValueError, Kind, **wrong)
         self.assertRaises(ValueError, Forms, {"": syntax}, kinds={"x": Kind(8)})
@@ -579,14 +493,10 @@ ONE_OPTION = "only one of the exponent character and the decimal point is absent
 WRONG = [
     ("Format(-1)", ValueError, "a format word must be a number of at most 128 bits, not -1"),
     ("Format.of(no_special=1)", TypeError, "no_special must be a bool, not int"),
-    ("FormatView.of(mantissa_radix='8')", TypeError, "mantissa_radix must be a number from 0 to 255, not str"),
     ("Format().edit(mantissa_radix=None)", TypeError, "mantissa_radix must be a number from 0 to 255, not NoneType"),
     ("Format.of(base_prefix='\u00e9')", ValueError, f"base_prefix must be {BYTE}, not '\u00e9'"),
     ("Format().edit(colour=7)", TypeError, "edit() got an unexpected keyword argument 'colour': unknown setting `colour`"),
-    ("Format.of(thousands=',')", TypeError, "of() got an unexpected keyword argument 'thousands': unknown setting `thousands`; did you mean `digit_separator`?"),
     ("Syntax.of(digit_seperator='_')", TypeError, "of() got an unexpected keyword argument 'digit_seperator': unknown setting `digit_seperator`; did you mean `digit_separator`?"),
-    ("Syntax.of(exponnt='_')", TypeError, "of() got an unexpected keyword argument 'exponnt': unknown setting `exponnt`; did you mean `exponent`?"),
-    ("Format.of(exponent='p')", TypeError, "of() got an unexpected keyword argument 'exponent': unknown setting `exponent`"),
     ("Syntax.of(required_base_prefix=1)", TypeError, "required_base_prefix must be a bool, not int"),
     ("Syntax(Format()).format_number('1')", TypeError, "value must be a number or a Literal, not str"),
     ("Syntax(Format()).format_number(True)", TypeError, "value must be a number or a Literal, not bool"),
@@ -594,10 +504,8 @@ WRONG = [
     ("Syntax.of(point='')", ValueError, f"point must be {BYTE}, not ''"),
     ("Edit.of('digit_seperator', '_')", ValueError, f"setter 'digit_seperator': {SUGGESTION}"),
     ("Format.of(\"digit_seperator='_'\")", ValueError, f"digit_seperator='_': {SUGGESTION}"),
-    ("Edit(' colour\\t=7')", ValueError, " colour\t=7: unknown setting `colour`"),
     ("Edit(\"radix='x'\")", ValueError, "radix='x': radix takes a number, 2 to 36 in a lawful format"),
     ("Syntax(Format(), exponent=None)", ValueError, ONE_OPTION),
-    ("Format().check_options('e', b'')", ValueError, f"point must be {BYTE}, not b''"),
     ("Syntax.of('radix=16\\nradix=2')", ValueError, "a setting is one line: 'radix=16\\nradix=2'"),
     ("Language.JSON.column('12')", TypeError, "cells must be a sequence of texts, not str"),
     ("Language.JSON.column([1])", TypeError, "cell 0 must be a str, not int"),
@@ -607,7 +515,6 @@ WRONG = [
     ("Language.JSON.column(['1'], errors='ignore')", ValueError, "errors must be 'raise' or 'coerce', not 'ignore'"),
     ("Language.JSON.column([None], int)", ValueError, "integers have no NaN: pass `fill`, the value of cells that are missing or wrong"),
     ("Language.JSON.column((b'12', array('q', [0, 3])))", ValueError, "offsets are not within the data, which has 2 bytes"),
-    ("Language.JSON.column((b'12', array('q', [-1, 1])))", ValueError, "offsets are not within the data, which has 2 bytes"),
     ("Forms([])", ValueError, "there are 1 to 64 forms, no two with the same name: []"),
     ("Forms([('a', Syntax(Format())), ('a', Syntax(Format()))])", ValueError, "there are 1 to 64 forms, no two with the same name: ['a', 'a']"),
     ("Forms({str(it): Syntax(Format()) for it in range(65)})", ValueError, "there are 1 to 64 forms, no two with the same name: ['0', '1', '2', '3', '4', '5', ...]"),
@@ -616,23 +523,16 @@ WRONG = [
     ("Forms({'a': Syntax(Format())}, nan='a\\0')", ValueError, "a spelling has a null character: Specials(nan='a\\x00', inf=None, infinity=None)"),
     ("Language.JSON.parse('1', bool)", TypeError, "type must be float or int, not <class 'bool'>"),
     ("Kind(True)", TypeError, "a number of bits must be a number from 0 to 255, not bool"),
-    ("Kind(8, modulo=1)", TypeError, "modulo must be a bool, not int"),
-    ("Suffixes(either_case='no')", TypeError, "either_case must be a bool, not str"),
     ("Tokens(forms=5)", TypeError, "forms must be a Forms, not int"),
-    ("Tokens(gives_points_back=1)", TypeError, "gives_points_back must be a bool, not int"),
     ("Special('x', Spelling.NAN)", ValueError, "sign must be '+', '-' or empty, not 'x'"),
     ("Special('', 'nan')", TypeError, "spelling must be a Spelling, not str"),
     ("Language.JSON.column(['1'], int, fill=2**63)", ValueError, "fill is not a value of the column: 9223372036854775808"),
     ("Language.C.token('1', -1)", ValueError, "start must be an index of the text"),
     ("Language.JSON.token('1')", ValueError, "these forms have no tokens"),
     ("Language.CSV_DE.format_column([1], colour=7)", TypeError, "_style() got an unexpected keyword argument 'colour'"),
-    ("Syntax(Format()).format_number(1, decimals=-1)", ValueError, "decimals must be a number from 0 to 255, not -1"),
     ("Syntax(Format()).format_number(1, decimals=300)", ValueError, "decimals must be a number from 0 to 255, not 300"),
-    ("Language.JSON.column(['1'], 'float64')", TypeError, "type must be float, int, or one of the formats d, f, q and Q, not 'float64'"),
     ("Suffixes('a\\0b')", ValueError, "a string has a null character: 'a\\x00b'"),
-    ("Suffixes(stops=[('', '\\0', '')])", ValueError, "a string has a null character: '\\x00'"),
     ("Suffixes('u a-b')", ValueError, "a suffix has letters, digits, `_` and characters that are not ASCII: 'a-b'"),
-    ("Specials('a\\0').read(Syntax(Format()), '')", ValueError, "a spelling has a null character: Specials(nan='a\\x00', inf=None, infinity=None)"),
 ]
 
 
@@ -810,7 +710,7 @@ class Lists(unittest.TestCase):
     def test_pages_and_help_name_the_languages_whose_numbers_have_a_sign(self):
         names = [it.name for it in Language if not all(form.no_negative_mantissa_sign for form in it.forms.values())]
         sentence = f"Numbers have a sign in {', '.join(names[:-1])} and {names[-1]}. In the other languages, `-` is an operator"
-        for text in (Language.__doc__, *((TOP / it).read_text() for it in ("c/peltzivar.h", "docs/C-AND-PYTHON.md", "docs/LANGUAGES.md"))):
+        for text in (Language.__doc__, *((TOP / it).read_text() for it in ("c/peltzivar.h", "docs/LANGUAGES.md"))):
             self.assertIn(sentence, " ".join(re.sub(r"^ \*", "", text, flags=re.M).split()))
 
     def test_offsets_of_other_formats_are_refused(self):
@@ -954,17 +854,6 @@ class Extension(unittest.TestCase):
         self.assertEqual([[it.text for it in own.wrong] for _, own, _ in found], [[b"1,5", b"x"], [b"4,5", b"-7x"]])
         self.assertEqual([exact.values for *_, exact in found], [[Decimal("1.5"), 0, 2], [3, Decimal("4.5"), 0]])
         self.assertEqual(str(caught.exception), "cell 2, '-7x': unexpected character 'x'")
-
-    def test_what_a_language_reads_it_writes(self):
-        texts = {*re.findall(r"^\w+ [+-]!? +(\S+)", (TOP / "rust/tests/literals.txt").read_text(), re.M), "1" * 400, "9" * 50}
-        for language in Language:
-            spelled = {sign + it for it in vars(language.specials).values() if it for sign in ("", "-", "+")}
-            for it in filter(None, (outcome(language.read, text) for text in texts | spelled)):
-                value = outcome(lambda: it.value)
-                # The value of `0xffffffff` may be below 0, where numbers have no sign.
-                if value is not None and (not value < 0 or language.forms["decimal"].no_negative_mantissa_sign is False):
-                    again = language.read(language.format_number(it)).value
-                    self.assertIn(again, (value, again if value != value != again != again else value), (language, it))
 
     def test_no_call_keeps_memory(self):
         number, prices = Language.C.read("0x1F"), [1.5, None, Decimal("2.50")]
