@@ -2,7 +2,7 @@
 # compare/run and bench/run source this file. UPSTREAM names the sources of lexical-util 1.0.7: its folder, or a folder
 # with its files as src--src--NAME.rs.txt. WORK names a folder to build in and keep. By default, it is temporary.
 # PROFILE=default builds with cargo's own release profile: 16 units, and no optimisation across crates. PEERS names a folder
-# of crates, from which the driver takes lexical-core and ryu.
+# of crates, from which the driver takes lexical-core.
 : "${UPSTREAM:?needs the folder of the sources of lexical-util 1.0.7, such as those that cargo vendor fetches}"
 repository=$(cd "$(dirname "${BASH_SOURCE[0]}")/.." && pwd)
 if [ -n "${WORK:-}" ]; then
@@ -45,7 +45,7 @@ features=(format power-of-two radix parse-integers parse-floats write-integers w
     printf 'default = ['; printf '"%s", ' "${features[@]}"; printf ']\n'
 } > "$work/upstream/Cargo.toml"
 
-# driver TREE FOLDER NAME PROCESSOR [FLAGS]: builds the driver in a folder of a tree over the tree's library, as
+# driver TREE FOLDER NAME PROCESSOR: builds the driver in a folder of a tree over the tree's library, as
 # $work/NAME. Each tree is copied to the same place, because paths decide the order of functions. No jump crosses a
 # 32-byte boundary. Otherwise, times would depend on the addresses of code.
 driver() {
@@ -57,10 +57,10 @@ driver() {
     "$repository/compare/rows.py" "$work/upstream/src" > "$work/tree/compare/rust/src/rows.rs"
     {
         manifest driver "peltzivar=$work/tree/rust" "upstream=$work/upstream"
-        [ -z "${PEERS:-}" ] || printf 'lexical-core = { version = "0.7.6", features = ["format"] }\nryu = "1.0.2"\n'
+        [ -z "${PEERS:-}" ] || printf 'lexical-core = "0.7.6"\n'
         printf '\n[[bin]]\nname = "driver"\npath = "%s/rust/src/main.rs"\n' "$work/tree/$2"
     } > "$work/driver/Cargo.toml"
-    local flags="-C target-cpu=$4 -C llvm-args=-x86-branches-within-32B-boundaries --check-cfg=cfg(old,peers) ${5:-}"
+    local flags="-C target-cpu=$4 -C llvm-args=-x86-branches-within-32B-boundaries --check-cfg=cfg(peers)"
     local source=()
     [ -z "${PEERS:-}" ] || flags+=' --cfg peers' source=(--config 'source.crates-io.replace-with="peers"' --config "source.peers.directory=\"$PEERS\"")
     (cd "$work/driver" && RUSTFLAGS=$flags CARGO_TARGET_DIR=$work/target-$4 cargo "${source[@]}" build --release --offline --quiet)

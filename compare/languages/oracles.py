@@ -1,6 +1,8 @@
 """The languages, each with its tool, and the differences from it that are announced."""
 import collections
+import fractions
 import math
+import re
 import sys
 
 # A tool: its packages in Debian, the programs that it needs, commands that print its version and build its judge, and the
@@ -65,19 +67,42 @@ def suffix(pattern):
     return Cause("+", f"(?P<number>.+?)({pattern})", "a suffix of a type")
 
 
+def number(text):
+    """Returns the number that a text represents, without what the library reads; none if it is not one of C, Python or Fortran."""
+    text = re.sub("[_']", "", text.lower())
+    text = re.sub(r"(?<=[\d.])[lfdu]+$", "", text if "x" in text else text.replace("d", "e"))
+    if match := re.fullmatch(r"([+-]?)0x([\da-f]*)\.?([\da-f]*)p([+-]?\d+)", text):
+        sign, whole, part, power = match.groups()
+        return int(f"{sign}{whole}{part}", 16) * fractions.Fraction(2) ** (int(power) - 4 * len(part))
+    try:
+        return int(text, 8 if re.fullmatch("0[0-7]+", text) else 0)
+    except ValueError:
+        return fractions.Fraction(text) if re.fullmatch(r"[+-]?(\d+\.?\d*|\.\d+)(e[+-]?\d+)?", text) else None
+
+
+def nearest(text):
+    """Returns the double that is nearest to the number of a text."""
+    try:
+        return float(number(text))
+    except (OverflowError, TypeError):
+        return math.inf
+
+
 def out_of_range(most, single=None, pattern=".*"):
     """The tool refuses integers from `most` on, and floats that become infinite or zero. Those of a form are singles."""
     def test(ours, _):
-        if not ours.is_float:
-            return ours.exact is None or abs(ours.exact) >= most
-        return ours.exact != 0 and abs(ours.single if ours.form == single else ours.double) in (0, math.inf)
+        exact = number(ours.text)
+        if exact is None or not ours.is_float:
+            return exact is not None and abs(exact) >= most and ours.exact in (None, exact)
+        is_far = not 2.0**-149 < abs(exact) < 2**127
+        return exact != 0 and is_far and abs(ours.single if ours.form == single else ours.double) in (0, math.inf)
 
     return Cause("-", pattern, "a number that the tool has no type for", test)
 
 
 ZERO = Cause("=", r"-[0.,]+([eE].*)?", "a negative zero, which the tool does not have", lambda _, theirs: theirs == 0)
-ROUNDED = Cause("=", ".*", "a fault of the tool, which rounds to the next float",
-                lambda ours, theirs: theirs in [math.nextafter(ours.double, to) for to in (-math.inf, math.inf)])
+ROUNDED = Cause("=", ".*", "a fault of the tool, which rounds to the next float", lambda ours, theirs: ours.double == nearest(ours.text)
+                and theirs in [math.nextafter(ours.double, to) for to in (-math.inf, math.inf)])
 
 CELLS = [
     Cause("+", pattern, f"{what}, which no spreadsheet writes so")
@@ -182,10 +207,10 @@ LANGUAGES = [
 # Languages that no package of Debian has a tool for, and what only its faulty one judges.
 TABLES = {"JULIA": "no tool", "SWIFT": "no tool", "C_SHARP": "separators have no tool", "SCALA": "separators have no tool"}
 
-# Languages without tokens, and suffixes that the tools alone take.
+# Languages without suffixes that begin with a letter, and suffixes that the tools or the library alone take.
 DATA = "ADA CSV_DE CSV_EN FORTRAN JSON JSON5 NASM SQL TOML XML_SCHEMA YAML YAML_1_1".split()
 SUFFIXES = {
-    "C": [Cause("+", ".*[dD][fFdDlL]", "a decimal float")],
+    "C": [Cause("-", ".*([uU]?(wb|WB)|(wb|WB)[uU])", "an integer of so many bits, of C23, which the tool lacks")],
     "C_PLUS_PLUS": [Cause("+", ".*([uU]?[zZ]|[zZ][uU])", "a size of C++23")],
     "D": [Cause("+", "0[0-9]+([fF]i?|L?i)", "a float of leading zeros")],
     "NIM": [Cause("+", "0[ob].*", "a float of which the digits are the bits")],

@@ -17,15 +17,22 @@ Compiler = collections.namedtuple("Compiler", "command source head unit tail pri
 GCC = "-pedantic-errors -fmax-errors=0 -fno-diagnostics-show-caret -fdiagnostics-column-unit=byte -o out"
 SCANNERS = "../scanners"
 C = "", '_Static_assert(sizeof(\n{text}\n), "");\n', "int main(void) {}\n"
+CC = "using namespace std::literals;\n", *C[1:]
 SHOW = "show(\n{text}\n);\n"
 PRINT_C = """#include <stdio.h>
 static void integer(unsigned long long it) { printf("%llu\\n", it); }
 static void floating(double it) { printf("%a\\n", it); }
-#define show(it) _Generic((it), float: floating, double: floating, long double: floating, default: integer)(it)
+#define show(it) _Generic((it), float: floating, double: floating, long double: floating, \\
+    _Decimal32: floating, _Decimal64: floating, _Decimal128: floating, default: integer)(it)
 int main(void) {
 """, SHOW, "}\n"
 PRINT_CC = """#include <stdio.h>
+using namespace std::literals;
 template<class T> static void show(T it) { T(0.5) ? printf("%a\\n", (double)it) : printf("%llu\\n", (unsigned long long)it); }
+template<class T, class P> static void show(std::chrono::duration<T, P> it) { show(it.count()); }
+template<class T> static void show(std::complex<T> it) { show(it.imag()); }
+static void show(std::chrono::day it) { show(unsigned(it)); }
+static void show(std::chrono::year it) { show(int(it)); }
 int main(void) {
 """, SHOW, "}\n"
 ADA = "procedure A is\n", "Number{i} : constant :=\n{text}\n;\n", "begin\nnull;\nend A;\n"
@@ -60,8 +67,8 @@ fn main() {
 """, "Show::show(\n{text}\n);\n", "}\n"
 COMPILERS = {
     "gcc": [Compiler(f"gcc -std=c2x {GCC}", "a.c", *C, PRINT_C, scanner=[sys.executable, f"{SCANNERS}/gcc.py", "gcc -x c -std=c2x"])],
-    "g++": [Compiler(f"g++ -std=c++17 -D_Static_assert=static_assert {GCC}", "a.cc", *C, PRINT_CC,
-                     scanner=[sys.executable, f"{SCANNERS}/gcc.py", "g++ -x c++ -std=c++17"])],
+    "g++": [Compiler(f"g++ -std=c++20 -include chrono -include complex -D_Static_assert=static_assert {GCC}", "a.cc", *CC, PRINT_CC,
+                     scanner=[sys.executable, f"{SCANNERS}/gcc.py", "g++ -x c++ -std=c++20"])],
     "gdc": [Compiler("gdc -fmax-errors=0 -fno-diagnostics-show-caret -o out", "a.d", *D, PRINT_D)],
     "gnat": [Compiler("gnatmake -f -q -o out -gnatf -gnatm999999 -gnatws", "a.adb", *ADA, PRINT_ADA)],
     "gfortran": [Compiler(f"gfortran -std=f2018 {GCC}", "a.f90", *FORTRAN, PRINT_FORTRAN, signed=True)],

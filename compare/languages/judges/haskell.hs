@@ -1,5 +1,5 @@
 -- The judge of Haskell: the lexer of GHC, with the extensions that are arguments. Reads texts on standard input, and prints
--- `-`, or `+` and the value.
+-- `-`, or the length of the number that each begins with, and its value, or `-` if the lexer refuses it.
 module Main (main) where
 
 import Control.Monad.IO.Class (liftIO)
@@ -8,19 +8,21 @@ import GHC (getSessionDynFlags, runGhc)
 import GHC.Data.FastString (fsLit)
 import GHC.Data.StringBuffer (stringToStringBuffer)
 import GHC.Driver.Session (DynFlags, Language (Haskell2010), flagSpecFlag, flagSpecName, lang_set, xFlags, xopt_set)
-import GHC.Parser.Lexer (ParseResult (..), Token (..), getMessages, lexTokenStream)
+import GHC.Parser.Lexer (P (..), ParseResult (..), Token (..), getMessages, lexer, mkPState)
 import GHC.Types.Basic (FractionalLit (..), IntegralLit (..))
 import GHC.Data.Bag (isEmptyBag)
-import GHC.Types.SrcLoc (mkRealSrcLoc, unLoc)
+import GHC.Types.SrcLoc (GenLocated (..), SrcSpan (..), mkRealSrcLoc, srcSpanEndCol)
 import System.Environment (getArgs)
 import System.Process (readProcess)
 
 judge :: DynFlags -> String -> String
-judge flags text = case lexTokenStream (stringToStringBuffer text) (mkRealSrcLoc (fsLit "") 1 1) flags of
-  POk state [token] | isEmptyBag (snd (getMessages state flags)) -> case unLoc token of
-    ITinteger (IL _ _ value) -> "+ " ++ show value
-    ITrational (FL _ _ value) -> "+ " ++ show (fromRational value :: Double)
+judge flags text = case unP (lexer False return) (mkPState flags (stringToStringBuffer text) (mkRealSrcLoc (fsLit "") 1 1)) of
+  POk state (L (RealSrcSpan it _) token) -> case token of
+    ITinteger (IL _ _ value) -> answer (show value)
+    ITrational (FL _ _ value) -> answer (show (fromRational value :: Double))
     _ -> "-"
+    where
+      answer value = show (srcSpanEndCol it - 1) ++ " " ++ if isEmptyBag (snd (getMessages state flags)) then value else "-"
   _ -> "-"
 
 main :: IO ()
