@@ -4,9 +4,12 @@ const PREFIXED = /^[+-]?(?:(?:[#&][hox]|\d+#|\d\dr|\d*'s?[hdob]|x')[\da-f]|[#\p{
 const IMPOSSIBLE = [
     [PREFIXED, 0],
     [/^[+-]?\d+(?:[/\u2044]\d+|(?::\d+)+)$/, 3],
+    [/^(?!\d{1,3}(?:\.\d{3})+$)\d+(?:\.\d+){2,}$/, "has several numbers, as a version has: read each by itself."],
     [/^[+-]?[\d.]+\s*(?:\^|\*\*?|x\s*10\^|[\u00d7\u00b7+-])\s*[\d.]+/i,
         "is not one number, and no format has its operator: read each number, and compute the value."],
 ];
+/* What reads suffixes. */
+const TOKEN = "the library's call `token` reads the number before it";
 /* What a text must lose before it is read: a pattern, what is told of it, and the text that takes its place. */
 const UNREADABLE = [
     [/[\u2018\u2019\u02bc]/g, "is an apostrophe that no format has: replace it by `'`", "'"],
@@ -17,7 +20,7 @@ const UNREADABLE = [
     [/\s*%$/g, "is a percent sign: divide the value by 100, and remove it", ""],
     [/\s*\p{Sc}\s*/gu, "is a currency sign: remove it", ""],
     [/(?<!^[+-]?0(?=[dhqty]\w))(?<=^[+-]?\.?\d([\w.,']*[\da-f.])?)_?[g-nq-wyz]\w*$|(?<=^[+-]?[\d._]*\d\.?)_?[fd](32|64|128)?$|(?<=\d) [a-z]+$/gi,
-        "can be a suffix, which no format has: `token` reads it, with your suffixes. Remove it", ""],
+        `can be a suffix: ${TOKEN}, with your suffixes. Remove it`, ""],
 ];
 
 /* Returns the digit of ASCII for one of another script, of which ten follow each other. */

@@ -20,7 +20,7 @@ PAGE = HERE / "index.html"
 FORMAT = (TOP / "docs/FORMAT.md").read_text()
 LANGUAGES = (TOP / "docs/LANGUAGES.md").read_text()
 SCRIPTS = ("library", "element", "words", "controls", "code", "report", "advice", "literal", "page")
-MOST_BYTES = 243_000
+MOST_BYTES = 237_000
 TARGET = "wasm32-unknown-unknown"
 OPTIONS = [f"--target={TARGET}", "-Ctarget-feature=+bulk-memory", "-Copt-level=s", "-Cpanic=abort", "--cfg=peltzivar_small", "--cap-lints=allow"]
 NO_COMPILER = f"no compiler has the target {TARGET}: `rustup target add {TARGET}`, or `apt-get install rustc-web rust-web-src lld`"
@@ -33,10 +33,6 @@ SECTIONS = [
     ("NaN and infinity", "special", r"\w*special"),
     ("Base prefix and suffix", "base", r"case_sensitive_base_\w+"),
 ]
-# The names of languages for people, unless they are those of the constants, and which of these are words.
-TITLES = {"C_PLUS_PLUS": "C++", "C_SHARP": "C#", "CSV_DE": "CSV (German)", "CSV_EN": "CSV (English)", "JAVASCRIPT": "JavaScript", "JSON5": "JSON5",
-          "HASKELL_GHC2021": "Haskell (GHC2021)", "OCAML": "OCaml", "XML_SCHEMA": "XML Schema", "YAML_1_1": "YAML 1.1"}
-SHORT = {"ADA", "GO", "JAVA", "LUA", "NIM", "PERL", "RUBY", "RUST", "TCL"}
 BYTE_PARTS = {"digit_separator": "separator", "base_prefix": "base", "base_suffix": "base", "mantissa_radix": "digits"}
 
 
@@ -80,7 +76,7 @@ def fields():
         if int(bit) in separators:
             found = ("", "separator")
         title, part = found or sys.exit(f"explorer/build.py: no section of {name}")
-        row = {"bit": int(bit), "name": name, "meaning": meaning.rstrip("."), "accepts": texts(accepted), "refuses": texts(refused)}
+        row = {"bits": [int(bit)], "name": name, "meaning": meaning.rstrip("."), "accepts": texts(accepted), "refuses": texts(refused)}
         flags.append({**row, "section": title, "part": part})
     for bits, name, _, meaning in (row for row in lines if len(row) == 4 and row[0].replace(" to ", "").isdigit()):
         name = texts(name)[0]
@@ -107,11 +103,9 @@ def numbers(name):
 
 
 def languages():
-    """Returns what the page tells of each language, by its name: its name for people, what it documents, and its numbers."""
-    for part in LANGUAGES.split("\n## ")[1:]:
-        name, about, *_ = part.split("\n\n")
-        title = TITLES.get(name, name.title() if len(name) > 4 or name in SHORT else name)
-        yield name, {"title": title, "about": " ".join(about.split()), "numbers": numbers(name)}
+    """Returns what the page tells of each language, by its name: what it documents, and its numbers."""
+    for name, about in re.findall(r"^## .* \(`(\w+)`\)\n\n((?:.+\n)+)", LANGUAGES, re.M):
+        yield name, {"about": " ".join(about.split()), "numbers": numbers(name)}
 
 
 def data():
@@ -131,12 +125,8 @@ def hash_of(wasm):
 
 
 def output(*command):
-    """Returns what a command prints, or ends the program if it fails."""
-    environment = {**os.environ, "RUSTC_BOOTSTRAP": "1"}
-    result = subprocess.run([*map(str, command)], env=environment, capture_output=True, text=True)
-    if result.returncode:
-        sys.exit(f"{' '.join(map(str, command))}\n{result.stdout}{result.stderr}")
-    return result.stdout
+    """Returns what a command prints."""
+    return subprocess.check_output([*map(str, command)], env={**os.environ, "RUSTC_BOOTSTRAP": "1"}, text=True)
 
 
 def compiler(folder):
@@ -144,11 +134,10 @@ def compiler(folder):
     rustc = shutil.which("rustc")
     if rustc and any(pathlib.Path(output(rustc, "--print=target-libdir", f"--target={TARGET}").strip()).glob("libcore-*")):
         return [rustc, *OPTIONS, f"-L{folder}"]
-    debian = [pathlib.Path("/usr/bin/rustc"), *OPTIONS, f"-L{folder}"]
-    version = output(debian[0], "--version").split()[1] if debian[0].exists() else ""
-    sources = pathlib.Path(f"/usr/src/rustc-{version}/library")
-    if not (sources / "compiler-builtins").exists() or not shutil.which("wasm-ld"):
+    sources = next(pathlib.Path("/usr/src").glob("rustc-*/library"), None)
+    if not sources or not shutil.which("wasm-ld"):
         sys.exit(NO_COMPILER)
+    debian = ["/usr/bin/rustc", *OPTIONS, f"-L{folder}"]
     library = [*debian, "--crate-type=rlib", f"--out-dir={folder}", "--edition=2024"]
     features = ['--cfg=feature="compiler-builtins"', '--cfg=feature="mem"']
     for name, *rest in (("core", "core"), ("compiler_builtins", "compiler-builtins/compiler-builtins", *features), ("alloc", "alloc")):

@@ -1,31 +1,27 @@
-/* The code of a list, with numbers as a test. If nothing can be read, it is the word, and says why. */
+/* The code of a list, with numbers as a test, and the list in words. If nothing can be read, they say why. */
 
 /* Returns a byte as a character of Rust or C. */
 const character = (byte, prefix) => quoted(byte, prefix).replace(/'(['\\])'/, "'\\$1'");
 
-/* Comments with the reader of all forms of a language. */
-const COMMENTS = {
-    rust: (name) => `// The reader of all forms is peltzivar::literal::Language::${name}.\n`,
-    c: (name) => `/* peltzivar_forms_read reads all forms, with peltzivar_language_${name.toLowerCase()}(). */\n`,
-    python: (name) => `# The reader of all forms is peltzivar.languages.${name}.\n`,
+/* Comments, and the reader of all forms of a language. */
+const COMMENTS = { rust: (it) => `// ${it}\n`, c: (it) => `/* ${it} */\n`, python: (it) => `# ${it}\n` };
+const READERS = {
+    rust: (name) => `peltzivar::literal::Language::${name}`,
+    c: (name) => `peltzivar_forms_read with peltzivar_language_${name.toLowerCase()}()`,
+    python: (name) => `peltzivar.languages.${name}`,
 };
 
-/* Returns a text between double quotes, in which `escape` writes what is not plain. In C, `??` begins a trigraph. */
-function literalText(text, escape) {
-    const characters = [...text.replace(/\p{Surrogate}/gu, "\ufffd")];
-    const special = escape === cEscape ? /[^ -~]|["\\?]/ : /[^ -~]|["\\]/;
-    return `"${characters.map((it) => (special.test(it) ? escape(it.codePointAt()) : it)).join("")}"`;
-}
-
-/* Each returns the escape of a character, which is a number. In C, it is that of each byte. */
-const rustEscape = (it) => `\\u{${it.toString(16)}}`;
-const pythonEscape = (it) => `\\U${it.toString(16).padStart(8, "0")}`;
+/* Returns what writes a text between double quotes, with an escape for each character that is special. */
+const quoting = (special, escape) => (text) => `"${text.toWellFormed().replace(special, escape)}"`;
+const rustText = quoting(/[^ -~]|["\\]/gu, (it) => `\\u{${it.codePointAt().toString(16)}}`);
+const pythonText = quoting(/[^ -~]|["\\]/gu, (it) => `\\U${it.codePointAt().toString(16).padStart(8, "0")}`);
+/* In C, each byte has an escape, and `??` begins a trigraph. */
 const octal = (byte) => `\\${byte.toString(8).padStart(3, "0")}`;
-const cEscape = (it) => [...new TextEncoder().encode(String.fromCodePoint(it))].map(octal).join("");
+const cText = quoting(/[^ -~]|["\\?]/gu, (it) => [...new TextEncoder().encode(it)].map(octal).join(""));
 
 /* Returns the numbers that must be accepted and those that must be refused, as texts of a language between commas. */
-function tested(tests, escape) {
-    const texts = (all) => all.map(({ text }) => literalText(text, escape)).join(", ");
+function tested(tests, quote) {
+    const texts = (all) => all.map(({ text }) => quote(text)).join(", ");
     return [false, true].map((isRefused) => texts(tests.filter((it) => it.isRefused === isRefused)));
 }
 
@@ -37,25 +33,35 @@ class Code {
         this.library = library;
     }
 
-    /* Returns the text of a tab for a list, one of whose forms is shown, and the answers for its numbers. */
-    text(tab, { forms, specials = SPECIALS }, shown, tests) {
+    /* Returns the text of a tab for a list, which can be that of a language, and the answers for its numbers. A test has none whose
+     * value alone is refused. */
+    text(tab, { forms, specials = SPECIALS }, answers, language) {
         const bad = forms.find(({ problems }) => problems.length);
-        const quoted = this.library.value(forms[0], "no_special") ? [] : specials.map((it) => JSON.stringify(it));
+        const quoted = this.hasSpecials(forms) ? specials.map((it) => JSON.stringify(it)) : [];
         // The normal form is the same format, and a builder makes it.
         const built = forms.map((form) => ({ ...form, word: form.isBuilt ? form.word : form.normal }));
-        if (tab === "settings") return this.settings(shown, forms);
-        if (bad) return this.problem(tab, `Nothing can be read: ${bad.problems[0].text}.`, bad.word);
-        return this[tab](built, quoted, tests);
+        if (tab === "settings") return forms.map((form) => this.settings(form)).join("\n");
+        if (bad) return `Nothing can be read: ${bad.problems[0].text}.`;
+        const tests = answers.filter(({ refused }) => !refused);
+        const failed = tests.filter(({ isExpected }) => isExpected === false).length;
+        const told = [language && `The reader of all forms is ${READERS[tab]?.(language)}.`, failed && `The test fails: not all numbers are as expected.`];
+        const comments = told.filter((it) => it && COMMENTS[tab]).map((it) => COMMENTS[tab](it));
+        return comments.join("") + this[tab](built, quoted, tests);
     }
 
-    /* Returns the text of a tab if nothing can be read: the reason and the word. */
-    problem(tab, told, word) {
-        const [low, high] = [word, word >> 64n].map((it) => `UINT64_C(0x${BigInt.asUintN(64, it).toString(16).toUpperCase()})`);
-        return {
-            rust: `// ${told}\npub const WORD: u128 = ${wordText(word)};\n`,
-            c: `#include "peltzivar.h"\n\n/* ${told} */\nstatic const peltzivar_word WORD = {${low}, ${high}};\n`,
-            python: `from peltzivar import FormatView\n\n# ${told}\nview = FormatView(${wordText(word)})\n`,
-        }[tab] ?? told;
+    /* Returns which special values of a list are in neither the grammar nor the regular expression. */
+    apart({ forms, specials = SPECIALS }) {
+        const words = specials.filter((it) => it && this.hasSpecials(forms));
+        return words.length ? `The grammar and the expression are without ${words.join(", ")}, which are read, too.` : "";
+    }
+
+    hasSpecials([first]) {
+        return !this.library.value(first, "no_special");
+    }
+
+    sentence(forms) {
+        const named = (name) => (forms[1] ? ` of the form ${name}` : "");
+        return forms.map(({ name, sentence }) => `Numbers${named(name)} are ${sentence}.`).join("\n\n");
     }
 
     rust(forms, specials, tests) {
@@ -66,21 +72,19 @@ class Code {
         const [float, kind] = [used("FloatKind"), used("IntegerKind") && "IntegerKind, Kind, "];
         const names = `${used("Conditions")}${float}Form, FormError, Forms, ${kind}Number, ${nan ? "Specials, " : ""}Syntax`;
         const ofFloat = forms.some(({ exponent, point }) => exponent || point) ? "`f64::try_from(number)` or, of an integer, " : "";
-        const wrapped = names.length > 70 ? `\n    ${names.replace(/(.{50,}?), /g, "$1,\n    ")},\n` : names;
-        return `${used("NonZeroU8") && "use core::num::NonZeroU8;\n"}use peltzivar::literal::{${wrapped}};
+        return `${used("NonZeroU8") && "use core::num::NonZeroU8;\n"}use peltzivar::literal::{${names}};
 use peltzivar::NumberFormatBuilder;
-
-pub static FORMS: Forms<'static> = Forms::new_or_panic(&[
-${all}])${spelled};
 
 /// Returns a number, whose value is ${ofFloat}\`i128::try_from(number)\`.
 pub fn read(text: &str) -> Result<Number<'_>, FormError> {
     FORMS.read(text)
 }
+
+pub static FORMS: Forms<'static> = Forms::new_or_panic(&[
+${all}])${spelled};
 ${this.rustTest(tests)}`;
     }
 
-    /* Returns a form as an expression. */
     rustForm(form) {
         const { name, exponent, point } = form;
         const changes = this.library.differences(form);
@@ -99,11 +103,11 @@ ${this.rustTest(tests)}`;
         const [integers, bits, single] = this.kind(form, ["Exact", "AtMost", "Wraps", "WrapsModulo"]);
         const kinds = `IntegerKind::${integers}${bits && `(${bits})`}, FloatKind::${single ? "Single" : "Nearest"}`;
         const kind = bits || single ? `\n        .with_kind(Kind::new(${kinds}).unwrap())` : "";
-        return `    // ${wordText(form.word)}\n    Form::new(${literalText(name, rustEscape)}, Syntax::${syntax})${set})${kind},\n`;
+        return `    // ${wordText(form.word)}\n    Form::new(${rustText(name)}, Syntax::${syntax})${set})${kind},\n`;
     }
 
     rustTest(tests) {
-        const loops = tested(tests, rustEscape).map((texts, index) => {
+        const loops = tested(tests, rustText).map((texts, index) => {
             return texts && `    [${texts}].iter().for_each(|it| assert!(read(it).is_${["ok", "err"][index]}(), "{it}"));\n`;
         });
         return tests.length ? `\n#[test]\nfn numbers() {\n${loops.join("")}}\n` : "";
@@ -117,10 +121,17 @@ ${this.rustTest(tests)}`;
             const ofIntegers = bits && `, .integer_kind = PELTZIVAR_INTEGERS_${integers}, .integer_bits = ${bits}`;
             return ofIntegers + (single ? ", .float_kind = PELTZIVAR_FLOATS_SINGLE" : "");
         };
-        const names = forms.map((form) => `\n    {.name = ${literalText(form.name, cEscape)}${kind(form)}},`).join("");
+        const names = forms.map((form) => `\n    {.name = ${cText(form.name)}${kind(form)}},`).join("");
         const spelled = specials.length ? `, .specials = {${specials.join(", ")}}` : "";
         return `#include "peltzivar.h"
 #include <string.h>
+
+/* Writes the syntax of each form, and returns whether the settings are right. Call this once, before a text is read. */
+bool make_forms(void);
+
+/* Returns whether the text is a number. If special->spelling is 0, it is a literal, and
+ * peltzivar_to_i128 or, of a float, peltzivar_to_f64 makes its value. Otherwise, it is NaN or infinity. */
+bool read_number(const char *text, peltzivar_literal *literal, peltzivar_special *special);
 
 static const char *const SETTINGS[] = {
 ${all}};
@@ -128,7 +139,6 @@ static peltzivar_form LIST[] = {${names}
 };
 static const peltzivar_forms FORMS = {.forms = LIST, .count = ${forms.length}${spelled}};
 
-/* Writes the syntax of each form, and returns whether the settings are right. Call this once, before a text is read. */
 bool make_forms(void) {
     bool are_right = true;
     for (size_t it = 0; it < FORMS.count; it++)
@@ -136,8 +146,6 @@ bool make_forms(void) {
     return are_right;
 }
 
-/* Returns whether the text is a number. If special->spelling is 0, it is a literal, and
- * peltzivar_to_i128 or, of a float, peltzivar_to_f64 makes its value. Otherwise, it is NaN or infinity. */
 bool read_number(const char *text, peltzivar_literal *literal, peltzivar_special *special) {
     peltzivar_read_error error;
     special->spelling = 0;
@@ -148,7 +156,7 @@ ${this.cTest(tests)}`;
     }
 
     cTest(tests) {
-        const texts = tests.map(({ text, isRefused }) => literalText(`${isRefused ? "!" : "="}${text}`, cEscape));
+        const texts = tests.map(({ text, isRefused }) => cText(`${isRefused ? "!" : "="}${text}`));
         return tests.length ? `
 /* Returns whether the numbers behind a = are read, and those behind a ! are not. */
 bool test_numbers(void) {
@@ -165,27 +173,28 @@ bool test_numbers(void) {
 
     python(forms, specials, tests) {
         const settings = (form) => this.lines(form).map((line) => `\n        ${JSON.stringify(line)},`).join("") + (this.lines(form).length ? "\n    " : "");
-        const one = (form) => `    # ${wordText(form.word)}\n    (${literalText(form.name, pythonEscape)}, Syntax.of(${settings(form)})),\n`;
+        const one = (form) => `    # ${wordText(form.word)}\n    (${pythonText(form.name)}, Syntax.of(${settings(form)})),\n`;
         const ofKind = (form) => {
             const [integers, bits, single] = this.kind(form, ["", "at_most", "wraps", "modulo=True, wraps"]);
             const all = [bits && `${integers}=${bits}`, single && "single=True"].filter(Boolean).join(", ");
-            return all && `${literalText(form.name, pythonEscape)}: Kind(${all})`;
+            return all && `${pythonText(form.name)}: Kind(${all})`;
         };
         const kinds = forms.map(ofKind).filter(Boolean).join(", ");
         const spelled = specials.map((it, index) => (it === '""' ? "" : `, ${["nan", "inf", "infinity"][index]}=${it}`)).join("");
-        const [accepted, refused] = tested(tests, pythonEscape);
+        const [accepted, refused] = tested(tests, pythonText);
         const lines = (texts, body) => texts && `    for text in [${texts}]:\n        ${body}\n`;
         const raises = "try:\n            read(text)\n        except LiteralError:\n            continue\n        raise AssertionError(text)";
         const test = `\n\ndef test_numbers():\n${lines(accepted, "read(text)")}${lines(refused, raises)}`;
         return `from peltzivar import Forms, ${kinds && "Kind, "}${refused && "LiteralError, "}Syntax
 
-forms = Forms([
-${forms.map(one).join("")}]${kinds && `, kinds={${kinds}}`}${spelled})
-
 
 def read(text):
     """Returns a literal${spelled && ", NaN or infinity"}, which has a \`value\`."""
     return forms.read(text)
+
+
+forms = Forms([
+${forms.map(one).join("")}]${kinds && `, kinds={${kinds}}`}${spelled})
 ${tests.length ? test : ""}`;
     }
 
@@ -201,11 +210,10 @@ ${tests.length ? test : ""}`;
         return this.library.differences(form).filter(({ isKind }) => !isKind).map(({ text }) => text);
     }
 
-    settings(form, forms) {
-        const place = forms.length > 1 ? ` form ${forms.indexOf(form) + 1} of ${forms.length},` : "";
+    settings(form) {
         const lines = this.library.differences(form).map(({ text }) => text);
-        const { word } = this.library.read(`#\n${lines.join("\n")}`);
+        const { form: { word } } = this.library.read(`#\n${lines.join("\n")}`);
         const nearest = form.isBuilt ? [] : [`# No builder makes this word. These settings build the nearest one, ${wordText(word)}.`];
-        return [`# ${wordText(form.word)}${place}${form.name && ` ${form.name}`}`, ...nearest, ...lines, ""].join("\n");
+        return [`# ${wordText(form.word)}${form.name && ` ${form.name}`}`, ...nearest, ...lines, ""].join("\n");
     }
 }

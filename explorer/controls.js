@@ -8,17 +8,22 @@ function examples({ accepts = [], refuses = [], part }) {
 }
 
 class Controls {
-    constructor(library, calls) {
-        Object.assign(this, { library, ...calls, inputs: new Map() });
-        this.makeBytes();
+    constructor(library, page) {
+        Object.assign(this, { library, page, inputs: new Map() });
+        find("bytes").append(...[...library.bytes, ...OPTIONS].map((field) => this.byteRow(field)));
+        for (const it of library.conditions) find(it.isKind ? "kinds" : "conditions").append(this.row(it));
         this.makeFlags();
         this.makeSeparators();
     }
 
-    /* Returns the check box of a flag or a group. */
     box(field) {
         const { name, meaning } = field;
-        const change = ({ target }) => this.edit(name, Number(field.isNumber ? target.value : target.checked));
+        const change = ({ target }) => {
+            const bits = this.shown[field.holder] & field.mask;
+            const isPart = !field.isNumber && bits && bits !== field.mask;
+            this.page.edit(name, Number(field.isNumber ? target.value : target.checked));
+            if (isPart) setText(find("told"), "Some of these were set, and none is now. Undo brings them back.");
+        };
         const label = `${[meaning, examples(field)].filter(Boolean).join(": ")} (${name})`.replaceAll("`", "");
         const attributes = { id: name, change, "aria-label": label };
         if (field.isNumber) {
@@ -35,19 +40,19 @@ class Controls {
         for (const title of new Set(flags.map((flag) => flag.section).filter(Boolean))) {
             const ofSection = flags.filter((flag) => flag.section === title);
             const isOfGroup = ofSection.some(({ mask }) => mask & group.mask);
-            const rows = ofSection.map((flag) => this.flagRow(flag));
-            if (isOfGroup) rows.unshift(this.flagRow({ ...group, part: "group" }));
+            const rows = ofSection.map((flag) => this.row(flag));
+            if (isOfGroup) rows.unshift(this.row({ ...group, part: "group" }));
             find("flags").append(element("fieldset", {}, element("legend", {}, title), rows));
         }
     }
 
-    /* Returns the row of a flag or a group: what it does, with examples, and then its name. */
-    flagRow(field) {
-        const { name, part, meaning } = field;
-        const label = element("label", { for: name }, element("span", { class: `dot ${part}` }), ...withCode(meaning));
-        const texts = element("span", { class: "meaning" }, withCode(examples(field)));
-        const all = [this.box(field), label, texts, element("span", { class: "name" }, name)];
-        return element("div", { class: "flag-row control field", "data-field": name }, all);
+    /* Returns the row of a field: its box, its title or what it does, examples, and its name. Messages are in the place of these. */
+    row(field, box = this.box(field), messages = []) {
+        const { name, title, part, meaning } = field;
+        const label = element("label", { for: name }, element("span", { class: `dot ${part}` }), ...withCode(title ?? meaning));
+        const texts = element("span", { class: "meaning", id: `${name}-meaning` }, withCode(title ? meaning : examples(field)));
+        const all = [box, label, ...messages, texts, element("span", { class: "name" }, name)];
+        return element("div", { class: "control field", "data-field": name }, all);
     }
 
     /* Makes the table of separator flags: a row for each part of a number, a column for each position. */
@@ -63,7 +68,7 @@ class Controls {
         );
         const shown = rows.reduce((mask, row) => mask | row.mask, 0n);
         const others = flags.filter(({ mask, part }) => part === "separator" && !(mask & shown));
-        find("separators").after(...others.map((flag) => this.flagRow(flag)));
+        find("separators").after(...others.map((flag) => this.row(flag)));
     }
 
     groupHead(group, title, scope) {
@@ -79,34 +84,23 @@ class Controls {
         return element("tr", {}, this.groupHead(row, row.name.replace("_digit_separator_flags", ""), "row"), cells);
     }
 
-    makeBytes() {
-        find("bytes").append(...[...this.library.bytes, ...OPTIONS].map((field) => this.byteRow(field)));
-        const { conditions } = this.library;
-        find("conditions").append(...conditions.filter(({ isKind }) => !isKind).map((condition) => this.flagRow(condition)));
-        find("kinds").append(...conditions.filter(({ isKind }) => isKind).map((kind) => this.flagRow(kind)));
-    }
-
     byteRow(field) {
-        const { name, title = name.replace("_", " "), part = "option", meaning, isNumber = false } = field;
+        const { name, title = name.replace("_", " "), isNumber = false } = field;
         let before;
         /* While a text is refused, the byte is the one before the text was typed. */
         const input = () => {
             const { value, error = "" } = this.parsed(name, title, isNumber, box.value);
             tell(box, error);
-            this.edit(name, value ?? before, name);
+            this.page.edit(name, value ?? before, name);
         };
         const focus = () => (before = isRefused(box) ? before : this.inputs.get(name).byte);
-        const keydown = ({ key }) => key === "Escape" && isRefused(box) && this.fill(name);
-        const listeners = { input, focus, blur: () => this.show(this.shown), keydown };
+        const listeners = { input, focus, blur: () => this.show(this.shown) };
         const told = { "aria-describedby": `${name}-meaning`, "aria-errormessage": `${name}-problem` };
         const box = element("input", { id: name, ...listeners, ...told, autocomplete: "off", spellcheck: "false", placeholder: "none" });
         const other = element("span", { class: "other" });
         this.inputs.set(name, { box, other, isNumber });
-        const label = element("label", { for: name }, element("span", { class: `dot ${part}` }), title);
-        const text = element("span", { class: "meaning", id: `${name}-meaning` }, withCode(meaning));
         const problem = element("span", { class: "problem", id: `${name}-problem`, role: "status" });
-        const all = [label, box, other, problem, text, element("span", { class: "name" }, name)];
-        return element("div", { class: "byte-row control field", "data-field": name }, all);
+        return this.row({ ...field, title }, box, [problem, other]);
     }
 
     /* Returns {value} of a typed text: a number, a character, the name of one, or an empty text; or {error}. */
@@ -119,13 +113,14 @@ class Controls {
         return isNumber && text.startsWith("'") ? { error: `the ${title} takes a number` } : { value };
     }
 
-    /* Shows a state: a word, an exponent character and a decimal point. */
     show(state) {
         this.shown = state;
         const { flags, groups, conditions } = this.library;
         for (const { name, holder, mask } of [...flags, ...groups, ...conditions]) {
             const [value, box] = [this.library.value(state, name), find(name)];
-            const marks = { checked: Boolean(value), indeterminate: !value && (state[holder] & mask) !== 0n };
+            // A click on the box of a group that is partly set clears it, and the next one sets it.
+            const isSet = (state[holder] & mask) !== 0n;
+            const marks = { checked: isSet, indeterminate: isSet && !value };
             Object.assign(box, box.options ? { value } : marks);
         }
         for (const name of this.inputs.keys()) this.showByte(name, this.library.value(state, name), this.library.effective(state, name));
@@ -137,9 +132,7 @@ class Controls {
         const { box, other, isNumber } = input;
         const isKept = document.activeElement === box || (isRefused(box) && input.byte === byte);
         const isAbsent = byte === 0 && name !== "mantissa_radix";
-        const isNamed = byteText(byte) !== String(byte);
-        const numbers = [isNamed ? byteText(byte) : "", byte, `0x${byte.toString(16).toUpperCase().padStart(2, "0")}`];
-        setText(other, byte !== effective ? `means ${effective}` : isAbsent || isNumber ? "" : numbers.join(" "));
+        setText(other, byte !== effective ? `means ${effective}` : "");
         const asNumber = isNumber || (byte >= 48 && byte < 58);
         Object.assign(input, { byte, text: isAbsent ? "" : asNumber ? String(byte) : byteText(byte) });
         if (!isKept) this.fill(name);

@@ -29,8 +29,6 @@ function refill(node, children, other) {
 }
 
 const find = (id) => document.getElementById(id);
-
-/* Writes a text, if it is another one. */
 const setText = (node, text) => node.textContent === text || (node.textContent = text);
 
 /* Shows below an input why its text is refused, or a note on one that is not. */
@@ -39,7 +37,6 @@ function tell(box, text, isBad = Boolean(text)) {
     box.setAttribute("aria-invalid", String(isBad));
 }
 
-/* Returns whether the text of an input is refused. */
 const isRefused = (box) => box.getAttribute("aria-invalid") === "true";
 
 /* Returns a byte as a character, its name or its number. */
@@ -76,7 +73,7 @@ function rove({ key, target }) {
     const step = { ArrowRight: 1, ArrowDown: 1, ArrowLeft: -1, ArrowUp: -1 }[key];
     if (!step || !target.matches(ROVERS)) return;
     const group = target.closest(".roving, [role=tablist]");
-    const all = [...group.querySelectorAll(ROVERS)];
+    const all = [...group.querySelectorAll(ROVERS)].filter((it) => it.checkVisibility());
     const next = all.at((all.indexOf(target) + step) % all.length);
     if (next.matches("[role=tab]")) next.click();
     else oneStop(group, next);

@@ -65,7 +65,6 @@ pub fn states_of(line: &'static str) -> impl Iterator<Item = State> {
     })
 }
 
-/// Returns the state of a form.
 pub fn state_of(form: &Form) -> State {
     let (syntax, kind) = (form.syntax(), form.kind());
     let [exponent, point] = [syntax.exponent(), syntax.point()].map(Option::unwrap_or_default);
@@ -100,7 +99,6 @@ pub enum Value {
     Refused(ValueError),
 }
 
-/// Returns the value of a number.
 pub fn value_of(number: Number<'_>) -> Value {
     let literal = match number {
         Number::Special(special) => return Value::Float(special.to_f64().to_bits()),

@@ -20,7 +20,6 @@ const KINDS = [
     { name: "wraps_modulo", meaning: "Lowest bits of an integer, which count, the highest of which makes it negative", limits: [1, 64] },
     { name: "single", meaning: "Floats have 32 bits" },
 ];
-/* The usual spellings of special values. */
 const SPECIALS = ["NaN", "inf", "infinity"];
 
 class Library {
@@ -29,8 +28,8 @@ class Library {
         const facts = this.call("facts");
         this.languages = facts.languages.map((it) => ({ ...it, ...languages[it.name] }));
         const maskOf = (bits) => bits.reduce((mask, bit) => mask | (1n << BigInt(bit)), 0n);
-        this.flags = flags.map((it) => ({ ...it, holder: "word", mask: maskOf([it.bit]) }));
-        this.groups = groups.map((it) => ({ ...it, holder: "word", mask: maskOf(it.bits) }));
+        const masked = (all) => all.map((it) => ({ ...it, holder: "word", mask: maskOf(it.bits) }));
+        [this.flags, this.groups] = [masked(flags), masked(groups)];
         const byteAt = (bit) => ({ mask: 255n << BigInt(bit), shift: BigInt(bit) });
         this.bytes = bytes.map((it) => ({ ...it, holder: "word", isByte: true, ...byteAt(it.bit) }));
         /* The conditions are the bytes of a number. Those of integers of a kind exclude each other. */
@@ -44,8 +43,7 @@ class Library {
         /* The fields in the order of their bits, all that differs in states, and all that can be set by its name. */
         this.fields = [...this.flags, ...this.bytes];
         this.differing = [...this.fields, ...OPTIONS, ...this.conditions];
-        const reserved = { name: "reserved", holder: "word", mask: 0n };
-        this.named = new Map([...this.differing, ...this.groups, reserved].map((field) => [field.name, field]));
+        this.named = new Map([...this.differing, ...this.groups].map((field) => [field.name, field]));
         const [word, numbers] = [this.fields, this.conditions].map((all) => all.reduce((known, { mask }) => known | mask, 0n));
         this.known = { word, conditions: numbers };
         this.usual = { word: this.call("build").word, ...STANDARD_OPTIONS, name: "" };
@@ -82,23 +80,16 @@ class Library {
     /* Returns what `explain` of library.rs describes. Each of its problems and notes has a text, and the fields that it blames. */
     explain(form) {
         const { reasons, options, misfits, notes, ...answer } = this.call("explain", { forms: [form], specials: [] });
-        const named = ({ text, mask, names, kind }) => {
-            const fields = [...names.split(" ").filter(Boolean), ...this.namesOf(mask)];
-            return { text, fields, kind: `${kind} ${fields.join(" ")}` };
-        };
+        const named = ({ text, mask, names }) => ({ text, fields: [...names.split(" ").filter(Boolean), ...this.namesOf(mask)] });
         const taken = "Numbers are read, since no flag allows the separator, but is_valid_options_punctuation refuses this";
         const [bad, taking] = answer.fits ? [[], options.map((it) => ({ ...it, text: `${it.text}. ${taken}` }))] : [options, []];
         const [problems, told] = [[...reasons, ...bad, ...misfits], [...notes, ...taking]].map((all) => all.map(named));
         return { ...answer, problems, notes: told };
     }
 
-    /* Returns forms with fewer problems and without this one: one of its fields is absent, cleared, set or a usual character. */
-    repairs(state, { kind, fields }) {
-        const usual = { exponent: [101, 112, 94], point: [46, 44], mantissa_radix: [10], integer_group_size: [0, 3] };
-        const [problems, most] = [(it) => this.explain(it).problems, this.explain(state).problems.length];
-        const isBetter = (it) => problems(it).length <= most && !problems(it).some((other) => other.kind === kind);
-        const first = (name) => (usual[name] ?? [0, 1]).map((value) => this.with(state, name, value)).find(isBetter);
-        return fields.map(first).filter(Boolean).sort((a, b) => problems(a).length - problems(b).length);
+    /* Returns the list of a language, or else the standard format. */
+    listOf(language) {
+        return this.languages.find(({ name }) => name === language) ?? { forms: [this.usual], numbers: "" };
     }
 
     /* Returns the value of a field, an option or a condition of a state as a number: 1 for flags that are all set. */
@@ -118,39 +109,16 @@ class Library {
         return { ...state, [holder]: others | set };
     }
 
-    /* Returns the form of a text: a syntax as the library prints it, which is a word, two bytes unless numbers are integers
-     * alone, and the conditions as settings; a colon; and the name. What is none of these is put into `lost`. */
-    form(text, lost = []) {
-        const [, syntax, name] = /^([^:]*):?([^]*)$/.exec(text);
-        const [settings, [word = "", exponent = "0", point = "0", ...others]] = [true, false].map((isSetting) => {
-            return syntax.split(" ").filter((it) => it.includes("=") === isSetting);
-        });
-        const found = { word: this.read(word).word, exponent: this.byte(exponent), point: this.byte(point) };
-        if (Object.values(found).includes(undefined)) return void lost.push(`forms=${text.slice(0, 40)}`);
-        return { ...found, conditions: this.withConditions(0n, [...settings, ...others].join(" "), lost), name };
+    /* Returns the form of a line as `formText` makes it, if it is one. */
+    form(line) {
+        const [text, name = ""] = line.split("\t");
+        const { form } = this.read(text);
+        return form && { ...form, name };
     }
 
-    /* Returns the text of a form. */
     formText(form) {
-        return `${wordText(form.word)} ${form.exponent} ${form.point} ${this.conditionsText(form)}:${form.name}`;
-    }
-
-    /* Returns the conditions of a form as settings. */
-    conditionsText({ conditions }) {
-        return this.differences({ ...this.usual, conditions }).map(({ text }) => text).join(" ");
-    }
-
-    /* Returns conditions with those that are set in a text. What is not the setting of a condition is put into `lost`. */
-    withConditions(conditions, text, lost = []) {
-        return text.split(/[\s,;]+/).filter(Boolean).reduce((all, setting) => {
-            const [name, value] = setting.split("=");
-            const { holder, limits: [least, most] = [1, 1] } = this.named.get(name) ?? {};
-            const number = { true: 1, false: 0, none: 0 }[value] ?? Number(value);
-            const isTaken = Number.isInteger(number) && (number === 0 || (number >= least && number <= most));
-            if (isTaken && holder === "conditions") return this.with({ conditions: all }, name, number).conditions;
-            lost.push(setting);
-            return all;
-        }, conditions);
+        const others = this.differences(form).filter(({ holder }) => holder !== "word").map(({ text }) => text);
+        return `${[wordText(form.word), ...others].join(" ")}\t${form.name}`;
     }
 
     /* Returns {value}, or {error} if the setter does not take the text. A separator needs a flag that allows it. */
@@ -164,17 +132,20 @@ class Library {
         return this.value(state, name) || (/^exponent_/.test(name) ? this.value(state, "mantissa_radix") : 0);
     }
 
-    /* Returns a typed byte: a number or a character. Returns undefined if it is neither. */
-    byte(text) {
-        return [text, `'${text}'`].map((it) => this.parse("digit_separator", it).value).find((it) => it !== undefined);
+    /* Returns the number of an option or a condition in a setting: of an option, a byte or its character. */
+    number({ isByte, limits: [least, most] = [1, 1] }, value) {
+        const byteOf = (text) => this.parse("digit_separator", text).value;
+        const ofWord = () => ({ true: 1, false: 0, none: 0 })[value] ?? Number(value || NaN);
+        const number = isByte ? byteOf(value) ?? byteOf(`'${value}'`) : ofWord();
+        const isTaken = isByte || number === 0 || (Number.isInteger(number) && least <= number && number <= most);
+        return isTaken ? number : undefined;
     }
 
-    /* Returns what differs in a state from another one, by default the usual one: each with its values and settings in both. */
+    /* Returns what differs in a state from another one, by default the usual one: each with its values in both, and its setting. */
     differences(state, other = this.usual) {
         return this.differing.flatMap((field) => {
             const [value, before] = [state, other].map((it) => this.value(it, field.name));
-            const [text, old] = [value, before].map((it) => this.setting(field, it));
-            return value === before ? [] : [{ ...field, value, before, text, old }];
+            return value === before ? [] : [{ ...field, value, before, text: this.setting(field, value) }];
         });
     }
 
@@ -194,26 +165,25 @@ class Library {
         return `${name}=${isNumber ? value : quoted(value, "")}`;
     }
 
-    /* Returns {word, notes, options} of a text, or {error}: a number, or settings, in which # begins a comment. */
-    read(text) {
-        const [options, settings, lost] = [{}, [], []];
-        const word = text.replace(/\b(\w+)\s*=\s*('.'|[^\s,;#]*)|#.*/g, (_, name, value) => {
-            const setting = `${name}=${value}`;
-            if (OPTIONS.some((it) => it.name === name)) options[name] = this.byte(/^'.'$/.test(value) ? value[1] : value);
-            else if (this.named.get(name)?.holder === "conditions") {
-                options.conditions = this.withConditions(options.conditions ?? 0n, setting, lost);
-            } else if (name) settings.push(setting);
+    /* Returns {form, notes} of a text, or {error}. A number keeps what else a form has, and settings change the usual one,
+     * without what is behind a #. */
+    read(text, form = this.usual) {
+        const [others, settings] = [[], []];
+        const rest = text.replace(/\b(\w+)\s*=\s*('.'|[^\s,;#]*)|#.*/g, (setting, name, value) => {
+            const field = this.named.get(name);
+            if (field && field.holder !== "word") others.push([name, this.number(field, value), setting]);
+            else if (name) settings.push(`${name}=${value}`);
             return "";
         }).replace(/(?<=\w)_(?=\w)|[\s,;]/g, "");
-        if (Object.values(options).includes(undefined)) return { error: "An option is not a byte." };
-        if (lost.length) return { error: `${lost[0]}: the condition does not take this value.` };
-        const isNumber = /^0x[0-9a-f]{1,32}$|^[0-9]{1,39}$/i.test(word) && !settings.length;
-        if (isNumber && BigInt(word) < 1n << 128n) return { word: BigInt(word), options };
-        const isEmpty = !text.includes("#") && !settings.length && !Object.keys(options).length;
-        if (word || isEmpty) return { error: "This is neither a word nor a list of settings." };
-        const { error, index, ...built } = this.call("build", ...settings);
-        const whole = { ...STANDARD_OPTIONS, ...options };
-        return error ? { error: `${settings[index]}: ${error}${error.endsWith("?") ? "" : "."}` } : { ...built, options: whole };
+        const [, , lost] = others.find(([, number]) => number === undefined) ?? [];
+        if (lost) return { error: `${lost}: this value is not taken.` };
+        const isWord = /^0x[0-9a-f]{1,32}$|^[0-9]{1,39}$/i.test(rest) && BigInt(rest) < 1n << 128n && !settings.length;
+        const isEmpty = !text.includes("#") && !settings.length && !others.length;
+        if (!isWord && (rest || isEmpty)) return { error: "This is neither a word nor a list of settings." };
+        const { error, index, word, notes } = isWord ? { word: BigInt(rest) } : this.call("build", ...settings);
+        if (error) return { error: `${settings[index]}: ${error}${error.endsWith("?") ? "" : "."}` };
+        const whole = { ...(isWord ? form : this.usual), word };
+        return { notes, form: others.reduce((all, [name, number]) => this.with(all, name, number), whole) };
     }
 }
 
@@ -223,7 +193,6 @@ function passed({ forms, specials = SPECIALS }) {
     return [forms.map((form) => `${form.word}:${options(form)}`).join(" "), ...specials].join("\t");
 }
 
-/* Returns a form without its name. */
 const stateOf = ({ word, exponent, point, conditions }) => ({ word, exponent, point, conditions });
 
 /* Returns whether two lists have the same forms with the same names. */
@@ -239,7 +208,9 @@ function valueText({ integer, float, unknown, refused }) {
     return Object.is(value, -0) ? "-0" : String(value);
 }
 
-/* Returns a word as text. */
+/* Returns whether two values are the same number, as texts. */
+const isSameValue = (one, other) => one === other || Number(one) === Number(other);
+
 const wordText = (word) => `0x${word.toString(16).toUpperCase().padStart(32, "0")}`;
 
 /* Returns a byte as a character in single quotes, as in Rust or a setting, or as a number if it is not visible. */

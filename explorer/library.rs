@@ -14,8 +14,9 @@ use forms::{numbers_of, state_of, states_of, value_of, List, Value};
 use peltzivar::edits::{apply, is_built, normal_form};
 use peltzivar::literal::{
     Condition, Conditions, ConditionsError, ConditionsErrorKind, FormError, Forms, Language, Number, Special, Specials,
+    Syntax,
 };
-use peltzivar::{Byte, Cause, Edit, FormatView, NamedByte, NumberFormatBuilder, Reason};
+use peltzivar::{Byte, Cause, Edit, Format, FormatView, NamedByte, NumberFormatBuilder, Reason};
 use suggest::{lines_of, offers, State};
 
 mod examples;
@@ -91,15 +92,16 @@ fn utf8(bytes: &[u8]) -> &str {
     core::str::from_utf8(bytes).unwrap_or("")
 }
 
-/// Returns the limits of each condition; and the name, the spellings of special values, and the forms of each language.
+/// Returns the limits of each condition; and the name, the title, the spellings of special values, and the forms of each language.
 fn facts() -> String {
     let limits = |it: &Condition| format!("[{},{}]", it.limits().0, it.limits().1);
     let languages = Language::ALL.iter().map(|language| {
+        let title = quoted(language.title());
         let Specials { nan, inf, infinity } = language.forms().specials();
         let specials = list([nan, inf, infinity].map(|it| quoted(utf8(it.unwrap_or_default()))).into_iter());
         let forms = language.forms().as_slice().iter();
         let forms = forms.map(|it| format!(r#"{{{},"name":{}}}"#, parts_of(state_of(it)), quoted(it.name())));
-        format!(r#"{{"name":"{language}","specials":{specials},"forms":{}}}"#, list(forms))
+        format!(r#"{{"name":"{language}","title":{title},"specials":{specials},"forms":{}}}"#, list(forms))
     });
     format!(r#"{{"limits":{},"languages":{}}}"#, list(Condition::ALL.iter().map(limits)), list(languages))
 }
@@ -124,14 +126,16 @@ fn explain(state: &'static str) -> String {
         let [sentence, grammar, regex] = [quoted(it.sentence()), quoted(it.grammar()), quoted(it.regex())];
         format!(r#","sentence":{sentence},"grammar":{grammar},"regex":{regex}"#)
     });
-    let put = |text: &dyn Display, mask, names: &str, kind| {
-        format!(r#"{{"text":{},"mask":{},"names":"{names}","kind":"{kind}"}}"#, quoted(text), word(mask))
+    let put = |text: &dyn Display, mask, names: &str| {
+        format!(r#"{{"text":{},"mask":{},"names":"{names}"}}"#, quoted(text), word(mask))
     };
     let misfit = |it: ConditionsError| {
         let other = if it.kind == ConditionsErrorKind::NoIntegerGroupSize { "integer_group_size " } else { "" };
-        put(&it, it.mask(), &format!("{other}{}", it.condition.name()), 0)
+        put(&it, it.mask(), &format!("{other}{}", it.condition.name()))
     };
-    let reason = |it: Reason| put(&it, it.mask(), &options_of(it.cause()), it.rule().map_or(0, |it| it as usize + 1));
+    let reason = |it: Reason| put(&it, it.mask(), &options_of(it.cause()));
+    let lawful = Format::new(state.word).ok().into_iter();
+    let misfits = lawful.flat_map(|it| Syntax::integers(it).contradictions(state.conditions));
     let options = view.options_reasons(state.exponent, state.point).filter(|_| !state.is_integers());
     format!(
         r#"{{"normal":{},"isBuilt":{},"fits":{},"reasons":{},"options":{},"misfits":{},"notes":{}{notation}}}"#,
@@ -140,8 +144,8 @@ fn explain(state: &'static str) -> String {
         State { conditions: Conditions::NONE, ..state }.syntax().is_some(),
         list(view.reasons().map(reason)),
         list(options.map(reason)),
-        list(state.misfits().map(misfit)),
-        list(view.notes().map(|it| put(&it, it.mask(), "", 0))),
+        list(misfits.map(misfit)),
+        list(view.notes().map(|it| put(&it, it.mask(), ""))),
     )
 }
 
@@ -155,15 +159,29 @@ fn options_of(cause: Cause) -> String {
     cause.bytes().into_iter().flatten().map(name).collect()
 }
 
-/// Returns for each line the languages that read it, by their indexes, each with the form of a literal, and the value.
+/// Returns for each line and each language the form of a literal, and the value, or why the line is no number, and its
+/// suffix if it is a token.
 fn readers(lines: &[u8]) -> String {
-    list(lines_of(lines).map(|line| {
-        list(Language::ALL.iter().enumerate().filter_map(|(index, language)| {
-            let number = language.read(line.text).ok()?;
+    let reader = |line: &[u8], language: &Language| match language.read(line) {
+        Ok(number) => {
             let form = number.form().map_or(String::new(), |form| format!(r#""form":{form},"#));
-            Some(format!(r#"{{"language":{index},{form}{}}}"#, value(value_of(number))))
-        }))
-    }))
+            format!("{{{form}{}}}", value(value_of(number)))
+        }
+        Err(it) => {
+            let suffix = quoted(suffix_of(language, line).unwrap_or_default());
+            format!(r#"{{"error":{},"suffix":{suffix}}}"#, quoted(it.error.full_text().as_str()))
+        }
+    };
+    list(lines_of(lines).map(|line| list(Language::ALL.iter().map(|language| reader(line.text, language)))))
+}
+
+/// Returns the suffix of a text that is a literal of a language and one of the suffixes of its form.
+fn suffix_of<'a>(language: &Language, text: &'a [u8]) -> Option<&'a str> {
+    let (number, suffix) = language.read_prefix(text).ok().filter(|it| !it.1.is_empty())?;
+    let known = language.forms()[number.form()?].suffixes()?;
+    let words = if number.literal()?.is_float() { known.floats() } else { known.integers() };
+    let is_word = |it: &&[u8]| *it == suffix || known.is_either_case() && it.eq_ignore_ascii_case(suffix);
+    words.iter().any(is_word).then(|| utf8(suffix))
 }
 
 /// Returns the parts of an object with a state.
@@ -181,30 +199,14 @@ fn numbers(states: &'static str, lines: &[u8]) -> String {
     list(forms.iter().flat_map(readings))
 }
 
-/// Returns what can be done for a line that is not as expected, which is the first one, and again among the others:
-/// `{"offers", "tokens"}`, the states of its form that are offered, and the languages of which the text is a token, with its
-/// suffix.
+/// Returns the states that are offered of the form of a line that is not as expected, which is the first one, and again
+/// among the others.
 fn offered(states: &'static str, lines: &[u8]) -> String {
-    let (Some(all), Some(line)) = (List::new(states), lines_of(lines).next()) else { return "{}".to_string() };
+    let (Some(all), Some(line)) = (List::new(states), lines_of(lines).next()) else { return "[]".to_string() };
     let lines = &lines[line.text.len() + usize::from(line.is_refused)..];
     let form = all.forms().read(line.text).map_or_else(|error| error.form, |number| number.form().unwrap_or(0));
     let offers = offers(all.states[form], &all.lines(form, lines), line);
-    let offers = offers.into_iter().map(|(state, _)| format!("{{{}}}", parts_of(state)));
-    let token = |(index, language)| {
-        let suffix = quoted(suffix_of(language, line.text)?);
-        Some(format!(r#"{{"language":{index},"suffix":{suffix}}}"#))
-    };
-    let tokens = Language::ALL.iter().enumerate().filter_map(token);
-    format!(r#"{{"offers":{},"tokens":{}}}"#, list(offers), list(tokens))
-}
-
-/// Returns the suffix of a text that is a literal of a language and one of the suffixes of its form.
-fn suffix_of<'a>(language: &Language, text: &'a [u8]) -> Option<&'a str> {
-    let (number, suffix) = language.read_prefix(text).ok().filter(|it| !it.1.is_empty())?;
-    let known = language.forms()[number.form()?].suffixes()?;
-    let words = if number.literal()?.is_float() { known.floats() } else { known.integers() };
-    let is_word = |it: &&[u8]| *it == suffix || known.is_either_case() && it.eq_ignore_ascii_case(suffix);
-    words.iter().any(is_word).then(|| utf8(suffix))
+    list(offers.into_iter().map(|state| format!("{{{}}}", parts_of(state))))
 }
 
 /// Returns what a text is, its value and its parts; or the parts of its longest front that is a number, why and where it is
@@ -264,17 +266,14 @@ fn value(value: Value) -> String {
     }
 }
 
-/// Returns an array.
 fn list(items: impl Iterator<Item = String>) -> String {
     format!("[{}]", items.collect::<Vec<_>>().join(","))
 }
 
-/// Returns a word, as text.
 fn word(word: u128) -> String {
     quoted(FormatView::new(word))
 }
 
-/// Returns a text.
 fn quoted(text: impl Display) -> String {
     let escape = |it| match it {
         '"' | '\\' => format!("\\{it}"),

@@ -1,37 +1,24 @@
 /* The numbers, one a line, and what they are in words. Those with details show their parts in colours and words, wrong bytes
  * and, if they are not as expected, states in which they are. A number behind a `!` is refused. */
 
-/* The parts of a number, with the names of their colours and their fields. */
-const PARTS = {
-    sign: ["sign", "no_positive_mantissa_sign required_mantissa_sign"],
-    special: ["special", "no_special case_sensitive_special"],
-    prefix: ["base", "base_prefix"],
-    integer: ["digits", "mantissa_radix"],
-    point: ["option", "point"],
-    fraction: ["digits", "mantissa_radix"],
-    exponent_character: ["exponent", "exponent"],
-    exponent_sign: ["sign", "no_positive_exponent_sign required_exponent_sign"],
-    exponent: ["exponent", "exponent_radix"],
-    suffix: ["base", "base_suffix"],
-    digit_separator: ["separator", "digit_separator"],
-};
-/* The parts that have digits. */
+/* The parts of a number that are digits. */
 const DIGITS = ["integer", "fraction", "exponent"];
 /* How many lines are read, how many have details, how many texts languages read, and how many characters each of them has. */
 const [MOST_LINES, MOST_OPEN, MOST_READ, MOST_CHARACTERS] = [100, 4, 20, 1000];
-const BUTTON = ", which a button below changes.";
+const BUTTON = ": a button below changes that.";
 const WELCOME = "Type numbers of your language or file: the page finds their format, and the code that reads them.";
 
 /* Returns the line of a number, which has a `!` if it must be refused. */
 const lineOf = ({ isRefused, text }) => (isRefused ? "!" : "") + text;
+const titlesOf = (languages) => named(languages.map(({ title }) => title));
 const inCode = ({ text }) => `\`${visible(text.slice(0, 40))}\``;
 
 class Trial {
-    constructor(library, calls) {
-        Object.assign(this, { library, languages: library.languages, ...calls, opened: [], rows: new Map() });
+    constructor(library, page) {
+        Object.assign(this, { library, page, languages: library.languages, opened: [], rows: new Map() });
     }
 
-    /* Shows what is read. Returns in words how many are as expected, and what is told of the first that is not, or of all. */
+    /* Shows what is read. Returns in words how many are as expected, and whether all are. */
     show(state, list) {
         Object.assign(this, { state, list, forms: list.forms });
         const box = find("literal");
@@ -39,33 +26,28 @@ class Trial {
         const all = state.numbers.split("\n").map((text, place) => ({ text, place })).filter(({ text }) => text);
         let size = 0;
         const hasRoom = ({ text }) => (size += new TextEncoder().encode(text).length + 1) <= MOST_TEXT;
-        const lines = all.slice(0, MOST_LINES).filter(hasRoom);
-        this.lines = lines;
+        this.lines = all.slice(0, MOST_LINES).filter(hasRoom);
         this.answers = this.read();
         const unexpected = this.answers.filter(({ isExpected }) => !isExpected);
-        const [first] = unexpected;
         this.expected = this.answers.length - unexpected.length;
-        box.setAttribute("aria-invalid", String(Boolean(first)));
+        box.setAttribute("aria-invalid", String(unexpected.length > 0));
         box.className = all.length > MOST_LINES ? "many" : "";
-        const left = all.length - lines.length;
+        const left = all.length - this.lines.length;
         const unread = left && `${left === 1 ? "1 line is" : `${left} lines are`} not read`;
         this.showRows(unread && `${unread}: the page reads up to ${MOST_LINES} lines with ${MOST_TEXT / 1000} kB`);
-        this.showSummary(lines.length > 0 && !this.answers.length, unexpected);
+        this.showSummary(unexpected);
         const count = this.answers.length && `${this.expected} of ${this.answers.length} as expected`;
-        const value = (it) => `${it.text}${it.refused ?? it.unknown ? ":" : " ="} ${valueText(it)}`;
-        const values = this.answers.filter(({ error }) => !error).slice(0, MOST_READ).map(value);
-        const told = first ? `${first.text} ${this.told(first)}` : values.join(" \u00b7 ");
-        return { count: [count, unread].filter(Boolean).join("; "), isGood: !first && !left, first: visible(told) };
+        return { count: [count, unread].filter(Boolean).join("; "), isGood: !unexpected.length && !left };
     }
 
     /* Returns what the library returns for lines, with what each line expects, and of each part the runs of digits and between
-     * them of separators. A value that is refused is not expected. */
+     * them of separators. A number whose value is refused is so, too. */
     read(lines = this.lines, list = this.list) {
         const answers = this.library.call("numbers", list, lines.map(({ text }) => text).join("\n"));
         return answers.map((answer, index) => {
             const isRefused = lines[index].text.startsWith("!");
             const text = lines[index].text.slice(Number(isRefused));
-            const isExpected = isRefused === Boolean(answer.error) && !(answer.refused && !isRefused);
+            const isExpected = isRefused === Boolean(answer.error ?? answer.refused);
             const mark = this.library.value(list.forms[answer.form], "digit_separator");
             const separators = new RegExp(`(\\x${mark.toString(16).padStart(2, "0")}+)`);
             const runsOf = ({ kind, text }) => (DIGITS.includes(kind) ? text.split(separators) : [text]);
@@ -76,62 +58,79 @@ class Trial {
 
     /* Returns the answer with what is offered in words: up to three states, those last that change other numbers, and advice. */
     withOffers(answer) {
-        if (answer.isExpected || (answer.refused && !answer.isRefused)) return { ...answer, offers: [], advice: [] };
+        if (answer.isExpected || answer.refused) return { ...answer, offers: [], advice: [] };
         const lines = [answer, ...this.answers].map(lineOf).join("\n");
-        const { offers, tokens } = this.library.call("offered", this.list, lines);
-        const worded = offers.map((it) => this.worded(answer, it)).sort((a, b) => Number(Boolean(a.lost)) - Number(Boolean(b.lost)));
-        return { ...answer, offers: worded, advice: answer.isRefused ? [] : this.adviceOf(answer, worded, tokens) };
+        const worded = this.library.call("offered", this.list, lines).map((it) => this.worded(answer, it));
+        const all = [false, true].flatMap((isLossy) => worded.filter(({ lost }) => Boolean(lost) === isLossy));
+        const done = all.filter(({ isDone }) => isDone);
+        const advice = answer.isRefused ? [] : this.adviceOf(answer, all);
+        return { ...answer, offers: done.length ? done : all, advice };
     }
 
-    /* Returns an offer in words, with its ways into the state: in the form that it changes, or as one of its own, whose prefix
-     * is required. This is the first way if the other one changes what is read of a number. */
+    /* Returns an offer in words, with its ways into the state: in the form that it changes, in all if other ones read what must be
+     * refused, or as a form of its own, whose prefix is required. This is the first way if others change what is read of a number. */
     worded(answer, offer) {
         const [{ forms }, { library, answers }, at] = [this.state, this, answer.form];
         const differences = (it) => library.differences(it, forms[at]).sort((a, b) => Number(!a.isByte) - Number(!b.isByte));
         const changes = differences(offer);
         const affixes = changes.filter(({ name, value }) => value && name.startsWith("base_"));
         const own = affixes.reduce((all, { name }) => library.with(all, `required_${name}`, 1), stateOf(offer));
-        const one = { at, forms: forms.with(at, { ...forms[at], ...stateOf(offer) }) };
+        const changed = (form) => changes.reduce((all, { name, value }) => library.with(all, name, value), form);
+        const [single, every] = [forms.with(at, { ...forms[at], ...stateOf(offer) }), forms.map(changed)].map((all) => ({ at, forms: all }));
         const other = { at: forms.length, forms: [...forms, { ...own, name: "" }] };
         const readings = (part) => this.read(this.lines, { ...this.list, ...part });
+        const reading = (all) => all.find((it) => it.place === answer.place);
+        const isInAll = answer.isRefused && !reading(readings(single)).isExpected && reading(readings(every))?.isExpected;
+        const one = isInAll ? every : single;
         const expected = (all) => all.filter(({ isExpected }) => isExpected).length;
         const read = readings(one);
         const index = answers.findIndex((it, place) => it.isExpected && !it.isRefused && valueText(it) !== valueText(read[place]));
         const lost = index >= 0 && `${inCode(answers[index])} ${read[index].error ? "is refused" : `becomes ${valueText(read[index])}`}`;
         const isOwn = lost && !answer.isRefused;
         const isWorse = expected(read) <= this.expected || changes.some(({ name }) => name === "mantissa_radix");
-        const [words, place] = [changeWords(library, offer, changes), forms.length > 1 ? ` in ${this.forms[at].name}` : ""];
+        const place = isInAll ? " in all forms" : forms.length > 1 ? ` in ${this.forms[at].name}` : "";
+        const words = changeWords(library, offer, changes);
         const ways = isOwn ? [[`${words}, as a form of its own`, other], [`or${place || " in the one form"}: ${lost}`, one]]
             : [[words + place, one], ...(isWorse && !answer.isRefused ? [["or as a form of its own", other]] : [])];
         const then = isOwn ? readings(other) : read;
         const count = answers.length > 1 ? `${expected(then)} of ${answers.length} as expected` : "";
-        const told = [this.told(then.find((it) => it.place === answer.place)), count, !isOwn && lost].filter(Boolean).join("; ");
-        return { ways, lost, changes, label: differences(isOwn ? own : offer).map((it) => it.text).join(", "), then: told };
+        const told = [this.told(reading(then)), count, !isOwn && lost].filter(Boolean).join("; ");
+        const label = differences(isOwn ? own : offer).map((it) => it.text).join(", ");
+        const [isDone, isBetter] = [reading(then).isExpected, expected(then) > this.expected];
+        return { ways, lost, changes, label, then: told, isDone, isBetter };
     }
 
-    /* Returns what else can be done for a text, each with words and, at most, the text or the language that a button takes. */
-    adviceOf(answer, offers, tokens) {
-        const { text } = answer;
-        const titles = (all) => named(all.map((it) => this.languages[it].title));
-        const language = this.languageOf(this.state);
-        const own = this.languages.indexOf(language);
-        const chosen = tokens.filter((it) => it.language === own);
-        const ofTokens = (chosen.length ? chosen : tokens).map((it) => it.language);
+    /* Returns what else can be done for a text, each with words and, at most, the label of a button and what it does. */
+    adviceOf({ text, place }, offers) {
+        const language = this.page.languageOf(this.state);
+        const isOwn = ({ name }) => name === language?.name;
+        const [{ readers, tokens }] = this.withReaders([{ text }]);
+        const chosen = tokens.filter(isOwn);
         const suffix = tokens[0]?.suffix;
-        const words = `\`token\` reads the suffix \`${suffix}\` behind a number in ${titles(ofTokens)}, and no format does.`;
-        const all = [...(tokens.length ? [{ words, text: text.slice(0, -suffix.length) }] : adviceFor(text))];
-        const isUnsigned = (form) => this.library.value(form, "no_negative_mantissa_sign");
-        const isOperator = text.startsWith("-") && language?.forms.every(isUnsigned);
+        const words = `\`${suffix}\` is a suffix in ${titlesOf(chosen.length ? chosen : tokens)}: ${TOKEN}.`;
+        const limits = () => (this.page.open("words"), (find("limits").open = true), find("limits").firstElementChild.focus());
+        const numbers = this.state.numbers.split("\n");
+        const replace = (other) => this.page.change({ numbers: numbers.with(place, other).join("\n") });
+        const all = (suffix ? [{ words, text: text.slice(0, -suffix.length) }] : adviceFor(text)).map((it) => {
+            if (it.row !== undefined) return { ...it, kind: "link", label: "What a format cannot express", act: limits };
+            return it.text === undefined ? it : { ...it, label: `try ${it.text}`, act: () => replace(it.text) };
+        });
+        const isOperator = language && this.hasOperator(text, language);
         if (isOperator) all.push({ words: `In ${language.title}, \`-\` is an operator, so that numbers have no sign.` });
-        const [{ readers }] = this.withReaders([answer]);
-        const others = offers.length ? [] : readers.map(({ language }) => language).filter((it) => it !== own);
-        if (others.length) all.push({ words: `${titles(others)} read${others.length > 1 ? "" : "s"} it.`, language: others[0] });
-        return all;
+        const others = offers.length ? [] : readers.filter((it) => !isOwn(it));
+        const reads = `${titlesOf(others)} read${others.length > 1 ? "" : "s"} it.`;
+        return [...all, ...others.slice(0, 1).map(({ name, title }) => {
+            return { words: reads, label: `start from ${title}`, act: () => this.page.start(name, 0) };
+        })];
+    }
+
+    /* Returns whether a text begins with a minus that is an operator in a language, whose numbers have no sign. */
+    hasOperator(text, { forms }) {
+        return text.startsWith("-") && forms.every((form) => this.library.value(form, "no_negative_mantissa_sign"));
     }
 
     /* Shows a row for each number, the old one if it is the same. Those opened last or not as expected have details. */
     showRows(message) {
-        const focused = document.activeElement.id;
         const ranks = this.answers.map((it) => [this.opened.indexOf(it.text) < 0 ? (it.isExpected ? 2 : 1) : 0, it]);
         const open = new Set(ranks.toSorted(([a], [b]) => a - b).slice(0, MOST_OPEN).map(([, it]) => it));
         const old = this.rows;
@@ -147,43 +146,38 @@ class Trial {
         const last = message ? [element("li", { class: "unexpected" }, element("p", { class: "bad" }, message))] : [];
         keep(find("read"), [...nodes, ...last]);
         oneStop(find("read"));
-        if (focused.startsWith("refuse-")) find(focused)?.focus();
     }
 
     /* Returns the row of a number without details, in one line. */
     line(answer) {
         const open = () => {
             this.opened = [answer.text, ...this.opened.filter((it) => it !== answer.text)].slice(0, MOST_OPEN);
-            this.change({});
-            find(`refuse-${answer.place}`).focus();
+            this.page.change({});
+            find(`row-${answer.place}`).focus();
         };
         const told = element("span", { class: answer.isExpected ? "good" : "bad" }, visible(this.told(answer)));
         const text = element("span", { class: "written" }, answer.text.slice(0, MOST_CHARACTERS));
-        const row = button("row rover", "", open);
-        row.append(text, " ", told);
-        return element("li", { class: answer.isExpected ? "" : "unexpected" }, row);
+        return element("li", { class: answer.isExpected ? "" : "unexpected" }, button("row rover", [text, " ", told], open));
     }
 
     /* Returns the row of a number with its details. */
     row(answer) {
         const { text, place, isRefused, isExpected, mask = 0n, form, offers, advice } = answer;
-        const change = () => (this.replace(place, lineOf({ text, isRefused: !isRefused })), find(`refuse-${place}`)?.focus());
-        const attributes = { change, id: `refuse-${place}`, "aria-label": `${text} must be refused` };
-        const box = element("input", { type: "checkbox", ...attributes });
-        box.checked = isRefused;
         const told = element("p", { class: isExpected ? "good" : "bad" }, visible(this.told(answer)));
         const fields = this.library.namesOf(mask);
         if (this.forms.length > 1 && answer.error) {
-            const go = () => (this.change({ at: form }), this.open("edit"), find(fields[0] ?? "digit_separator")?.focus());
+            const go = () => (this.page.change({ at: form }), this.page.open("edit"), find(fields[0] ?? "digit_separator")?.focus());
             told.append(" ", button("link", this.forms[form].name, go, { title: "shows the settings of this form" }));
         }
         const line = element("div", {}, element("span", { class: "written" }, this.pieces(answer)), told);
-        const refuse = element("label", { class: "refuse", title: "must be refused" }, box, "refuse");
         const nothing = isRefused ? "No flag alone refuses it." : "No change of a few fields was found that accepts it.";
         const none = isExpected || answer.refused || offers.length || advice.length ? [] : [element("li", {}, nothing)];
-        const all = [...offers.map((it) => this.offer(it)), ...advice.map((it) => this.advice(place, it)), ...none];
-        const row = { class: isExpected ? "" : "unexpected", "data-field": fields.join(" ") };
-        return element("li", row, line, refuse, this.legend(answer), element("ul", {}, all));
+        const advised = ({ words, kind = "use", label, act }) => {
+            return element("li", {}, element("span", {}, withCode(words)), label ? [button(kind, label, act)] : []);
+        };
+        const all = [...offers.map((it) => this.offer(it)), ...advice.map(advised), ...none];
+        const row = { id: `row-${place}`, tabindex: "-1", "aria-label": text, class: isExpected ? "" : "unexpected" };
+        return element("li", row, line, this.legend(answer), element("ul", {}, all));
     }
 
     /* Returns the parts of a number in words, if it has several. */
@@ -192,19 +186,23 @@ class Trial {
         const all = [...parts, ...(parts.some(({ runs }) => runs.length > 1) ? [separator] : [])];
         if (all.length < 2) return "";
         return element("div", { class: "legend" }, all.map(({ kind, text }) => {
-            return element("span", {}, element("span", { class: PARTS[kind][0] }, text), ` ${kind.replace("_", " ")}`);
+            return element("span", {}, element("span", { class: kind }, text), ` ${kind.replace("_", " ")}`);
         }));
     }
 
     /* Shows what the numbers are: a clause for each form with the languages that read these, and what is not as expected. */
-    showSummary(isBad, unexpected) {
+    showSummary(unexpected) {
         const isRead = (it) => !it.isRefused && !it.error && it.text.length <= MOST_CHARACTERS;
         const read = this.withReaders(this.answers.filter(isRead));
         const groups = Map.groupBy(read, (it) => (it.is === "special value" ? this.forms.length : it.form));
         const isOther = ({ name }) => Number(name !== this.state.language);
         const sentences = [...groups].sort(([a], [b]) => a - b).map(([form, answers]) => {
-            const titles = this.readersOf(answers).sort((a, b) => isOther(a) - isOther(b)).map(({ title }) => title);
-            const end = `${named(titles) || "no language"} read${titles.length > 1 ? "" : "s"} ${answers.length > 1 ? "them" : "it"}`;
+            const readers = this.readersOf(answers).sort((a, b) => isOther(a) - isOther(b));
+            const same = readers.filter((it) => this.hasValues(it, answers));
+            const others = readers.filter((it) => !same.includes(it));
+            const [what, other] = answers.length > 1 ? ["them", "other values"] : ["it", "another value"];
+            const does = (all, verb) => `${titlesOf(all) || "no language"} ${verb}${all.length > 1 ? "" : "s"} ${what}`;
+            const end = does(same, "read") + (others.length ? `; ${does(others, "give")} ${other}` : "");
             const special = answers.length > 1 ? "special values" : "a special value";
             const words = this.forms[form] ? numberWords(this.library, this.forms[form], answers) : special;
             return `${answers.length > 1 ? words[0].toUpperCase() + words.slice(1) : `${inCode(answers[0])} is ${words}`}: ${end}.`;
@@ -213,8 +211,9 @@ class Trial {
         for (const [way, [first, ...more]] of ways) {
             sentences.push(`${inCode(first)}${more.length ? ` and ${more.length} more are` : " is"} not as expected${way}`);
         }
-        if (isBad) sentences.push("Nothing is read, since the format is not valid.");
-        if (!this.answers.length && !isBad) sentences.push(WELCOME);
+        const bad = this.forms.find(({ problems }) => problems.length);
+        const none = bad && this.lines.length ? `Nothing is read: ${bad.problems[0].text}.` : WELCOME;
+        if (!this.answers.length) sentences.push(none);
         find("summary").replaceChildren(...sentences.map((it) => element("p", { class: it.endsWith(BUTTON) ? "screen" : "" }, withCode(it))));
     }
 
@@ -222,49 +221,61 @@ class Trial {
     way(answer) {
         const { offers, advice } = this.withOffers(answer);
         const told = answer.refused && !answer.isRefused ? `${answer.refused}.` : advice[0]?.words;
-        return told ? `: ${told}` : offers.length ? BUTTON : ".";
+        return told ? `: ${told}` : offers.some(({ isBetter }) => isBetter) ? BUTTON : ".";
     }
 
-    /* Returns answers, each with the languages that read its text. */
+    /* Returns answers, each with the readings of its text by the languages that read it, as a token, and not at all. */
     withReaders(answers) {
         const found = this.library.call("readers", answers.map(lineOf).join("\n"));
-        return answers.map((it, index) => ({ ...it, readers: found[index] }));
+        return answers.map((it, index) => {
+            const all = found[index].map((it, language) => ({ ...this.languages[language], ...it, language }));
+            const [readers, refused] = [all.filter(({ error }) => !error), all.filter(({ error }) => error)];
+            const [tokens, others] = [refused.filter(({ suffix }) => suffix), refused.filter(({ suffix }) => !suffix)];
+            return { ...it, readers, tokens, others };
+        });
     }
 
     /* Returns the languages by which all answers with readers are as expected. */
     readersOf(answers) {
-        return this.languages.filter((_, index) => answers.every(({ isRefused, readers }) => {
-            const reader = readers.find(({ language }) => language === index);
-            return isRefused ? !reader : reader && !reader.refused;
+        return this.languages.filter(({ name }) => answers.every(({ isRefused, readers }) => {
+            return isRefused !== readers.some((it) => it.name === name && !it.refused);
         }));
     }
 
-    /* Shows the languages that read each number, those first that read all, by value and form. */
+    /* Returns whether a language that reads the texts of answers gives them the same values. */
+    hasValues({ name }, answers) {
+        const valueIn = ({ readers }) => valueText(readers.find((it) => it.name === name));
+        return answers.every((it) => isSameValue(valueIn(it), valueText(it)));
+    }
+
+    /* Shows the languages that read each number, those first that read all, by value and form; and the others, by reason. */
     showReaders() {
         const { languages } = this;
         const answers = this.answers.filter(({ text }) => text.length <= MOST_CHARACTERS).slice(0, MOST_READ);
         const all = this.withReaders(answers);
-        const unsigned = this.withReaders(answers.map((it) => ({ ...it, text: it.text.replace(/^-(?=.)/, "") })));
-        const reader = ({ language, form }) => {
-            const { name, title } = languages[language];
-            return button("link rover", title, () => this.start(name, form), { title: `starts from ${title}` });
+        const reader = ({ name, title, form }) => {
+            return button("link rover", title, () => this.page.start(name, form), { title: `starts from ${title}` });
         };
-        const line = (title, all) => element("p", {}, element("span", { class: "meaning" }, title), all.map(reader));
-        const common = all.length < 2 ? [] : this.readersOf(all).map((it) => ({ language: languages.indexOf(it) }));
+        const line = (title, all) => element("p", {}, element("span", { class: "meaning" }, visible(title)), all.map(reader));
+        const grouped = (all, title) => [...Map.groupBy(all, title)].map(([title, group]) => line(title, group));
+        const common = all.length < 2 ? [] : this.readersOf(all);
         const first = common.length ? [line(`All ${all.length}, as expected:`, common)] : [];
-        const nodes = all.flatMap(({ text, readers }, index) => {
-            const name = (it) => languages[it.language].forms[it.form]?.name ?? "special value";
+        const nodes = all.flatMap(({ text, readers, tokens, others }) => {
+            const name = ({ forms, form }) => forms[form]?.name ?? "special value";
             const title = (it) => `${it.refused ? "refused, " : ""}${valueText(it)}, ${name(it)}:`;
-            const good = readers.filter(({ refused }) => !refused);
-            const groups = Map.groupBy([...good, ...readers.filter(({ refused }) => refused)], title);
-            const count = `Read by ${good.length || "none"} of ${languages.length} languages`;
+            const [good, refused] = [false, true].map((isRefused) => readers.filter((it) => Boolean(it.refused) === isRefused));
+            const count = `Read by formats of ${good.length || "none"} of ${languages.length} languages`;
             const head = element("h3", {}, element("code", {}, visible(text)), ` ${count}`);
-            const others = unsigned[index].readers.filter((it) => !it.refused && !readers.some(({ language }) => language === it.language));
-            const told = others.length ? [element("p", { class: "meaning" }, `In ${others.length} others, - is an operator before the number.`)] : [];
-            return [head, ...told, ...[...groups].map(([title, group]) => line(title, group))];
+            const unsigned = others.filter((it) => this.hasOperator(text, it));
+            const words = `In ${titlesOf(unsigned)}, - is an operator before the number.`;
+            const told = unsigned.length ? [element("p", { class: "meaning" }, words)] : [];
+            const reasons = element("details", all[1] ? {} : { open: "" }, element("summary", {}, `Refused by ${others.length}`),
+                grouped(others, ({ error }) => `${error}:`));
+            const ofTokens = grouped(tokens, ({ suffix }) => `with the suffix ${suffix}, as a token:`);
+            return [head, ...told, ...grouped([...good, ...refused], title), ...ofTokens, ...(others.length ? [reasons] : [])];
         });
-        const others = all.length ? [] : languages.map((_, language) => reader({ language }));
-        refill(find("readers"), [...first, ...nodes, ...others], find("tab-languages"));
+        const rest = all.length ? [] : languages.map(reader);
+        refill(find("readers"), [...first, ...nodes, ...rest], find("tab-languages"));
         find("no-numbers").hidden = Boolean(all.length);
         oneStop(find("readers"));
     }
@@ -275,6 +286,7 @@ class Trial {
         const where = start < text.length ? `at index ${start}` : "at the end";
         const name = this.forms.length > 1 ? `, ${this.forms[form]?.name ?? "the new form"}` : "";
         const value = unknown ? `: ${unknown}` : refused ? `, but its value is refused: ${refused}` : ` = ${valueText(answer)}`;
+        if (refused && isRefused) return `refused: its value is ${refused}${name}`;
         if (error) return `${isRefused ? "refused: " : ""}${where}: ${error}`;
         return `accepted${isRefused ? " as" : ":"} ${is}${value}${name}${isRefused ? ", but it must be refused" : ""}`;
     }
@@ -282,14 +294,12 @@ class Trial {
     /* Returns the text with its parts, in which what is wrong is marked, or a place if nothing is. */
     pieces({ text, parts, start, end }) {
         let next = 0;
-        const runs = parts.flatMap(({ kind, runs }) => runs.map((run, index) => [index % 2 ? "digit_separator" : kind, run.length]));
-        const all = [...runs, ["", text.length]].map(([kind, length]) => ({ kind, first: next, last: next += length }));
-        const isIn = (from, to) => ({ first, last }) => Math.max(first, from) < Math.min(last, to);
-        const cut = (from, to) => all.filter(isIn(from, to)).map(({ kind, first, last }) => {
+        const all = [...parts, { runs: [text] }].flatMap(({ kind, runs }) => runs.map((run, index) => {
+            return { kind: index % 2 ? "digit_separator" : kind, first: next, last: next += run.length };
+        }));
+        const cut = (from, to) => all.flatMap(({ kind, first, last }) => {
             const piece = text.slice(Math.max(first, from), Math.min(last, to));
-            if (!kind) return piece;
-            const [colour, fields] = PARTS[kind];
-            return element("span", { class: colour, title: kind.replace("_", " "), "data-field": fields }, piece);
+            return piece && kind ? [element("span", { class: kind, title: kind.replace("_", " ") }, piece)] : piece;
         });
         if (start === undefined) return cut(0, text.length);
         const marked = element("mark", {}, start < end ? cut(start, end) : "\u00a0");
@@ -298,23 +308,9 @@ class Trial {
 
     /* Returns a form that is offered, as buttons in words, with what the number is then and the settings. */
     offer({ label, ways, then, changes }) {
-        const take = (part) => () => (this.enter(part), (find("read").querySelector(".use") ?? find("literal")).focus());
-        const attributes = { "data-field": changes.map((it) => it.name).join(" "), title: changes.map((it) => it.meaning).join("; ") };
+        const take = (part) => () => (this.page.enter(part), (find("read").querySelector(".use") ?? find("literal")).focus());
+        const attributes = { title: changes.map((it) => it.meaning).join("; ") };
         const buttons = ways.map(([words, part], index) => button("use", withCode(words), take(part), index ? {} : attributes));
         return element("li", {}, buttons, element("span", { class: "then" }, withCode(visible(then))), element("span", { class: "name" }, label));
-    }
-
-    /* Returns what must be replaced in a number, with a button that does, or one to a language or to what no format can. */
-    advice(place, { words, text, language, row }) {
-        const limits = () => (this.open("words"), (find("limits").open = true), find("limits").firstElementChild.focus());
-        const made = row !== undefined ? [button("link", "What a format cannot express", limits)]
-            : text !== undefined ? [button("use", `try ${text}`, () => this.replace(place, text))]
-            : language !== undefined ? [button("use", `start from ${this.languages[language].title}`, () => this.start(this.languages[language].name, 0))] : [];
-        return element("li", {}, element("span", {}, withCode(words)), made);
-    }
-
-    /* Replaces the text of a line. */
-    replace(place, text) {
-        this.change({ numbers: this.state.numbers.split("\n").with(place, text).join("\n") });
     }
 }

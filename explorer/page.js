@@ -1,15 +1,18 @@
 /* The state of the page: the forms of numbers, which of them is shown, the numbers, and the language from which the forms
  * are. The fragment of the URL has it too, with the format to compare with and the tab. */
 
-/* The tabs of the pane, and those of its code, by whose names a tab is known. */
+/* The tabs of the pane; and of a pane with tabs of its own, their group, the text that they show, and the tabs. */
 const PANES = { languages: "Languages", code: "Code", compare: "Compare", edit: "Settings", words: "In words" };
-const CODES = { rust: "Rust", c: "C", python: "Python", settings: "As text" };
-/* The milliseconds before the fragment is written, its parts, and the example. */
-const PAUSE = 400;
-const LINK = ["word", "exponent", "point", "conditions", "forms", "language", "numbers", "compare", "tab"];
+const INNER = {
+    code: { group: "tabs", text: "code", tabs: { rust: "Rust", c: "C", python: "Python", settings: "As text" } },
+    words: { group: "notations", text: "notation", tabs: { sentence: "Sentence", grammar: "Grammar", regex: "Regular expression" } },
+};
+/* The milliseconds between two fragments that are written, the parts of a fragment, and the example. */
+const PAUSE = 150;
+const LINK = ["language", "forms", "at", "numbers", "compare", "tab"];
 const EXAMPLE = "1_000.5\n0x1F\n-2e-3\n!1__0";
 /* A link that is pasted, what is told of one from a file, which others cannot open, and how many characters of numbers it has. */
-const PASTED = /^\s*[^\s#]*#((?:word|exponent|point|language|forms|numbers)=\S*)\s*$/;
+const PASTED = /^\s*[^\s#]*#((?:language|forms|compare|tab|numbers)=\S*)\s*$/;
 const OF_FILE = "Copied: pasted into the numbers of any copy of this page, it opens there.";
 const MOST_LINKED = 4000;
 /* The names of forms without one, by their radix. */
@@ -19,68 +22,55 @@ const [MOST_STEPS, MOST_KEPT] = [100, 2000];
 
 class Page {
     constructor(library, data) {
-        Object.assign(this, { library, data: { ...data, languages: library.languages }, past: [], future: [], language: "rust" });
-        const bound = (...names) => Object.fromEntries(names.map((name) => [name, this[name].bind(this)]));
-        this.controls = new Controls(library, bound("edit"));
-        this.report = new Report(library, bound("use", "edit", "open"));
-        this.trial = new Trial(library, bound("change", "enter", "start", "open", "languageOf"));
+        Object.assign(this, { library, data: { ...data, languages: library.languages }, past: [], future: [], chosen: {}, saved: 0 });
+        this.controls = new Controls(library, this);
+        this.trial = new Trial(library, this);
         this.code = new Code(library);
         setText(find("version"), data.version);
         const own = element("option", { value: "own", hidden: "" }, "your own format");
-        find("language").append(own, ...choices([["", "the standard format"]], library.languages, false));
+        find("language").append(own, ...choices([["", "the standard format"]], library.languages));
+        find("compare").append(...choices([["", "nothing"], STANDARD], library.languages));
+        find("add").append(...choices([["", "Add a form"], ["copy", "a copy of this one"], STANDARD], library.languages));
         this.makeTabs();
         this.listen();
         this.read();
     }
 
     listen() {
-        for (const [id, click] of Object.entries(this.clicks())) find(id).addEventListener("click", click);
-        for (const it of document.querySelectorAll("[data-copies]")) {
-            const beside = find(it.dataset.copies);
-            it.addEventListener("click", () => copy(it, beside.value ?? beside.textContent, beside));
-        }
-        for (const it of document.querySelectorAll("[data-go]")) it.addEventListener("click", () => this.go(it.dataset.go));
-        find("literal").addEventListener("input", ({ target }) => this.type(target.value));
-        find("language").addEventListener("change", ({ target }) => this.start(target.value));
-        find("form-name").addEventListener("input", ({ target }) => this.put({ name: target.value }, "form-name"));
-        find("add").addEventListener("change", ({ target }) => {
-            const added = target.value === "copy" ? [{ ...this.form, name: "" }] : this.report.listOf(target.value).forms;
-            this.jump({ forms: [...this.state.forms, ...added], at: this.state.forms.length });
-            this.open("edit");
-            target.value = "";
-        });
-        /* The word is taken when it is whole or pasted. */
-        const word = find("word");
-        word.addEventListener("change", () => this.take(word.value));
-        word.addEventListener("paste", (event) => {
-            const text = event.clipboardData.getData("text");
-            if (!text.includes("\n")) return setTimeout(() => this.take(word.value));
-            event.preventDefault();
-            this.take(text);
-        });
-        word.addEventListener("keydown", ({ key }) => key === "Escape" && this.showWord());
-        document.addEventListener("focusin", ({ target }) => (this.key = target.id === this.key ? this.key : ""));
-        document.addEventListener("keydown", (event) => (rove(event), this.undo(event)));
-        addEventListener("hashchange", () => location.hash === this.fragment() || this.read());
-        addEventListener("pagehide", () => this.save());
-        addEventListener("beforeprint", () => this.showCode());
-    }
-
-    /* Returns what clicks of buttons do, by their ids. */
-    clicks() {
         const type = (numbers) => (this.change({ numbers }), find("literal").focus());
-        return {
+        const clicks = {
             undo: () => this.travel(this.past, this.future),
             redo: () => this.travel(this.future, this.past),
             clear: () => type(""),
             example: () => type(EXAMPLE),
-            count: () => find("literal").focus(),
             verdict: () => this.goToProblem(),
+            remove: () => this.remove(),
             "copy-link": () => this.copyLink(),
-            earlier: () => this.move("earlier", this.state.at - 1),
-            later: () => this.move("later", this.state.at + 1),
-            remove: () => this.move("remove"),
         };
+        for (const [id, click] of Object.entries(clicks)) find(id).addEventListener("click", click);
+        for (const it of document.querySelectorAll("[data-copies]")) {
+            const beside = find(it.dataset.copies);
+            it.addEventListener("click", () => copy(it, beside.value ?? beside.textContent, beside));
+        }
+        find("literal").addEventListener("input", ({ target }) => this.type(target.value));
+        find("language").addEventListener("change", ({ target }) => this.start(target.value));
+        find("compare").addEventListener("change", () => this.open("compare"));
+        find("add").addEventListener("change", ({ target }) => {
+            const added = target.value === "copy" ? [{ ...this.form, name: "" }] : this.library.listOf(target.value).forms;
+            this.change({ forms: [...this.state.forms, ...added], at: this.state.forms.length });
+            this.open("edit");
+            target.value = "";
+        });
+        /* The word is taken when it is whole, and a text of several lines when it is pasted. */
+        find("word").addEventListener("change", ({ target }) => this.take(target.value));
+        find("word").addEventListener("paste", (event) => {
+            event.preventDefault();
+            this.take(find("word").value = event.clipboardData.getData("text"));
+        });
+        document.addEventListener("focusin", ({ target }) => (this.key = target.id === this.key ? this.key : ""));
+        document.addEventListener("keydown", (event) => (rove(event), this.undo(event)));
+        addEventListener("hashchange", () => location.hash === this.fragment() || this.read());
+        addEventListener("beforeprint", () => this.showText("code"));
     }
 
     async copyLink() {
@@ -89,25 +79,23 @@ class Page {
         const link = isFile ? location.hash : location.href;
         const isCut = this.linked() !== this.state.numbers;
         const cut = isCut ? `The link has the first ${this.linked().split("\n").length} lines alone. ` : "";
-        setText(find("told"), (await copy(find("copy-link"), link)) ? cut + (isFile ? OF_FILE : "") : link);
-        if (find("told").textContent === link) getSelection().selectAllChildren(find("told"));
+        setText(find("told"), link);
+        if (await copy(find("copy-link"), link, find("told"))) setText(find("told"), cut + (isFile ? OF_FILE : ""));
     }
 
     /* Shows why the shown form, or else the first with a problem, is not valid. */
     goToProblem() {
-        const bad = this.list.forms.findIndex(({ problems }) => problems.length);
-        if (bad >= 0 && !this.shown.problems.length) this.jump({ at: bad });
+        const isBad = ({ problems }) => problems.length;
+        if (!isBad(this.shown)) this.change({ at: this.list.forms.findIndex(isBad) });
         this.open("edit");
         find("report-title").focus();
     }
 
-    /* Moves the shown form to a place, or removes it, by a button, which keeps the focus if it can. */
-    move(id, place) {
+    /* Removes the shown form by its button, which keeps the focus if it can. */
+    remove() {
         const { forms, at } = this.state;
-        const others = forms.toSpliced(at, 1);
-        const to = place ?? Math.max(at - 1, 0);
-        this.jump({ forms: place === undefined ? others : others.toSpliced(to, 0, forms[at]), at: to });
-        [find(id), find("forms").children[to], find("add")].find((it) => it.checkVisibility() && !it.disabled).focus();
+        this.change({ forms: forms.toSpliced(at, 1), at: Math.max(at - 1, 0) });
+        [find("remove"), find("add")].find((it) => it.checkVisibility()).focus();
     }
 
     /* Takes typed numbers, or a link in their place. */
@@ -116,20 +104,6 @@ class Page {
         if (!link) return this.change({ numbers }, "literal");
         history.pushState(null, "", `#${link}`);
         this.read();
-    }
-
-    /* Shows a control in its tab, and gives it the focus. */
-    go(id) {
-        const pane = find(id)?.closest("[role=tabpanel][id^=pane]");
-        if (pane?.hidden) this.open(pane.id === "pane-code" ? this.language : pane.id.slice(5));
-        find(id)?.focus();
-    }
-
-    /* Takes a form that ends a reason. */
-    use(form) {
-        this.put(form);
-        this.showAnew();
-        (find("reasons").querySelector(".use") ?? find("tab-edit")).focus();
     }
 
     /* Takes Ctrl+Z, Ctrl+Y and Ctrl+Shift+Z, except in the field for numbers, which has steps of its own. */
@@ -142,7 +116,6 @@ class Page {
 
     /* Goes to the last state of one list, and puts the present one at the end of the other. */
     travel(from, to) {
-        if (!from.length) return;
         to.push(this.state);
         [this.state, this.key] = [from.pop(), ""];
         setText(find("told"), "");
@@ -150,32 +123,32 @@ class Page {
     }
 
     makeTabs() {
-        for (const [id, tabs] of [["panes", PANES], ["tabs", CODES]]) {
-            const open = (name) => this.open(name === "code" ? this.language : name);
-            const controls = (name) => (tabs === CODES ? "code" : `pane-${name}`);
+        const groups = [["panes", PANES, (name) => `pane-${name}`], ...Object.values(INNER).map(({ group, tabs, text }) => [group, tabs, () => text])];
+        for (const [id, tabs, controls] of groups) {
             const attributes = (name) => ({ id: `tab-${name}`, role: "tab", "aria-controls": controls(name) });
-            find(id).append(...Object.keys(tabs).map((name) => button("", tabs[name], () => open(name), attributes(name))));
+            find(id).append(...Object.keys(tabs).map((name) => button("", tabs[name], () => this.open(name), attributes(name))));
         }
+        for (const { tabs } of Object.values(INNER)) this.chooseTab(Object.keys(tabs)[0]);
     }
 
     /* Shows a tab, and on a narrow screen brings it into view. */
     open(tab) {
         this.chooseTab(tab);
-        const [bar, panes] = [document.querySelector(".bar"), find("panes")];
-        const above = bar.offsetHeight + panes.offsetHeight;
-        if (getComputedStyle(panes).position === "sticky") scrollBy(0, find("pane").getBoundingClientRect().top - above);
+        find("pane").scrollIntoView();
     }
 
-    chooseTab(tab) {
-        this.tab = tab;
-        if (tab in CODES) this.language = tab;
-        const pane = tab in CODES ? "code" : tab;
-        for (const name of Object.keys(PANES)) find(`pane-${name}`).hidden = name !== pane;
-        for (const [id, name] of [["panes", pane], ["tabs", this.language]]) {
-            oneStop(find(id), find(`tab-${name}`));
-            for (const it of find(id).children) it.setAttribute("aria-selected", String(it.id === `tab-${name}`));
+    /* Shows a tab, or of a pane with tabs of its own the one that was shown last. */
+    chooseTab(name) {
+        this.tab = this.chosen[name] ?? name;
+        this.pane = Object.keys(INNER).find((pane) => this.tab in INNER[pane].tabs) ?? this.tab;
+        const inner = INNER[this.pane];
+        if (inner) this.chosen[this.pane] = this.tab;
+        for (const it of Object.keys(PANES)) find(`pane-${it}`).hidden = it !== this.pane;
+        for (const [id, tab] of [["panes", this.pane], ...(inner ? [[inner.group, this.tab]] : [])]) {
+            oneStop(find(id), find(`tab-${tab}`));
+            for (const it of find(id).children) it.setAttribute("aria-selected", String(it.id === `tab-${tab}`));
         }
-        find("code").setAttribute("aria-labelledby", `tab-${this.language}`);
+        if (inner) find(inner.text).setAttribute("aria-labelledby", `tab-${this.tab}`);
         find("pane").scrollTop = 0;
         if (this.shown) this.draw();
     }
@@ -183,11 +156,11 @@ class Page {
     /* Starts from a form of a language, or from the first with its own numbers in place of those of others or the example. */
     start(name, form) {
         const { languages } = this.data;
-        const { forms, numbers, at = 0 } = languages.find((it) => it.name === name) ?? { forms: [this.library.usual], numbers: "" };
+        const { forms, numbers } = this.library.listOf(name);
         const isOwn = this.state.numbers && ![EXAMPLE, ...languages.map((it) => it.numbers)].includes(this.state.numbers);
         const kept = isOwn || form !== undefined ? this.state.numbers : numbers;
-        this.enter({ forms, at: form ?? at, language: name, numbers: kept });
-        this.open(this.language);
+        this.enter({ forms, at: form ?? 0, language: name, numbers: kept });
+        this.open("code");
     }
 
     /* Returns the language from which the forms of a state are, by default if they are as they were. */
@@ -210,13 +183,10 @@ class Page {
         find("forms").hidden = find("tools").hidden = forms.length === 1;
         refill(find("forms"), this.list.forms.map(({ name, problems }, index) => {
             const attributes = { "aria-pressed": String(index === at) };
-            return button(problems.length ? "form bad" : "form", name, () => this.jump({ at: index }), attributes);
+            return button(problems.length ? "form bad" : "form", name, () => this.change({ at: index }), attributes);
         }));
-        Object.assign(find("form-name"), { value: forms[at].name, placeholder: this.list.forms[at].name });
-        [find("earlier").disabled, find("later").disabled] = [at === 0, at === forms.length - 1];
     }
 
-    /* Shows the language, and what it documents. */
     showLanguage() {
         const [language, origin] = [false, true].map((isOrigin) => this.languageOf(this.state, isOrigin));
         const isUsual = isSame(this.state.forms, [this.library.usual]);
@@ -225,36 +195,39 @@ class Page {
         find("about").replaceChildren(...withCode(language?.about ?? changed));
     }
 
-    /* Takes a text as the word, or shows why it is not one. */
+    /* Takes a text as the word, or as the settings of one or more forms, or shows why it is none of these. */
     take(text) {
-        const { word, options, notes = [], error } = this.library.read(text);
-        if (!error) (this.put({ word, ...options }), this.showAnew());
+        const parts = text.replace(/\r\n?/g, "\n").trim().split(/\n\s*\n/);
+        const read = parts.map((it) => this.library.read(it, this.form));
+        const error = read.find((it) => it.error)?.error;
+        const { forms, at } = this.state;
+        const nameOf = (part) => (parts[1] ? /^# 0x\w+ (.*)/.exec(part)?.[1] ?? "" : this.form.name);
+        const taken = read.map(({ form }, index) => ({ ...form, name: nameOf(parts[index]) }));
+        if (!error) this.change({ forms: forms.toSpliced(at, 1, ...taken) });
         const whole = "A word is `0x` and up to 32 hexadecimal digits, a decimal number, or settings such as `radix=16`.";
-        tell(find("word"), error ? `${error} ${whole}` : notes.join(". "), Boolean(error));
+        tell(find("word"), error ? `${error} ${whole}` : read.flatMap((it) => it.notes ?? []).join(". "), Boolean(error));
         this.wordTold = this.form.word;
     }
 
-    /* Changes a field or an option. Numbers are integers alone without both options, or floats with both. */
+    /* Changes a field or an option of the shown form, or of all. */
     edit(name, value, key) {
-        if (!OPTIONS.some((it) => it.name === name)) return this.put(this.library.with(this.form, name, value), key);
-        const other = name === "point" ? "exponent" : "point";
-        const isAlone = (value === 0) !== (this.form[other] === 0);
-        const before = this.past.at(-1)?.forms[this.state.at]?.[other] || STANDARD_OPTIONS[other];
-        this.put({ [name]: value, [other]: isAlone ? value && before : this.form[other] }, key);
+        const isChanged = (at) => at === this.state.at || find("all").checked;
+        this.change({ forms: this.state.forms.map((form, at) => (isChanged(at) ? this.edited(form, at, name, value) : form)) }, key);
     }
 
-    /* The form that is shown. */
+    /* Returns a form with another value of a field or an option. Numbers are integers alone without both options, or floats with both. */
+    edited(form, at, name, value) {
+        const changed = this.library.with(form, name, value);
+        const other = { point: "exponent", exponent: "point" }[name];
+        const before = this.past.at(-1)?.forms[at]?.[other] || STANDARD_OPTIONS[other];
+        return other && (value === 0) !== (form[other] === 0) ? { ...changed, [other]: value && before } : changed;
+    }
+
     get form() {
         return this.state.forms[this.state.at];
     }
 
-    /* Changes parts of the shown form. */
-    put(part, key) {
-        const { forms, at } = this.state;
-        this.change({ forms: forms.with(at, { ...forms[at], ...part }) }, key);
-    }
-
-    /* Changes the state. What is typed into one control is undone at once. */
+    /* Changes the state. What is typed into one control, the key, is undone at once, and keeps refused texts. */
     change(part, key = "") {
         const state = { ...this.state, ...part };
         if (isSame(state.forms, this.state.forms)) state.forms = this.state.forms;
@@ -264,19 +237,14 @@ class Page {
             if (!key || key !== this.key) this.past.push(this.state);
             [this.future, this.key, this.state] = [[], key, state];
         }
-        this.show();
+        if (key) this.show();
+        else this.showAnew();
     }
 
-    /* Changes the state, and shows it in place of refused texts. */
-    jump(part) {
-        this.change(part);
-        this.showAnew();
-    }
-
-    /* Changes the state, from which the browser goes back to the present one. */
+    /* Changes the state, from which the browser goes back to the present one. Redo leads to it from there, too. */
     enter(part) {
-        this.save();
-        this.jump(part);
+        this.save([{ ...this.state, ...part }]);
+        this.change(part);
         if (location.hash !== this.fragment()) history.pushState(null, "", this.fragment());
         this.save();
     }
@@ -289,14 +257,12 @@ class Page {
     }
 
     fragment() {
-        const { form, state: { forms: list, at, language } } = this;
-        const conditions = this.library.conditionsText(form);
-        const isOwn = !this.languageOf(this.state) && (list.length > 1 || language || form.name);
-        const lines = list.map((it, index) => (index === at ? `:${it.name}` : this.library.formText(it)));
-        const forms = isOwn ? lines.join("\n") : "";
-        const others = Object.entries({ conditions, forms, language, numbers: this.linked(), compare: find("compare").value, tab: this.tab });
-        const all = others.map(([name, text]) => text && `&${name}=${encodeURIComponent(text)}`).join("");
-        return `#word=${wordText(form.word)}&exponent=${form.exponent}&point=${form.point}${all}`;
+        const { forms, at, language } = this.state;
+        const isKnown = this.languageOf(this.state) || (!language && isSame(forms, [this.library.usual]));
+        const own = isKnown ? "" : forms.map((form) => this.library.formText(form)).join("\n");
+        const parts = { language, forms: own, at: at || "", compare: find("compare").value, tab: this.tab };
+        const kept = Object.entries(parts).filter(([, text]) => text);
+        return `#${new URLSearchParams([...kept, ["numbers", this.linked()]])}`;
     }
 
     /* Returns the numbers that a link has: all, or the first lines of many. */
@@ -305,58 +271,42 @@ class Page {
         return numbers.length <= MOST_LINKED ? numbers : numbers.slice(0, numbers.lastIndexOf("\n", MOST_LINKED) + 1).trimEnd();
     }
 
-    /* Writes the fragment, at once or after a pause, with the steps that can be undone and done again. */
-    save() {
+    /* Writes the fragment, with the steps that can be undone and done again. */
+    save(future = this.future) {
         clearTimeout(this.timer);
-        const kept = [this.past, this.future].map((all) => all.slice(-MOST_STEPS).filter((it) => it.numbers.length < MOST_KEPT));
+        this.saved = Date.now();
+        const kept = [this.past, future].map((all) => all.slice(-MOST_STEPS).filter((it) => it.numbers.length < MOST_KEPT));
         history.replaceState(kept, "", this.fragment());
     }
 
     /* Reads the state from the fragment. A part that is missing has its default. If one is invalid, the page says so. */
     read() {
         const { library, data: { languages } } = this;
-        const hash = location.hash.slice(1).replaceAll("&amp;", "&");
-        const parts = new URLSearchParams(/^\w+=/.test(hash) ? hash.replaceAll("+", "%2B") : { word: hash });
-        const part = (name) => parts.get(name) ?? "";
-        const lost = [...parts.keys()].filter((name) => !LINK.includes(name));
-        const lose = (name) => lost.push(`${name}=${part(name).slice(0, 40)}`);
-        const language = languages.find(({ name }) => name === part("language"));
-        const usualTab = part("compare") ? "compare" : part("language") ? "rust" : "languages";
-        const tab = { grammar: "words", regex: "words" }[part("tab")] ?? (part("tab") || usualTab);
-        const usual = language && !parts.has("word") ? language.forms[0] : library.usual;
-        const shown = { ...stateOf(usual), ...(part("word") && { word: library.read(part("word")).word }) };
-        for (const { name } of OPTIONS) if (parts.has(name)) shown[name] = library.byte(part(name));
-        for (const name of Object.keys(shown).filter((it) => shown[it] === undefined)) {
-            lose(name);
-            shown[name] = usual[name];
-        }
-        if (parts.has("conditions")) shown.conditions = library.withConditions(0n, part("conditions"), lost);
-        const numbers = (parts.get("numbers") ?? (parts.has("word") ? "" : language?.numbers) ?? "").replace(/\r\n?/g, "\n");
-        const state = this.readForms(shown, part("forms"), language, lost);
-        if (part("language") && !state.language) lose("language");
-        const isTab = tab in CODES || (tab in PANES && tab !== "code");
-        if (!isTab) lose("tab");
-        find("compare").value = part("compare");
-        if (find("compare").selectedIndex < 0) lose("compare");
+        const parts = Object.fromEntries(new URLSearchParams(location.hash.slice(1).replaceAll("&amp;", "&")));
+        const lost = Object.keys(parts).filter((name) => !LINK.includes(name));
+        const part = (name, isRight, usual) => {
+            if (parts[name] && !isRight) lost.push(`${name}=${parts[name].slice(0, 40)}`);
+            return parts[name] && isRight ? parts[name] : usual;
+        };
+        const language = languages.find(({ name }) => name === parts.language);
+        const lines = (parts.forms ?? "").split("\n").filter(Boolean);
+        const read = lines.map((line) => library.form(line));
+        lost.push(...lines.filter((_, index) => !read[index]).map((line) => `forms=${line.slice(0, 40)}`));
+        const own = read.filter(Boolean);
+        const forms = own.length ? own : language?.forms ?? [library.usual];
+        const numbers = parts.numbers ?? (parts.forms ? "" : language?.numbers) ?? "";
+        find("compare").value = parts.compare ?? "";
+        part("compare", find("compare").value);
+        const usualTab = parts.compare ? "compare" : parts.language ? "rust" : "languages";
         const isKept = history.state?.flat().every((it) => it.forms);
         [this.past, this.future] = isKept ? history.state : [this.state ? [...this.past, this.state] : [], []];
-        [this.state, this.key] = [{ ...state, numbers }, ""];
-        this.chooseTab(isTab ? tab : "languages");
+        const at = Number(part("at", Number(parts.at) in forms, 0));
+        this.state = { forms, at, language: part("language", language, ""), numbers: numbers.replace(/\r\n?/g, "\n") };
+        this.key = "";
+        this.chooseTab(part("tab", find(`tab-${parts.tab}`), usualTab));
         this.showAnew();
         const told = `The page cannot read this of the link, and shows what is usual in its place: ${lost.join(", ")}.`;
         setText(find("told"), lost.length ? told : "");
-    }
-
-    /* Returns the forms of a link: those of the language, or a line of each, that of the shown one with its name alone. */
-    readForms(shown, text, language, lost) {
-        const place = language?.forms.findIndex((it) => !text && isSame([stateOf(it)], [shown]));
-        if (place >= 0) return { forms: language.forms, at: place, language: language.name };
-        const lines = text ? text.split("\n") : [];
-        const at = lines.findIndex((line) => line.startsWith(":"));
-        const named = { ...shown, name: lines[at]?.slice(1) ?? "" };
-        const all = lines.map((line, index) => (index === at ? named : this.library.form(line, lost)));
-        const forms = [...all, ...(at < 0 ? [named] : [])].filter(Boolean);
-        return { forms, at: forms.indexOf(named), language: (text && language?.name) || "" };
     }
 
     /* Shows the word as text, in place of a typed text. */
@@ -381,43 +331,35 @@ class Page {
         this.shown = this.list.forms[this.state.at];
         this.showLanguage();
         [find("undo").disabled, find("redo").disabled] = [!this.past.length, !this.future.length];
-        setText(find("verdict"), this.report.verdict(this.shown, this.list));
-        const { count, isGood, first } = this.trial.show(this.state, this.list);
+        // A disabled button with the focus would take no keys.
+        if (document.activeElement.disabled) document.activeElement.blur();
+        const { problems: { length } } = this.shown;
+        const bad = length ? `${length} reason${length > 1 ? "s" : ""}` : this.list.forms.find((it) => it.problems.length)?.name;
+        setText(find("verdict"), bad === undefined ? "" : `Not valid: ${bad}`);
+        const { count, isGood } = this.trial.show(this.state, this.list);
         Object.assign(find("count"), { textContent: count, className: isGood ? "good" : "bad" });
         [find("clear").hidden, find("example").hidden] = [!this.state.numbers, Boolean(this.state.numbers)];
-        setText(find("first-error"), this.shown.problems[0]?.text ?? first);
         this.draw();
     }
 
-    /* Shows the pane that is chosen, and writes the fragment after a pause. */
+    /* Shows the pane that is chosen, and then writes the fragment, not too often for browsers. */
     draw() {
         clearTimeout(this.timer);
-        this.timer = setTimeout(() => this.save(), PAUSE);
-        if (this.tab in CODES) this.showCode();
-        if (this.tab === "languages") this.trial.showReaders();
-        if (this.tab === "compare") this.report.compare();
-        if (this.tab === "edit") this.showSettings();
-        if (this.tab === "words") this.showWords();
+        this.timer = setTimeout(() => this.save(), Math.max(0, this.saved + PAUSE - Date.now()));
+        if (this.pane in INNER) this.showText(this.pane);
+        if (this.pane === "languages") this.trial.showReaders();
+        if (this.pane === "compare") compare(this.library, this.list);
+        if (this.pane === "edit") this.showSettings();
     }
 
     showSettings() {
         this.showForms();
         const isKept = isRefused(find("word")) && this.wordTold === this.form.word;
         if (document.activeElement !== find("word") && !isKept) this.showWord();
-        this.report.show(this.shown);
+        showReport(this.shown);
         this.controls.show(this.form);
         const blamed = this.shown.problems.flatMap(({ fields }) => fields);
         this.blame(new Set(blamed), new Set(this.library.differences(this.form).map((it) => it.name)));
-    }
-
-    showWords() {
-        const { forms, specials = SPECIALS } = this.list;
-        const lawful = forms.filter(({ sentence }) => sentence);
-        const sentences = lawful.map(({ name, sentence }) => `Numbers${forms[1] ? ` of the form ${name}` : ""} are ${sentence}.`);
-        const words = this.library.value(forms[0], "no_special") ? [] : specials.filter(Boolean).map((it) => `\`${it}\``);
-        if (words[0] && sentences[0]) sentences.push(`The grammar and the regular expression are without ${words.join(", ")}, which are read, too.`);
-        find("sentence").replaceChildren(...sentences.map((it) => element("p", {}, withCode(it))));
-        for (const name of ["grammar", "regex"]) setText(find(name), this.code.text(name, this.list, this.shown, []));
     }
 
     /* Marks the fields that reasons blame, and those that differ from the standard format. */
@@ -431,18 +373,18 @@ class Page {
         for (const { name } of [...flags, ...groups]) find(name).setAttribute("aria-invalid", String(blamed.has(name)));
     }
 
-    /* Shows the code of all forms, with the numbers as a test. */
-    showCode() {
-        const comment = this.languageOf(this.state) && COMMENTS[this.language]?.(this.state.language);
-        const text = this.code.text(this.language, this.list, this.shown, this.trial.answers);
-        setText(find("code"), (comment ?? "") + text);
+    /* Shows the text of a tab on all forms, in code with the numbers as a test. */
+    showText(pane) {
+        const tab = this.chosen[pane];
+        const text = this.code.text(tab, this.list, this.trial.answers, this.languageOf(this.state)?.name);
+        if (pane === "words") setText(find("apart"), this.code.apart(this.list));
+        find(INNER[pane].text).replaceChildren(...(tab === "sentence" ? withCode(text) : [text]));
     }
 }
 
 /* Copies a text, and shows that on the button. If the browser allows no copy, selects the text, which is in a node. */
 async function copy(button, text, node) {
-    const label = button.dataset.label ?? button.textContent;
-    button.dataset.label = label;
+    const label = (button.dataset.label ??= button.textContent);
     const isCopied = (await navigator.clipboard?.writeText(text).then(() => true, () => false)) ?? false;
     button.focus();
     if (!isCopied && node) node.select ? node.select() : getSelection().selectAllChildren(node);

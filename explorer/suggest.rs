@@ -3,15 +3,8 @@
 use alloc::vec::Vec;
 use core::cmp::Reverse;
 
-use peltzivar::format::{
-    BASE_PREFIX, BASE_SUFFIX, CASE_SENSITIVE_BASE_PREFIX, CASE_SENSITIVE_BASE_SUFFIX, CASE_SENSITIVE_EXPONENT,
-    CASE_SENSITIVE_SPECIAL, CONSECUTIVE_DIGIT_SEPARATOR, DIGIT_SEPARATOR, DIGIT_SEPARATOR_FLAG_MASK, EXPONENT_BASE,
-    EXPONENT_RADIX, FLAG_MASK, MANTISSA_RADIX, REQUIRED_DIGITS, REQUIRED_EXPONENT_NOTATION, REQUIRED_EXPONENT_SIGN,
-    REQUIRED_MANTISSA_SIGN, SPECIAL_DIGIT_SEPARATOR,
-};
-use peltzivar::literal::{
-    Condition, Conditions, ConditionsError, ConditionsErrorKind, Kind, ReadError, ReadErrorKind, Specials, Syntax,
-};
+use peltzivar::format::*;
+use peltzivar::literal::{Condition, Conditions, Kind, ReadError, ReadErrorKind, Specials, Syntax};
 use peltzivar::{Format, FormatView, Rule};
 
 /// How many states are offered for a number.
@@ -63,28 +56,18 @@ impl State {
         syntax.ok()?.with_conditions(self.conditions).ok()
     }
 
-    /// Returns why each condition that does not fit a lawful word does not.
-    pub fn misfits(self) -> impl Iterator<Item = ConditionsError> {
-        Format::new(self.word).ok().into_iter().flat_map(move |it| Syntax::integers(it).contradictions(self.conditions))
-    }
-
     fn with_condition(self, condition: Condition, number: u8) -> Self {
         Self { conditions: self.conditions.with(condition, number), ..self }
     }
 
-    /// Returns the states in which the condition has each of its numbers, and the usual size of groups first.
+    /// Returns the states in which the condition has each of its numbers, and the usual size of groups first. Higher groups
+    /// need a last one.
     fn with_numbers(self, condition: Condition) -> impl Iterator<Item = Self> {
         let (least, most) = condition.limits();
         let usual = Some(USUAL_SIZE).filter(|&size| least < size && size < most);
-        let with = move |number| self.with_condition(condition, number);
-        // Higher groups need a last one.
-        let whole = |it: Self| match it.misfits().next() {
-            Some(error) if error.kind == ConditionsErrorKind::NoIntegerGroupSize => {
-                it.with_condition(Condition::IntegerGroupSize, USUAL_SIZE)
-            }
-            _ => it,
-        };
-        usual.into_iter().chain(least..=most).map(with).map(whole)
+        let lacks = condition == Condition::HigherGroupSize && self.conditions.number(Condition::IntegerGroupSize) == 0;
+        let whole = if lacks { self.with_condition(Condition::IntegerGroupSize, USUAL_SIZE) } else { self };
+        usual.into_iter().chain(least..=most).map(move |number| whole.with_condition(condition, number))
     }
 
     /// Returns the state with a byte in a field of the word. The reserved bits are cleared, as by any edit.
@@ -191,51 +174,58 @@ fn unsigned(text: &[u8]) -> &[u8] {
     text.strip_prefix(b"-").or(text.strip_prefix(b"+")).unwrap_or(text)
 }
 
-/// Returns the states that are offered for one of the lines, each with how many lines are as expected: those that need the
-/// fewest new roles to accept it, or those with one other flag or condition that refuse it and with which the most lines are.
-pub fn offers(state: State, lines: &[Line<'_>], line: Line<'_>) -> Vec<(State, usize)> {
-    let mut found = if line.is_refused { refusing(state, line.text, lines) } else { Vec::new() };
+/// Returns the states that are offered for one of the lines: those that need the fewest new roles to accept it, or those with
+/// one other flag or condition that refuse it and with which the most lines are as expected.
+pub fn offers(state: State, lines: &[Line<'_>], line: Line<'_>) -> Vec<State> {
+    let mut found = if line.is_refused { refusing(state, line, lines) } else { Vec::new() };
     for roles in 0..=MOST_ROLES {
         if found.is_empty() && !line.is_refused {
-            accepting(state, line.text, lines, roles, &mut found);
+            accepting(state, line, lines, roles, &mut found);
         }
     }
-    let mut offered: Vec<(State, usize)> = Vec::new();
-    for it in found {
-        let it = if line.is_refused { without_needless(it, state, line.text) } else { it };
-        if offered.iter().all(|other| other.0 != it) {
-            offered.push((it, it.as_expected(lines)));
+    let mut offered: Vec<State> = Vec::new();
+    found.into_iter().for_each(|it| {
+        if !offered.contains(&it) {
+            offered.push(it)
         }
-    }
-    let most = offered.iter().map(|it| it.1).max();
-    offered.retain(|it| !line.is_refused || Some(it.1) == most);
+    });
     // Of what accepts a text, the likeliest is first.
-    offered.sort_by_key(|it| (Reverse(it.1), if line.is_refused { it.0.changes(state) } else { (0, 0) }));
+    let changes = |it: &State| if line.is_refused { it.changes(state) } else { (0, 0) };
+    offered.sort_by_cached_key(|it| (Reverse(it.as_expected(lines)), changes(it)));
+    let most = offered.first().map(|it| it.as_expected(lines));
+    offered.retain(|it| !line.is_refused || Some(it.as_expected(lines)) == most);
     offered.truncate(MOST);
     offered
 }
 
-fn refusing(state: State, text: &[u8], lines: &[Line<'_>]) -> Vec<State> {
+fn refusing(state: State, line: Line<'_>, lines: &[Line<'_>]) -> Vec<State> {
     let flags = bits_of(FLAG_MASK).map(|flag| {
         let other = State { word: state.word ^ flag, ..state };
         // Consecutive separators need another flag of their part.
         let single = State { word: other.word & !CONSECUTIVE_DIGIT_SEPARATOR, ..other };
         other.syntax().map_or(single, |_| other)
     });
-    let refuses = |it: &State| it.refuses(text);
+    let refuses = |it: &State| it.refuses(line.text);
     let best = |&it: &Condition| State::first_best(state.with_numbers(it).filter(refuses), lines);
-    flags.filter(refuses).chain(Condition::ALL.iter().filter_map(best)).collect()
+    let flags = flags.filter(refuses).map(|it| without_needless(it, state, line));
+    flags.chain(Condition::ALL.iter().filter_map(best)).collect()
 }
 
-/// Returns a state that refuses a text with the flags of another one that need no change for this.
-fn without_needless(found: State, state: State, text: &[u8]) -> State {
-    let flags = bits_of((found.word ^ state.word) & FLAG_MASK);
-    flags.fold(found, |it, flag| Some(State { word: it.word ^ flag, ..it }).filter(|it| it.refuses(text)).unwrap_or(it))
+/// Returns a state in which a line is as expected with the flags of another one that need no change for this. Those of
+/// consecutive separators are tried first, those between digits last, and then again those that others needed.
+fn without_needless(found: State, state: State, line: Line<'_>) -> State {
+    let is_expected = |it: &State| if line.is_refused { it.refuses(line.text) } else { it.read(line.text).is_ok() };
+    let flags = || bits_of((found.word ^ state.word) & FLAG_MASK);
+    flags().rev().chain(flags()).fold(found, |it, flag| {
+        let with = State { word: it.word & !flag | state.word & flag, ..it };
+        Some(with).filter(is_expected).unwrap_or(it)
+    })
 }
 
 /// Finds states with up to this many new roles that accept the text.
-fn accepting(state: State, text: &[u8], lines: &[Line<'_>], roles: usize, found: &mut Vec<State>) {
-    match settled(state, text) {
+fn accepting(state: State, line: Line<'_>, lines: &[Line<'_>], roles: usize, found: &mut Vec<State>) {
+    let text = line.text;
+    match settled(state, line) {
         Ok(settled) => {
             // In place of a condition that refuses the text, it or another one may have another number.
             let numbered =
@@ -250,7 +240,7 @@ fn accepting(state: State, text: &[u8], lines: &[Line<'_>], roles: usize, found:
         Err(_) if roles == 0 => {}
         Err(at) => {
             let next = candidates(state, text, at).into_iter().flatten();
-            next.for_each(|it| accepting(it, text, lines, roles - 1, found));
+            next.for_each(|it| accepting(it, line, lines, roles - 1, found));
         }
     }
 }
@@ -272,11 +262,11 @@ fn grouped(state: State, text: &[u8]) -> Option<State> {
     Some(if size == *last { state } else { state.with_condition(Condition::HigherGroupSize, number(size)?) })
 }
 
-/// Returns the state with the flags that the text needs: without the requirements that it breaks, and with the fewest
-/// flags that allow its separators. Returns the index of the first wrong byte if no flags are to blame.
-fn settled(mut state: State, text: &[u8]) -> Result<State, usize> {
-    let allowed = state.word;
-    if FormatView::new(allowed).digit_separator().is_some_and(|it| text.contains(&it.get())) {
+/// Returns the state with the flags that the line needs: without the requirements that it breaks, and with the fewest flags
+/// that allow its separators. Returns the index of the first wrong byte if no flags are to blame.
+fn settled(before: State, line: Line<'_>) -> Result<State, usize> {
+    let (mut state, text) = (before, line.text);
+    if FormatView::new(state.word).digit_separator().is_some_and(|it| text.contains(&it.get())) {
         state.word |= SEPARATORS;
     }
     while let Err(error) = state.read(text) {
@@ -289,14 +279,7 @@ fn settled(mut state: State, text: &[u8]) -> Result<State, usize> {
             error => return Err(error.map_or(text.len(), |it| it.valid_up_to())),
         }
     }
-    // Those of consecutive separators are removed first, and those between digits last.
-    for flag in bits_of(state.word & SEPARATORS & !allowed).rev() {
-        let without = State { word: state.word & !flag, ..state };
-        if without.read(text).is_ok() {
-            state = without;
-        }
-    }
-    Ok(state)
+    Ok(without_needless(state, before, line))
 }
 
 /// Returns the states in which the byte at an index, or the last one, gets a role, the likeliest first.
@@ -313,7 +296,7 @@ fn candidates(state: State, text: &[u8], at: usize) -> [Option<State>; 11] {
     // In `1,234`, the comma separates groups.
     let is_group =
         rest.len() == usize::from(USUAL_SIZE) && rest.iter().all(u8::is_ascii_digit) && unsigned(before).len() <= 3;
-    let mark = separator(state, byte);
+    let mark = separator(state, text, byte);
     [
         prefix(state, before, byte, rest),
         exponent(state, before, byte, rest),
@@ -373,11 +356,15 @@ fn point(state: State, before: &[u8], byte: u8, rest: &[u8]) -> Option<State> {
     (matches!(byte, b',' | b'.') && is_last).then_some(State { point: byte, ..state })
 }
 
-/// A mark is the digit separator. If it was the decimal point, that is the other one of comma and point then.
-fn separator(state: State, byte: u8) -> Option<State> {
+/// A mark is the digit separator, a comma or a point if the last group behind it has the usual size. If it was the decimal
+/// point, that is the other one of comma and point then.
+fn separator(state: State, text: &[u8], byte: u8) -> Option<State> {
     let other = if byte == b'.' { b',' } else { b'.' };
     let point = if state.point == byte { other } else { state.point };
-    is_mark(byte).then(|| State { point, ..state.with(DIGIT_SEPARATOR, byte) })
+    let last = text.rsplit(|&it| it == byte).next().unwrap_or_default();
+    let is_group = last.iter().take_while(|it| it.is_ascii_digit()).count() == usize::from(USUAL_SIZE);
+    let is_separator = is_mark(byte) && (is_group || !matches!(byte, b',' | b'.'));
+    is_separator.then(|| State { point, ..state.with(DIGIT_SEPARATOR, byte) })
 }
 
 /// The last byte is the base suffix: with the radix that its letter shows, with the same radix, and with the one that the

@@ -45,7 +45,8 @@ function changeWords(library, form, changes) {
         if (it.name in SIZES) return `groups of ${it.value || "any number of"} digits${SIZES[it.name]}`;
         const required = it.holder === "conditions" && it.name.startsWith("required_") && it.name.slice(9).replaceAll("_", " ");
         if (required) return it.value ? `require the ${required}` : `the ${required} is optional`;
-        return `${it.value ? "refuse" : "allow"} ${it.refuses.slice(0, 1).map((text) => `\`${text}\``)}`;
+        const [refused, accepted] = [it.refuses, it.accepts ?? []].map((texts) => texts.slice(0, 1).map((text) => `\`${text}\``).join());
+        return it.value ? `refuse ${refused}${accepted && `, keep ${accepted}`}` : `allow ${refused}`;
     });
     return [...separators, ...others].filter(Boolean).join(", ");
 }

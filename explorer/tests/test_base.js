@@ -6,8 +6,11 @@ const range = (least, most) => Array.from({ length: most - least + 1 }, (_, it) 
 /* Returns texts and the numbers of all languages, each once. */
 const textsAndNumbers = (texts = []) => [...new Set([...texts, ...page.data.languages.flatMap((it) => it.numbers.replaceAll("!", "").split("\n"))])];
 
+/* Returns the readings of a text by the languages that read it. */
+const readersOf = (text) => page.trial.withReaders([{ text }])[0].readers;
+
 /* Shows forms and numbers in place of those of the page. */
-const show = (forms, numbers = "", language = "") => page.jump({ forms, at: 0, language, numbers });
+const show = (forms, numbers = "", language = "") => page.change({ forms, at: 0, language, numbers });
 
 function follow(link) {
     history.replaceState(null, "", link);
@@ -20,14 +23,14 @@ function choose(id, value) {
     find(id).dispatchEvent(new Event(find(id).options ? "change" : "input"));
 }
 
-/* Returns the code of a tab. */
+/* Returns the code or the words of a tab. */
 function codeOf(tab) {
     page.chooseTab(tab);
-    return find("code").textContent;
+    return find(INNER[page.pane].text).textContent;
 }
 
-/* Returns the usual form with settings. */
-const formOf = (...settings) => ({ ...page.library.usual, word: page.library.call("build", ...settings).word });
+/* Returns the usual form with settings, also those of options, conditions and kinds. */
+const formOf = (...settings) => page.library.read(["#", ...settings].join("\n")).form;
 
 /* Returns the form of a word with its options, as of `STATES`. */
 const stateOfWord = ([word, exponent, point]) => ({ ...page.library.usual, word: BigInt(word), exponent, point });

@@ -26,6 +26,9 @@ except ImportError:
 STANDARD = "0x00000A0000000000000000000000000C"
 # A word with bits in each of its bytes, and among both kinds of flags.
 MIXED = "0x0A0210687800005F00000FC70001441F"
+MIXED_FORM = f"{MIXED} exponent=112 point=44"
+# A word in which the prefix and the exponent character `e` are digits.
+UNLAWFUL = "0x000010006200005F00000000000000CC"
 # Words with an exponent character and a decimal point, also with bytes that need an escape or cannot be seen, without
 # options, unlawful, without values of floats, in which `inf` has digits, and with a point that is a separator.
 STATES = [(STANDARD, "e", "."), (STANDARD, "\\", "'"), (STANDARD, "\0", "\0"), ("0x000002095C000027000000010000000C", "^", '"'),
@@ -39,10 +42,10 @@ TEXTS = r"""1 1\5 1'5 1"5 -0 12 1F inf nan 9007199254740993 12345678901234567 12
 2147483647 2147483648 -2147483648 4611686018427387904 9223372036854775808 18446744073709551615 18446744073709551616 0xffffffff 0x100000000
 0x4000000000000000 0x8000000000000000 0xffffffffffffffff 0x10000000000000001 0ffffffffffffffffh 0b11111111111111111111111111111111""".split()
 # Links with all parts of a number, several forms, reasons, notes, offers, and a condition that does not fit.
-LINKS = [f"#word={MIXED}&exponent=112&point=44&numbers=-0x1_0%2C8p%2B1h%0A!0x1h%0A1k&compare=JSON",
+LINKS = [f"#forms={MIXED_FORM}&numbers=-0x1_0%2C8p%2B1h%0A!0x1h%0A1k&compare=JSON",
          f"#language=C&numbers={60 * '1'}%0A0xg%0A0b1.5{30 * '%0A1'}&compare=standard",
-         "#word=0x000010006200005F00000000000000CC&exponent=112&compare=standard",
-         f"#word={STANDARD}&conditions=integer_group_size%3D3&numbers=-inf%0A1_0%0A0x1F&compare=standard"]
+         f"#forms={UNLAWFUL} exponent=112&compare=standard",
+         f"#forms={STANDARD} integer_group_size=3&numbers=-inf%0A1_0%0A0x1F&compare=standard"]
 # The functions of the scripts here, which run in the page.
 SCRIPTS = "".join(it.read_text() for it in sorted(HERE.glob("*.js")))
 
@@ -90,7 +93,7 @@ class Walk(unittest.TestCase):
 
     def setUp(self):
         self.driver.set_window_size(1280, 1500)
-        self.load(f"#word={STANDARD}")
+        self.load()
 
     def tearDown(self):
         self.assertEqual(self.driver.get_log("browser"), [])
@@ -110,7 +113,7 @@ class Walk(unittest.TestCase):
         for link in LINKS:
             self.load(link)
             self.assertEqual(self.text("#told"), "")
-            for tab in ("languages", "rust", "compare", "edit", "words"):
+            for tab in ("languages", "rust", "compare", "edit", "grammar"):
                 self.run_script("page.chooseTab(arguments[0]); document.querySelectorAll('details').forEach((it) => { it.open = true; })", tab)
                 yield f"{link}&tab={tab}"
 
@@ -130,9 +133,9 @@ class Walk(unittest.TestCase):
     def open(self, selector):
         """Shows the tab in which an element is."""
         self.run_script("""const [selector] = arguments;
-            const outer = /^[.](reason|byte)/.test(selector) ? "#report" : selector.split(/[ >]/)[0];
+            const outer = /^[.]reason/.test(selector) ? "#report" : selector.split(/[ >]/)[0];
             const pane = (document.querySelector(selector) ?? document.querySelector(outer))?.closest("[id^=pane-]");
-            if (pane?.hidden) page.open(pane.id === "pane-code" ? page.language : pane.id.slice(5));""", selector)
+            if (pane?.hidden) page.open(pane.id.slice(5));""", selector)
 
     def text(self, selector):
         self.open(selector)

@@ -6,46 +6,56 @@ function test_the_sentence_the_grammar_and_the_expression_are_those_of_all_forms
     const texts = textsAndNumbers();
     return languages.flatMap(({ name, forms, specials }) => {
         show(forms, "", name);
-        page.chooseTab("words");
-        const [grammar, expression] = [find("grammar").textContent, new RegExp(`^(?:${find("regex").textContent})$`)];
+        const [sentences, grammar] = [codeOf("sentence").split("\n\n"), codeOf("grammar")];
+        const expression = new RegExp(`^(?:${codeOf("regex")})$`);
         const answers = library.call("numbers", { forms, specials: ["", "", ""] }, texts.join("\n"));
-        const [sentences, count] = [textsOf("#sentence p"), forms.length];
+        const count = forms.length;
         const isShown = (form, at) => {
             const told = library.explain(form);
             const sentence = `Numbers${count > 1 ? ` of the form ${form.name}` : ""} are ${told.sentence.replaceAll("`", "")}.`;
             return grammar.includes(count > 1 ? `/* ${form.name} */\n${told.grammar}` : told.grammar) && sentences[at] === sentence;
         };
         const hasSpecials = library.call("numbers", { forms, specials }, specials.join("\n")).some((it) => it.is === "special value");
-        const lost = forms.filter((form, at) => !isShown(form, at) || sentences.length !== count + hasSpecials).map((it) => it.name);
-        return [...lost, ...texts.filter((text, index) => expression.test(text) === Boolean(answers[index].error))].map((it) => `${name} ${it}`);
+        const apart = find("apart").textContent;
+        const isNamed = !apart || apart.includes(specials.filter(Boolean).join(", "));
+        const isApart = isNamed && Boolean(apart) === hasSpecials;
+        const lost = forms.filter((form, at) => !isShown(form, at) || sentences.length !== count).map((it) => it.name);
+        return [...lost, ...(isApart ? [] : ["apart"]), ...texts.filter((text, index) => expression.test(text) === Boolean(answers[index].error))].map((it) => `${name} ${it}`);
     });
 }
 
-/* What the tab of settings shows makes the same form, in place of the usual one and, with the line ends of Windows, of another. */
-function test_settings_are_those_of_the_form(_, shown) {
+/* What the tab of settings shows makes the same forms, in place of the usual one and, with the line ends of Windows, of another. */
+function test_settings_are_those_of_the_forms(_, shown) {
     const { library, data: { languages } } = page;
     const states = shown.map(stateOfWord);
     const each = library.conditions.flatMap((it) => (it.limits ?? [1]).map((value) => library.with(states.at(-1), it.name, value)));
-    const other = { ...states.at(-1), conditions: library.withConditions(0n, "integer_group_size=3 required_base_prefix=true wraps=8 single=true") };
-    const ends = [[library.usual, "\n"], [other, "\r\n"]];
-    return [library.usual, ...states, ...each, ...languages.flatMap(({ forms }) => forms)].flatMap((form) => ends.flatMap(([before, end]) => {
-        show([form]);
+    const other = { ...states.at(-1), conditions: formOf("integer_group_size=3 required_base_prefix=true wraps=8 single=true").conditions };
+    const lists = [library.usual, ...states, ...each].map((form) => [form]);
+    return [...lists, ...languages.map(({ forms }) => forms)].flatMap((forms) => [[library.usual, "\n"], [other, "\r\n"]].flatMap(([before, end]) => {
+        show(forms);
         const settings = codeOf("settings");
-        const nearest = /nearest one, (0x\w+)/.exec(settings)?.[1] ?? form.word;
-        page.jump({ forms: [before] });
+        const nearest = /nearest one, (0x\w+)/.exec(settings)?.[1];
+        show([before]);
         const clipboardData = new DataTransfer();
         clipboardData.setData("text", settings.replaceAll("\n", end));
         find("word").dispatchEvent(new ClipboardEvent("paste", { clipboardData, cancelable: true }));
-        return json(stateOf(page.form)) === json(stateOf({ ...form, word: BigInt(nearest) })) ? [] : [settings];
+        const wanted = forms.map((form) => ({ ...form, word: nearest ? BigInt(nearest) : form.word, name: forms[1] ? form.name : "" }));
+        return isSame(wanted, page.state.forms) ? [] : [settings];
     }));
 }
 
-/* Returns the tab of a group that is a stop, that is selected and that names what is shown, and the code or the pane. */
+function test_code_whose_test_fails_is_marked() {
+    return [["1\n!1", true], ["1\n!x", false]].flatMap(([numbers, fails]) => Object.keys(COMMENTS).filter((tab) => {
+        show([page.library.usual], numbers);
+        return codeOf(tab).includes("The test fails") !== fails;
+    }));
+}
+
+/* Returns the tab of a group that is a stop, that is selected and that names what is shown, and the text or the pane. */
 function shownTab(id) {
     const stops = [...find(id).children].filter((it) => it.tabIndex === 0).map((it) => it.id);
-    const [pane] = [...document.querySelectorAll("#pane > section")].filter((it) => it.checkVisibility());
-    const shown = id === "tabs" ? find("code") : pane;
-    const text = id === "tabs" ? shown.textContent : shown.id;
+    const shown = find(id === "panes" ? `pane-${page.pane}` : INNER[page.pane].text);
+    const text = !shown.checkVisibility() ? "" : id === "panes" ? shown.id : shown.textContent;
     return [stops.join(), find(id).querySelector("[aria-selected=true]").id, shown.getAttribute("aria-labelledby"), text];
 }
 
@@ -61,8 +71,8 @@ function shown(tried, shown) {
     const named = states.map((form, index) => ({ ...form, name: names.at(index % 7) })).filter(isRight);
     const ofLanguages = languages.flatMap(({ name, forms }) => [[forms, name], [forms, ""], ...forms.map((form) => [[form], name])]);
     const texts = textsAndNumbers(tried);
-    return [texts, [...states.map((form) => [[form], ""]), [named, ""], ...all.map((form) => [[form], ""]), ...ofLanguages].map(([forms, language]) => {
-        page.jump({ forms, at: forms.length - 1, language, numbers: "1_0 %&\n!+" });
+    return [texts, [...states.filter(isRight).map((form) => [[form], ""]), [named, ""], ...all.map((form) => [[form], ""]), ...ofLanguages].map(([forms, language]) => {
+        page.change({ forms, at: forms.length - 1, language, numbers: "1_0 %&\n!+" });
         const before = json([page.state.forms, page.state.at]);
         const link = page.fragment();
         follow(link);

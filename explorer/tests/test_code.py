@@ -8,7 +8,7 @@ import sys
 import tempfile
 import unittest
 
-from test_base import Walk, Keys, TOP, MIXED, STATES, TEXTS, has, run
+from test_base import Walk, Keys, TOP, MIXED, MIXED_FORM, STATES, TEXTS, has, run
 
 # Where the library of C is built.
 BUILD = TOP / "rust/target/make"
@@ -85,11 +85,13 @@ class Code(Walk):
 
     def test_each_tab_shows_what_it_names(self):
         """By its button, and by keys in both directions. The link that the page makes shows it again."""
-        self.load(f"#word={MIXED}&exponent=112&point=44&compare=JSON&tab=rust")
+        self.load(f"#forms={MIXED_FORM}&compare=JSON&tab=rust")
         heads = {"rust": "use peltzivar::", "c": '#include "peltzivar.h"', "python": "from peltzivar import", "settings": f"# {MIXED}"}
+        words = {"sentence": "Numbers are", "grammar": "Literal  ::=", "regex": "(?:"}
         panes = {it: it for it in ("languages", "code", "compare", "edit", "words")}
-        for group, tabs in (("tabs", heads), ("panes", panes)):
+        for group, tabs in (("tabs", heads), ("notations", words), ("panes", panes)):
             names = [*tabs]
+            self.open(f"#{group}")
             clicks = [(f"#tab-{name}", Keys.ENTER, name) for name in names]
             arrows = [(None, Keys.ARROW_RIGHT, name) for name in names]
             arrows += [(None, Keys.ARROW_LEFT, name) for name in names[-2::-1] + names[-1:]]
@@ -104,8 +106,7 @@ class Code(Walk):
     def rust(self, folder, codes):
         codes = [code.replace("#[test]\nfn", "pub fn") for code in codes]
         modules = "".join(f"mod m{index} {{\n{code}}}\n" for index, code in enumerate(codes))
-        show = [("show(&m{0}::FORMS, m{0}::read); m{0}::numbers();" if "fn read" in it else 'println!("{{:#034X}}\\n", m{0}::WORD);') for it in codes]
-        calls = " ".join(call.format(index) for index, call in enumerate(show))
+        calls = " ".join(f"show(&m{it}::FORMS, m{it}::read); m{it}::numbers();" for it in range(len(codes)))
         (folder / "main.rs").write_text(f"{RUST}{modules}fn main() {{ {calls} }}\n")
         (folder / "Cargo.toml").write_text(
             '[package]\nname = "code"\nedition = "2021"\n[[bin]]\nname = "code"\npath = "main.rs"\n[workspace]\n'
@@ -113,11 +114,9 @@ class Code(Walk):
         return run("cargo", "run", "--quiet", "--offline", "--target-dir", folder, cwd=folder)
 
     def c(self, folder, codes):
-        names = r"\b(SETTINGS|SPECIALS|WORD|LIST|FORMS|make_forms|read_number|test_numbers)\b"
+        names = r"\b(SETTINGS|SPECIALS|LIST|FORMS|make_forms|read_number|test_numbers)\b"
         parts = [re.sub(names, rf"\1_{index}", code) for index, code in enumerate(codes)]
-        shown = "show(make_forms_{0}, &FORMS_{0}, read_number_{0}, test_numbers_{0});"
-        show = [shown if "make" in it else 'print(WORD_{0}.low, WORD_{0}.high); puts("");' for it in codes]
-        calls = " ".join(call.format(index) for index, call in enumerate(show))
+        calls = " ".join(f"show(make_forms_{it}, &FORMS_{it}, read_number_{it}, test_numbers_{it});" for it in range(len(codes)))
         names = set(re.findall(r"\bpeltzivar_\w+", "".join(codes)))
         self.assertLessEqual(names, set(re.findall(r"\bpeltzivar_\w+", (TOP / "c/peltzivar.h").read_text())))
         (folder / "main.c").write_text("".join([*parts, C, f"int main(void) {{ {calls} }}\n"]))
@@ -125,7 +124,6 @@ class Code(Walk):
         return run(folder / "main", cwd=folder)
 
     def python(self, folder, codes):
-        calls = ((code, "show(forms, read)\ntest_numbers()" if "def read" in code else "print(view, end='\\n\\n')") for code in codes)
-        (folder / "main.py").write_text(PYTHON + "".join(f"{code}{call}\n" for code, call in calls))
+        (folder / "main.py").write_text(PYTHON + "".join(f"{code}show(forms, read)\ntest_numbers()\n" for code in codes))
         variables = {"PYTHONPATH": str(TOP / "c"), "PYTHONDONTWRITEBYTECODE": "1"}
         return run(sys.executable, "main.py", cwd=folder, env={**os.environ, **variables})

@@ -8,9 +8,8 @@ function test_forms_are_added() {
     return [...find("add").options].slice(1).map(({ value }) => value).filter((value) => {
         show([own, usual]);
         choose("add", value);
-        const [name, form] = value.split(":");
-        const all = page.data.languages.find((it) => it.name === name)?.forms ?? [page.library.usual];
-        const added = name === "copy" ? [{ ...own, name: "" }] : all.filter((it) => !form || it.name === form);
+        const all = page.data.languages.find((it) => it.name === value)?.forms ?? [page.library.usual];
+        const added = value === "copy" ? [{ ...own, name: "" }] : all;
         return !isSame(page.state.forms, [own, usual, ...added]) || page.state.at !== 2 || find("add").value !== "";
     });
 }
@@ -20,7 +19,7 @@ function test_a_changed_language_keeps_its_special_values() {
     return page.data.languages.filter(({ name, forms, specials }) => {
         show(forms, [...new Set([...specials, ...SPECIALS])].join("\n"), name);
         const before = told();
-        page.put({ name: "other" });
+        page.change({ forms: forms.with(0, { ...forms[0], name: "other" }) });
         const changed = told();
         follow(page.fragment());
         return changed !== before || told() !== before;

@@ -6,7 +6,7 @@
 function test_comparisons_find_what_tells_two_languages_apart(tried) {
     const { library, data: { languages } } = page;
     const all = textsAndNumbers([...tried, ...languages.flatMap((it) => it.specials)]).filter(Boolean);
-    const readings = (texts) => library.call("readers", texts.join("\n")).map((all) => new Map(all.map((it) => [it.language, valueText(it)])));
+    const readings = (texts) => texts.map((text) => new Map(readersOf(text).map((it) => [it.language, valueText(it)])));
     const pairs = languages.flatMap((here, first) => languages.slice(first + 1).map((there, next) => [first, first + next + 1]));
     const listed = pairs.map(([here, there]) => library.call("differ", languages[here], languages[there]));
     const texts = [...new Set([...all, ...listed.flat(2).map(({ text }) => text)])];
@@ -44,19 +44,10 @@ function test_spellings_in_one_case_are_told_apart() {
     });
 }
 
-function test_long_lists_of_texts_are_cut() {
-    return range(0, 12).filter((count) => {
-        const [head, list] = page.report.texts([range(1, count).map((it) => ({ text: String(it), error: "" }))]);
-        const more = list?.querySelector("details");
-        const isTold = !more || parseInt(more.textContent) === more.childElementCount - 1;
-        return count && !(head.textContent.endsWith(`: ${count}`) && isTold && Boolean(more) === count > MOST_TEXTS);
-    });
-}
-
 /* Returns what is shown of each language after it is chosen: the code, what is told of it, its forms and its numbers. */
 function shownLanguages() {
     return page.data.languages.map(({ name, title }) => {
-        page.jump({ numbers: "" });
+        page.change({ numbers: "" });
         choose("language", name);
         const codes = ["rust", "c", "python"].map(codeOf);
         const forms = page.state.forms.map((it) => it.name);
@@ -65,25 +56,28 @@ function shownLanguages() {
     });
 }
 
-/* Each language is behind its value and its form, and leads to that form. Those that read all as expected are first. */
+/* Each language is behind its value and its form, and leads to that form, or behind the reason why it refuses a number. Those that
+ * read all as expected are first. */
 function test_each_language_is_below_what_it_reads() {
     const { languages } = page.data;
     page.chooseTab("languages");
     const reads = (list, text) => page.library.call("numbers", list, text)[0];
-    return ["010", "0x1F", "1_0", "NaN", "1e5", "-5", "2147483648", "0xffffffff", "9223372036854775808"].flatMap((first) => {
+    return ["010", "0x1F", "1_0", "NaN", "1e5", "1.5f", "-5", "2147483648", "0xffffffff", "9223372036854775808"].flatMap((first) => {
         const numbers = ["1", first];
         page.change({ numbers: numbers.join("\n") });
-        const lines = [...find("readers").children].map((it) => {
+        const lines = [...find("readers").querySelectorAll("h3, p:has(button)")].map((it) => {
             const titles = [...it.querySelectorAll("button")].map((button) => button.textContent);
             return it.tagName === "H3" ? it.textContent : titles.map((title) => `${it.firstChild.textContent} ${title}`);
         }).flat();
         const hasAll = (list) => numbers.map((text) => reads(list, text)).every(({ error, refused }) => !error && !refused);
         const wanted = [...languages.filter(hasAll).map(({ title }) => `All 2, as expected: ${title}`), ...numbers.flatMap((text) => {
-            const told = languages.map((list) => [list, reads(list, text)]).filter(([, it]) => !it.error);
-            const readers = told.filter(([, it]) => !it.refused).length;
-            return [`${text} Read by ${readers || "none"} of ${languages.length} languages`, ...told.map(([list, it]) => {
+            const told = languages.map((list) => [list, reads(list, text)]);
+            const readers = told.filter(([, it]) => !it.error && !it.refused).length;
+            const tokens = page.library.call("readers", text)[0].map(({ suffix }) => suffix);
+            return [`${text} Read by formats of ${readers || "none"} of ${languages.length} languages`, ...told.map(([list, it], index) => {
+                if (tokens[index]) return `with the suffix ${tokens[index]}, as a token: ${list.title}`;
                 const form = it.parts.some(({ kind }) => kind === "special") ? "special value" : list.forms[it.form].name;
-                return `${it.refused ? "refused, " : ""}${valueText(it)}, ${form}: ${list.title}`;
+                return it.error ? `${it.error}: ${list.title}` : `${it.refused ? "refused, " : ""}${valueText(it)}, ${form}: ${list.title}`;
             })];
         })];
         return [...lines.filter((it) => !wanted.includes(it)), ...wanted.filter((it) => !lines.includes(it))];

@@ -2,22 +2,26 @@
 "use strict";
 
 const PARTS_OF_PAGE = "header, .bar, #trial, #panes, #pane, footer";
-const COPIED = { "Copy the code": "code", "Copy the word": "word", "Copy the grammar": "grammar", "Copy the expression": "regex" };
+const COPIED = { "Copy the code": "code", "Copy the word": "word", "Copy the words": "notation" };
 
-/* Returns what is out of view at once after a choice of each language, and of each to compare with. */
+/* Returns the tabs whose heading or first ten lines are out of view at once, after a choice of each language, and of what is read. */
 function outOfView() {
-    const isSeen = (it) => {
-        const { left, right, top, bottom } = it.getBoundingClientRect();
-        return top >= 0 && bottom <= innerHeight && left >= 0 && right <= innerWidth && bottom > top;
+    const isSeen = (it, most = Infinity) => {
+        const { left, right, top, height } = it.getBoundingClientRect();
+        return top >= 0 && top + Math.min(height, most) <= innerHeight && left >= 0 && right <= innerWidth && height > 0;
     };
-    const { lineHeight } = getComputedStyle(find("code"));
+    const tenLines = 10 * parseFloat(getComputedStyle(find("code")).lineHeight);
+    const tabs = [...document.querySelectorAll("[role=tab]")].map(({ id }) => id.slice(4)).filter((it) => !(it in INNER));
     return page.data.languages.flatMap(({ name }) => {
-        choose("language", name);
-        const isCode = isSeen(find("code-title")) && find("code").getBoundingClientRect().top + 10 * parseFloat(lineHeight) < innerHeight;
-        const isFirst = isSeen(find("summary")) && isSeen(find("read").firstChild);
         choose("compare", name === "TOML" ? "YAML" : "TOML");
-        const isCompared = [find("compare-title"), ...document.querySelectorAll("#texts :is(h3, li)")].slice(0, 11).every(isSeen);
-        return isCode && isFirst && isCompared ? [] : [[name, isCode, isFirst, isCompared]];
+        choose("language", name);
+        const isFirst = page.pane === "code" && isSeen(find("summary")) && isSeen(find("read").firstChild);
+        return [...(isFirst ? [] : [name]), ...tabs.filter((tab) => {
+            page.open(tab);
+            const [pane, { text } = {}] = [find(`pane-${page.pane}`), INNER[page.pane]];
+            const shown = text ? [find(text)] : [...pane.querySelectorAll(".name, #readers > *, #texts :is(h3, li)")].slice(0, page.pane === "edit" ? 3 : 10);
+            return !shown.length || ![pane.querySelector("h2"), ...shown].every((it) => isSeen(it, tenLines));
+        }).map((tab) => [name, tab])];
     });
 }
 
@@ -48,7 +52,7 @@ function pointless() {
 /* Returns the controls that are lower than a finger needs. */
 function small() {
     return [...document.querySelectorAll("button, select, summary, label:has(input), label[for], textarea")]
-        .filter((it) => it.checkVisibility() && !it.closest(".skips, h2, h3") && it.getBoundingClientRect().height < 24);
+        .filter((it) => it.checkVisibility() && !it.closest("h2, h3") && it.getBoundingClientRect().height < 24);
 }
 
 /* Returns the controls that are refused without a message. */
@@ -59,10 +63,9 @@ function wordless() {
     });
 }
 
-/* Returns what has more than it shows and cannot be scrolled, but for texts that end in dots, and what stays in view and is higher
- * than the screen. */
+/* Returns what has more than it shows and cannot be scrolled, but for texts that end in dots, and what stays in view and is higher than the screen. */
 function cutOff() {
-    return [...document.querySelectorAll("body *")].filter((it) => it.checkVisibility() && !it.closest("input, select, .skips")).filter((it) => {
+    return [...document.querySelectorAll("body *")].filter((it) => it.checkVisibility() && !it.closest("input, select")).filter((it) => {
         const { overflowX, overflowY, textOverflow, contain, position } = getComputedStyle(it);
         const hides = (overflow) => textOverflow !== "ellipsis" && (["hidden", "clip"].includes(overflow) || contain.includes("paint"));
         const stays = ["sticky", "fixed"].includes(position) && it.getBoundingClientRect().height > innerHeight;
@@ -88,18 +91,23 @@ function narrow() {
 /* Returns the parts of numbers in another colour than the dots of their fields, and what is good in red or bad in green. */
 function misleading() {
     const colour = (it, name = "color") => getComputedStyle(it)[name];
-    const dots = (it) => it.dataset.field.split(" ").map((name) => document.querySelector(`[data-field=${name}] .dot`));
+    const fields = {
+        sign: "no_positive_mantissa_sign", prefix: "base_prefix", integer: "mantissa_radix", fraction: "mantissa_radix",
+        exponent_character: "exponent", exponent_sign: "no_positive_exponent_sign", exponent: "exponent_radix",
+        suffix: "base_suffix", special: "no_special",
+    };
+    const dotOf = (kind) => document.querySelector(`[data-field=${fields[kind] ?? kind}] .dot`);
     const isGreen = (it) => colour(it).match(/\d+/g).slice(0, 2).reduce((red, green) => green - red) > 0;
-    const rows = [...document.querySelectorAll("#read > li")].filter((it) => it.querySelector(".bad")
-        ? colour(it, "borderLeftColor") !== colour(it.querySelector(".bad")) : colour(it, "borderLeftColor") !== colour(it.querySelector(".good")));
-    return [...document.querySelectorAll(".written [data-field], .good, .bad")].filter((it) => (it.matches("[data-field]")
-        ? dots(it).some((dot) => colour(dot, "backgroundColor") !== colour(it)) : isGreen(it) !== it.matches(".good")))
-        .concat(rows);
+    const isWrong = (it) => {
+        if (it.matches("li")) return colour(it, "borderLeftColor") !== colour(it.querySelector(".bad") ?? it.querySelector(".good"));
+        if (it.matches(".good, .bad")) return isGreen(it) !== it.matches(".good");
+        return colour(dotOf(it.className), "backgroundColor") !== colour(it);
+    };
+    return [...document.querySelectorAll("#read > li, .good, .bad, .written span")].filter(isWrong);
 }
 
-/* Calls back with the shown buttons that neither change the state nor go elsewhere, nor copy what is beside them. */
-function idle() {
-    const [link, done] = arguments;
+/* Returns the shown buttons that neither change the state nor go elsewhere, nor copy what is beside them. */
+async function idle(link) {
     const not = ":not(#undo, #redo, .row, .rover ~ .rover, [aria-pressed=true], [aria-selected=true])";
     const where = link.endsWith("languages") ? "" : "#pane ";
     const buttons = () => [...document.querySelectorAll(`${where}button:enabled${not}`)].filter((it) => it.checkVisibility());
@@ -109,20 +117,18 @@ function idle() {
         document.activeElement.blur();
         page.change({ numbers: `${page.state.numbers}\n1` });
     };
-    (async () => {
-        const idle = [];
+    const idle = [];
+    start();
+    for (const index of buttons().keys()) {
         start();
-        for (const index of buttons().keys()) {
-            start();
-            const [button, before] = [buttons()[index], page.fragment()];
-            button.click();
-            await new Promise((resolve) => setTimeout(resolve));
-            const [beside, hasMoved] = [find(COPIED[button.ariaLabel]), ![document.body, button].includes(document.activeElement)];
-            const isCopied = window.copied === (beside ? beside.value ?? beside.textContent : before);
-            if (!(button.id.startsWith("copy") ? isCopied : page.fragment() !== before || hasMoved)) idle.push(button.outerHTML);
-        }
-        done(idle);
-    })().catch((error) => done([String(error)]));
+        const [button, before] = [buttons()[index], page.fragment()];
+        button.click();
+        await new Promise((resolve) => setTimeout(resolve));
+        const [beside, hasMoved] = [find(COPIED[button.ariaLabel]), ![document.body, button].includes(document.activeElement)];
+        const isCopied = window.copied === (beside ? beside.value ?? beside.textContent : before);
+        if (!(button.id.startsWith("copy") ? isCopied : page.fragment() !== before || hasMoved)) idle.push(button.outerHTML);
+    }
+    return idle;
 }
 
 /* Returns the texts whose contrast with the ground behind them is below 4.5, and what has a border below 3. */

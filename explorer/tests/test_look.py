@@ -1,5 +1,5 @@
 """Tests of the page: look."""
-from test_base import Walk, ActionChains, Keys, MIXED, SCRIPTS
+from test_base import Walk, ActionChains, Keys, MIXED_FORM
 
 
 class Look(Walk):
@@ -10,11 +10,7 @@ class Look(Walk):
                      if any(one["name"] == "focusable" for one in it.get("properties", []))]
             fields = [name for role, name in named if role in ("textbox", "combobox", "checkbox")]
             wrong = [role for role, name in named if not name] + [it for it in fields if fields.count(it) > 1]
-            idle = self.driver.execute_async_script(f"{SCRIPTS}; idle(...arguments);", link)
-            self.assertEqual((wrong, idle, len(named) > 9), ([], [], True), link)
-        for skip, place in (("to-numbers", "literal"), ("to-code", "code"), ("to-controls", "digit_separator")):
-            self.find(f"#{skip}").send_keys(Keys.ENTER)
-            self.assertEqual(self.focused(), place)
+            self.assertEqual((wrong, self.call("idle", link), len(named) > 9), ([], [], True), link)
 
     def test_each_tab_looks_right_on_each_screen(self):
         """Nothing is faint, squeezed, cut off or beyond an edge, and a phone has the controls of a laptop."""
@@ -45,7 +41,7 @@ class Look(Walk):
             self.run_script("find('kinds').scrollIntoView()")
             self.find("#single").click()
             self.assertEqual(self.run_script(told), "The format is not that of Rust any more. Undo brings it back.")
-            self.load(f"#word={MIXED}&tab=edit")
+            self.load(f"#forms={MIXED_FORM}&tab=edit")
             for text in ("5", "xyz"):
                 self.find("#base_prefix").send_keys(Keys.CONTROL, "a")
                 before = self.run_script(place)

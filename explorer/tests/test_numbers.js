@@ -9,7 +9,7 @@ function test_good_and_bad_have_marks() {
 
 /* The separators that are marked are those of the form that reads the number, at each place where a flag allows one. */
 function test_separators_are_those_of_the_form_that_reads() {
-    const shown = () => textsOf(".written .separator").join("");
+    const shown = () => textsOf(".written .digit_separator").join("");
     const marks = ["_", "'", ",", " "];
     const form = (mark, ...settings) => ({ ...formOf("internal_digit_separator=true", `digit_separator='${mark}'`, ...settings), exponent: 112 });
     const hexadecimal = ["mantissa_radix=16", "exponent_base=16", "exponent_radix=16", "base_prefix='x'"];
@@ -30,15 +30,23 @@ function test_the_sentence_tells_what_the_numbers_are() {
     const names = { float: " float", prefix: "the prefix", exponent_character: "an exponent behind", suffix: "the suffix", sign: "a sign", runs: " digits" };
     return languages.flatMap(({ name, forms, numbers }) => {
         show(forms, numbers.replace(/^!.*$/gm, ""), name);
-        const answers = page.trial.answers.map((it) => ({ ...it, readers: library.call("readers", it.text)[0] }));
+        const answers = page.trial.answers.map((it) => ({ ...it, readers: readersOf(it.text) }));
         const clauses = textsOf("#summary p");
         const places = [...new Set(answers.map((it) => (it.is === "special value" ? forms.length : it.form)))].sort((a, b) => a - b);
         return places.flatMap((place, index) => {
             const group = answers.filter((it) => (it.is === "special value" ? forms.length : it.form) === place);
-            const reads = (it, language) => it.readers.some((one) => one.language === language && !one.refused);
-            const others = languages.filter((it, language) => it.name !== name && group.every((it) => reads(it, language))).map(({ title }) => title);
-            const titles = named([page.data.languages.find((it) => it.name === name).title, ...others]);
-            const ends = `: ${titles} read${others.length ? "" : "s"} ${group.length > 1 ? "them" : "it"}.`;
+            const readingOf = (it, at) => it.readers.find(({ language, refused }) => language === at && !refused);
+            const readings = languages.map((_, at) => group.map((it) => readingOf(it, at)));
+            const values = (all) => String(all.map((it) => Number(valueText(it))));
+            const reads = languages.filter((it, at) => it.name !== name && readings[at].every(Boolean));
+            const others = reads.map(({ title }) => title);
+            const placeOf = (title) => languages.findIndex((it) => it.title === title);
+            const isOther = (title) => values(readings[placeOf(title)]) !== values(group);
+            const [what, end] = group.length > 1 ? ["them", " other values"] : ["it", " another value"];
+            const does = (all, verb) => `${named(all)} ${verb}${all.length > 1 ? "" : "s"} ${what}`;
+            const same = [languages.find((it) => it.name === name).title, ...others.filter((it) => !isOther(it))];
+            const different = others.filter(isOther);
+            const ends = `: ${does(same, "read")}${different.length ? `; ${does(different, "give")}${end}` : ""}.`;
             const has = (kind) => group.some(({ is, parts }) => is === kind || parts.some((it) => it.kind === kind || (it.runs[1] && kind === "runs")));
             const isTold = ([kind, words]) => place === forms.length || has(kind) === clauses[index].toLowerCase().includes(words);
             const isNamed = group.length > 1 || clauses[index].startsWith(`${group[0].text} is a`);
@@ -52,7 +60,7 @@ function test_the_number_that_is_clicked_has_details() {
     page.change({ numbers: range(1, 6).join("\n") });
     return [5, 4, 3, 2, 6].filter((line) => {
         find("read").children[line - 1].querySelector(".row").click();
-        return document.activeElement !== find(`refuse-${line - 1}`);
+        return document.activeElement !== find(`row-${line - 1}`);
     });
 }
 
@@ -60,6 +68,6 @@ function test_characters_that_cannot_be_seen_have_their_numbers() {
     return ["1\u061c", "1\u200b2", "1\u00a02"].filter((text) => {
         show([page.library.usual], text);
         const number = `U+${text.charCodeAt(1).toString(16).toUpperCase().padStart(4, "0")}`;
-        return textsOf("#read p, #first-error, #summary").join().includes(text[1]) || !textsOf("#first-error, #summary").every((it) => it.includes(number));
+        return textsOf("#read p, #summary, #readers").join().includes(text[1]) || !textsOf("#summary, #readers").every((it) => it.includes(number));
     });
 }

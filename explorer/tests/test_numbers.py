@@ -1,10 +1,10 @@
 """Tests of the page: numbers."""
-from test_base import Walk, Keys, MIXED, STANDARD
+from test_base import Walk, MIXED_FORM, STANDARD, UNLAWFUL
 
 
 class Numbers(Walk):
     def test_numbers_are_tried(self):
-        self.load("#word=0x00000A000000005F000000020000000C")
+        self.load("#forms=0x00000A000000005F000000020000000C")
         self.type("#literal", "-0.1_2e-5\n-1_000\n1\u00e95\n!1\n!.x")
         parts = self.run_script("return [...find('read').firstChild.querySelectorAll('.written span')].map((it) => [it.title, it.textContent])")
         self.assertEqual(parts, [
@@ -18,15 +18,13 @@ class Numbers(Walk):
             "at index 1: unexpected character '\u00e9'",
             "accepted as integer = 1, but it must be refused",
             ".x refused: at index 1: unexpected character 'x'"])
-        self.assertEqual((self.text("#count"), self.text("#first-error").split(" ")[0]), ("2 of 5 as expected", "-1_000"))
-        self.find("#refuse-3").send_keys(Keys.SPACE)
-        self.assertEqual((self.value("#literal").split("\n")[3], self.focused(), self.text("#count")), ("1", "refuse-3", "3 of 5 as expected"))
-        self.load("#word=0x00000A0000000000000000000000101E&numbers=001%0A%2BInfinity%0A1.%0A1\U0001f6002")
+        self.assertEqual(self.text("#count"), "2 of 5 as expected")
+        self.load("#forms=0x00000A0000000000000000000000101E&numbers=001%0A%2BInfinity%0A1.%0A1\U0001f6002")
         self.assertEqual((self.texts("#read mark"), self.texts("#read mark span")), (["001", "+", " ", "\U0001f600"], ["0"]))
         self.assertEqual(self.texts("#read .use"), ["allow 01", "allow +1", "allow 1."])
 
     def test_numbers_are_shown_as_they_are_typed_and_with_the_reason_for_no_value(self):
-        shown = """page.jump({ forms: [page.library.usual], at: 0, language: "", numbers: arguments[0] });
+        shown = """page.change({ forms: [page.library.usual], at: 0, language: "", numbers: arguments[0] });
             return [find("read").querySelector(".written").innerText, ...[...find("read").querySelectorAll("p")].map((it) => it.textContent)]"""
         for text in (" 1", "1 ", "1  0", "  "):
             self.assertEqual(self.run_script(shown, text)[0], text)
@@ -44,40 +42,30 @@ class Numbers(Walk):
         self.assertEqual((self.value("#literal"), self.focused()), ("", "literal"))
 
     def test_parts_differ_by_more_than_colour(self):
-        self.load(f"#word={MIXED}&exponent=112&point=44&numbers=-0x1_0%2C8p%2B1h%0ANaN".replace("441F", "401F"))
+        self.load(f"#forms={MIXED_FORM}&numbers=-0x1_0%2C8p%2B1h%0ANaN".replace("441F", "401F"))
         self.assertEqual(" ".join(self.texts(".legend")).replace("\n", " "), "- sign 0x prefix 1_0 integer , point 8 fraction p exponent character "
             "+ exponent sign 1 exponent h suffix _ digit separator")
-        kinds = ("sign", "base", "digits", "separator", "option", "exponent", "special")
+        kinds = ("sign", "prefix", "integer", "digit_separator", "point", "exponent", "special")
         for style in ("[it.textDecorationStyle, it.textDecorationLine].join()", "it.color"):
             styles = [self.run_script(f"const it = getComputedStyle(document.querySelector('.written .{kind}')); return {style}") for kind in kinds]
             self.assertEqual(len(set(styles)), len(styles))
         self.load()
         self.type("#literal", "12\u05d03")
-        before, mark = (self.run_script(f"return document.querySelector('#read {it}').getBoundingClientRect().toJSON()") for it in (".digits", "mark"))
+        before, mark = (self.run_script(f"return document.querySelector('#read {it}').getBoundingClientRect().toJSON()") for it in (".integer", "mark"))
         self.assertAlmostEqual(before["right"], mark["left"], delta=3)
-        self.media(forced_colors="active")
-        outlines = self.run_script("return [...document.querySelectorAll('#panes [role=tab]')].map((it) => getComputedStyle(it).outlineStyle)")
-        self.assertEqual(outlines, ["solid"] + 4 * ["none"])
 
     def test_an_unlawful_form_is_told_wherever_it_is(self):
         for shown in (0, 1):
             for at in (0, 1):
-                words = [STANDARD, STANDARD]
-                words[at] = "0x000010006200005F00000000000000CC"
-                lines = [f":{name}" if index == shown else f"{words[index]} 101 46 :{name}" for index, name in enumerate("ab")]
-                self.load(f"#word={words[shown]}&numbers=1&forms=" + "%0A".join(lines))
+                forms = "%0A".join(f"{UNLAWFUL if name == 'ab'[at] else STANDARD}%09{name}" for name in "ab")
+                self.load(f"#forms={forms}&at={shown}&numbers=1")
                 self.assertEqual((self.text("#verdict")[:9], self.texts("#forms .bad")), ("Not valid", ["ab"[at]]))
                 self.assertIn("Nothing can be read", self.text("#code"))
                 self.assertIn("Nothing is read", self.text("#summary"))
                 self.click("#verdict")
                 self.assertEqual((self.text("#forms [aria-pressed=true]"), self.focused()), ("ab"[at], "report-title"))
 
-    def test_the_sentence_has_a_clause_for_each_form(self):
-        self.load("#language=RUST&numbers=0x1_F%0A0xFF%0A-1%0A!5")
-        self.assertRegex(self.text("#summary"), r"^Hexadecimal integers with the prefix 0x and _ between digits: Rust, C# and \d+ more read them\.\n"
-            r"-1 is not as expected: In Rust, - is an operator, so that numbers have no sign\.\n5 is not as expected, which a button below changes\.$")
-
-    def test_a_value_that_is_too_large_is_not_as_expected(self):
+    def test_a_value_that_is_too_large_is_refused(self):
         self.load("#language=JAVA&numbers=2147483648%0A1%0A!2147483648")
-        self.assertEqual((self.text("#count"), self.texts("#read > li:first-child .use")), ("1 of 3 as expected", []))
+        self.assertEqual((self.text("#count"), self.texts("#read > li:first-child .use")), ("2 of 3 as expected", []))
         self.assertIn("above 2147483647", self.text("#summary"))

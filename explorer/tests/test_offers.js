@@ -3,24 +3,37 @@
 
 /* No number of a language that refuses `-5` has a sign. */
 function test_a_minus_that_is_an_operator_is_told() {
-    const [readers] = page.library.call("readers", "-5");
+    const readers = readersOf("-5");
     return page.data.languages.filter(({ name, title, forms }, index) => ["-5", "5"].some((number) => {
         show(forms, number, name);
-        const isShown = textsOf("#readers .meaning").join().startsWith(`In ${page.data.languages.length - readers.length} others, - is`);
+        const isShown = textsOf("#readers .meaning").some((it) => it.endsWith(", - is an operator before the number."));
         const told = textsOf("#read li li").filter((it) => it.includes("operator"));
         const isRead = number === "5" || readers.some((it) => it.language === index);
         return isShown !== (number === "-5") || told.join() !== (isRead ? "" : `In ${title}, - is an operator, so that numbers have no sign.`);
     })).map(({ name }) => name);
 }
 
+/* The sentence promises no button if the same number must be accepted, too, and else one that refuses it. */
+function test_the_sentence_promises_what_a_button_does() {
+    const promises = () => find("summary").textContent.includes(BUTTON);
+    return page.data.languages.filter(({ name, forms, numbers }) => {
+        const first = numbers.split("\n").find((it) => it[0] !== "!");
+        show(forms, `${first}\n!${first}`, name);
+        if (promises()) return true;
+        show(forms, `!${first}`, name);
+        if (promises()) find("read").querySelector(".use").click();
+        return promises();
+    }).map(({ name }) => name);
+}
+
 /* Numbers show each size of each kind of groups. If any would do, the usual size is offered. */
 function test_sizes_of_groups_are_offered() {
     const { library } = page;
-    const form = formOf("internal_digit_separator=true", "digit_separator=','");
+    const form = (settings) => formOf("internal_digit_separator=true", "digit_separator=','", settings);
     const zeros = (size) => "0".repeat(size);
     const texts = { integer: (it) => `1,${zeros(it)}`, higher: (it) => `1,${zeros(it)},000`, fraction: (it) => `0.${zeros(it)},0` };
     const offered = (settings, ...numbers) => {
-        show([{ ...form, conditions: library.withConditions(0n, settings) }], numbers.join("\n"));
+        show([form(settings)], numbers.join("\n"));
         return textsOf("#read .name");
     };
     return library.conditions.filter((it) => it.isNumber && !it.isKind).flatMap(({ name, limits: [least, most] }) => {
@@ -33,6 +46,17 @@ function test_sizes_of_groups_are_offered() {
     });
 }
 
+/* The words of a change tell whether it refuses or allows texts: for each flag and condition, set and not set. */
+function test_words_of_a_change_tell_its_direction() {
+    const { library, library: { usual, flags, conditions } } = page;
+    return [...flags, ...conditions].filter(({ isNumber, isKind }) => !isNumber && !isKind).filter(({ name, part }) => {
+        const states = [0, 1].map((it) => library.with(usual, name, it));
+        const words = states.map((it, index) => changeWords(library, it, library.differences(it, states[1 - index])));
+        const [without, set] = part === "separator" ? words.toReversed() : words;
+        return !/^allow |is optional$/.test(without) || !/^(refuse|require) /.test(set);
+    }).map(({ name }) => name);
+}
+
 /* Returns what is offered and advised for a number of the usual form, and the sentence. */
 function offeredFor(text) {
     show([page.library.usual], text);
@@ -41,18 +65,19 @@ function offeredFor(text) {
     return [textsOf("#read .then")[0], advice.join(" "), find("summary").textContent, textsOf("#read .use, #read .link")];
 }
 
-/* An offer that refuses a text does not without any of its flags. The words of sizes of groups differ. */
-function test_offers_that_refuse_are_needed_and_named() {
+/* No two offers for a number have the same words, and each is in vain without any of its flags. */
+function test_offers_are_needed_and_named_apart() {
     const { library, data: { languages } } = page;
     const grouped = { forms: [formOf("internal_digit_separator=true", "digit_separator=','")], numbers: "1,23,45,678" };
-    return [grouped, ...languages].flatMap(({ name, forms, specials, numbers }) => numbers.split("\n").filter((text) => {
-        show(forms, `!${text}`, name);
+    return [grouped, ...languages].flatMap(({ name, forms, specials, numbers }) => numbers.split("\n").filter((line) => {
+        const [isRefused, text] = [line[0] !== "!", line.replace("!", "")];
+        show(forms, (isRefused ? "!" : "") + text, name);
         const { offers } = page.trial.withOffers(page.trial.answers[0]);
-        const isVain = (list) => library.call("numbers", { forms: list, specials }, text)[0]?.error;
-        const words = offers.map(({ ways: [[it]] }) => it).filter((it) => it.includes("groups of"));
-        return text[0] !== "!" && (new Set(words).size < words.length || offers.some(({ changes, ways: [[, { at, forms }]] }) => changes.some((it) => {
-            return it.holder === "word" && isVain(forms.with(at, library.with(forms[at], it.name, it.before)));
-        })));
+        const isVain = (list) => library.call("numbers", { forms: list, specials }, text).some(({ error }) => isRefused === Boolean(error));
+        return new Set(offers.map(({ ways: [[words]] }) => words)).size < offers.length || offers.some(({ changes, ways: [[, { at, forms }]] }) => {
+            const flags = changes.filter(({ holder, isByte }) => holder === "word" && !isByte);
+            return flags.some((it) => isVain(forms.with(at, library.with(forms[at], it.name, it.before))));
+        });
     }));
 }
 
@@ -80,7 +105,7 @@ function lostByOffers(samples) {
 function test_offers_lead_to_what_they_tell() {
     const told = (it) => it.textContent.replace(/^(accepted|refused): /, "");
     return page.data.languages.flatMap(({ name, forms, numbers }) => numbers.split("\n").filter((it) => it[0] === "!").flatMap((text) => {
-        const start = () => page.jump({ forms, at: 0, language: name, numbers: `${text.slice(1)}\n1` });
+        const start = () => page.change({ forms, at: 0, language: name, numbers: `${text.slice(1)}\n1` });
         start();
         return [...find("read").querySelectorAll(".use")].flatMap((_, index) => {
             start();

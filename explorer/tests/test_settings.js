@@ -6,37 +6,28 @@ function test_kinds_are_told_apart() {
     const differ = (...lists) => library.call("differ", ...lists.map((form) => ({ forms: [form] }))).flat().length;
     const kinds = library.conditions.filter(({ isKind }) => isKind);
     const forms = kinds.flatMap(({ name, limits = [1, 1] }) => range(...limits).map((it) => library.with(library.usual, name, it)));
-    return forms.filter((it) => !differ(library.usual, it) || !differ(it, library.usual)).map((it) => library.conditionsText(it));
+    return forms.filter((it) => !differ(library.usual, it) || !differ(it, library.usual)).map((it) => library.formText(it));
 }
 
 function test_numbers_beyond_the_limits_of_a_condition_are_told() {
     const beyond = ([least, most]) => [least - 1, most + 1, -1, 1.5, "x"].filter((it) => it !== 0);
-    return page.library.conditions.flatMap(({ name, limits = [1, 1] }) => beyond(limits).map((it) => `${name}=${it}`)).filter((it) => {
-        const lost = [];
-        return page.library.withConditions(0n, it, lost) || !lost.length;
-    });
+    const settings = page.library.conditions.flatMap(({ name, limits = [1, 1] }) => beyond(limits).map((it) => `${name}=${it}`));
+    return settings.filter((it) => !page.library.read(it).error?.includes(it));
 }
 
-function test_controls_are_called_by_what_they_do() {
-    const wrong = [...page.library.fields, ...page.library.groups, ...page.library.conditions].filter(({ name, isByte }) => {
-        const [box, title] = [find(name), name.replace("_", " ")];
-        return isByte ? box.labels[0].textContent !== title : !box.ariaLabel.endsWith(`(${name})`) || !box.closest(`[data-field=${name}]`);
-    });
-    const cells = [...document.querySelectorAll("#separators td input")].filter((it) => {
+function test_separators_are_in_their_rows_and_columns() {
+    return [...document.querySelectorAll("#separators td input")].filter((it) => {
         const [row, column] = [it.closest("tr").cells[0], find("separators").rows[0].cells[it.closest("td").cellIndex]];
         return it.id !== `${row.textContent}_${column.textContent}_digit_separator`;
-    });
-    return [...wrong.map(({ name }) => name), ...cells.map(({ id }) => id)];
+    }).map(({ id }) => id);
 }
 
-/* Returns what is told of each flag, group, byte and condition: its name, its bits, its meaning, what it refuses, and what is shown. */
+/* Returns each flag, group, byte and condition: its name, its bits, and what is told and shown of it. */
 function shownFields() {
-    const { fields, groups, conditions, usual } = page.library;
-    return [...fields, ...groups, ...conditions].map(({ name, mask, meaning, part, refuses, isByte, isKind }) => {
-        const box = find(name).closest("td, th, .control");
-        const bits = isByte ? String(page.library.effective(usual, name) !== page.library.value(usual, name)) : String(mask);
-        return { name, bits, meaning, isKind, isByte, refuses: part === "option" ? refuses : [], cell: find(name).closest("td")?.textContent,
-            shown: `${find(name).ariaLabel} ${box.textContent}`.replaceAll("`", "") };
+    const { fields, groups, conditions } = page.library;
+    return [...fields, ...groups, ...conditions].filter(({ isKind }) => !isKind).map(({ name, mask }) => {
+        const shown = `${find(name).ariaLabel} ${find(name).closest(`[data-field=${name}]`).textContent}`;
+        return [name, String(mask), shown.replaceAll("`", "")];
     });
 }
 
@@ -44,7 +35,7 @@ function shownFields() {
  * that a link has, and in the code. */
 function test_each_choice_lands_in_the_state_the_link_and_the_code() {
     const { library } = page;
-    const whole = formOf("digit_separator_flags=true", "digit_separator='_'", "base_prefix='x'", "base_suffix='h'");
+    const whole = ["digit_separator_flags=true", "digit_separator='_'", "base_prefix='x'", "base_suffix='h'"];
     const kinds = {
         at_most: ["::AtMost(%)", "_AT_MOST, .integer_bits = %}", "(at_most=%)"],
         wraps: ["::Wraps(%)", "_WRAP, .integer_bits = %}", "(wraps=%)"],
@@ -52,7 +43,7 @@ function test_each_choice_lands_in_the_state_the_link_and_the_code() {
         single: ["::Single", "_FLOATS_SINGLE", "(single=True)"],
     };
     const start = (name) => {
-        show([{ ...whole, conditions: library.withConditions(0n, name === "higher_group_size" ? "integer_group_size=3" : "") }]);
+        show([formOf(...whole, name === "higher_group_size" ? "integer_group_size=3" : "")]);
         page.chooseTab("edit");
         return page.form;
     };
@@ -88,18 +79,16 @@ function test_each_choice_lands_in_the_state_the_link_and_the_code() {
     });
 }
 
-/* The first repair of the first problem, again and again, ends all. Of a radix, one keeps it. */
-function test_repairs_end_all_reasons() {
-    const { library } = page;
-    const problems = (form) => library.explain(form).problems;
-    const words = range(9, 68).map((it) => BigInt.asUintN(128, (7919n ** BigInt(it)) >> 40n)).filter((word) => {
-        let state = { ...library.usual, word };
-        for (let step = 0; problems(state).length && step < 40; step += 1) [state] = library.repairs(state, problems(state)[0]);
-        return problems(state).length;
-    });
-    return [...words.map(wordText), ...range(2, 36).filter((radix) => {
-        const form = library.with(library.usual, "mantissa_radix", radix);
-        const isKept = (it) => library.value(it, "mantissa_radix") === radix && !problems(it).length;
-        return problems(form).some((it) => !library.repairs(form, it).some(isKept));
-    })];
+/* A click on the box of a group that is partly set clears it and tells so, and the next one sets it. */
+function test_a_group_that_is_partly_set_is_cleared_first() {
+    return page.library.groups.filter(({ name, mask }) => {
+        show([{ ...page.library.usual, word: (page.library.usual.word & ~mask) | (mask & -mask) }]);
+        page.chooseTab("edit");
+        const isMixed = find(name).indeterminate;
+        const [[cleared, isTold], [set, isToldAgain]] = [1, 2].map(() => {
+            find(name).click();
+            return [page.form.word & mask, find("told").textContent.includes("Undo brings them back")];
+        });
+        return !isMixed || cleared !== 0n || set !== mask || !isTold || isToldAgain;
+    }).map(({ name }) => name);
 }

@@ -1,17 +1,17 @@
 """Tests of the page: state."""
 import re
 
-from test_base import Walk, Keys, STANDARD, MIXED
+from test_base import Walk, Keys, STANDARD, MIXED, MIXED_FORM
 
 
 class State(Walk):
     def test_changes_are_undone_and_done_again(self):
-        """By buttons and keys, also after the page is loaded again. The browser goes back from a language and an offer, too."""
+        """By buttons and keys, also after the page is loaded again, at once. The browser goes back from a language and an offer, too."""
         def state():
             return self.run_script("return `${page.library.formText(page.form)} ${page.state.language} ${page.state.numbers}`")
 
         def press(*keys):
-            return lambda: self.find("body").send_keys(*keys)
+            return lambda: self.driver.switch_to.active_element.send_keys(*keys)
 
         def lead(steps, states):
             for step, wanted in zip(steps, states):
@@ -23,9 +23,9 @@ class State(Walk):
             change()
             states.append(state())
         undo, redo = (lambda: self.click("#undo")), (lambda: self.click("#redo"))
-        lead([undo, press(Keys.CONTROL, "z"), press(Keys.META, "z")], states[-2::-1])
+        lead([press(Keys.CONTROL, "z"), press(Keys.META, "z"), undo], states[-2::-1])
         self.assertFalse(self.find("#undo").is_enabled())
-        lead([redo, press(Keys.CONTROL, "y"), press(Keys.CONTROL, Keys.SHIFT, "z")], states[1:])
+        lead([press(Keys.CONTROL, "y"), redo, press(Keys.CONTROL, Keys.SHIFT, "z")], states[1:])
         self.assertFalse(self.find("#redo").is_enabled())
         self.run_script("for (let step = 1; step < 102; step += 1) page.change({ numbers: String(step) }); page.save();")
         self.refresh()
@@ -33,18 +33,33 @@ class State(Walk):
         self.assertEqual(self.value("#literal"), "100")
         self.click("#no_exponent_notation")
         self.assertFalse(self.find("#redo").is_enabled())
-        self.load(f"#word={STANDARD}&numbers=1_0&tab=edit")
+        self.refresh()
+        self.assertTrue(self.is_checked("#no_exponent_notation"))
+        self.load("#numbers=1_0&tab=edit")
         before = state()
         for enter in (lambda: self.select("#language", "JSON"), lambda: self.click("#read .use")):
             enter()
+            entered = state()
             self.driver.back()
             self.wait(lambda: state() == before)
-        self.load(f"#word={STANDARD}&tab=edit")
+            lead([redo, undo], [entered, before])
+        self.load("#tab=edit")
         for name in self.run_script("return [...page.library.bytes, ...OPTIONS].map(({ name }) => name)"):
             for _ in range(2):
                 self.type(f"#{name}", "7")
                 self.find(f"#{name}").send_keys(Keys.CONTROL, "z")
                 self.assertEqual(state(), states[0], name)
+
+    def test_a_text_that_is_typed_anew_is_a_step_of_its_own(self):
+        for name in ["literal", *self.run_script("return [...page.library.bytes, ...OPTIONS].map(({ name }) => name)")]:
+            self.load("#tab=edit")
+            links = []
+            for text in "78":
+                self.find("#tab-edit").click()
+                self.type(f"#{name}", text)
+                links.append(self.run_script("return page.fragment()"))
+            self.click("#undo")
+            self.assertEqual(self.run_script("return page.fragment()"), links[0], name)
 
     def test_what_is_lost_is_told(self):
         self.type("#word", "digit_separator=95 base_prefix=120" + Keys.ENTER)
@@ -63,31 +78,30 @@ class State(Walk):
         self.wait(lambda: self.run_script("return getSelection().toString() === location.hash && location.hash"))
 
     def test_links_have_the_whole_state(self):
-        self.load("#word=0x0A0A10006200005F000000070001400C&exponent=p&point=44&compare=JSON&numbers=+1%0A!2%203")
+        self.load("#forms=0x0A0A10006200005F000000070001400C exponent=p point=44&compare=JSON&numbers=%2B1%0A!2%203")
         self.assertEqual(self.value("#literal"), "+1\n!2 3")
         self.click("#no_special")
         self.type("#literal", "1_0 %&")
-        wanted = "#word=0x0A0A10006200005F000000070001440C&exponent=112&point=44&numbers=1_0%20%25%26&compare=JSON&tab=edit"
-        self.wait(lambda: self.run_script("return location.hash") == wanted)
-        for link, word, tab in (("#exponent=112", STANDARD, "Languages"), ("#language=JSON&amp;tab=c", "0x0A0A0A0000000000000000000000341F", "Code")):
+        self.wait(lambda: self.run_script("return location.hash === page.fragment()"))
+        for link, word, tab in (("#numbers=1", STANDARD, "Languages"), ("#language=JSON&amp;tab=c", "0x0A0A0A0000000000000000000000341F", "Code")):
             self.load(link)
             self.assertEqual((self.text("#panes [aria-selected=true]"), self.value(), self.text("#told")), (tab, word, ""))
 
     def test_what_a_link_has_in_vain_is_told(self):
-        wrong = ["word=nonsense", "exponent=300", "point=", "language=NONE", "compare=NONE", "tab=none", "conditions=no_such=1",
-                 "conditions=integer_group_size=9", "forms=0x1 300 46:b", "forms=:a%0A0xg 101 46:b", "unknown=1", 1000 * "a"]
+        bad = ["nonsense", "0xg", "0x1 exponent=300", "0x1 point=''", "0x1 no_such=1", "0x1 integer_group_size=9"]
+        wrong = [*(f"forms={it}%0A{STANDARD}" for it in bad), *(f"forms={STANDARD}%0A{it}" for it in bad),
+                 "language=NONE", "compare=NONE", "tab=none", "at=1", "at=-1", "at=length", "unknown=1", 1000 * "a"]
         for part in wrong:
-            self.load(f"#{part}")
-            wanted = re.sub("conditions=|forms=(:a%0A)?|(?<=unknown)=1", "", part[:30])
+            self.call("follow", f"#{part}")
+            wanted = re.sub(f"forms=({STANDARD}%0A)?|%0A{STANDARD}|(?<=unknown)=1", "", part)[:30]
             self.assertIn(wanted, self.text("#told"))
-            self.assertEqual((self.value(), self.value("#exponent"), self.value("#point")), (STANDARD, "e", "."))
-        self.load("#forms=0xC 101 46 integer_group_size=9 other:b")
-        self.assertIn(": integer_group_size=9, other.", self.text("#told"))
+            forms = self.run_script("return page.state.forms.map((form) => page.library.formText(form))")
+            self.assertEqual((forms, self.run_script("return page.state.at")), ([f"{STANDARD}\t"], 0))
         self.click("#no_special")
         self.assertEqual(self.text("#told"), "")
 
     def test_a_link_is_followed_while_the_page_is_open(self):
-        self.run_script("location.hash = `#word=${arguments[0]}&exponent=112&compare=JSON&tab=python`", MIXED)
+        self.run_script("location.hash = `#forms=${arguments[0]}&compare=JSON&tab=python`", MIXED_FORM)
         self.wait(lambda: "from peltzivar import" in self.text("#code"))
         self.assertEqual((self.value(), self.value("#exponent"), self.value("#compare")), (MIXED, "p", "JSON"))
         self.click("#undo")
@@ -96,13 +110,16 @@ class State(Walk):
     def test_a_copied_link_opens_where_it_is_pasted(self):
         """Of many numbers, it has the first ones, which is told."""
         numbers = "\n".join(f"1_{index}" for index in range(2000))
-        self.run_script("""navigator.clipboard.writeText = async (text) => { window.copied = text; };
-            page.start("RUST"); page.change({ numbers: arguments[0] }); find("copy-link").click();""", numbers)
-        self.wait(lambda: "lines alone. Copied: pasted into the numbers" in self.text("#told"))
-        link = self.run_script("return window.copied")
-        self.assertLess(len(link), 6000)
-        self.load()
-        self.run_script("find('literal').value = arguments[0]; find('literal').dispatchEvent(new Event('input'))", link)
-        kept = self.value("#literal")
-        self.assertEqual((self.value("#language"), self.run_script("return page.state.numbers")), ("RUST", kept))
-        self.assertTrue(numbers.startswith(f"{kept}\n"))
+        for language in ("RUST", ""):
+            self.run_script("""navigator.clipboard.writeText = async (text) => { window.copied = text; };
+                page.start(arguments[0]);
+                page.change({ numbers: arguments[1] });
+                find("copy-link").click();""", language, numbers)
+            self.wait(lambda: "lines alone. Copied: pasted into the numbers" in self.text("#told"))
+            link = self.run_script("return window.copied")
+            self.assertLess(len(link), 6000)
+            self.load("#language=JSON")
+            self.call("choose", "literal", link)
+            kept = self.value("#literal")
+            self.assertEqual((self.value("#language"), self.run_script("return page.state.numbers")), (language, kept))
+            self.assertTrue(numbers.startswith(f"{kept}\n"))
