@@ -3,7 +3,6 @@
 
     docs/check_definitions.py edit_word    prints what the contract of `edit_word` cites, directly or by definitions
     docs/check_definitions.py              names the calls, each with the number of lines and the files that this prints
-    docs/check_definitions.py --unaided    names the public functions that are proved without a folder in proofs/
 
 A contract cites the definitions that the `use` lines of its file bring, and a definition also those of its own file. A
 definition is found by its name and that of its file. `Specials::read` is the call of this type, and `read` that of all
@@ -163,20 +162,7 @@ def text_of(call):
     return lines, unfit if found else ["no public function"]
 
 
-def unaided():
-    """Yields the crate and the path of each public function with clauses and a body, but without a folder in proofs/."""
-    for path, source in SOURCES.items():
-        _, crate, _, *module = path.with_suffix("").parts
-        for found in FUNCTION.finditer(source):
-            names = [*([it] if (it := owner(source, found)) else module), found[1]]
-            folders = TOP.glob(f"crates/{crate}/proofs/**/{'/'.join(names)}/")
-            if "ensures" in found[2] and not found[0].endswith("{}") and not any(folders):
-                yield f"{crate} {'::'.join(names)}"
-
-
 def main(calls):
-    if calls == ["--unaided"]:
-        return print(*unaided(), sep="\n")
     if unknown := set(calls) - set(CALLS):
         sys.exit(f"not a headline call: {', '.join(unknown)}; they are {', '.join(CALLS)}")
     texts = {call: text_of(call) for call in calls or CALLS}

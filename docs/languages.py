@@ -14,7 +14,9 @@ import sys
 TOP = pathlib.Path(__file__).resolve().parent.parent
 PAGE = TOP / "docs/LANGUAGES.md"
 TABLES = TOP / "rust/src/literal/language/tables.rs"
-HEAD = """# Languages
+HEAD = """<!-- Made by docs/languages.py: run that program. -->
+
+# Languages
 
 `Language` has a constant for each of these languages and files: a name and a list of [forms](FORMS.md#several-forms).
 `Language::RUST.read("0x1F")` finds the first form of which a text is a number, `parse` its value, and `token` a number
@@ -35,18 +37,19 @@ of which Debian has a tool is [compared with it](../compare/README.md#languages-
 
 
 def documented():
-    """Returns the documentation of each constant, without links."""
-    blocks = re.findall(r"((?:^    /// .*\n)+)    (\w+) = ", TABLES.read_text(), re.M)
-    return {name: re.sub(r"\[(.*?)\]\[.*?\]", r"\1", re.sub(r"^    /// ", "", text, flags=re.M)) for text, name in blocks}
+    """Returns the title and the documentation, without links, of each constant."""
+    blocks = re.findall(r'((?:^    /// .*\n)+)    (\w+): "(.*)" = ', TABLES.read_text(), re.M)
+    return {name: (title, re.sub(r"\[(.*?)\]\[.*?\]", r"\1", re.sub(r"^    /// ", "", text, flags=re.M))) for text, name, title in blocks}
 
 
 def forms():
-    """Returns the rows of each language: a form, a sentence on the numbers that it reads, its kind and its suffixes."""
+    """Returns the rows of each language: a form, a sentence on the numbers that it reads, its kind, and its suffixes, once."""
     printed = subprocess.run(["cargo", "run", "-q", "--example", "languages"], cwd=TOP, stdout=subprocess.PIPE, text=True, check=True)
-    rows = {}
+    rows, before = {}, ""
     for line in printed.stdout.splitlines():
         language, form, sentence, kind, words, *_ = line.split("\t")
-        rows.setdefault(language, []).append(f"| {form} | {sentence.replace('|', chr(92) + '|')} | {kind} | {words} |\n")
+        shown, before = "as above" if words == before and words.count(",") > 4 else words, words
+        rows.setdefault(language, []).append(f"| {form} | {sentence.replace('|', chr(92) + '|')} | {kind} | {shown} |\n")
     return rows
 
 
@@ -62,7 +65,8 @@ def made():
     about, compared = documented(), tools()
     for name, rows in forms().items():
         by = "with " + " and ".join(compared[name]) if name in compared else "with a table of its grammar"
-        yield f"\n## {name}\n\n{about[name]}\nCompared {by}.\n\n| Form | Reads | Values | Suffixes |\n|---|---|---|---|\n{''.join(rows)}"
+        title, text = about[name]
+        yield f"\n## {title} (`{name}`)\n\n{text}\nCompared {by}.\n\n| Form | Reads | Values | Suffixes |\n|---|---|---|---|\n{''.join(rows)}"
 
 
 def main():

@@ -1,21 +1,10 @@
 //! The calls of the library that the rows of literals make. `bench/run --against` builds the library of a commit with
-//! the commit's own copy of this file, or, if it has none, up to f0062148, with this file and `cfg(old)`. So if a call
-//! changes, write it for both.
+//! the commit's own copy of this file.
 
 use crate::literals::{calls, Group};
-#[cfg(old)]
-use peltzivar::literal::Reader as Syntax;
-#[cfg(not(old))]
-use peltzivar::literal::Syntax;
-use peltzivar::literal::{Language, Style};
+use peltzivar::literal::{Language, Style, Syntax};
 use std::hint::black_box;
 
-#[cfg(old)]
-fn of(group: &Group) -> &'static Syntax {
-    &group.language.readers().as_slice()[group.form]
-}
-
-#[cfg(not(old))]
 fn of(group: &Group) -> Syntax {
     group.language.forms()[group.form].syntax()
 }
@@ -24,7 +13,6 @@ calls! {
     reader: |group| { let it = of(group); move |text| black_box(it.read(text.as_bytes())).is_ok() };
     refuses: |group| { let it = of(group); move |text| black_box(it.read(text.as_bytes())).is_err() };
     listed: |group| { let it = group.language; move |text| black_box(it.read(text.as_bytes())).is_ok() };
-    list_refuses: |group| { let it = group.language; move |text| black_box(it.read(text.as_bytes())).is_err() };
     list_value: |group| { let it = group.language; move |text| black_box(it.parse::<i64>(text)).is_ok() };
     value: |group| { let it = of(group); move |text| black_box(it.parse::<i64>(text)).is_ok() };
     float: |group| { let it = of(group); move |text| black_box(it.parse::<f64>(text)).is_ok() };
@@ -35,7 +23,6 @@ calls! {
 }
 
 /// Writes a float of JSON with all its digits or with two decimals, and returns the number of bytes.
-#[cfg(not(old))]
 pub fn float_writer(decimals: Option<u8>) -> impl Fn(f64) -> usize {
     let syntax = Language::JSON.forms()[0].syntax();
     let mut style = Style::PLAIN;
@@ -48,9 +35,6 @@ pub fn float_writer(decimals: Option<u8>) -> impl Fn(f64) -> usize {
 
 /// Writes an integer of JSON, and returns the number of bytes.
 pub fn writer() -> impl Fn(i64) -> usize {
-    #[cfg(old)]
-    let syntax = Language::JSON.forms()[0].syntax;
-    #[cfg(not(old))]
     let syntax = Language::JSON.forms()[0].syntax();
     move |value| {
         let written = syntax.format_integer(value, Style::PLAIN).expect("an integer");

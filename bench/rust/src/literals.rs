@@ -5,8 +5,6 @@ use crate::calls::*;
 use crate::list;
 use crate::measure::Row;
 use crate::random::Random;
-#[cfg(peers)]
-use lexical_core::NumberFormat;
 use peltzivar::literal::Language;
 use std::fmt::Write;
 use std::hint::black_box;
@@ -119,18 +117,6 @@ fn appended(random: &mut Random, language: Language) -> String {
     literal(random, language) + random.pick(&[";", " ", "x"])
 }
 
-/// A number of a form of C.
-fn of_c(random: &mut Random, form: usize) -> String {
-    let number = 1 + random.below(1 << 24);
-    match form {
-        0 => format!("{}.{}", number % 1000, number / 1000),
-        1 => format!("0{number:o}"),
-        2 => format!("0x{number:X}"),
-        3 => format!("0b{:b}", number % 4096),
-        _ => format!("0x1.{number:x}p{}", number % 100),
-    }
-}
-
 /// Calls of a group, each with a text.
 macro_rules! calls {
     ($($name:ident: |$group:ident| $call:expr;)*) => {
@@ -150,8 +136,6 @@ calls! {
 calls! {
     peer_integer: |_group| |text| black_box(lexical_core::parse::<i64>(text.as_bytes())).is_ok();
     peer_float: |_group| |text| black_box(lexical_core::parse::<f64>(text.as_bytes())).is_ok();
-    peer_group: |_group| |text| black_box(lexical_core::parse_format::<i64>(text.as_bytes(), NumberFormat::RUBY_LITERAL)).is_ok();
-    peer_decimal: |_group| |text| black_box(lexical_core::parse_format::<f64>(text.as_bytes(), NumberFormat::RUBY_LITERAL)).is_ok();
 }
 
 /// Returns how many texts a call returns `true` for.
@@ -179,35 +163,13 @@ pub fn row<F: Fn(&str) -> bool, G: Fn(&str) -> bool>(
     }
 }
 
-/// Returns the row of writers. Each loop returns the number of bytes that it writes.
-fn written(random: &mut Random) -> Row {
-    // Integers of which each number of bits is as frequent.
-    let values: &[i64] = list(random, 100_000, |random| (random.next() as i64) >> random.below(64));
-    let write = writer();
-    Row {
-        name: "Syntax::format_integer, i64, over Display",
-        calls: values.len(),
-        ours: Box::new(move || values.iter().map(|value| write(*black_box(value)) as u64).sum()),
-        theirs: Box::new(move || {
-            let mut text = String::new();
-            let sizes = values.iter().map(|value| {
-                text.clear();
-                write!(text, "{}", *black_box(value)).expect("memory");
-                black_box(&text).len() as u64
-            });
-            sizes.sum()
-        }),
-    }
-}
-
-/// Returns a row of writers of floats that are not whole, of which a half are amounts of money. `theirs` writes one by std.
-#[cfg(not(old))]
-fn floats(random: &mut Random, name: &'static str, decimals: Option<u8>, theirs: fn(&mut String, f64)) -> Row {
-    let values: &[f64] = list(random, 100_000, |random| match random.below(2) {
-        0 => (random.below(100_000_000) * 100 + 1 + random.below(99)) as f64 / 100.0,
-        _ => (random.next() >> 11) as f64 / (1_u64 << 53) as f64 * 1000.0 + 1.0,
-    });
-    let write = float_writer(decimals);
+/// Returns a row of writers. Each loop returns the number of bytes that it writes. `theirs` writes a number by std.
+fn written<T: Copy>(
+    name: &'static str,
+    values: &'static [T],
+    write: impl Fn(T) -> usize + 'static,
+    theirs: impl Fn(&mut String, T) + 'static,
+) -> Row {
     Row {
         name,
         calls: values.len(),
@@ -240,15 +202,6 @@ pub fn rows() -> Vec<Row> {
     let fractions = of_form(Language::JSON, 0, || format!("0.{}", fixed(random, 17)));
     let long = of_form(Language::JSON, 0, || format!("1.{}", fixed(random, 99)));
     let hexadecimal = of_form(Language::C, 4, || format!("0x1.{}p{}", fixed(random, 13), random.below(100)));
-    let form = |form| Group::new((Language::C, form), 20_000, || of_c(random, form), |_, _| true);
-    let forms = Vec::from([0, 1, 2, 3, 4].map(form)).leak();
-    let ended_form = |form| Group::new((Language::C, form), 20_000, || of_c(random, form) + random.pick(&[";", " ", ")"]), |_, _| true);
-    let ended_forms = Vec::from([0, 1, 2, 3, 4].map(ended_form)).leak();
-    let wrong_form = |form| {
-        let is_refused = |group: &Group, text: &str| list_refuses(group)(text);
-        Group::new((Language::C, form), 20_000, || of_c(random, form) + random.pick(&[";", " ", "x"]), is_refused)
-    };
-    let wrong_forms = Vec::from([0, 1, 2, 3, 4].map(wrong_form)).leak();
     let long_integers = of_form(Language::JSON, 0, || 1.to_string() + &fixed(random, 17));
     let wrong_integers = of_form(Language::JSON, 0, || {
         let mut text = integer(random, None);
@@ -268,9 +221,6 @@ pub fn rows() -> Vec<Row> {
         "Syntax::read, 17 digits, over parse", exponents.reader, exponents.parse;
         "Syntax::read, grouped, over 17 digits", grouped.reader, exponents.reader;
         "Syntax::read, prefixed, over 17 digits", prefixed.reader, exponents.reader;
-        "Forms::read, 5 forms of C, over Syntax::read", forms.listed, forms.reader;
-        "Forms::read, refused, over Syntax::read", wrong_forms.list_refuses, wrong_forms.refuses;
-        "Forms::token, 5 forms of C, over Forms::parse", ended_forms.token, forms.list_float;
         "Syntax::read, byte inserted, over accepted", inserted.refuses, accepted.reader;
         "Syntax::read, byte appended, over accepted", appended.refuses, accepted.reader;
         "Syntax::read and text, inserted, over accepted", inserted.prints, accepted.reader;
@@ -288,29 +238,17 @@ pub fn rows() -> Vec<Row> {
         "Syntax::parse::<f64>, 100 digits, over parse", long.float, long.parse;
         "Syntax::parse::<f64>, hexadecimal, over Syntax::read", hexadecimal.float, hexadecimal.reader;
     };
-    rows.push(written(random));
-    #[cfg(not(old))]
-    rows.extend([
-        floats(random, "Syntax::format_float, shortest, over Display", None, |text, it| write!(text, "{it}").expect("memory")),
-        floats(random, "Syntax::format_float, decimals(2), over {:.2}", Some(2), |text, it| write!(text, "{it:.2}").expect("memory")),
-    ]);
-    #[cfg(not(old))]
-    rows.extend(crate::languages::rows(random));
-    #[cfg(peers)]
-    rows.push(floats(random, "Syntax::format_float, shortest, over ryu", None, |text, it| text.push_str(ryu::Buffer::new().format(it))));
-    #[cfg(peers)]
-    rows.extend(rows! {
-        "Syntax::parse, 1 to 9 digits, over lexical-core", integers.value, integers.peer_integer;
-        "Syntax::parse, 18 digits, over lexical-core", long_integers.value, long_integers.peer_integer;
-        "Syntax::parse, refused, over lexical-core", wrong_integers.value, wrong_integers.peer_integer;
-        "Syntax::parse, grouped, over lexical-core", grouped.value, grouped.peer_group;
-        "Syntax::parse::<f64>, mixed, over lexical-core", mixed.float, mixed.peer_float;
-        "Syntax::parse::<f64>, one shape, over lexical-core", shape.float, shape.peer_float;
-        "Syntax::parse::<f64>, money, over lexical-core", money.float, money.peer_float;
-        "Syntax::parse::<f64>, grouped, over lexical-core", decimals.float, decimals.peer_decimal;
-        "Syntax::parse::<f64>, 17 digits, over lexical-core", exponents.float, exponents.peer_float;
-        "Syntax::parse::<f64>, fractions, over lexical-core", fractions.float, fractions.peer_float;
-        "Syntax::parse::<f64>, 100 digits, over lexical-core", long.float, long.peer_float;
+    // Integers of which each number of bits is as frequent, and floats that are not whole, of which a half are amounts of money.
+    let values: &[i64] = list(random, 100_000, |random| (random.next() as i64) >> random.below(64));
+    let floats: &[f64] = list(random, 100_000, |random| match random.below(2) {
+        0 => (random.below(100_000_000) * 100 + 1 + random.below(99)) as f64 / 100.0,
+        _ => (random.next() >> 11) as f64 / (1_u64 << 53) as f64 * 1000.0 + 1.0,
     });
+    rows.extend([
+        written("Syntax::format_integer, i64, over Display", values, writer(), |text, it| write!(text, "{it}").expect("memory")),
+        written("Syntax::format_float, shortest, over Display", floats, float_writer(None), |text, it| write!(text, "{it}").expect("memory")),
+        written("Syntax::format_float, decimals(2), over {:.2}", floats, float_writer(Some(2)), |text, it| write!(text, "{it:.2}").expect("memory")),
+    ]);
+    rows.extend(crate::languages::rows(random));
     rows
 }

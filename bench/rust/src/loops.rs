@@ -73,10 +73,8 @@ over! { Case,
     };
     roles: |(word, byte)| role(*word, *byte as u8);
     formats: |(word, _)| format_of(*word).unwrap_or(0);
-    reasons: |(word, _)| reasons_of(*word);
     build_strict: |(word, _)| strict(NumberFormatBuilder::rebuild(*word));
     normal_forms: |(word, _)| normal_form(*word);
 }
 
 over! { (u128, [Edit; 3]), edits: |(word, edits)| edit_word(*word, edits); }
-over! { Vec<String>, files: |lines| read(lines).unwrap_or(0); }

@@ -8,7 +8,6 @@ mod calls;
 #[allow(dead_code)]
 #[path = "../../../compare/rust/src/inputs.rs"]
 mod inputs;
-#[cfg(not(old))]
 mod languages;
 mod literals;
 mod measure;
@@ -84,11 +83,6 @@ fn rows() -> Vec<Row> {
     let letters = list(random, SIZE, |it| it.pick(&alphanumeric[10..]));
     let [lawful, broken] = [true, false].map(|is_lawful| list(random, 4096, |it| case(it, is_lawful)));
     let any = list(random, 4096, |it| (it.bits(), it.next()));
-    let of_one = broken.iter().filter(|case| FormatView::new(case.0).reasons().count() == 1);
-    let of_one: &[Case] = of_one.copied().collect::<Vec<_>>().leak();
-    // The settings of which each word is built.
-    let lines = |case: &Case| FormatView::new(case.0).edits().map(|edit| edit.to_string()).collect();
-    let files: &[Vec<String>] = lawful.iter().map(lines).collect::<Vec<_>>().leak();
     let edit = |it: &mut Random| format!("{:?}", it.call()).parse().expect("a setting");
     let edited = list(random, 4096, |it| (it.bits(), [(); 3].map(|()| edit(it))));
     let byte = |it: &mut Random| it.pick(b"0123456789ABCDEFabcdef0123456789__x..pP+- ,h");
@@ -117,8 +111,6 @@ fn rows() -> Vec<Row> {
         "edit_word, 3 edits", 1.0, edits(edited);
         "Format::new, lawful", 1.0, formats(lawful);
         "Format::new, unlawful", 1.0, formats(broken);
-        "reasons, one cause, over format_error", 1.0, reasons(of_one);
-        "Settings::read, over Edit::from_text", 1.0, files(files);
     }
 }
 

@@ -7,7 +7,7 @@ use peltzivar::format::NumberFormat;
 use peltzivar::format_builder::NumberFormatBuilder;
 use peltzivar::format_flags::is_valid_options_punctuation;
 use peltzivar::word::format_error;
-use peltzivar::{Format, FormatView, Settings};
+use peltzivar::{Format, FormatView};
 
 include!("loops.rs");
 
@@ -20,14 +20,6 @@ fn format_of(word: u128) -> Option<u128> {
     Format::new(word).ok().map(|format| format.word())
 }
 
-fn reasons_of(word: u128) -> usize {
-    FormatView::new(word).reasons().filter(|reason| black_box(reason).mask() != 0).count()
-}
-
 fn role(word: u128, byte: u8) -> u64 {
     FormatView::new(word).role_of(b'p', b'.', byte).map_or(0, |role| role as u64 + 1)
-}
-
-fn read(lines: &[String]) -> Option<u128> {
-    Settings::read(lines).ok()?.build_format().ok().map(|format| format.word())
 }

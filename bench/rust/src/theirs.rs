@@ -22,10 +22,6 @@ fn format_of(word: u128) -> Option<u128> {
     format_error(word).is_success().then_some(word)
 }
 
-fn reasons_of(word: u128) -> usize {
-    !black_box(format_error(word)).is_success() as usize
-}
-
 fn role(word: u128, byte: u8) -> u64 {
     let is = |own: u8, case: u128| own != 0 && (byte == own || word & case == 0 && byte.eq_ignore_ascii_case(&own));
     match byte {
@@ -63,9 +59,4 @@ peltzivar::with_setters!(apply());
 
 fn edit_word(word: u128, edits: &[Edit]) -> u128 {
     edits.iter().fold(NumberFormatBuilder::rebuild(word), apply).build_unchecked()
-}
-
-fn read(lines: &[String]) -> Option<u128> {
-    let edits: Option<Vec<Edit>> = lines.iter().map(|line| line.parse().ok()).collect();
-    format_of(edits?.iter().fold(NumberFormatBuilder::new(), apply).build_unchecked())
 }
