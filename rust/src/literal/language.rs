@@ -254,7 +254,6 @@ macro_rules! languages {
 
             $($(#[$about])+
             pub const $name: Language = {
-                $(assert!($syntax.supports_floats());)+
                 const DEFINITION: &Definition = &Definition {
                     name: stringify!($name),
                     title: $title,

@@ -1,7 +1,7 @@
 //! The forms of each language. The comment of a setter has a text that is accepted or rejected because of the setter.
 
 use super::{Definition, Language};
-use crate::literal::{FloatKind, Form, Forms, IntegerKind, Kind, Specials, Stop, Suffixes, Syntax, Tokens};
+use crate::literal::{Conditions, FloatKind, Form, Forms, IntegerKind, Kind, Specials, Stop, Suffixes, Syntax, Tokens};
 use crate::NumberFormatBuilder;
 use core::num::NonZeroU8;
 
@@ -22,76 +22,69 @@ const fn without_zeros(builder: NumberFormatBuilder) -> NumberFormatBuilder {
     builder.no_integer_leading_zeros(true).no_float_leading_zeros(true)
 }
 
+/// Conditions of numbers without the sign `-`, which reject `-1`. A syntax gets its conditions at once, since each check of them
+/// costs who compiles the constants.
+const UNSIGNED: Conditions = Conditions::NONE.no_negative_mantissa_sign(true);
+const PREFIXED: Conditions = UNSIGNED.required_base_prefix(true); // accepts `0x1F`, rejects `1F`
+const SUFFIXED: Conditions = UNSIGNED.required_base_suffix(true); // accepts `1Fh`, rejects `1F`
+
+/// Conditions of numbers whose first digit is not a letter: `0FFh` is accepted, and `FFh`, a name, rejected.
+const NAMELESS: Conditions = SUFFIXED.decimal_first_digit(true);
+
 /// Returns the syntax of numbers with an exponent character and a decimal point.
 const fn numbers(exponent: u8, point: u8, builder: NumberFormatBuilder) -> Syntax {
     Syntax::new_or_panic(builder.build_format_or_panic(), exponent, point)
 }
 
-/// Returns the same syntax without the sign `-`: rejects `-1`.
-const fn unsigned(syntax: Syntax) -> Syntax {
-    syntax.with_conditions_or_panic(syntax.conditions().no_negative_mantissa_sign(true))
-}
-
 /// Returns the same syntax with groups of three digits: `1,234` is accepted, and `12,34` rejected.
 const fn grouped(syntax: Syntax) -> Syntax {
-    syntax.with_conditions_or_panic(syntax.conditions().integer_group_size(Some(3)))
+    syntax.with_conditions_or_panic(Conditions::NONE.integer_group_size(Some(3)))
 }
 
 /// Returns the syntax of decimal floats and integers: `10` and `1.5e3`.
 const fn decimal(builder: NumberFormatBuilder) -> Syntax {
-    unsigned(numbers(b'e', b'.', builder))
+    numbers(b'e', b'.', builder).with_conditions_or_panic(UNSIGNED)
 }
 
 /// Returns the syntax of integers of a radix, which stand behind decimal ones: `017`.
-const fn integers(radix: u8, builder: NumberFormatBuilder) -> Syntax {
+const fn integers(radix: u8, builder: NumberFormatBuilder, conditions: Conditions) -> Syntax {
     let builder = builder.fraction_digit_separator_flags(false).exponent_digit_separator_flags(false);
-    unsigned(Syntax::integers(builder.mantissa_radix(radix).build_format_or_panic()))
+    Syntax::integers(builder.mantissa_radix(radix).build_format_or_panic()).with_conditions_or_panic(conditions)
 }
 
-/// Returns the same syntax with a zero in front of the digits: `017` is accepted, and `17` rejected.
-const fn zero_first(syntax: Syntax) -> Syntax {
-    syntax.with_conditions_or_panic(syntax.conditions().required_leading_zero(true))
-}
-
-/// Returns the syntax of octal integers, which begin with a zero.
+/// Returns the syntax of octal integers, which begin with a zero: `017` is accepted, and `17` rejected.
 const fn octal(builder: NumberFormatBuilder) -> Syntax {
-    zero_first(integers(8, builder))
-}
-
-/// Returns the same syntax with a first digit that is not a letter: `0FFh` is accepted, and `FFh`, a name, rejected.
-const fn nameless(syntax: Syntax) -> Syntax {
-    syntax.with_conditions_or_panic(syntax.conditions().decimal_first_digit(true))
-}
-
-/// Returns the same syntax with its prefix required: `0x1F` is accepted, and `1F` rejected.
-const fn required_prefix(syntax: Syntax) -> Syntax {
-    syntax.with_conditions_or_panic(syntax.conditions().required_base_prefix(true))
+    integers(8, builder, UNSIGNED.required_leading_zero(true))
 }
 
 /// Returns the syntax of integers of a radix with a prefix, which is required.
 const fn prefixed(prefix: u8, radix: u8, builder: NumberFormatBuilder) -> Syntax {
-    required_prefix(integers(radix, builder.base_prefix(NonZeroU8::new(prefix))))
+    integers(radix, builder.base_prefix(NonZeroU8::new(prefix)), PREFIXED)
 }
 
-/// Returns the syntax of integers of a radix with a suffix, which is required: `1Fh` is accepted, and `1F` rejected.
-const fn suffixed(suffix: u8, radix: u8, builder: NumberFormatBuilder) -> Syntax {
-    let syntax = integers(radix, builder.base_suffix(NonZeroU8::new(suffix)));
-    syntax.with_conditions_or_panic(syntax.conditions().required_base_suffix(true))
+/// Returns the syntax of decimal floats and integers with a prefix, which is required: `0d10`.
+const fn prefixed_decimal(prefix: u8, builder: NumberFormatBuilder) -> Syntax {
+    numbers(b'e', b'.', builder.base_prefix(NonZeroU8::new(prefix))).with_conditions_or_panic(PREFIXED)
+}
+
+/// Returns the syntax of integers of a radix with a suffix, which is required.
+const fn suffixed(suffix: u8, radix: u8, builder: NumberFormatBuilder, conditions: Conditions) -> Syntax {
+    integers(radix, builder.base_suffix(NonZeroU8::new(suffix)), conditions)
 }
 
 /// Returns the syntax of floats, and of integers if no exponent is required, of a radix with a prefix, which is required.
 /// The exponent is decimal, and its base is 2: `0x1.8p3` is 1.5 × 2^3.
 const fn binary_floats(prefix: u8, radix: u8, builder: NumberFormatBuilder) -> Syntax {
-    required_prefix(powers_of_two(radix, builder.base_prefix(NonZeroU8::new(prefix))))
+    powers_of_two(radix, builder.base_prefix(NonZeroU8::new(prefix)), PREFIXED)
 }
 
-/// Returns the syntax of the same numbers without a prefix.
-const fn powers_of_two(radix: u8, builder: NumberFormatBuilder) -> Syntax {
+/// Returns the syntax of the same numbers with other conditions.
+const fn powers_of_two(radix: u8, builder: NumberFormatBuilder, conditions: Conditions) -> Syntax {
     let builder = builder.mantissa_radix(radix).exponent_base(NonZeroU8::new(2)).exponent_radix(NonZeroU8::new(10));
-    unsigned(numbers(b'p', b'.', builder))
+    numbers(b'p', b'.', builder).with_conditions_or_panic(conditions)
 }
 
-/// Returns the same syntax with the sign `-`, which `unsigned` forbids: accepts `-1`.
+/// Returns the same syntax with the sign `-`: accepts `-1`.
 const fn signed(syntax: Syntax) -> Syntax {
     syntax.with_conditions_or_panic(syntax.conditions().no_negative_mantissa_sign(false))
 }
@@ -490,7 +483,7 @@ languages! {
         "binary": prefixed(b'b', 2, GO_PREFIXED) => GO_POINTLESS,
         "hexadecimal float": binary_floats(b'x', 16, GO_PREFIXED.required_exponent_notation(true)) => GO_WORDS, // rejects `0x1.8`
     } => Tokens::new(
-        const { &[Form::new("imaginary, leading zeros", integers(10, separated(b'_'))).with_suffixes(const { &GO_WORDS })] },
+        const { &[Form::new("imaginary, leading zeros", integers(10, separated(b'_'), UNSIGNED)).with_suffixes(const { &GO_WORDS })] },
         &[],
     );
 
@@ -524,7 +517,7 @@ languages! {
         "binary": prefixed(b'b', 2, JAVA) => JAVA_INTEGERS; WRAPS_32,
         "hexadecimal float": binary_floats(b'x', 16, JAVA.required_exponent_notation(true)) => JAVA_FLOATS, // rejects `0x1.8`
     } => Tokens::new(
-        const { &[Form::new("float, leading zeros", integers(10, JAVA)).with_suffixes(const { &JAVA_FLOATS })] },
+        const { &[Form::new("float, leading zeros", integers(10, JAVA, UNSIGNED)).with_suffixes(const { &JAVA_FLOATS })] },
         &[],
     );
 
@@ -538,23 +531,23 @@ languages! {
     } => Tokens::new(&[], &[]);
 
     /// JSON's numbers (RFC 8259, 6. Numbers).
-    JSON: "JSON" = { "decimal": signed(decimal(without_zeros(TOKENS).required_digits(true))) }; // rejects `.5`, `1.`, `1e` and `.`
+    JSON: "JSON" = { "decimal": numbers(b'e', b'.', without_zeros(TOKENS).required_digits(true)) }; // rejects `.5`, `1.`, `1e` and `.`
 
     /// JSON5's numbers (The JSON5 Data Interchange Format 1.0.0, 6. Numbers). As in JavaScript, they are doubles: take their values
     /// as `f64`.
     JSON5: "JSON5" = {
-        "decimal": signed(decimal(without_zeros(TOKENS)
+        "decimal": numbers(b'e', b'.', without_zeros(TOKENS)
             .no_positive_mantissa_sign(false) // accepts `+1`
             .no_special(false) // accepts `NaN` and `Infinity`
             .case_sensitive_special(true) // rejects `nan`
-        )),
+        ),
         "hexadecimal": signed(prefixed(b'x', 16, TOKENS.no_positive_mantissa_sign(false))), // accepts `+0x1F`
     }, Specials { nan: Some(b"NaN"), inf: Some(b"Infinity"), infinity: None };
 
     /// Julia's integers and floats (Manual 1.11, Integers and Floating-Point Numbers). `0.1f0`, but not `0.1`, is an `f32`.
     JULIA: "Julia" = {
         "decimal": decimal(JULIA) => JULIA_WORDS,
-        "32 bits": unsigned(numbers(b'f', b'.', JULIA.case_sensitive_exponent(true))); SINGLE, // accepts `1f3`, not `1F3`
+        "32 bits": numbers(b'f', b'.', JULIA.case_sensitive_exponent(true)).with_conditions_or_panic(UNSIGNED); SINGLE, // accepts `1f3`, not `1F3`
         "hexadecimal": prefixed(b'x', 16, JULIA.case_sensitive_base_prefix(true)), // rejects `0X1F`
         "octal": prefixed(b'o', 8, JULIA.case_sensitive_base_prefix(true)), // rejects `0O17`
         "binary": prefixed(b'b', 2, JULIA.case_sensitive_base_prefix(true)), // rejects `0B1`
@@ -573,7 +566,7 @@ languages! {
         "hexadecimal": prefixed(b'x', 16, JAVA) => words(KOTLIN_INTEGERS, &[]),
         "binary": prefixed(b'b', 2, JAVA) => words(KOTLIN_INTEGERS, &[]),
     } => Tokens::new(
-        const { &[Form::new("float, leading zeros", integers(10, JAVA)).with_suffixes(const { &KOTLIN_FLOATS })] },
+        const { &[Form::new("float, leading zeros", integers(10, JAVA, UNSIGNED)).with_suffixes(const { &KOTLIN_FLOATS })] },
         &[],
     ).gives_points_back(true);
 
@@ -592,22 +585,16 @@ languages! {
             .required_integer_digits(true) // rejects `.5`, not `1.`
             .required_exponent_digits(false) // accepts `1e`
         ) => NASM_WORDS; LAST_64,
-        "decimal, d": suffixed(b'd', 10, NASM) => NASM_WORDS; LAST_64,
-        "decimal, t": suffixed(b't', 10, NASM) => NASM_WORDS; LAST_64,
-        "hexadecimal, h": nameless(suffixed(b'h', 16, NASM)) => NASM_WORDS; LAST_64, // rejects `ffh`
-        "hexadecimal, x": nameless(suffixed(b'x', 16, NASM)) => NASM_WORDS; LAST_64, // rejects `ffx`
-        "octal, o": suffixed(b'o', 8, NASM) => NASM_WORDS; LAST_64,
-        "octal, q": suffixed(b'q', 8, NASM) => NASM_WORDS; LAST_64,
-        "binary, b": suffixed(b'b', 2, NASM) => NASM_WORDS; LAST_64,
-        "binary, y": suffixed(b'y', 2, NASM) => NASM_WORDS; LAST_64,
-        "decimal, 0d": required_prefix(decimal(NASM_PREFIXED
-            .base_prefix(NonZeroU8::new(b'd')) // accepts `0d1.5`
-            .required_exponent_digits(false) // accepts `0d1e`
-        )) => NASM_WORDS; LAST_64,
-        "decimal, 0t": required_prefix(decimal(NASM_PREFIXED
-            .base_prefix(NonZeroU8::new(b't')) // accepts `0t1.5`
-            .required_exponent_digits(false) // accepts `0t1e`
-        )) => NASM_WORDS; LAST_64,
+        "decimal, d": suffixed(b'd', 10, NASM, SUFFIXED) => NASM_WORDS; LAST_64,
+        "decimal, t": suffixed(b't', 10, NASM, SUFFIXED) => NASM_WORDS; LAST_64,
+        "hexadecimal, h": suffixed(b'h', 16, NASM, NAMELESS) => NASM_WORDS; LAST_64, // rejects `ffh`
+        "hexadecimal, x": suffixed(b'x', 16, NASM, NAMELESS) => NASM_WORDS; LAST_64, // rejects `ffx`
+        "octal, o": suffixed(b'o', 8, NASM, SUFFIXED) => NASM_WORDS; LAST_64,
+        "octal, q": suffixed(b'q', 8, NASM, SUFFIXED) => NASM_WORDS; LAST_64,
+        "binary, b": suffixed(b'b', 2, NASM, SUFFIXED) => NASM_WORDS; LAST_64,
+        "binary, y": suffixed(b'y', 2, NASM, SUFFIXED) => NASM_WORDS; LAST_64,
+        "decimal, 0d": prefixed_decimal(b'd', NASM_PREFIXED.required_exponent_digits(false)) => NASM_WORDS; LAST_64, // accepts `0d1e`
+        "decimal, 0t": prefixed_decimal(b't', NASM_PREFIXED.required_exponent_digits(false)) => NASM_WORDS; LAST_64, // accepts `0t1e`
         "hexadecimal, 0h": binary_floats(b'h', 16, NASM_PREFIXED) => NASM_WORDS; LAST_64,
         "hexadecimal, 0x": binary_floats(b'x', 16, NASM_PREFIXED) => NASM_WORDS; LAST_64,
         "octal, 0o": binary_floats(b'o', 8, NASM_PREFIXED) => NASM_WORDS; LAST_64,
@@ -621,7 +608,7 @@ languages! {
     /// small here, and `0c17`, which the manual does not, but refuses `-1u8`. Tokens with `'` are refused here, and so is
     /// `0b1f32`, whose digits are the bits of a float.
     NIM: "Nim" = {
-        "decimal": signed(decimal(separated(b'_').required_digits(true))) => NIM_DECIMALS; AT_MOST_63, // rejects `.5`, `1.`, `1e` and `.`
+        "decimal": numbers(b'e', b'.', separated(b'_').required_digits(true)) => NIM_DECIMALS; AT_MOST_63, // rejects `.5`, `1.`, `1e` and `.`
         "hexadecimal": signed(prefixed(b'x', 16, separated(b'_'))) => NIM_INTEGERS; LAST_64,
         "octal": signed(prefixed(b'o', 8, separated(b'_').case_sensitive_base_prefix(true))) => NIM_INTEGERS; LAST_64, // rejects `0O17`
         "binary": signed(prefixed(b'b', 2, separated(b'_'))) => NIM_INTEGERS; LAST_64,
@@ -655,7 +642,7 @@ languages! {
         "hexadecimal float": binary_floats(b'x', 16, separated(b'_').required_exponent_notation(true)), // rejects `0x1.8`
         "octal float, 0o": binary_floats(b'o', 8, separated(b'_').required_exponent_notation(true)), // rejects `0o1.4`
         "binary float": binary_floats(b'b', 2, separated(b'_').required_exponent_notation(true)), // rejects `0b1.1`
-        "octal float": zero_first(powers_of_two(8, separated(b'_').required_exponent_notation(true))), // rejects `01.4`
+        "octal float": powers_of_two(8, separated(b'_').required_exponent_notation(true), UNSIGNED.required_leading_zero(true)), // rejects `01.4`
     } => POINTS_BACK;
 
     /// PHP's integers and floats (Manual, 8.1 and later, Integers and Floating point numbers). In PHP, an integer from 2^63 on is
@@ -676,7 +663,7 @@ languages! {
         "octal": prefixed(b'o', 8, GO_PREFIXED),
         "binary": prefixed(b'b', 2, GO_PREFIXED),
     } => Tokens::new(
-        const { &[Form::new("imaginary, leading zeros", integers(10, separated(b'_'))).with_suffixes(const { &PYTHON_WORDS })] },
+        const { &[Form::new("imaginary, leading zeros", integers(10, separated(b'_'), UNSIGNED)).with_suffixes(const { &PYTHON_WORDS })] },
         PYTHON_KEYWORDS,
     );
 
@@ -691,7 +678,7 @@ languages! {
     /// Ruby's integers and floats (ISO/IEC 30170:2012, 8.7.6.2), with signs. Of `1iif`, which is `1` and a name to
     /// Ruby, the token is `1i`, since `if` is a keyword.
     RUBY: "Ruby" = {
-        "decimal": signed(decimal(without_zeros(RUBY).required_digits(true))) => RUBY_WORDS, // rejects `.5`, `1.`, `1e` and `.`
+        "decimal": numbers(b'e', b'.', without_zeros(RUBY).required_digits(true)) => RUBY_WORDS, // rejects `.5`, `1.`, `1e` and `.`
         "octal": signed(octal(RUBY)) => RUBY_WORDS,
         "hexadecimal": signed(prefixed(b'x', 16, RUBY)) => RUBY_WORDS,
         "octal, 0o": signed(prefixed(b'o', 8, RUBY)) => RUBY_WORDS,
@@ -699,7 +686,7 @@ languages! {
         "decimal, 0d": signed(prefixed(b'd', 10, RUBY)) => RUBY_WORDS,
     } => Tokens::new(
         const {
-            &[Form::new("rational", signed(decimal(without_zeros(RUBY).required_digits(true).no_exponent_notation(true))))
+            &[Form::new("rational", numbers(b'e', b'.', without_zeros(RUBY).required_digits(true).no_exponent_notation(true)))
                 .with_suffixes(const { &words(&[b"r", b"ri"], &[b"r", b"ri"]) })]
         },
         RUBY_KEYWORDS,
@@ -733,7 +720,7 @@ languages! {
         ) => JAVA_DECIMALS; AT_MOST_31,
         "hexadecimal": prefixed(b'x', 16, JAVA) => JAVA_INTEGERS; WRAPS_32,
     } => Tokens::new(
-        const { &[Form::new("float, leading zeros", integers(10, JAVA)).with_suffixes(const { &JAVA_FLOATS })] },
+        const { &[Form::new("float, leading zeros", integers(10, JAVA, UNSIGNED)).with_suffixes(const { &JAVA_FLOATS })] },
         &[],
     ).gives_points_back(true);
 
@@ -742,7 +729,7 @@ languages! {
 
     /// Swift's numeric literals, with the sign `-` (The Swift Programming Language, Lexical Structure).
     SWIFT: "Swift" = {
-        "decimal": signed(decimal(RUST.required_digits(true))), // rejects `.5`, `1.`, `1e` and `.`
+        "decimal": numbers(b'e', b'.', RUST.required_digits(true)), // rejects `.5`, `1.`, `1e` and `.`
         "hexadecimal": signed(prefixed(b'x', 16, RUST.case_sensitive_base_prefix(true))), // rejects `0X1F`
         "octal": signed(prefixed(b'o', 8, RUST.case_sensitive_base_prefix(true))), // rejects `0O17`
         "binary": signed(prefixed(b'b', 2, RUST.case_sensitive_base_prefix(true))), // rejects `0B1`
