@@ -253,16 +253,13 @@ macro_rules! languages {
             pub const ALL: &'static [Language] = &[$(Language::$name),+];
 
             $($(#[$about])+
-            pub const $name: Language = {
-                const DEFINITION: &Definition = &Definition {
-                    name: stringify!($name),
-                    title: $title,
-                    forms: Forms::new_or_panic(const { &[$(Form::new($form, $syntax)$(.with_suffixes(const { &$suffixes }))?$(.with_kind($kind))?),+] })
-                        $(.with_specials($specials))?
-                        $(.with_tokens(const { &$tokens }))?,
-                };
-                Language(DEFINITION)
-            };)+
+            pub const $name: Language = Language(&Definition {
+                name: stringify!($name),
+                title: $title,
+                forms: Forms::new_or_panic(&[$(Form::new($form, $syntax)$(.with_suffixes(&$suffixes))?$(.with_kind($kind))?),+])
+                    $(.with_specials($specials))?
+                    $(.with_tokens(&$tokens))?,
+            });)+
         }
     };
 }

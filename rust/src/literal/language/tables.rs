@@ -22,8 +22,8 @@ const fn without_zeros(builder: NumberFormatBuilder) -> NumberFormatBuilder {
     builder.no_integer_leading_zeros(true).no_float_leading_zeros(true)
 }
 
-/// Conditions of numbers without the sign `-`, which reject `-1`. A syntax gets its conditions at once, since each check of them
-/// costs who compiles the constants.
+/// Conditions of numbers without the sign `-`, which reject `-1`. A syntax gets all its conditions at once, since each check of
+/// them costs who compiles the constants.
 const UNSIGNED: Conditions = Conditions::NONE.no_negative_mantissa_sign(true);
 const PREFIXED: Conditions = UNSIGNED.required_base_prefix(true); // accepts `0x1F`, rejects `1F`
 const SUFFIXED: Conditions = UNSIGNED.required_base_suffix(true); // accepts `1Fh`, rejects `1F`
@@ -483,7 +483,7 @@ languages! {
         "binary": prefixed(b'b', 2, GO_PREFIXED) => GO_POINTLESS,
         "hexadecimal float": binary_floats(b'x', 16, GO_PREFIXED.required_exponent_notation(true)) => GO_WORDS, // rejects `0x1.8`
     } => Tokens::new(
-        const { &[Form::new("imaginary, leading zeros", integers(10, separated(b'_'), UNSIGNED)).with_suffixes(const { &GO_WORDS })] },
+        &[Form::new("imaginary, leading zeros", integers(10, separated(b'_'), UNSIGNED)).with_suffixes(&GO_WORDS)],
         &[],
     );
 
@@ -517,7 +517,7 @@ languages! {
         "binary": prefixed(b'b', 2, JAVA) => JAVA_INTEGERS; WRAPS_32,
         "hexadecimal float": binary_floats(b'x', 16, JAVA.required_exponent_notation(true)) => JAVA_FLOATS, // rejects `0x1.8`
     } => Tokens::new(
-        const { &[Form::new("float, leading zeros", integers(10, JAVA, UNSIGNED)).with_suffixes(const { &JAVA_FLOATS })] },
+        &[Form::new("float, leading zeros", integers(10, JAVA, UNSIGNED)).with_suffixes(&JAVA_FLOATS)],
         &[],
     );
 
@@ -566,7 +566,7 @@ languages! {
         "hexadecimal": prefixed(b'x', 16, JAVA) => words(KOTLIN_INTEGERS, &[]),
         "binary": prefixed(b'b', 2, JAVA) => words(KOTLIN_INTEGERS, &[]),
     } => Tokens::new(
-        const { &[Form::new("float, leading zeros", integers(10, JAVA, UNSIGNED)).with_suffixes(const { &KOTLIN_FLOATS })] },
+        &[Form::new("float, leading zeros", integers(10, JAVA, UNSIGNED)).with_suffixes(&KOTLIN_FLOATS)],
         &[],
     ).gives_points_back(true);
 
@@ -663,7 +663,7 @@ languages! {
         "octal": prefixed(b'o', 8, GO_PREFIXED),
         "binary": prefixed(b'b', 2, GO_PREFIXED),
     } => Tokens::new(
-        const { &[Form::new("imaginary, leading zeros", integers(10, separated(b'_'), UNSIGNED)).with_suffixes(const { &PYTHON_WORDS })] },
+        &[Form::new("imaginary, leading zeros", integers(10, separated(b'_'), UNSIGNED)).with_suffixes(&PYTHON_WORDS)],
         PYTHON_KEYWORDS,
     );
 
@@ -685,10 +685,8 @@ languages! {
         "binary": signed(prefixed(b'b', 2, RUBY)) => RUBY_WORDS,
         "decimal, 0d": signed(prefixed(b'd', 10, RUBY)) => RUBY_WORDS,
     } => Tokens::new(
-        const {
-            &[Form::new("rational", numbers(b'e', b'.', without_zeros(RUBY).required_digits(true).no_exponent_notation(true)))
-                .with_suffixes(const { &words(&[b"r", b"ri"], &[b"r", b"ri"]) })]
-        },
+        &[Form::new("rational", numbers(b'e', b'.', without_zeros(RUBY).required_digits(true).no_exponent_notation(true)))
+            .with_suffixes(&words(&[b"r", b"ri"], &[b"r", b"ri"]))],
         RUBY_KEYWORDS,
     )
     .gives_points_back(true);
@@ -720,7 +718,7 @@ languages! {
         ) => JAVA_DECIMALS; AT_MOST_31,
         "hexadecimal": prefixed(b'x', 16, JAVA) => JAVA_INTEGERS; WRAPS_32,
     } => Tokens::new(
-        const { &[Form::new("float, leading zeros", integers(10, JAVA, UNSIGNED)).with_suffixes(const { &JAVA_FLOATS })] },
+        &[Form::new("float, leading zeros", integers(10, JAVA, UNSIGNED)).with_suffixes(&JAVA_FLOATS)],
         &[],
     ).gives_points_back(true);
 
