@@ -109,9 +109,9 @@ class Walk(unittest.TestCase):
         self.wait(lambda: self.run_script("return document.documentElement.dataset.ready"))
 
     def links(self):
-        """Loads each of LINKS, shows each tab, opens all that is closed, and returns the link."""
+        """Follows each of LINKS, shows each tab, opens all that is closed, and returns the link."""
         for link in LINKS:
-            self.load(link)
+            self.call("follow", link)
             self.assertEqual(self.text("#told"), "")
             for tab in ("languages", "rust", "compare", "edit", "grammar"):
                 self.run_script("page.chooseTab(arguments[0]); document.querySelectorAll('details').forEach((it) => { it.open = true; })", tab)

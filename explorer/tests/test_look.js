@@ -112,10 +112,14 @@ async function idle(link) {
     const where = link.endsWith("languages") ? "" : "#pane ";
     const buttons = () => [...document.querySelectorAll(`${where}button:enabled${not}`)].filter((it) => it.checkVisibility());
     navigator.clipboard.writeText = async (text) => { window.copied = text; };
+    follow(link);
+    page.change({ numbers: `${page.state.numbers}\n1` });
+    const [{ state, tab }, compared] = [page, find("compare").value];
     const start = () => {
-        follow(link);
         document.activeElement.blur();
-        page.change({ numbers: `${page.state.numbers}\n1` });
+        find("compare").value = compared;
+        page.change(state);
+        if (page.tab !== tab) page.chooseTab(tab);
     };
     const idle = [];
     start();

@@ -52,7 +52,7 @@ class Look(Walk):
 
     def test_the_answer_is_in_view(self):
         """After each choice, the heading of its tab and ten lines are in view, and so are the sentence and the first number."""
-        for width in self.screens((1280, 720), (1366, 657), (1000, 700)):
+        for width in self.screens((1280, 657), (1000, 700)):
             self.load()
             self.assertEqual(self.call("outOfView"), [], width)
 

@@ -65,6 +65,38 @@ function offeredFor(text) {
     return [textsOf("#read .then")[0], advice.join(" "), find("summary").textContent, textsOf("#read .use, #read .link")];
 }
 
+/* What no format has, in words of the advice, and what its button makes of texts. */
+const REPLACED = {
+    "is an apostrophe that no format has: replace it by '": { "1\u2019000": "1'000", "1\u02bc000": "1'000" },
+    "is a space that no format has: replace it by the space of ASCII": { "1\u00a0000": "1 000", "1\u202f000": "1 000" },
+    "is a minus sign that no format has: replace it by -": { "\u22125": "-5", "\u20135": "-5" },
+    "is a percent sign: divide the value by 100, and remove it": { "12 %": "12" },
+    "is a currency sign: remove it": { "\u20ac5": "5", "$12": "12", "5 \u00a3": "5" },
+    "can be a suffix: the library's call token reads the number before it, with your suffixes. Remove it": { "3kg": "3" },
+    " is a suffix in ": { "1u8": "1", "0x1Fu8": "0x1F", "10L": "10", "1.5f": "1.5" },
+    "is a negative number in a way that no format has: replace it by one with -": { "(5)": "-5", "5-": "-5" },
+    "is a digit that no format has: replace it by one of ASCII": { "\u0661\u0662": "12", "\uff11\uff12": "12" },
+};
+
+function test_what_no_format_has_is_replaced() {
+    return Object.entries(REPLACED).flatMap(([words, rows]) => Object.entries(rows).filter(([text, other]) => {
+        const [, advice] = offeredFor(text);
+        [...find("read").querySelectorAll(".use")].find((it) => it.textContent === `try ${other}`)?.click();
+        return !advice.includes(words) || find("literal").value !== other;
+    }));
+}
+
+/* Returns what is told of each text and, after a click on its button, the numbers, what has the focus, and whether the limits are open. */
+function prefixesShown(texts) {
+    return texts.map((text) => {
+        offeredFor(text);
+        find("limits").open = false;
+        const told = textsOf("#read li li");
+        find("read").querySelector("li li button").click();
+        return [told, find("literal").value, document.activeElement.textContent, find("limits").open];
+    });
+}
+
 /* No two offers for a number have the same words, and each is in vain without any of its flags. */
 function test_offers_are_needed_and_named_apart() {
     const { library, data: { languages } } = page;
@@ -83,21 +115,26 @@ function test_offers_are_needed_and_named_apart() {
 
 /* Returns the pairs of samples, behind numbers that are read, of which the first offers change what is read of another one. */
 function lostByOffers(samples) {
-    const values = () => page.trial.answers.map((it) => it.isExpected && valueText(it));
-    const isLost = (place) => {
-        const before = values();
-        if (before[place] === false) find("read").children[place].querySelector("li:has(.then) .use")?.click();
-        return values().some((it, index) => before[index] !== false && before[index] !== it);
+    const { trial, library: { usual } } = page;
+    const read = (forms, numbers) => {
+        const state = { forms, numbers: numbers.join("\n"), language: "" };
+        const list = page.listOf(state);
+        const lines = numbers.map((text, place) => ({ text, place }));
+        const answers = trial.read(lines, list);
+        Object.assign(trial, { state, list, forms: list.forms, lines, answers, expected: answers.filter((it) => it.isExpected).length });
+        return answers;
     };
-    page.chooseTab("settings");
+    /* Returns the forms behind the first offer for the last number, and whether it changes what was read. */
+    const offered = (forms, ...numbers) => {
+        const before = read(forms, numbers);
+        const [offer] = trial.withOffers(before.at(-1)).offers;
+        const taken = offer?.ways[0][1].forms ?? forms;
+        const after = read(taken, numbers);
+        return [taken, before.some((it, index) => it.isExpected && (!after[index].isExpected || valueText(it) !== valueText(after[index])))];
+    };
     return samples.flatMap((first) => {
-        show([page.library.usual], `1\n2.5\n${first}`);
-        const isFirst = isLost(2);
-        const { forms } = page.state;
-        return samples.filter((second) => {
-            page.change({ forms, at: 0, numbers: `1\n2.5\n${first}\n${second}` });
-            return isFirst || isLost(3);
-        }).map((second) => [first, second]);
+        const [forms, isLost] = offered([usual], "1", "2.5", first);
+        return samples.filter((second) => isLost || offered(forms, "1", "2.5", first, second)[1]).map((second) => [first, second]);
     });
 }
 

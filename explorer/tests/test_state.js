@@ -13,6 +13,24 @@ function test_choices_are_the_languages() {
     });
 }
 
+/* A text that is typed anew is a step of its own, which the button and Ctrl+Z undo, each time. */
+function test_each_typing_is_undone() {
+    page.chooseTab("edit");
+    const press = () => document.activeElement.dispatchEvent(new KeyboardEvent("keydown", { key: "z", ctrlKey: true, bubbles: true, cancelable: true }));
+    return ["literal", ...page.library.bytes.map(({ name }) => name), ...OPTIONS.map(({ name }) => name)].filter((name) => {
+        show([page.library.usual]);
+        const before = page.fragment();
+        return [press, press, () => find("undo").click()].some((undo) => {
+            if (name === "literal" && undo === press) return false;
+            const links = ["7", "8"].map((text) => (type(name, text), page.fragment()));
+            undo();
+            const isOne = page.fragment() === links[0];
+            undo();
+            return !isOne || page.fragment() !== before;
+        });
+    });
+}
+
 /* A key takes at most these milliseconds, the least of five times, and more where a loop of 100 takes longer. */
 function test_large_inputs_are_read_at_once() {
     const { library: { usual }, data: { languages } } = page;
