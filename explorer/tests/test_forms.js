@@ -25,3 +25,17 @@ function test_a_changed_language_keeps_its_special_values() {
         return changed !== before || told() !== before;
     }).map(({ name }) => name);
 }
+
+/* If another form reads a number after the shown one is changed, its name is told. */
+function test_a_number_that_another_form_still_reads_is_told() {
+    const read = (forms, text) => page.library.call("numbers", { forms, specials: ["", "", ""] }, text)[0];
+    const edits = [["digit_separator_flags", 0, "1_000"], ["digit_separator_flags", 0, "0x1_F"], ["required_exponent_notation", 1, "1"]];
+    return page.data.languages.flatMap(({ name, forms }) => forms.flatMap((form, at) => edits.filter(([field, value, text]) => {
+        show(forms, text, name);
+        page.change({ at });
+        page.edit(field, value);
+        const [before, after = before] = [forms, page.state.forms].map((it) => read(it, text));
+        const isMoved = !before.error && before.form === at && !after.error && after.form !== at;
+        return find("told").textContent.includes(`is still read, by the form ${forms[after.form].name}.`) !== isMoved;
+    }).map((edit) => [name, form.name, ...edit])));
+}

@@ -78,6 +78,18 @@ const REPLACED = {
     "is a digit that no format has: replace it by one of ASCII": { "\u0661\u0662": "12", "\uff11\uff12": "12" },
 };
 
+/* A number that some read as octal leads to one of these; letters that are no digits, and prefixes of other digits, to no radix. */
+function test_radixes_are_offered_where_they_are_meant() {
+    return page.data.languages.flatMap(({ name, forms, specials }) => ["0755", "-0755", "NaN", "Infinity", "inf", "0b12", "0o8"].filter((text) => {
+        show(forms, text, name);
+        const [items, { offers }] = [textsOf("#read li li"), page.trial.withOffers(page.trial.answers[0])];
+        const hasRadix = offers.some(({ changes }) => changes.some((it) => it.name === "mantissa_radix"));
+        const isOctal = Number(page.library.call("numbers", { forms, specials }, text)[0].integer) === parseInt(text, 8);
+        const isTold = items.some((it) => it.includes(`as octal, ${parseInt(text, 8)}.start from `));
+        return /^-?07/.test(text) ? isTold === isOctal : hasRadix;
+    }).map((text) => [name, text]));
+}
+
 function test_what_no_format_has_is_replaced() {
     return Object.entries(REPLACED).flatMap(([words, rows]) => Object.entries(rows).filter(([text, other]) => {
         const [, advice] = offeredFor(text);
@@ -97,16 +109,18 @@ function prefixesShown(texts) {
     });
 }
 
-/* No two offers for a number have the same words, and each is in vain without any of its flags. */
+/* No two offers for a number have the same words, none helps fewer numbers, and each is in vain without any of its flags. */
 function test_offers_are_needed_and_named_apart() {
     const { library, data: { languages } } = page;
     const grouped = { forms: [formOf("internal_digit_separator=true", "digit_separator=','")], numbers: "1,23,45,678" };
     return [grouped, ...languages].flatMap(({ name, forms, specials, numbers }) => numbers.split("\n").filter((line) => {
         const [isRefused, text] = [line[0] !== "!", line.replace("!", "")];
-        show(forms, (isRefused ? "!" : "") + text, name);
+        show(forms, `${isRefused ? "!" : ""}${text}\n0x1F\n1_0`, name);
         const { offers } = page.trial.withOffers(page.trial.answers[0]);
         const isVain = (list) => library.call("numbers", { forms: list, specials }, text).some(({ error }) => isRefused === Boolean(error));
-        return new Set(offers.map(({ ways: [[words]] }) => words)).size < offers.length || offers.some(({ changes, ways: [[, { at, forms }]] }) => {
+        const counts = textsOf(".then", find("read").firstChild).map((it) => /\d+ of \d+ as expected/.exec(it)?.[0]);
+        const isApart = new Set(offers.map(({ ways: [[words]] }) => words)).size === offers.length && new Set(counts).size < 2;
+        return !isApart || offers.some(({ changes, ways: [[, { at, forms }]] }) => {
             const flags = changes.filter(({ holder, isByte }) => holder === "word" && !isByte);
             return flags.some((it) => isVain(forms.with(at, library.with(forms[at], it.name, it.before))));
         });

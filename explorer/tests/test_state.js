@@ -31,7 +31,7 @@ function test_each_typing_is_undone() {
     });
 }
 
-/* A key takes at most these milliseconds, the least of five times, and more where a loop of 100 takes longer. */
+/* A key takes at most these milliseconds, the least of five times. */
 function test_large_inputs_are_read_at_once() {
     const { library: { usual }, data: { languages } } = page;
     const julia = languages.find(({ name }) => name === "JULIA");
@@ -41,12 +41,11 @@ function test_large_inputs_are_read_at_once() {
         [200, languages.flatMap((it) => it.forms), "", (run) => `0x1Fg${run}`],
     ];
     const timeOf = (call) => -performance.now() + (call(), performance.now());
-    const loop = () => range(1, 1e6).reduce((sum, it) => (31 * sum + it) % 1000003, 0);
     return rows.map(([most, forms, language, numbersOf]) => {
         const took = range(1, 5).map((run) => {
             show(forms, "0x1F", language);
             find("literal").value = numbersOf(run);
-            return timeOf(() => page.type(find("literal").value)) * Math.min(1, 100 / timeOf(loop));
+            return timeOf(() => page.type(find("literal").value));
         });
         return Math.min(...took) <= most ? "" : `${forms.length} forms: ${took} of ${most} ms`;
     }).filter(Boolean);

@@ -33,6 +33,7 @@ class State(Walk):
         self.assertEqual(self.value("#literal"), "100")
         self.click("#no_exponent_notation")
         self.assertFalse(self.find("#redo").is_enabled())
+        self.wait(lambda: self.run_script("return location.hash === page.fragment()"))
         self.refresh()
         self.assertTrue(self.is_checked("#no_exponent_notation"))
         self.load("#numbers=1_0&tab=edit")
