@@ -46,8 +46,10 @@ LINKS = [f"#forms={MIXED_FORM}&numbers=-0x1_0%2C8p%2B1h%0A!0x1h%0A1k&compare=JSO
          f"#language=C&numbers={60 * '1'}%0A0xg%0A0b1.5{30 * '%0A1'}&compare=standard",
          f"#forms={UNLAWFUL} exponent=112&compare=standard",
          f"#forms={STANDARD} integer_group_size=3&numbers=-inf%0A1_0%0A0x1F&compare=standard"]
-# The functions of the scripts here, which run in the page.
-SCRIPTS = "".join(it.read_text() for it in sorted(HERE.glob("*.js")))
+# The functions of the scripts here, which run in the page and are members of `tests` there.
+FUNCTIONS = "".join(it.read_text() for it in sorted(HERE.glob("*.js")))
+NAMES = re.findall(r"^(?:async )?function (\w+)", FUNCTIONS, re.M)
+SCRIPT = f"window.tests = (() => {{ {FUNCTIONS} return {{ {', '.join(NAMES)} }}; }})();"
 
 
 def has(*programs):
@@ -89,6 +91,7 @@ class Walk(unittest.TestCase):
         driver = webdriver.Chrome(service=Service("chromedriver"), options=options)
         atexit.register(driver.quit)
         driver.set_script_timeout(600)
+        driver.execute_cdp_cmd("Page.addScriptToEvaluateOnNewDocument", {"source": SCRIPT})
         return driver
 
     def setUp(self):
@@ -125,7 +128,7 @@ class Walk(unittest.TestCase):
 
     def call(self, name, *arguments):
         """Returns what a function of a script here returns."""
-        return self.driver.execute_script(f"{SCRIPTS}; return {name}(...arguments);", *arguments)
+        return self.run_script(f"return tests.{name}(...arguments);", *arguments)
 
     def find(self, selector):
         return self.driver.find_element(By.CSS_SELECTOR, selector)
