@@ -138,7 +138,9 @@ async function idle(link) {
 /* Returns the texts whose contrast with the ground behind them is below 4.5, and what has a border below 3. */
 function faint() {
     const canvas = document.createElement("canvas").getContext("2d", { willReadFrequently: true });
-    const luminance = (colours) => {
+    const known = {};
+    const luminance = (colours) => (known[colours] ??= measured(colours));
+    const measured = (colours) => {
         for (const colour of ["white", ...colours]) { canvas.fillStyle = colour; canvas.fillRect(0, 0, 1, 1); }
         const [red, green, blue] = [...canvas.getImageData(0, 0, 1, 1).data].map((it) => it / 255)
             .map((it) => (it <= 0.04045 ? it / 12.92 : ((it + 0.055) / 1.055) ** 2.4));
