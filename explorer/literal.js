@@ -61,12 +61,11 @@ class Trial {
         const isRead = answer.isExpected && !answer.isRefused;
         if (answer.isExpected || answer.refused) return { ...answer, offers: [], advice: isRead ? this.starts(answer, true) : [] };
         const lines = [answer, ...this.answers].map(lineOf).join("\n");
-        const worded = this.library.call("offered", this.list, lines).map((it) => this.worded(answer, it));
-        const all = [false, true].flatMap((isLossy) => worded.filter(({ lost }) => Boolean(lost) === isLossy));
-        const done = all.filter(({ isDone }) => isDone === all.some((it) => it.isDone));
-        const most = Math.max(...done.map(({ count }) => count));
+        const offered = this.library.call("offered", this.list, lines).map((it) => this.worded(answer, it));
+        const all = offered.toSorted((a, b) => Boolean(a.lost) - Boolean(b.lost));
+        const most = Math.max(...all.map(({ rank }) => rank));
         const advice = answer.isRefused ? [] : this.adviceOf(answer, all);
-        return { ...answer, offers: done.filter(({ count }) => count === most), advice };
+        return { ...answer, offers: all.filter(({ rank }) => rank === most), advice };
     }
 
     /* Returns an offer in words, with its ways into the state: in the form that it changes, in all if other ones read what must be
@@ -99,7 +98,8 @@ class Trial {
         const counted = answers.length > 1 && `${count} of ${answers.length} as expected`;
         const told = [this.told(reading(then)), counted, !isOwn && lost].filter(Boolean).join("; ");
         const label = differences(isOwn ? own : offer).map((it) => it.text).join(", ");
-        return { ways, lost, changes, label, then: told, isDone: reading(then).isExpected, count };
+        const rank = reading(then).isExpected * MOST_LINES + count;
+        return { ways, lost, changes, label, then: told, rank, isBetter: count > this.expected };
     }
 
     /* Returns what else can be done for a text, each with words and, at most, the label of a button and what it does. */
@@ -232,7 +232,7 @@ class Trial {
     way(answer) {
         const { offers, advice } = this.withOffers(answer);
         const told = answer.refused && !answer.isRefused ? `${answer.refused}.` : advice[0]?.words;
-        return told ? `: ${told}` : offers.some(({ count }) => count > this.expected) ? BUTTON : ".";
+        return told ? `: ${told}` : offers.some(({ isBetter }) => isBetter) ? BUTTON : ".";
     }
 
     /* Returns answers, each with the readings of its text by the languages that read it, as a token, and not at all. */
@@ -270,9 +270,9 @@ class Trial {
         const line = (title, all) => element("p", {}, element("span", { class: "meaning" }, visible(title)), all.map(reader));
         const grouped = (all, title) => [...Map.groupBy(all, title)].map(([title, group]) => line(title, group));
         const common = all.length < 2 ? [] : this.readersOf(all);
-        const isCut = all.length < this.answers.length;
         const cut = `The first ${all.length} of ${this.answers.length} numbers, with up to ${MOST_CHARACTERS} characters:`;
-        const first = [...(isCut ? [line(cut, [])] : []), ...(common.length ? [line(`All ${all.length}, as expected:`, common)] : [])];
+        const first = [...(all.length < this.answers.length ? [line(cut, [])] : []),
+            ...(common.length ? [line(`All ${all.length}, as expected:`, common)] : [])];
         const nodes = all.flatMap(({ text, readers, tokens, others }) => {
             const name = ({ forms, form }) => forms[form]?.name ?? "special value";
             const title = (it) => `${it.refused ? "refused, " : ""}${valueText(it)}, ${name(it)}:`;

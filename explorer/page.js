@@ -32,6 +32,10 @@ class Page {
         find("compare").append(...choices([["", "nothing"], STANDARD], library.languages));
         find("add").append(...choices([["", "Add a form"], ["copy", "a copy of this one"], STANDARD], library.languages));
         this.makeTabs();
+        find("parts").append(...[...document.querySelectorAll("#controls h3, #word-title")].map((it) => {
+            return button("link rover", it.textContent, () => (it.scrollIntoView(), it.focus({ preventScroll: true })));
+        }));
+        oneStop(find("parts"));
         this.listen();
         this.read();
     }

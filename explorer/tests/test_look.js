@@ -25,6 +25,17 @@ function outOfView() {
     });
 }
 
+/* Returns the buttons for parts of the settings whose heading has no focus or is not in view after a click. */
+function partsOutOfView() {
+    page.open("edit");
+    return textsOf("button", find("parts")).filter((title, index) => {
+        find("parts").children[index].click();
+        const { left, top } = document.activeElement.getBoundingClientRect();
+        const isSeen = document.activeElement.contains(document.elementFromPoint(left + 9, top + 9));
+        return document.activeElement.textContent !== title || !isSeen;
+    });
+}
+
 /* Returns the controls that are shown, the width of the page, and what looks wrong, by the name of a check. */
 function looks() {
     const controls = [...document.querySelectorAll("button, input, select")].filter((it) => it.id && it.checkVisibility());
@@ -175,6 +186,7 @@ function bare() {
 function test_arrows_lead_among_buttons() {
     page.change({ numbers: range(1, 9).join("\n") });
     return [...document.querySelectorAll(".roving")].flatMap((group) => {
+        page.chooseTab(group.closest("[id^=pane-]")?.id.slice(5) ?? page.tab);
         const all = [...group.querySelectorAll(".rover")];
         all[0].focus();
         return ["Right 1", "Down 2", "Left 1", "Up 0", "Left -1", "Right 0", "Up -1", "Down 0"].map((it) => it.split(" ")).filter(([key, place]) => {

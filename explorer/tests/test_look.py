@@ -56,6 +56,10 @@ class Look(Walk):
             self.load()
             self.assertEqual(self.call("outOfView"), [], width)
 
+    def test_each_part_of_the_settings_is_one_click_away(self):
+        for _ in self.screens():
+            self.assertEqual(self.call("partsOutOfView"), [])
+
     def test_nothing_moves_while_the_page_loads_and_while_one_types(self):
         """The sum of layout shifts, also of those that follow a key at once, is at most 0.05."""
         for _ in self.screens():
