@@ -80,13 +80,13 @@ const REPLACED = {
 
 /* A number that some read as octal leads to one of these; letters that are no digits, and prefixes of other digits, to no radix. */
 function test_radixes_are_offered_where_they_are_meant() {
-    return page.data.languages.flatMap(({ name, forms, specials }) => ["0755", "-0755", "NaN", "Infinity", "inf", "0b12", "0o8"].filter((text) => {
+    const texts = ["0755", "-0755", "NaN", "Infinity", "inf", "0b12", "0o8"];
+    return page.data.languages.flatMap(({ name, forms }) => texts.filter((text) => {
         show(forms, text, name);
-        const [items, { offers }] = [textsOf("#read li li"), page.trial.withOffers(page.trial.answers[0])];
-        const hasRadix = offers.some(({ changes }) => changes.some((it) => it.name === "mantissa_radix"));
-        const isOctal = Number(page.library.call("numbers", { forms, specials }, text)[0].integer) === parseInt(text, 8);
-        const isTold = items.some((it) => it.includes(`as octal, ${parseInt(text, 8)}.start from `));
-        return /^-?07/.test(text) ? isTold === isOctal : hasRadix;
+        const [[answer], octal] = [page.trial.answers, parseInt(text, 8)];
+        const isTold = textsOf("#read li li").some((it) => it.includes(`as octal, ${octal}.start from `));
+        const changed = page.trial.withOffers(answer).offers.flatMap(({ changes }) => changes.map((it) => it.name));
+        return /^-?07/.test(text) ? isTold === (Number(answer.integer) === octal) : changed.includes("mantissa_radix");
     }).map((text) => [name, text]));
 }
 

@@ -113,3 +113,10 @@ function test_texts_are_refused_below_their_fields() {
         return page.form.point !== byte || find("point").value !== NAMES[byte];
     })];
 }
+
+/* Without one option there is none, and with one the other is the one before. */
+function test_integers_alone_have_no_options() {
+    page.chooseTab("edit");
+    const steps = [["exponent", "", 0, 0], ["exponent", "p", 112, 46], ["point", ",", 112, 44], ["exponent", "", 0, 0], ["exponent", "^", 94, 44]];
+    return steps.filter(([name, text, ...wanted]) => (type(name, text), json([page.form.exponent, page.form.point]) !== json(wanted)));
+}

@@ -50,17 +50,6 @@ class Settings(Walk):
             self.type("#word", text + Keys.ENTER + Keys.TAB)
             self.assertEqual(self.value(), wanted)
 
-    def test_integers_alone_have_no_options(self):
-        self.type("#exponent", "")
-        self.assertEqual((self.value("#exponent"), self.value("#point")), ("", ""))
-        self.type("#exponent", "p")
-        self.assertEqual((self.value("#point"), self.text("#verdict")), (".", ""))
-        self.type("#point", ",")
-        self.type("#exponent", "")
-        self.assertEqual(self.run_script("return [page.form.exponent, page.form.point]"), [0, 0])
-        self.find("#exponent").send_keys("^")
-        self.assertEqual(self.value("#point"), ",")
-
     def test_fields_are_shown_as_they_are_documented(self):
         """Each flag, group, byte and condition with its row of FORMAT, and what no format can express."""
         page = (TOP / "docs/FORMAT.md").read_text().replace("`", "")
