@@ -45,10 +45,10 @@ fn byte_for(state: State, byte: u8) -> u8 {
     }
 }
 
-/// Returns the texts that are tried, in the bytes of a state.
-fn texts(state: State) -> impl Iterator<Item = Vec<u8>> {
+/// Returns the parts of the texts that are tried.
+fn parts() -> Vec<[&'static str; 6]> {
     let all = PARTS.iter().map(|parts| parts.len()).product();
-    (0..all).filter_map(move |mut number: usize| {
+    let parts = (0..all).filter_map(|mut number: usize| {
         let mut unusual = 0;
         let parts = PARTS.map(|parts| {
             let index = number % parts.len();
@@ -56,15 +56,17 @@ fn texts(state: State) -> impl Iterator<Item = Vec<u8>> {
             unusual += usize::from(index > 0);
             parts[index]
         });
-        Some(parts).filter(|_| unusual <= MOST_UNUSUAL).and_then(|parts| text_of(state, parts))
-    })
+        (unusual <= MOST_UNUSUAL).then_some(parts)
+    });
+    parts.collect()
 }
 
 /// Calls `each` with the texts that are tried for two lists, in the bytes of their forms.
 fn try_texts(forms: &List, others: &List, each: &mut dyn FnMut(Vec<u8>)) {
     let states = || forms.states.iter().chain(&others.states).copied();
+    let parts = parts();
     for state in states() {
-        texts(state).for_each(&mut *each);
+        parts.iter().filter_map(|&parts| text_of(state, parts)).for_each(&mut *each);
         states().for_each(|it| try_integers(state, it.kind.integers(), each));
     }
     try_specials(forms.states[0], each);

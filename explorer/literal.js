@@ -58,13 +58,14 @@ class Trial {
 
     /* Returns the answer with what is offered in words: up to three states, those last that change other numbers, and advice. */
     withOffers(answer) {
-        if (answer.isExpected || answer.refused) return { ...answer, offers: [], advice: [] };
+        const isRead = answer.isExpected && !answer.isRefused;
+        if (answer.isExpected || answer.refused) return { ...answer, offers: [], advice: isRead ? this.starts(answer, true) : [] };
         const lines = [answer, ...this.answers].map(lineOf).join("\n");
-        const worded = this.library.call("offered", this.list, lines).map((it) => this.worded(answer, it));
-        const all = [false, true].flatMap((isLossy) => worded.filter(({ lost }) => Boolean(lost) === isLossy));
-        const done = all.filter(({ isDone }) => isDone);
+        const offered = this.library.call("offered", this.list, lines).map((it) => this.worded(answer, it));
+        const all = offered.toSorted((a, b) => Boolean(a.lost) - Boolean(b.lost));
+        const most = Math.max(...all.map(({ rank }) => rank));
         const advice = answer.isRefused ? [] : this.adviceOf(answer, all);
-        return { ...answer, offers: done.length ? done : all, advice };
+        return { ...answer, offers: all.filter(({ rank }) => rank === most), advice };
     }
 
     /* Returns an offer in words, with its ways into the state: in the form that it changes, in all if other ones read what must be
@@ -93,18 +94,20 @@ class Trial {
         const ways = isOwn ? [[`${words}, as a form of its own`, other], [`or${place || " in the one form"}: ${lost}`, one]]
             : [[words + place, one], ...(isWorse && !answer.isRefused ? [["or as a form of its own", other]] : [])];
         const then = isOwn ? readings(other) : read;
-        const count = answers.length > 1 ? `${expected(then)} of ${answers.length} as expected` : "";
-        const told = [this.told(reading(then)), count, !isOwn && lost].filter(Boolean).join("; ");
+        const count = expected(then);
+        const counted = answers.length > 1 && `${count} of ${answers.length} as expected`;
+        const told = [this.told(reading(then)), counted, !isOwn && lost].filter(Boolean).join("; ");
         const label = differences(isOwn ? own : offer).map((it) => it.text).join(", ");
-        const [isDone, isBetter] = [reading(then).isExpected, expected(then) > this.expected];
-        return { ways, lost, changes, label, then: told, isDone, isBetter };
+        const rank = reading(then).isExpected * MOST_LINES + count;
+        return { ways, lost, changes, label, then: told, rank, isBetter: count > this.expected };
     }
 
     /* Returns what else can be done for a text, each with words and, at most, the label of a button and what it does. */
-    adviceOf({ text, place }, offers) {
+    adviceOf(answer, offers) {
+        const { text, place } = answer;
         const language = this.page.languageOf(this.state);
         const isOwn = ({ name }) => name === language?.name;
-        const [{ readers, tokens }] = this.withReaders([{ text }]);
+        const [{ tokens }] = this.withReaders([{ text }]);
         const chosen = tokens.filter(isOwn);
         const suffix = tokens[0]?.suffix;
         const words = `\`${suffix}\` is a suffix in ${titlesOf(chosen.length ? chosen : tokens)}: ${TOKEN}.`;
@@ -117,11 +120,19 @@ class Trial {
         });
         const isOperator = language && this.hasOperator(text, language);
         if (isOperator) all.push({ words: `In ${language.title}, \`-\` is an operator, so that numbers have no sign.` });
-        const others = offers.length ? [] : readers.filter((it) => !isOwn(it));
-        const reads = `${titlesOf(others)} read${others.length > 1 ? "" : "s"} it.`;
-        return [...all, ...others.slice(0, 1).map(({ name, title }) => {
-            return { words: reads, label: `start from ${title}`, act: () => this.page.start(name, 0) };
-        })];
+        return [...all, ...this.starts(answer, offers.length > 0)];
+    }
+
+    /* Returns advice to start from other languages that read a number: as octal with another value, and else if nothing is offered. */
+    starts({ text, integer = text }, isOffered) {
+        const own = this.page.languageOf(this.state)?.name;
+        const readers = this.withReaders([{ text }])[0].readers.filter(({ name }) => name !== own);
+        const isOctal = (it) => /^[+-]?0\d/.test(text) && Number(it.integer) === parseInt(text, 8) && Number(integer) !== Number(it.integer);
+        const groups = [...Map.groupBy(readers, isOctal)].filter(([is]) => is || !isOffered);
+        return groups.map(([is, [first, ...others]]) => {
+            const words = `${titlesOf([first, ...others])} read${others.length ? "" : "s"} it${is ? ` as octal, ${first.integer}` : ""}.`;
+            return { words, label: `start from ${first.title}`, act: () => this.page.start(first.name, 0) };
+        });
     }
 
     /* Returns whether a text begins with a minus that is an operator in a language, whose numbers have no sign. */
@@ -259,7 +270,9 @@ class Trial {
         const line = (title, all) => element("p", {}, element("span", { class: "meaning" }, visible(title)), all.map(reader));
         const grouped = (all, title) => [...Map.groupBy(all, title)].map(([title, group]) => line(title, group));
         const common = all.length < 2 ? [] : this.readersOf(all);
-        const first = common.length ? [line(`All ${all.length}, as expected:`, common)] : [];
+        const cut = `The first ${all.length} of ${this.answers.length} numbers, with up to ${MOST_CHARACTERS} characters:`;
+        const first = [...(all.length < this.answers.length ? [line(cut, [])] : []),
+            ...(common.length ? [line(`All ${all.length}, as expected:`, common)] : [])];
         const nodes = all.flatMap(({ text, readers, tokens, others }) => {
             const name = ({ forms, form }) => forms[form]?.name ?? "special value";
             const title = (it) => `${it.refused ? "refused, " : ""}${valueText(it)}, ${name(it)}:`;

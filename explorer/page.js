@@ -32,6 +32,10 @@ class Page {
         find("compare").append(...choices([["", "nothing"], STANDARD], library.languages));
         find("add").append(...choices([["", "Add a form"], ["copy", "a copy of this one"], STANDARD], library.languages));
         this.makeTabs();
+        find("parts").append(...[...document.querySelectorAll("#controls h3, #word-title")].map((it) => {
+            return button("link rover", it.textContent, () => (it.scrollIntoView(), it.focus({ preventScroll: true })));
+        }));
+        oneStop(find("parts"));
         this.listen();
         this.read();
     }
@@ -209,10 +213,14 @@ class Page {
         this.wordTold = this.form.word;
     }
 
-    /* Changes a field or an option of the shown form, or of all. */
+    /* Changes a field or an option of the shown form, or of all. If another form reads a number in its place then, tells so. */
     edit(name, value, key) {
-        const isChanged = (at) => at === this.state.at || find("all").checked;
-        this.change({ forms: this.state.forms.map((form, at) => (isChanged(at) ? this.edited(form, at, name, value) : form)) }, key);
+        const [{ at }, { answers }] = [this.state, this.trial];
+        const isChanged = (it) => it === at || find("all").checked;
+        this.change({ forms: this.state.forms.map((form, it) => (isChanged(it) ? this.edited(form, it, name, value) : form)) }, key);
+        const wasRead = (it) => it?.form === at && !it.error;
+        const other = this.trial.answers.find((it, index) => wasRead(answers[index]) && !it.error && it.form !== at);
+        if (other) find("told").append(` ${visible(other.text.slice(0, 40))} is still read, by the form ${this.list.forms[other.form].name}.`);
     }
 
     /* Returns a form with another value of a field or an option. Numbers are integers alone without both options, or floats with both. */

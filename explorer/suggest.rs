@@ -282,6 +282,14 @@ fn settled(before: State, line: Line<'_>) -> Result<State, usize> {
     Ok(without_needless(state, before, line))
 }
 
+/// Returns whether a text has letters that are no digits: a special value, or a prefix before digits alone.
+fn has_other_letters(text: &[u8]) -> bool {
+    let is_special = |it: &&[u8]| unsigned(text).eq_ignore_ascii_case(it);
+    [&b"nan"[..], b"inf", b"infinity"].iter().any(is_special)
+        || matches!(unsigned(text), [b'0', letter, digits @ ..]
+            if shown_radix(*letter).is_some() && digits.iter().all(u8::is_ascii_digit))
+}
+
 /// Returns the states in which the byte at an index, or the last one, gets a role, the likeliest first.
 fn candidates(state: State, text: &[u8], at: usize) -> [Option<State>; 11] {
     let Some((&byte, rest)) = text.get(at..).and_then(<[u8]>::split_first) else { return [None; 11] };
@@ -292,7 +300,7 @@ fn candidates(state: State, text: &[u8], at: usize) -> [Option<State>; 11] {
     let is_word = is_whole && unsigned(text).first().is_some_and(u8::is_ascii_alphabetic);
     let radix = radix_of(text, state.radix() + 1).or(is_word.then_some(36).filter(|&it| it > state.radix()));
     let is_digit = byte.is_ascii_alphanumeric() && (is_whole || !rest.is_empty());
-    let radix = radix.filter(|_| is_digit).map(|radix| state.with_radix(radix));
+    let radix = radix.filter(|_| is_digit && !has_other_letters(text)).map(|radix| state.with_radix(radix));
     // In `1,234`, the comma separates groups.
     let is_group =
         rest.len() == usize::from(USUAL_SIZE) && rest.iter().all(u8::is_ascii_digit) && unsigned(before).len() <= 3;

@@ -23,6 +23,13 @@ function choose(id, value) {
     find(id).dispatchEvent(new Event(find(id).options ? "change" : "input"));
 }
 
+/* Types a text into a control that had no focus. */
+function type(id, text) {
+    find("tab-edit").focus();
+    find(id).focus();
+    choose(id, text);
+}
+
 /* Returns the code or the words of a tab. */
 function codeOf(tab) {
     page.chooseTab(tab);

@@ -43,11 +43,13 @@ TEXTS = r"""1 1\5 1'5 1"5 -0 12 1F inf nan 9007199254740993 12345678901234567 12
 0x4000000000000000 0x8000000000000000 0xffffffffffffffff 0x10000000000000001 0ffffffffffffffffh 0b11111111111111111111111111111111""".split()
 # Links with all parts of a number, several forms, reasons, notes, offers, and a condition that does not fit.
 LINKS = [f"#forms={MIXED_FORM}&numbers=-0x1_0%2C8p%2B1h%0A!0x1h%0A1k&compare=JSON",
-         f"#language=C&numbers={60 * '1'}%0A0xg%0A0b1.5{30 * '%0A1'}&compare=standard",
+         f"#language=C&numbers={60 * '1'}%0A0xg%0A0b1.5{6 * '%0A1'}&compare=standard",
          f"#forms={UNLAWFUL} exponent=112&compare=standard",
          f"#forms={STANDARD} integer_group_size=3&numbers=-inf%0A1_0%0A0x1F&compare=standard"]
-# The functions of the scripts here, which run in the page.
-SCRIPTS = "".join(it.read_text() for it in sorted(HERE.glob("*.js")))
+# The functions of the scripts here, which run in the page and are members of `tests` there.
+FUNCTIONS = "".join(it.read_text() for it in sorted(HERE.glob("*.js")))
+NAMES = re.findall(r"^(?:async )?function (\w+)", FUNCTIONS, re.M)
+SCRIPT = f"window.tests = (() => {{ {FUNCTIONS} return {{ {', '.join(NAMES)} }}; }})();"
 
 
 def has(*programs):
@@ -89,6 +91,7 @@ class Walk(unittest.TestCase):
         driver = webdriver.Chrome(service=Service("chromedriver"), options=options)
         atexit.register(driver.quit)
         driver.set_script_timeout(600)
+        driver.execute_cdp_cmd("Page.addScriptToEvaluateOnNewDocument", {"source": SCRIPT})
         return driver
 
     def setUp(self):
@@ -109,9 +112,9 @@ class Walk(unittest.TestCase):
         self.wait(lambda: self.run_script("return document.documentElement.dataset.ready"))
 
     def links(self):
-        """Loads each of LINKS, shows each tab, opens all that is closed, and returns the link."""
+        """Follows each of LINKS, shows each tab, opens all that is closed, and returns the link."""
         for link in LINKS:
-            self.load(link)
+            self.call("follow", link)
             self.assertEqual(self.text("#told"), "")
             for tab in ("languages", "rust", "compare", "edit", "grammar"):
                 self.run_script("page.chooseTab(arguments[0]); document.querySelectorAll('details').forEach((it) => { it.open = true; })", tab)
@@ -125,7 +128,7 @@ class Walk(unittest.TestCase):
 
     def call(self, name, *arguments):
         """Returns what a function of a script here returns."""
-        return self.driver.execute_script(f"{SCRIPTS}; return {name}(...arguments);", *arguments)
+        return self.run_script(f"return tests.{name}(...arguments);", *arguments)
 
     def find(self, selector):
         return self.driver.find_element(By.CSS_SELECTOR, selector)

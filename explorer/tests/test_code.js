@@ -51,12 +51,15 @@ function test_code_whose_test_fails_is_marked() {
     }));
 }
 
-/* Returns the tab of a group that is a stop, that is selected and that names what is shown, and the text or the pane. */
+/* Returns the focus and, after the link of the page is followed, the tab of a group that is a stop, that is selected and that
+ * names what is shown, and the text or the pane. */
 function shownTab(id) {
+    const focused = document.activeElement.id;
+    follow(page.fragment());
     const stops = [...find(id).children].filter((it) => it.tabIndex === 0).map((it) => it.id);
     const shown = find(id === "panes" ? `pane-${page.pane}` : INNER[page.pane].text);
     const text = !shown.checkVisibility() ? "" : id === "panes" ? shown.id : shown.textContent;
-    return [stops.join(), find(id).querySelector("[aria-selected=true]").id, shown.getAttribute("aria-labelledby"), text];
+    return [focused, stops.join(), find(id).querySelector("[aria-selected=true]").id, shown.getAttribute("aria-labelledby"), text];
 }
 
 /* Returns all texts that are tried and, for the states, the last one with each condition that fits and with all, and each form

@@ -97,10 +97,8 @@ class Code(Walk):
             arrows += [(None, Keys.ARROW_LEFT, name) for name in names[-2::-1] + names[-1:]]
             for selector, key, name in clicks + arrows:
                 self.find(selector or f"#{group} [aria-selected=true]").send_keys(key)
-                self.assertEqual(self.focused(), f"tab-{name}")
-                self.call("follow", self.run_script("return page.fragment()"))
                 *shown, text = self.call("shownTab", group)
-                self.assertEqual(shown, 3 * [f"tab-{name}"])
+                self.assertEqual(shown, 4 * [f"tab-{name}"])
                 self.assertIn(tabs[name], text)
 
     def rust(self, folder, codes):

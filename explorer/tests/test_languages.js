@@ -83,3 +83,11 @@ function test_each_language_is_below_what_it_reads() {
         return [...lines.filter((it) => !wanted.includes(it)), ...wanted.filter((it) => !lines.includes(it))];
     });
 }
+
+function test_numbers_that_are_left_out_are_told() {
+    return [1, 20, 21, 100].filter((count) => {
+        show([page.library.usual], range(1, count).join("\n"));
+        page.chooseTab("languages");
+        return find("readers").textContent.startsWith(`The first 20 of ${count} numbers`) !== count > 20;
+    });
+}

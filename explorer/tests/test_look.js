@@ -25,6 +25,17 @@ function outOfView() {
     });
 }
 
+/* Returns the buttons for parts of the settings whose heading has no focus or is not in view after a click. */
+function partsOutOfView() {
+    page.open("edit");
+    return textsOf("button", find("parts")).filter((title, index) => {
+        find("parts").children[index].click();
+        const { left, top } = document.activeElement.getBoundingClientRect();
+        const isSeen = document.activeElement.contains(document.elementFromPoint(left + 9, top + 9));
+        return document.activeElement.textContent !== title || !isSeen;
+    });
+}
+
 /* Returns the controls that are shown, the width of the page, and what looks wrong, by the name of a check. */
 function looks() {
     const controls = [...document.querySelectorAll("button, input, select")].filter((it) => it.id && it.checkVisibility());
@@ -112,10 +123,14 @@ async function idle(link) {
     const where = link.endsWith("languages") ? "" : "#pane ";
     const buttons = () => [...document.querySelectorAll(`${where}button:enabled${not}`)].filter((it) => it.checkVisibility());
     navigator.clipboard.writeText = async (text) => { window.copied = text; };
+    follow(link);
+    page.change({ numbers: `${page.state.numbers}\n1` });
+    const [{ state, tab }, compared] = [page, find("compare").value];
     const start = () => {
-        follow(link);
         document.activeElement.blur();
-        page.change({ numbers: `${page.state.numbers}\n1` });
+        find("compare").value = compared;
+        page.change(state);
+        if (page.tab !== tab) page.chooseTab(tab);
     };
     const idle = [];
     start();
@@ -134,7 +149,9 @@ async function idle(link) {
 /* Returns the texts whose contrast with the ground behind them is below 4.5, and what has a border below 3. */
 function faint() {
     const canvas = document.createElement("canvas").getContext("2d", { willReadFrequently: true });
-    const luminance = (colours) => {
+    const known = {};
+    const luminance = (colours) => (known[colours] ??= measured(colours));
+    const measured = (colours) => {
         for (const colour of ["white", ...colours]) { canvas.fillStyle = colour; canvas.fillRect(0, 0, 1, 1); }
         const [red, green, blue] = [...canvas.getImageData(0, 0, 1, 1).data].map((it) => it / 255)
             .map((it) => (it <= 0.04045 ? it / 12.92 : ((it + 0.055) / 1.055) ** 2.4));
@@ -169,6 +186,7 @@ function bare() {
 function test_arrows_lead_among_buttons() {
     page.change({ numbers: range(1, 9).join("\n") });
     return [...document.querySelectorAll(".roving")].flatMap((group) => {
+        page.chooseTab(group.closest("[id^=pane-]")?.id.slice(5) ?? page.tab);
         const all = [...group.querySelectorAll(".rover")];
         all[0].focus();
         return ["Right 1", "Down 2", "Left 1", "Up 0", "Left -1", "Right 0", "Up -1", "Down 0"].map((it) => it.split(" ")).filter(([key, place]) => {

@@ -52,9 +52,13 @@ class Look(Walk):
 
     def test_the_answer_is_in_view(self):
         """After each choice, the heading of its tab and ten lines are in view, and so are the sentence and the first number."""
-        for width in self.screens((1280, 720), (1366, 657), (1000, 700)):
+        for width in self.screens((1280, 657), (1000, 700)):
             self.load()
             self.assertEqual(self.call("outOfView"), [], width)
+
+    def test_each_part_of_the_settings_is_one_click_away(self):
+        for _ in self.screens():
+            self.assertEqual(self.call("partsOutOfView"), [])
 
     def test_nothing_moves_while_the_page_loads_and_while_one_types(self):
         """The sum of layout shifts, also of those that follow a key at once, is at most 0.05."""

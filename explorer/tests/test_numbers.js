@@ -71,3 +71,15 @@ function test_characters_that_cannot_be_seen_have_their_numbers() {
         return textsOf("#read p, #summary, #readers").join().includes(text[1]) || !textsOf("#summary, #readers").every((it) => it.includes(number));
     });
 }
+
+function test_an_unlawful_form_is_told_wherever_it_is() {
+    const { library: { usual } } = page;
+    return [0, 1].flatMap((shown) => [0, 1].filter((at) => {
+        show([0, 1].map((it) => ({ ...usual, word: it === at ? 0n : usual.word, name: "ab"[it] })), "1");
+        page.change({ at: shown });
+        const told = [codeOf("rust"), find("summary").textContent, find("verdict").textContent].map((it) => it.slice(0, 9));
+        find("verdict").click();
+        const [bad, pressed] = [".bad", "[aria-pressed=true]"].map((it) => textsOf(`#forms ${it}`).join());
+        return [...told, bad, pressed, document.activeElement.id].join() !== `Nothing c,Nothing i,Not valid,${"ab"[at]},${"ab"[at]},report-title`;
+    }));
+}

@@ -1,5 +1,5 @@
 """Tests of the page: numbers."""
-from test_base import Walk, MIXED_FORM, STANDARD, UNLAWFUL
+from test_base import Walk, MIXED_FORM
 
 
 class Numbers(Walk):
@@ -53,17 +53,6 @@ class Numbers(Walk):
         self.type("#literal", "12\u05d03")
         before, mark = (self.run_script(f"return document.querySelector('#read {it}').getBoundingClientRect().toJSON()") for it in (".integer", "mark"))
         self.assertAlmostEqual(before["right"], mark["left"], delta=3)
-
-    def test_an_unlawful_form_is_told_wherever_it_is(self):
-        for shown in (0, 1):
-            for at in (0, 1):
-                forms = "%0A".join(f"{UNLAWFUL if name == 'ab'[at] else STANDARD}%09{name}" for name in "ab")
-                self.load(f"#forms={forms}&at={shown}&numbers=1")
-                self.assertEqual((self.text("#verdict")[:9], self.texts("#forms .bad")), ("Not valid", ["ab"[at]]))
-                self.assertIn("Nothing can be read", self.text("#code"))
-                self.assertIn("Nothing is read", self.text("#summary"))
-                self.click("#verdict")
-                self.assertEqual((self.text("#forms [aria-pressed=true]"), self.focused()), ("ab"[at], "report-title"))
 
     def test_a_value_that_is_too_large_is_refused(self):
         self.load("#language=JAVA&numbers=2147483648%0A1%0A!2147483648")

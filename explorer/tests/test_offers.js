@@ -65,16 +65,62 @@ function offeredFor(text) {
     return [textsOf("#read .then")[0], advice.join(" "), find("summary").textContent, textsOf("#read .use, #read .link")];
 }
 
-/* No two offers for a number have the same words, and each is in vain without any of its flags. */
+/* What no format has, in words of the advice, and what its button makes of texts. */
+const REPLACED = {
+    "is an apostrophe that no format has: replace it by '": { "1\u2019000": "1'000", "1\u02bc000": "1'000" },
+    "is a space that no format has: replace it by the space of ASCII": { "1\u00a0000": "1 000", "1\u202f000": "1 000" },
+    "is a minus sign that no format has: replace it by -": { "\u22125": "-5", "\u20135": "-5" },
+    "is a percent sign: divide the value by 100, and remove it": { "12 %": "12" },
+    "is a currency sign: remove it": { "\u20ac5": "5", "$12": "12", "5 \u00a3": "5" },
+    "can be a suffix: the library's call token reads the number before it, with your suffixes. Remove it": { "3kg": "3" },
+    " is a suffix in ": { "1u8": "1", "0x1Fu8": "0x1F", "10L": "10", "1.5f": "1.5" },
+    "is a negative number in a way that no format has: replace it by one with -": { "(5)": "-5", "5-": "-5" },
+    "is a digit that no format has: replace it by one of ASCII": { "\u0661\u0662": "12", "\uff11\uff12": "12" },
+};
+
+/* A number that some read as octal leads to one of these; letters that are no digits, and prefixes of other digits, to no radix. */
+function test_radixes_are_offered_where_they_are_meant() {
+    const texts = ["0755", "-0755", "NaN", "Infinity", "inf", "0b12", "0o8"];
+    return page.data.languages.flatMap(({ name, forms }) => texts.filter((text) => {
+        show(forms, text, name);
+        const [[answer], octal] = [page.trial.answers, parseInt(text, 8)];
+        const isTold = textsOf("#read li li").some((it) => it.includes(`as octal, ${octal}.start from `));
+        const changed = page.trial.withOffers(answer).offers.flatMap(({ changes }) => changes.map((it) => it.name));
+        return /^-?07/.test(text) ? isTold === (Number(answer.integer) === octal) : changed.includes("mantissa_radix");
+    }).map((text) => [name, text]));
+}
+
+function test_what_no_format_has_is_replaced() {
+    return Object.entries(REPLACED).flatMap(([words, rows]) => Object.entries(rows).filter(([text, other]) => {
+        const [, advice] = offeredFor(text);
+        [...find("read").querySelectorAll(".use")].find((it) => it.textContent === `try ${other}`)?.click();
+        return !advice.includes(words) || find("literal").value !== other;
+    }));
+}
+
+/* Returns what is told of each text and, after a click on its button, the numbers, what has the focus, and whether the limits are open. */
+function prefixesShown(texts) {
+    return texts.map((text) => {
+        offeredFor(text);
+        find("limits").open = false;
+        const told = textsOf("#read li li");
+        find("read").querySelector("li li button").click();
+        return [told, find("literal").value, document.activeElement.textContent, find("limits").open];
+    });
+}
+
+/* No two offers for a number have the same words, none helps fewer numbers, and each is in vain without any of its flags. */
 function test_offers_are_needed_and_named_apart() {
     const { library, data: { languages } } = page;
     const grouped = { forms: [formOf("internal_digit_separator=true", "digit_separator=','")], numbers: "1,23,45,678" };
     return [grouped, ...languages].flatMap(({ name, forms, specials, numbers }) => numbers.split("\n").filter((line) => {
         const [isRefused, text] = [line[0] !== "!", line.replace("!", "")];
-        show(forms, (isRefused ? "!" : "") + text, name);
+        show(forms, `${isRefused ? "!" : ""}${text}\n0x1F\n1_0`, name);
         const { offers } = page.trial.withOffers(page.trial.answers[0]);
         const isVain = (list) => library.call("numbers", { forms: list, specials }, text).some(({ error }) => isRefused === Boolean(error));
-        return new Set(offers.map(({ ways: [[words]] }) => words)).size < offers.length || offers.some(({ changes, ways: [[, { at, forms }]] }) => {
+        const counts = textsOf(".then", find("read").firstChild).map((it) => /\d+ of \d+ as expected/.exec(it)?.[0]);
+        const isApart = new Set(offers.map(({ ways: [[words]] }) => words)).size === offers.length && new Set(counts).size < 2;
+        return !isApart || offers.some(({ changes, ways: [[, { at, forms }]] }) => {
             const flags = changes.filter(({ holder, isByte }) => holder === "word" && !isByte);
             return flags.some((it) => isVain(forms.with(at, library.with(forms[at], it.name, it.before))));
         });
@@ -83,21 +129,26 @@ function test_offers_are_needed_and_named_apart() {
 
 /* Returns the pairs of samples, behind numbers that are read, of which the first offers change what is read of another one. */
 function lostByOffers(samples) {
-    const values = () => page.trial.answers.map((it) => it.isExpected && valueText(it));
-    const isLost = (place) => {
-        const before = values();
-        if (before[place] === false) find("read").children[place].querySelector("li:has(.then) .use")?.click();
-        return values().some((it, index) => before[index] !== false && before[index] !== it);
+    const { trial, library: { usual } } = page;
+    const read = (forms, numbers) => {
+        const state = { forms, numbers: numbers.join("\n"), language: "" };
+        const list = page.listOf(state);
+        const lines = numbers.map((text, place) => ({ text, place }));
+        const answers = trial.read(lines, list);
+        Object.assign(trial, { state, list, forms: list.forms, lines, answers, expected: answers.filter((it) => it.isExpected).length });
+        return answers;
     };
-    page.chooseTab("settings");
+    /* Returns the forms behind the first offer for the last number, and whether it changes what was read. */
+    const offered = (forms, ...numbers) => {
+        const before = read(forms, numbers);
+        const [offer] = trial.withOffers(before.at(-1)).offers;
+        const taken = offer?.ways[0][1].forms ?? forms;
+        const after = read(taken, numbers);
+        return [taken, before.some((it, index) => it.isExpected && (!after[index].isExpected || valueText(it) !== valueText(after[index])))];
+    };
     return samples.flatMap((first) => {
-        show([page.library.usual], `1\n2.5\n${first}`);
-        const isFirst = isLost(2);
-        const { forms } = page.state;
-        return samples.filter((second) => {
-            page.change({ forms, at: 0, numbers: `1\n2.5\n${first}\n${second}` });
-            return isFirst || isLost(3);
-        }).map((second) => [first, second]);
+        const [forms, isLost] = offered([usual], "1", "2.5", first);
+        return samples.filter((second) => isLost || offered(forms, "1", "2.5", first, second)[1]).map((second) => [first, second]);
     });
 }
 

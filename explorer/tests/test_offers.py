@@ -13,18 +13,6 @@ SAMPLES = {
     "$5": "a currency sign", "1,5": 1.5, "1 000 000,5": 1000000.5, "12,34,567.89": 1234567.89, "1.234,56": 1234.56, "#FF": "a prefix",
     "101b": 5, "1__0": 10, "1_000_": 1000, "6.02D+23": 6.02e23, "deadbeef": 3735928559, "1,000.50": 1000.5, "1e": None, "_1": 1}
 
-# What no format has, in words of the advice, and what its button makes of texts.
-REPLACED = {
-    "is an apostrophe that no format has: replace it by '": {"1\u2019000": "1'000", "1\u02bc000": "1'000"},
-    "is a space that no format has: replace it by the space of ASCII": {"1\u00a0000": "1 000", "1\u202f000": "1 000"},
-    "is a minus sign that no format has: replace it by -": {"\u22125": "-5", "\u20135": "-5"},
-    "is a percent sign: divide the value by 100, and remove it": {"12 %": "12"},
-    "is a currency sign: remove it": {"\u20ac5": "5", "$12": "12", "5 \u00a3": "5"},
-    "can be a suffix: the library's call token reads the number before it, with your suffixes. Remove it": {"3kg": "3"},
-    " is a suffix in ": {"1u8": "1", "0x1Fu8": "0x1F", "10L": "10", "1.5f": "1.5"},
-    "is a negative number in a way that no format has: replace it by one with -": {"(5)": "-5", "5-": "-5"},
-    "is a digit that no format has: replace it by one of ASCII": {"\u0661\u0662": "12", "\uff11\uff12": "12"}}
-
 
 class Offers(Walk):
     def test_the_first_offers_are_right(self):
@@ -45,26 +33,14 @@ class Offers(Walk):
                 if re.match(r"0[a-z]|[\d_.,' ]+$", text, re.I):
                     self.assertNotIn("can be a suffix", advice)
 
-    def test_what_no_format_has_is_replaced(self):
-        for words, rows in REPLACED.items():
-            for text, other in rows.items():
-                _, advice, _, buttons = self.call("offeredFor", text)
-                self.assertEqual((words in advice, f"try {other}" in buttons), (True, True), (text, advice, buttons))
-                self.click("#read .use", f"try {other}")
-                self.assertEqual(self.value("#literal"), other)
-
     def test_prefixes_of_other_languages_are_told_as_format_tells_them(self):
         row = re.search(r"^\| (have a prefix.*) \|$", (TOP / "docs/FORMAT.md").read_text(), re.M)[1]
         cannot, texts, instead = row.split(" | ")
-        for text in [*re.findall("`([^`]*)`", texts), "-$FF", "$1F", "$dead_beef"]:
-            self.call("offeredFor", text)
-            told = f"A format cannot {cannot.replace('`', '')}. Instead, {instead}.\nWhat a format cannot express"
-            self.assertEqual((self.texts("#read li li"), self.find("#limits").get_property("open")), ([told], False))
-            self.click("#read li li button")
-            focused = self.run_script("return document.activeElement.textContent")
-            self.assertEqual((self.value("#literal"), focused), (text, "What a format cannot express"))
-            self.assertIn(instead, self.text("#limits"))
-            self.run_script("find('limits').open = false")
+        texts = [*re.findall("`([^`]*)`", texts), "-$FF", "$1F", "$dead_beef"]
+        told = f"A format cannot {cannot.replace('`', '')}. Instead, {instead}.What a format cannot express"
+        wanted = [[[told], text, "What a format cannot express", True] for text in texts]
+        self.assertEqual(self.call("prefixesShown", texts), wanted)
+        self.assertIn(instead, self.text("#limits"))
 
     def test_a_language_is_changed_in_the_form_that_goes_furthest(self):
         self.type("#literal", "\n0x1_000.5")

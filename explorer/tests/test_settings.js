@@ -44,9 +44,11 @@ function test_each_choice_lands_in_the_state_the_link_and_the_code() {
     };
     const start = (name) => {
         show([formOf(...whole, name === "higher_group_size" ? "integer_group_size=3" : "")]);
-        page.chooseTab("edit");
         return page.form;
     };
+    // Without the layout of another tab.
+    const codeOf = (tab) => page.code.text(tab, page.list, page.trial.answers);
+    page.chooseTab("edit");
     const set = (control, value, isOther) => {
         control.focus();
         if (control.type !== "checkbox") choose(control.id, value);
@@ -65,16 +67,16 @@ function test_each_choice_lands_in_the_state_the_link_and_the_code() {
         return [...lost, ...values.flatMap((value) => {
             start(name);
             set(control, isNumber ? value : String.fromCharCode(value), value !== usual);
-            const [chosen, text] = [json(page.state.forms), library.setting(field, value)];
+            const [link, text] = [new URLSearchParams(page.fragment().slice(1)), library.setting(field, value)];
             const changed = library.differences(page.form, form).map((it) => it.text).join();
-            follow(page.fragment());
+            const linked = link.has("forms") ? library.form(link.get("forms")) : library.usual;
             const isUsual = value === library.value(library.usual, name);
             const setter = OPTIONS.includes(field) ? `'${String.fromCharCode(value)}'` : `.${name}(`;
             const codes = kinds[name]?.map((it) => it.replace("%", value)) ?? [setter, `"${text}`, `"${text}"`];
             const wanted = { settings: `\n${text}\n`, ...(page.shown.problems.length ? {} : { rust: codes[0], c: codes[1], python: codes[2] }) };
             const missing = isUsual ? [] : Object.entries(wanted).filter(([tab, it]) => !codeOf(tab).includes(it));
             const isAlone = changed === (value === usual ? "" : text) && codeOf("settings").includes(wanted.settings) === !isUsual;
-            return isAlone && json(page.state.forms) === chosen && !missing.length ? [] : [`${text}: ${changed} ${missing}`];
+            return isAlone && isSame([linked], page.state.forms) && !missing.length ? [] : [`${text}: ${changed} ${missing}`];
         })];
     });
 }
@@ -91,4 +93,30 @@ function test_a_group_that_is_partly_set_is_cleared_first() {
         });
         return !isMixed || cleared !== 0n || set !== mask || !isTold || isToldAgain;
     }).map(({ name }) => name);
+}
+
+/* Each byte and option refuses texts below it, without a change, and takes the names of bytes that cannot be seen. */
+function test_texts_are_refused_below_their_fields() {
+    page.chooseTab("edit");
+    const refused = [...page.library.bytes, ...OPTIONS].flatMap(({ name }) => {
+        return ["xyz", ...(name.endsWith("_radix") ? ["256", "a", "'a'"] : [])].map((text) => [name, text]);
+    }).filter(([name, text]) => {
+        const before = page.fragment();
+        type(name, text);
+        const isTold = find(`${name}-problem`).textContent.includes(`the ${find(name).labels[0].textContent}`);
+        return !isTold || find(name).ariaInvalid !== "true" || page.fragment() !== before;
+    });
+    const names = [9, 10, 11, 12, 13, 32].flatMap((byte) => [[byte, NAMES[byte].toLowerCase()], ...(byte === 9 ? [[byte, "9"]] : [])]);
+    return [...refused, ...names.filter(([byte, text]) => {
+        type("point", text);
+        find("tab-edit").focus();
+        return page.form.point !== byte || find("point").value !== NAMES[byte];
+    })];
+}
+
+/* Without one option there is none, and with one the other is the one before. */
+function test_integers_alone_have_no_options() {
+    page.chooseTab("edit");
+    const steps = [["exponent", "", 0, 0], ["exponent", "p", 112, 46], ["point", ",", 112, 44], ["exponent", "", 0, 0], ["exponent", "^", 94, 44]];
+    return steps.filter(([name, text, ...wanted]) => (type(name, text), json([page.form.exponent, page.form.point]) !== json(wanted)));
 }

@@ -18,17 +18,10 @@ class Settings(Walk):
             self.assertEqual(self.focused(), field)
         self.type("#exponent", "p")
         self.assertEqual((self.text("#verdict"), self.texts(".reason > span")), ("", []))
-        for field in self.run_script("return [...page.library.bytes, ...OPTIONS].map(({ name }) => name)"):
-            before = self.run_script("return page.fragment()")
-            title = "the " + self.run_script("return find(arguments[0]).labels[0].textContent", field)
-            for text in ("xyz", *(["256", "a", "'a'"] if field.endswith("_radix") else [])):
-                self.type(f"#{field}", text)
-                self.assertTrue(title in self.text(f"#{field}-problem"), title)
-                self.assertEqual((self.run_script("return page.fragment()"), self.find(f"#{field}").get_attribute("aria-invalid")), (before, "true"))
-        for byte, name in {9: "TAB", 10: "LF", 11: "VT", 12: "FF", 13: "CR", 32: "SPACE"}.items():
-            for text in (name.lower(), *(["9"] if byte == 9 else [])):
-                self.type("#point", text + Keys.TAB)
-                self.assertEqual((self.run_script("return page.form.point"), self.value("#point")), (byte, name))
+        self.type("#point", "space" + Keys.TAB)
+        self.assertEqual((self.run_script("return page.form.point"), self.value("#point")), (32, "SPACE"))
+        self.type("#base_prefix", "xyz")
+        self.assertIn("the base prefix", self.text("#base_prefix-problem"))
         self.load("#forms=0x0A0A0A000000002C000000000000000C point=44&numbers=1,5")
         self.assertEqual((self.text("#verdict"), self.text("#count")), ("", "1 of 1 as expected"))
         self.assertIn("Numbers are read, since no flag allows the separator, but is_valid_options_punctuation refuses this", self.text("#notes"))
@@ -56,17 +49,6 @@ class Settings(Walk):
         for text, wanted in rows.items():
             self.type("#word", text + Keys.ENTER + Keys.TAB)
             self.assertEqual(self.value(), wanted)
-
-    def test_integers_alone_have_no_options(self):
-        self.type("#exponent", "")
-        self.assertEqual((self.value("#exponent"), self.value("#point")), ("", ""))
-        self.type("#exponent", "p")
-        self.assertEqual((self.value("#point"), self.text("#verdict")), (".", ""))
-        self.type("#point", ",")
-        self.type("#exponent", "")
-        self.assertEqual(self.run_script("return [page.form.exponent, page.form.point]"), [0, 0])
-        self.find("#exponent").send_keys("^")
-        self.assertEqual(self.value("#point"), ",")
 
     def test_fields_are_shown_as_they_are_documented(self):
         """Each flag, group, byte and condition with its row of FORMAT, and what no format can express."""

@@ -13,7 +13,25 @@ function test_choices_are_the_languages() {
     });
 }
 
-/* A key takes at most these milliseconds, the least of five times, and more where a loop of 100 takes longer. */
+/* A text that is typed anew is a step of its own, which the button and Ctrl+Z undo, each time. */
+function test_each_typing_is_undone() {
+    page.chooseTab("edit");
+    const press = () => document.activeElement.dispatchEvent(new KeyboardEvent("keydown", { key: "z", ctrlKey: true, bubbles: true, cancelable: true }));
+    return ["literal", ...page.library.bytes.map(({ name }) => name), ...OPTIONS.map(({ name }) => name)].filter((name) => {
+        show([page.library.usual]);
+        const before = page.fragment();
+        return [press, press, () => find("undo").click()].some((undo) => {
+            if (name === "literal" && undo === press) return false;
+            const links = ["7", "8"].map((text) => (type(name, text), page.fragment()));
+            undo();
+            const isOne = page.fragment() === links[0];
+            undo();
+            return !isOne || page.fragment() !== before;
+        });
+    });
+}
+
+/* A key takes at most these milliseconds, the least of five times. */
 function test_large_inputs_are_read_at_once() {
     const { library: { usual }, data: { languages } } = page;
     const julia = languages.find(({ name }) => name === "JULIA");
@@ -23,12 +41,11 @@ function test_large_inputs_are_read_at_once() {
         [200, languages.flatMap((it) => it.forms), "", (run) => `0x1Fg${run}`],
     ];
     const timeOf = (call) => -performance.now() + (call(), performance.now());
-    const loop = () => range(1, 1e6).reduce((sum, it) => (31 * sum + it) % 1000003, 0);
     return rows.map(([most, forms, language, numbersOf]) => {
         const took = range(1, 5).map((run) => {
             show(forms, "0x1F", language);
             find("literal").value = numbersOf(run);
-            return timeOf(() => page.type(find("literal").value)) * Math.min(1, 100 / timeOf(loop));
+            return timeOf(() => page.type(find("literal").value));
         });
         return Math.min(...took) <= most ? "" : `${forms.length} forms: ${took} of ${most} ms`;
     }).filter(Boolean);

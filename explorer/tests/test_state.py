@@ -33,6 +33,7 @@ class State(Walk):
         self.assertEqual(self.value("#literal"), "100")
         self.click("#no_exponent_notation")
         self.assertFalse(self.find("#redo").is_enabled())
+        self.wait(lambda: self.run_script("return location.hash === page.fragment()"))
         self.refresh()
         self.assertTrue(self.is_checked("#no_exponent_notation"))
         self.load("#numbers=1_0&tab=edit")
@@ -43,23 +44,6 @@ class State(Walk):
             self.driver.back()
             self.wait(lambda: state() == before)
             lead([redo, undo], [entered, before])
-        self.load("#tab=edit")
-        for name in self.run_script("return [...page.library.bytes, ...OPTIONS].map(({ name }) => name)"):
-            for _ in range(2):
-                self.type(f"#{name}", "7")
-                self.find(f"#{name}").send_keys(Keys.CONTROL, "z")
-                self.assertEqual(state(), states[0], name)
-
-    def test_a_text_that_is_typed_anew_is_a_step_of_its_own(self):
-        for name in ["literal", *self.run_script("return [...page.library.bytes, ...OPTIONS].map(({ name }) => name)")]:
-            self.load("#tab=edit")
-            links = []
-            for text in "78":
-                self.find("#tab-edit").click()
-                self.type(f"#{name}", text)
-                links.append(self.run_script("return page.fragment()"))
-            self.click("#undo")
-            self.assertEqual(self.run_script("return page.fragment()"), links[0], name)
 
     def test_what_is_lost_is_told(self):
         self.type("#word", "digit_separator=95 base_prefix=120" + Keys.ENTER)

@@ -3,7 +3,7 @@
 use core::{fmt, ops::Range, str};
 
 use crate::edits::{Edit, FlagSetter};
-use crate::format_flags::{base_prefix, base_suffix, NO_FLOAT_LEADING_ZEROS, NO_INTEGER_LEADING_ZEROS};
+use crate::format_flags::{base_prefix, base_suffix, NO_FLOAT_LEADING_ZEROS};
 use crate::literal::cause::{first_unmet, Refusal};
 use crate::literal::syntax::{Condition, Grammar};
 use crate::literal::{Place, ReadError, ReadErrorKind};
@@ -104,15 +104,17 @@ impl ReadError {
         }
         match kind {
             ReadErrorKind::Requirement | ReadErrorKind::Case => {
-                let named = named(mask);
-                let verb = match lowest(mask).name().as_bytes().first_chunk() {
-                    Some(b"required") => " requires",
-                    _ if named == ZEROS => " forbid",
-                    _ => " forbids",
-                };
-                names(text.and(", which"), named, " and ").and(verb)
+                let flag = lowest(mask);
+                let text = text.and(", which ").and(flag.name());
+                match flag.name().as_bytes().first_chunk() {
+                    Some(b"required") => text.and(" requires"),
+                    _ if matches!(flag, FlagSetter::NoIntegerLeadingZeros) && mask & NO_FLOAT_LEADING_ZEROS != 0 => {
+                        text.and(" forbids in integers and no_float_leading_zeros in floats")
+                    }
+                    _ => text.and(" forbids"),
+                }
             }
-            ReadErrorKind::Separator(..) => names(text.and(", which requires"), mask, " or "),
+            ReadErrorKind::Separator(..) => names(text.and(", which requires"), mask),
             ReadErrorKind::Missing(_) | ReadErrorKind::Byte => text,
         }
     }
@@ -124,11 +126,15 @@ impl ReadError {
             return self.unmet(condition);
         }
         match kind {
-            // The bytes to show are the zeros, or otherwise the separator behind them.
-            ReadErrorKind::Requirement if named(mask) & ZEROS != 0 && refusal.start == refusal.valid_up_to => {
-                ShortText::of("unexpected digit separator after a leading zero")
-            }
-            ReadErrorKind::Requirement | ReadErrorKind::Case => ShortText::of(required_by(lowest(mask))),
+            ReadErrorKind::Requirement | ReadErrorKind::Case => match lowest(mask) {
+                // The bytes to show are the zeros, or otherwise the separator behind them.
+                FlagSetter::NoIntegerLeadingZeros | FlagSetter::NoFloatLeadingZeros
+                    if refusal.start == refusal.valid_up_to =>
+                {
+                    ShortText::of("unexpected digit separator after a leading zero")
+                }
+                flag => ShortText::of(required_by(flag)),
+            },
             ReadErrorKind::Separator(part, place) => {
                 ShortText::of("unexpected digit separator in the ").and(part.name()).and(behind(place))
             }
@@ -180,36 +186,23 @@ const fn shown(text: ShortText, byte: u8) -> ShortText {
 }
 
 /// Appends the names of the flags of a mask.
-const fn names(mut text: ShortText, mask: u128, between: &str) -> ShortText {
+const fn names(mut text: ShortText, mask: u128) -> ShortText {
     let (mut index, mut before) = (0, " ");
     while index < FlagSetter::FLAGS.len() {
         let flag = FlagSetter::FLAGS[index];
         if flag.is_set(mask) {
             text = text.and(before).and(flag.name());
-            before = between;
+            before = " or ";
         }
         index += 1;
     }
     text
 }
 
-/// The flags on leading zeros.
-const ZEROS: u128 = NO_INTEGER_LEADING_ZEROS | NO_FLOAT_LEADING_ZEROS;
-
 /// Returns the lowest flag of a mask of flags that require or forbid something.
 const fn lowest(mask: u128) -> FlagSetter {
     // Flags below bit 18 are at the index of their bit. By a syntax that is not lawful, there may be none.
     FlagSetter::FLAGS[mask.trailing_zeros() as usize % FlagSetter::FLAGS.len()]
-}
-
-/// Returns the flags of such a mask that a sentence names: the lowest, or both flags on leading zeros.
-const fn named(mask: u128) -> u128 {
-    let lowest = mask & mask.wrapping_neg();
-    if lowest & ZEROS == 0 {
-        lowest
-    } else {
-        mask & ZEROS
-    }
 }
 
 impl core::error::Error for ReadError {}
