@@ -8,12 +8,10 @@
 - The ratios of README are the larger ones of bench/README.md, or their median.
 - Each name with a `_` or `::`, and each path of a source or folder, is in the repository, except for those in the
   changelog.
-- A source begins with `Made by` if and only if `.gitattributes` marks it as generated.
 """
 import pathlib
 import re
 import statistics
-import subprocess
 import sys
 
 TOP = pathlib.Path(__file__).resolve().parent.parent
@@ -106,15 +104,6 @@ def wrong_ratios(text, bench):
         yield f"ratios {found} in place of {wanted}"
 
 
-def wrong_marks(paths):
-    """Yields the sources that are marked as generated and do not begin with `Made by`, or the other way round."""
-    command = ["git", "check-attr", "--stdin", "linguist-generated"]
-    found = subprocess.run(command, cwd=TOP, input="\n".join(paths), capture_output=True, text=True, check=True).stdout
-    for path, mark in zip(paths, found.splitlines()):
-        if mark.endswith(": set") != (TOP / path).read_text()[:20].lstrip("/#- ").startswith("Made by"):
-            yield f".gitattributes: wrong mark of {path}"
-
-
 def main():
     files = {path: lines_of((TOP / path).read_text()) for path in PATHS if SOURCE.search(path)}
     words = {"": set()}
@@ -132,7 +121,6 @@ def main():
         found += wrong_ratios(text, texts[TOP / "bench/README.md"]) if page == TOP / "README.md" else []
         found += ["no page links to it"] if page.parent.name == "docs" and page not in linked else []
         wrong += [f"{page.relative_to(TOP)}: {it}" for it in found]
-    wrong += wrong_marks(list(files))
     print(*wrong, sep="\n", end="\n" * bool(wrong))
     return bool(wrong)
 
