@@ -240,32 +240,24 @@ static void test_values(void) {
     CHECK(peltzivar_to_scaled_i64(&it, 0, &scaled) == PELTZIVAR_VALUE_NO_LITERAL && scaled == -123450);
 }
 
-/* A column has the values of its texts, and the status of each. Offsets that do not ascend refuse a text. */
+/* A column has the statuses of its texts. Offsets that do not ascend refuse a text. fuzz.c compares the values. */
 static void test_columns(void) {
     static const char bytes[] = "1-11.5x99999999999999999999nan0x1F";
     static const int64_t offsets[] = {0, 1, 3, 6, 7, 7, 27, 30, 34, 33, 99, -1, 34};
     static const uint8_t natural[] = {0, 3, 1, 6, 6, 2, 7, 0, 6, 6, 6, 6}, integer[] = {0, 0, 1, 6, 6, 2, 7, 0, 6, 6, 6, 6},
         real[] = {0, 0, 0, 6, 6, 0, 0, 0, 6, 6, 6, 6};
     const peltzivar_forms json = forms_of(language("JSON")->forms, 1), *const forms[] = {peltzivar_language_toml(), &json, NULL};
-    peltzivar_read_error error;
     CHECK(forms[0] == language("TOML"));
 /* Checks the statuses of a type, and that values which are not there are left, by all forms. */
 #define IS_COLUMN(T, type, wanted, wrong) \
     for (int i = 0; i < 3; i++) { \
-        T values[12], value = 7; \
+        T values[12]; \
         uint8_t status[12], memory[sizeof offsets + 1]; \
         for (int j = 0; j < 12; j++) values[j] = 7; \
         memcpy(memory + 1, offsets, sizeof offsets); \
         const size_t count = peltzivar_parse_##type##_column(forms[i], bytes, (const int64_t *)(memory + 1), 12, values, status); \
         CHECK(count == (i == 0 ? wrong : i == 1 ? wrong + (wanted[6] == 0) + 1 : 12)); \
-        for (int j = 0; j < 8; j++) { \
-            const size_t len = (size_t)(offsets[j + 1] - offsets[j]); \
-            CHECK(peltzivar_parse_##type(forms[i], bytes + offsets[j], len, &value, &error) == status[j]); \
-            CHECK((i || status[j] == wanted[j]) && !memcmp(&values[j], &value, sizeof value) && (value == 7) == (status[j] != 0)); \
-            CHECK(status[j] != PELTZIVAR_VALUE_REFUSED || peltzivar_read_error_text(&error, text, sizeof text)); \
-            value = 7; \
-        } \
-        CHECK(!memcmp(status + 8, wanted + 8, 4) && values[8] == 7 && values[11] == 7); \
+        for (int j = 0; j < 12; j++) CHECK((i || status[j] == wanted[j]) && (values[j] == 7) == (status[j] != 0)); \
         CHECK(peltzivar_parse_##type##_column(forms[i], bytes, offsets, 12, NULL, NULL) == count); \
         CHECK(!peltzivar_parse_##type##_column(forms[i], NULL, NULL, 0, NULL, NULL)); \
         CHECK(peltzivar_parse_##type##_column(forms[i], bytes, offsets, SIZE_MAX, values, status) == SIZE_MAX); \
@@ -367,7 +359,7 @@ static bool is_same_error(const peltzivar_read_error *error, const peltzivar_rea
         && peltzivar_explain(other, &whys[1]) && !memcmp(&whys[0], &whys[1], sizeof *whys);
 }
 
-/* Checks that two lists of forms read a text alike, and that the calls which make a value stop for the same reason. */
+/* Checks that two lists of forms read a text alike. fuzz.c compares the calls of one list. */
 static void read_alike(const peltzivar_forms *forms, const peltzivar_forms *others, const char *from, size_t *stops) {
     const size_t len = strlen(from);
     peltzivar_literal literal, other;
@@ -378,15 +370,13 @@ static void read_alike(const peltzivar_forms *forms, const peltzivar_forms *othe
     CHECK(peltzivar_forms_read(others, from, len, &other, &why) == is_read);
     CHECK(is_read ? literal.form == other.form && !memcmp(&literal.sign, &other.sign, 9 * sizeof literal.sign) : is_same_error(&error, &why));
     CHECK(peltzivar_forms_read_special(others, from, len, &again) == is_special && !memcmp(&special, &again, sizeof special));
-    const peltzivar_literal whole = literal;
     CHECK(peltzivar_forms_read_prefix(forms, from, len, &literal, NULL) == peltzivar_forms_read_prefix(others, from, len, &other, NULL));
 /* Checks the values of a type. */
 #define VALUES_ALIKE(T, type) { \
     T value = 7, another = 7; \
     const peltzivar_value_status status = peltzivar_parse_##type(forms, from, len, &value, &why); \
-    CHECK((status == PELTZIVAR_VALUE_REFUSED) == !(is_read || is_special) && (status != PELTZIVAR_VALUE_REFUSED || is_same_error(&error, &why))); \
+    CHECK(status != PELTZIVAR_VALUE_REFUSED || is_same_error(&error, &why)); \
     CHECK(peltzivar_parse_##type(others, from, len, &another, &why) == status && !memcmp(&value, &another, sizeof value)); \
-    CHECK(!is_read || (peltzivar_to_##type(&whole, &another) == status && !memcmp(&value, &another, sizeof value))); \
     CHECK(status != PELTZIVAR_VALUE_REFUSED || is_same_error(&error, &why)); }
     VALUES_ALIKE(int64_t, i64)
     VALUES_ALIKE(uint64_t, u64)
