@@ -597,66 +597,10 @@ static void test_null(void) {
     CHECK(peltzivar_word_text(ZERO, text, SIZE_MAX) == strlen(text));
 }
 
-/* What a program may pass wrongly: memory of zeros, of ones and of 0xFF bytes in place of each struct, at odd addresses, as
- * input and as output, and lengths that are too long. Each call refuses it, or returns something. */
-static void test_misuse(void) {
-    static const int fills[] = {0, 1, 0xFF};
-    static const size_t lens[] = {0, 1, 32, SIZE_MAX};
-    static const peltzivar_specials specials = {"", NULL, "a", {0}};
-    const peltzivar_syntax json = first_form("JSON");
-    uint8_t memory[400], out[400];
-    size_t sum = 0;
-    for (int i = 0; i < 24; i++) {
-        const size_t shift = (size_t)i % 2, len = lens[i / 6];
-        const uint8_t *const it = memory + shift;
-        const peltzivar_syntax *const syntax = (const peltzivar_syntax *)it;
-        const peltzivar_fields *const fields = (const peltzivar_fields *)it;
-        const peltzivar_forms *const forms = (const peltzivar_forms *)it;
-        const peltzivar_style *const style = (const peltzivar_style *)it;
-        const peltzivar_edit *const edits = (const peltzivar_edit *)it;
-        const peltzivar_literal *const literal = (const peltzivar_literal *)it;
-        const peltzivar_read_error *const error = (const peltzivar_read_error *)it;
-        peltzivar_literal *const to = (peltzivar_literal *)(out + shift);
-        peltzivar_read_error *const stopped = (peltzivar_read_error *)(out + shift);
-        const char *const bytes = (const char *)it;
-        memset(memory, fills[i / 2 % 3], sizeof memory);
-        sum += peltzivar_check_syntax(syntax) + peltzivar_syntax_error_text(syntax, text, sizeof text) + peltzivar_sentence(syntax, text, 9);
-        sum += peltzivar_grammar(syntax, NULL, 0) + peltzivar_regex(syntax, text, sizeof text);
-        for (int j = 0; j < 2; j++) {
-            const peltzivar_syntax *const by = j ? &json : syntax;
-            sum += (size_t)(peltzivar_read(by, bytes, len, to, NULL) + peltzivar_read(by, bytes, len, NULL, stopped)
-                + peltzivar_read_prefix(by, bytes, len, to, stopped));
-            sum += peltzivar_read_special(by, &specials, bytes, len, (peltzivar_special *)(out + shift));
-            sum += peltzivar_format_i64(by, INT64_MIN, style, text, sizeof text, (size_t *)(out + shift)) + peltzivar_format_f64(by, 1.5, style, text, 0, NULL);
-            sum += (size_t)(peltzivar_forms_format_i64(forms, 1, style, text, 9, NULL) + peltzivar_forms_format_f64(forms, 0.5, style, text, 9, NULL)
-                + peltzivar_forms_format_literal(forms, literal, style, text, 9, NULL));
-            sum += peltzivar_format_u64(by, 7, style, text, 9, NULL) + peltzivar_format_literal(by, literal, style, text, sizeof text, NULL);
-        }
-        sum += (size_t)(peltzivar_to_i64(literal, (int64_t *)out) + peltzivar_to_u64(literal, NULL)
-            + peltzivar_to_i128(literal, NULL) + peltzivar_to_f32(literal, NULL));
-        sum += peltzivar_to_f64(literal, (double *)(out + shift)) + peltzivar_explain(error, NULL) + peltzivar_read_error_text(error, text, sizeof text);
-        sum += peltzivar_build(edits, len, (peltzivar_word *)(out + shift)) + peltzivar_edit_word(ZERO, edits, len, NULL) + peltzivar_pack(fields).low;
-        sum += peltzivar_edit_fields((peltzivar_fields *)(memory + shift), edits + 9, len)
-            + peltzivar_note_text(fields, 0, text, 9) + peltzivar_note_mask(fields, 9).low;
-        sum += peltzivar_read_settings(bytes, len, (peltzivar_syntax *)(out + shift)) + peltzivar_settings_text(bytes, len, len / 7, text, sizeof text);
-        sum += peltzivar_settings_lines(bytes, len, 0, (size_t *)(out + shift), 9)
-            + peltzivar_parse_edit(bytes, len, NULL) + peltzivar_parse_byte(bytes, len, out);
-        sum += peltzivar_parse_word(bytes, len, (peltzivar_word *)(out + shift), NULL)
-            + peltzivar_setter_of_name(bytes, len) + peltzivar_setting_error_text(bytes, len, text, 9);
-        sum += (size_t)((peltzivar_language(bytes, len) != NULL)
-            + peltzivar_parse_f64(NULL, bytes, len, NULL, stopped) + peltzivar_parse_i64(peltzivar_language_c(), bytes, len, NULL, NULL)
-            + peltzivar_forms_read(forms, bytes, len, to, NULL) + peltzivar_forms_read_prefix(forms, bytes, len, NULL, stopped)
-            + peltzivar_forms_read_special(forms, bytes, len, NULL) + peltzivar_parse_u64(forms, bytes, len, NULL, stopped));
-        sum += peltzivar_parse_u64_column(peltzivar_language_c(), bytes, (const int64_t *)(it + 99), 9, (uint64_t *)(out + shift), out);
-    }
-    CHECK(sum);
-}
-
 static void *test_all(void *unused) {
     for (int i = 0; i < 5; i++) {
         test_constants(), test_setters(), test_words(), test_syntaxes(), test_errors(), test_values(), test_columns();
-        test_writing(), test_special_values(), test_choice(), test_languages(), test_forms(), test_tokens(), test_null(), test_misuse(), test_room(),
-            test_parse_errors();
+        test_writing(), test_special_values(), test_choice(), test_languages(), test_forms(), test_tokens(), test_null(), test_room(), test_parse_errors();
     }
     return unused;
 }

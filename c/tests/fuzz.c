@@ -228,6 +228,8 @@ static void test_literals(peltzivar_word word) {
     memset(&error, (int)draw(), sizeof error), memcpy(&error_before, &error, sizeof error);
     const bool is_read = peltzivar_read(&syntax, from, len, &literal, &error);
     CHECK(is_read ? !memcmp(&error, &error_before, sizeof error) : !memcmp(&literal, &literal_before, sizeof literal));
+    CHECK(is_read || peltzivar_to_i64(&literal, NULL) == PELTZIVAR_VALUE_NO_LITERAL);
+    CHECK(is_read || peltzivar_format_literal(&syntax, &literal, NULL, text, sizeof text, NULL) == PELTZIVAR_WRITE_ARGUMENT);
     WRITE(peltzivar_read_error_text, &error);
     CHECK(!*text == is_read);
     peltzivar_explanation why;
