@@ -119,15 +119,6 @@ static void test_words(void) {
     }
     CHECK(WRITES("", peltzivar_error_text(UINT32_MAX, 0, text, sizeof text)) && !*peltzivar_description(49));
     CHECK(!*peltzivar_description(UINT32_MAX) && !*peltzivar_rule_condition(UINT32_MAX) && !*peltzivar_part_name(255));
-    /* The standard word with another bit, which may be reserved, or that of a separator without a flag. */
-    for (int bit = 0; bit < 128; bit++) {
-        const peltzivar_word changed = {12 ^ (bit < 64 ? 1ull << bit : 0), 0x00000A0000000000 ^ (bit < 64 ? 0 : 1ull << (bit - 64))};
-        const peltzivar_word normal = peltzivar_normal_form(changed), filled = {12, 0x0A0A0A0000000000};
-        const bool is_field = bit < 18 || (32 <= bit && bit < 45) || bit >= 88;
-        CHECK(peltzivar_same_format(changed, PELTZIVAR_STANDARD) == is_word(filled, normal.high, normal.low));
-        CHECK(peltzivar_is_built(changed) == is_field && peltzivar_same_format(normal, changed));
-        CHECK(peltzivar_migrate(changed, &word) == peltzivar_check(normal) && (peltzivar_check(normal) || is_word(word, normal.high, normal.low)));
-    }
     word = ZERO;
     /* The longest source: all flags differ from their defaults, radixes have three digits, and other bytes are '!'. */
     CHECK(peltzivar_source(longest, source, sizeof source) == strlen(source) && strlen(source) < sizeof source - 1);

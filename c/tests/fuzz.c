@@ -67,6 +67,8 @@ static void test_word(peltzivar_word word) {
     const size_t len = strlen(text);
     text[draw() % len] = (char)draw();
     CHECK(!peltzivar_parse_word(text, len, &other, &index) || index < len);
+    const peltzivar_word normal = peltzivar_normal_form(word);
+    CHECK(peltzivar_same_format(word, normal) && peltzivar_migrate(word, &other) == peltzivar_check(normal));
     WRITE(peltzivar_error_text, peltzivar_migrate(word, &other), 7);
     WRITE(peltzivar_source, word);
     const size_t count = peltzivar_edits_of(word, NULL, 0), room = (size_t)draw() % (count + 1);
