@@ -1,18 +1,6 @@
 //! Compares the plain Rust with results that `lexical-util` 1.0.7 returned, which are also those of the definitions, since
-//! the code is proved and the same. Each line of the file has one:
-//!
-//! | Line | Records |
-//! |---|---|
-//! | `byte C ALLOWED LETTER` | the tests of a byte |
-//! | `digit C RADIX DIGIT` | the value of a byte as a digit, or `none` |
-//! | `printed INDEX NAME TEXT` | the text of the outcome with this name in the enum |
-//! | `fields WORD FLAGS S P X R B E` | flags, separator, prefix, suffix and the three radixes of a word |
-//! | `check WORD NAME` | the error of a word |
-//! | `options WORD E P ACCEPTED` | the test of an exponent character and a decimal point |
-//! | `edit WORD MADE SETTER=VALUE ..` | the word after setter calls |
-//! | `build PACKED NAME SETTER=VALUE ..` | the word into which a new builder packs after setter calls, and its error |
-//!
-//! A word is 32 hexadecimal digits, and any other number is decimal. 0 is an absent byte.
+//! the code is proved and the same. `replayed` has the form of each line, where a word has 32 hexadecimal digits, and 0
+//! is an absent byte.
 
 use peltzivar::ascii::{is_valid_ascii, is_valid_letter};
 use peltzivar::digit::{char_is_digit, char_is_digit_const, char_to_digit, char_to_digit_const, digit_to_char};
