@@ -1,26 +1,23 @@
 //! Iterators, text and conversions, which are written by hand over the proved calls, are compared with these calls on many
 //! words, and with known texts on a few.
 
+#[path = "../../compare/rust/src/random.rs"]
+mod random;
+
 use peltzivar::edits::edits_of;
 use peltzivar::format::{NumberFormatBuilder, BASE_PREFIX_SHIFT, BASE_SUFFIX_SHIFT, STANDARD};
 use peltzivar::literal::{Conditions, Form, FormError, Language, Literal, ReadError, Syntax, WriteError};
 use peltzivar::{Edit, Error, FlagSetter, Format, FormatView, Settings};
+use random::Random;
 use std::{iter, num::NonZeroU8, panic};
 
 /// Random words, random words with lawful radixes, and words near the standard format.
 fn words() -> impl Iterator<Item = u128> {
-    let mut state: u64 = 1;
-    let mut next = move || {
-        state = state.wrapping_mul(6364136223846793005).wrapping_add(1442695040888963407);
-        u128::from(state >> 33)
-    };
-    (0..20_000).map(move |index| {
-        let mut any = || (0..5).fold(0, |word, _| word << 31 ^ next());
-        match index % 3 {
-            0 => any(),
-            1 => any() & any() & any() & !(0xFFFFFF << 104) | 0x101010 << 104,
-            _ => STANDARD ^ any() & any() & any() & any(),
-        }
+    let mut random = Random::new(1);
+    (0..20_000).map(move |index| match index % 3 {
+        0 => random.bits(),
+        1 => random.bits() & random.bits() & random.bits() & !(0xFFFFFF << 104) | 0x101010 << 104,
+        _ => STANDARD ^ random.bits() & random.bits() & random.bits() & random.bits(),
     })
 }
 

@@ -311,9 +311,11 @@ fn languages_answer_as_their_grammars_and_tools_do() {
     assert_eq!(Vec::from_iter(missing), [], "forms without a row that is a number of theirs, or that is none");
 }
 
-/// Special values: a word, a sign, a spelling, and texts that are this value, or none if there is no spelling.
+/// A word, a sign, a spelling, and texts that are this special value, or none if there is no spelling.
+type Row = (u128, Option<Sign>, Option<Spelling>, &'static [&'static str]);
+
 #[rustfmt::skip]
-const SPECIALS: [(u128, Option<Sign>, Option<Spelling>, &[&str]); 24] = [
+const SPECIALS: [Row; 24] = [
     (0x00000A00_00000000_00000000_0000000C, None, Some(Spelling::Nan), &["NaN", "nan"]),
     (0x00000A00_00000000_00000000_0000000C, PLUS, Some(Spelling::Inf), &["+inf"]),
     (0x00000A00_00000000_00000000_0000000C, MINUS, Some(Spelling::Infinity), &["-INFINITY"]),
