@@ -1,7 +1,7 @@
 #!/usr/bin/env python3
 """Writes what is made of rust/src and docs: in peltzivar/__init__.py the attributes of a view, in _peltzivar.c the
-names of errors, in peltzivar.h and rust/capi the calls of languages, in peltzivar_words.h the numbers of setters and
-errors, and the stub of the extension module, if that is built.
+names of rules and errors, in peltzivar.h and rust/capi the calls of languages, in peltzivar_words.h the numbers of
+setters, rules and errors, and the stub of the extension module, if that is built.
 
     c/make_python.py            writes each part between the lines `Made by make_python.py: PART` and `End`
     c/make_python.py --check    ends with status 1 if a part is not up to date
@@ -14,6 +14,7 @@ import textwrap
 HERE = pathlib.Path(__file__).resolve().parent
 SETTERS = HERE.parent.joinpath("rust/src/format_builder/setters.rs").read_text()
 ERRORS = HERE.parent.joinpath("rust/src/error.rs").read_text()
+RULES = HERE.parent.joinpath("rust/src/format_flags/rule.rs").read_text()
 FORMAT = HERE.parent.joinpath("docs/FORMAT.md").read_text()
 LANGUAGES = HERE.parent.joinpath("rust/src/literal/language/tables.rs").read_text()
 LANGUAGE_NAMES = re.findall(r"^    (\w+): \"", LANGUAGES, re.M)
@@ -44,17 +45,27 @@ def setters():
     return numbered((f"SET_{name}", number) for name, number in SET)
 
 
+def variants(text, name):
+    """Returns the names of the variants of an enum, as they are in C."""
+    found = re.findall(r"^    (\w+)\b", re.search(rf"^pub enum {name} \{{(.*?)^\}}", text, re.M | re.S)[1], re.M)
+    return [re.sub("(?<=[a-z])(?=[A-Z])", "_", it).upper() for it in found]
+
+
+def rules():
+    """Returns the lines."""
+    return numbered((f"RULE_{it}", number) for number, it in enumerate(variants(RULES, "Rule"), 1))
+
+
 def errors():
     """Returns the lines. Success is 0, and the errors have the order of the variants."""
-    variants = re.findall(r"^    (\w+)\b", re.search(r"^pub enum Error \{(.*?)^\}", ERRORS, re.M | re.S)[1], re.M)
-    names = ["Success", *(it for it in variants if it != "Success")]
-    return numbered((re.sub("(?<=[a-z])(?=[A-Z])", "_", it), number) for number, it in enumerate(names))
+    return numbered((it, number) for number, it in enumerate(sorted(variants(ERRORS, "Error"), key="SUCCESS".__ne__)))
 
 
-def error_names():
-    """Returns the lines."""
-    names = " ".join(line.split()[0].replace("PELTZIVAR_", "") for line in errors())
-    return ['{"Error",', *(f' "{line} "' for line in textwrap.wrap(names, 110)), " , PELTZIVAR_SUCCESS},"]
+def names():
+    """Returns the lines: the names of rules and of errors, and the first number."""
+    for kind, prefix, lines in (("Rule", "RULE_", rules()), ("Error", "", errors())):
+        first, *_ = words = [line.split()[0].removeprefix(f"PELTZIVAR_{prefix}") for line in lines]
+        yield from [f'{{"{kind}",', *(f' "{line} "' for line in textwrap.wrap(" ".join(words), 110)), f" , PELTZIVAR_{prefix}{first}}},"]
 
 
 def language_calls():

@@ -71,32 +71,27 @@ enum {
     /* End */
 };
 
-/* The rules, in the order in which they are checked. Each comment states what the rule requires. The allowed ASCII
- * bytes are the bytes 9 to 13 and 32 to 126. Punctuation is any allowed ASCII byte other than a sign (+ or -), a digit
- * in the mantissa radix, or a digit in the exponent radix. The rules use the mantissa radix in place of an absent
- * exponent byte. */
+/* The rules, in the order in which they are checked. FORMAT.md states what each requires, and so does
+ * peltzivar_rule_condition. */
 enum {
-    PELTZIVAR_RULE_MANTISSA_RADIX_IN_RANGE = 1, /* mantissa_radix is between 2 and 36. */
-    PELTZIVAR_RULE_EXPONENT_BASE_IN_RANGE = 2, /* exponent_base is between 2 and 36. */
-    PELTZIVAR_RULE_EXPONENT_RADIX_IN_RANGE = 3, /* exponent_radix is between 2 and 36. */
-    PELTZIVAR_RULE_DIGIT_SEPARATOR_IS_PUNCTUATION = 4, /* digit_separator is 0 or punctuation. */
-    PELTZIVAR_RULE_BASE_PREFIX_IS_PUNCTUATION = 5, /* base_prefix is 0 or punctuation. */
-    PELTZIVAR_RULE_BASE_SUFFIX_IS_PUNCTUATION = 6, /* base_suffix is 0 or punctuation. */
-    /* No two of digit_separator, base_prefix and base_suffix match the same byte. An absent byte matches nothing.
-     * digit_separator matches only itself. If base_prefix or base_suffix is a letter, it matches both cases of the
-     * letter unless case_sensitive_base_prefix or case_sensitive_base_suffix, respectively, is set. */
+    /* Made by make_python.py: rules */
+    PELTZIVAR_RULE_MANTISSA_RADIX_IN_RANGE = 1,
+    PELTZIVAR_RULE_EXPONENT_BASE_IN_RANGE = 2,
+    PELTZIVAR_RULE_EXPONENT_RADIX_IN_RANGE = 3,
+    PELTZIVAR_RULE_DIGIT_SEPARATOR_IS_PUNCTUATION = 4,
+    PELTZIVAR_RULE_BASE_PREFIX_IS_PUNCTUATION = 5,
+    PELTZIVAR_RULE_BASE_SUFFIX_IS_PUNCTUATION = 6,
     PELTZIVAR_RULE_PUNCTUATION_DIFFERS = 7,
-    PELTZIVAR_RULE_EXPONENT_FLAGS_AGREE = 8, /* no_exponent_notation or required_exponent_notation is false. */
-    PELTZIVAR_RULE_MANTISSA_SIGN_FLAGS_AGREE = 9, /* no_positive_mantissa_sign or required_mantissa_sign is false. */
-    PELTZIVAR_RULE_EXPONENT_SIGN_FLAGS_AGREE = 10, /* no_positive_exponent_sign or required_exponent_sign is false. */
-    PELTZIVAR_RULE_SPECIAL_CASE_FLAGS_AGREE = 11, /* no_special or case_sensitive_special is false. */
-    PELTZIVAR_RULE_SPECIAL_SEPARATOR_FLAGS_AGREE = 12, /* no_special or special_digit_separator is false. */
-    /* The consecutive flag of a part of the number (integer, fraction or exponent) is set only if the internal, leading
-     * or trailing flag of the same part is set. */
+    PELTZIVAR_RULE_EXPONENT_FLAGS_AGREE = 8,
+    PELTZIVAR_RULE_MANTISSA_SIGN_FLAGS_AGREE = 9,
+    PELTZIVAR_RULE_EXPONENT_SIGN_FLAGS_AGREE = 10,
+    PELTZIVAR_RULE_SPECIAL_CASE_FLAGS_AGREE = 11,
+    PELTZIVAR_RULE_SPECIAL_SEPARATOR_FLAGS_AGREE = 12,
     PELTZIVAR_RULE_INTEGER_CONSECUTIVE_IS_ALLOWED = 13,
     PELTZIVAR_RULE_FRACTION_CONSECUTIVE_IS_ALLOWED = 14,
     PELTZIVAR_RULE_EXPONENT_CONSECUTIVE_IS_ALLOWED = 15,
-    PELTZIVAR_RULE_RESERVED_BITS_ARE_ZERO = 16 /* All reserved bits are 0. */
+    PELTZIVAR_RULE_RESERVED_BITS_ARE_ZERO = 16
+    /* End */
 };
 
 /* The errors: 1 to 19 are parse errors, 20 to 36 are format errors, and 37 to 48 are option errors. A later version may

@@ -5,15 +5,11 @@
 - Each page of docs/ is linked from another page.
 - Each block of code is a part of a file. `..` replaces lines that are left out.
 - The oldest Rust and Python that are enough are those of Cargo.toml and pyproject.toml.
-- The ratios of README are the larger ones of bench/README.md, or their median.
 - Each name with a `_` or `::`, and each path of a source or folder, is in the repository, except for those in the
   changelog.
-- A source begins with `Made by` if and only if `.gitattributes` marks it as generated.
 """
 import pathlib
 import re
-import statistics
-import subprocess
 import sys
 
 TOP = pathlib.Path(__file__).resolve().parent.parent
@@ -92,29 +88,6 @@ def wrong_versions(text):
                 yield f"{language} {version} in place of {enough}"
 
 
-def wrong_ratios(text, bench):
-    """Yields the ratios of README's table if they are not, in its order, those of the page of bench."""
-    rows = re.findall(r"\| ([^|\n]+) \| ([\d.]+) \| ([\d.]+)(?= \|)", bench)
-    own = [float(ratio) for name, *two in rows if ", over " not in name for ratio in two]
-    wanted = [f"{statistics.median(own):.2f}", f"{len(own) // 2}", f"{max(own):.2f}"]
-    for call in ("read, mixed", "parse::<f64>, mixed", "read, one shape", "parse::<f64>, one shape",
-                 "parse::<f64>, (17 digits|fractions)"):
-        ratios = [float(it) for name, *two in rows if re.fullmatch(f"Syntax::{call}, over parse", name) for it in two]
-        wanted.append(f"{max(ratios):.1f}")
-    found = re.findall(r"\d\.\d+|\d+(?= rows)", text.partition("\n| Checks and edits")[2].partition("\n\n")[0])
-    if found != wanted:
-        yield f"ratios {found} in place of {wanted}"
-
-
-def wrong_marks(paths):
-    """Yields the sources that are marked as generated and do not begin with `Made by`, or the other way round."""
-    command = ["git", "check-attr", "--stdin", "linguist-generated"]
-    found = subprocess.run(command, cwd=TOP, input="\n".join(paths), capture_output=True, text=True, check=True).stdout
-    for path, mark in zip(paths, found.splitlines()):
-        if mark.endswith(": set") != (TOP / path).read_text()[:20].lstrip("/#- ").startswith("Made by"):
-            yield f".gitattributes: wrong mark of {path}"
-
-
 def main():
     files = {path: lines_of((TOP / path).read_text()) for path in PATHS if SOURCE.search(path)}
     words = {"": set()}
@@ -129,10 +102,8 @@ def main():
         found = [*broken_links(page, text), *unquoted(text, files)]
         found += [*unknown_names(text, words), *unknown_paths(text)] if page.name != "CHANGELOG.md" else []
         found += wrong_versions(text)
-        found += wrong_ratios(text, texts[TOP / "bench/README.md"]) if page == TOP / "README.md" else []
         found += ["no page links to it"] if page.parent.name == "docs" and page not in linked else []
         wrong += [f"{page.relative_to(TOP)}: {it}" for it in found]
-    wrong += wrong_marks(list(files))
     print(*wrong, sep="\n", end="\n" * bool(wrong))
     return bool(wrong)
 

@@ -119,15 +119,6 @@ static void test_words(void) {
     }
     CHECK(WRITES("", peltzivar_error_text(UINT32_MAX, 0, text, sizeof text)) && !*peltzivar_description(49));
     CHECK(!*peltzivar_description(UINT32_MAX) && !*peltzivar_rule_condition(UINT32_MAX) && !*peltzivar_part_name(255));
-    /* The standard word with another bit, which may be reserved, or that of a separator without a flag. */
-    for (int bit = 0; bit < 128; bit++) {
-        const peltzivar_word changed = {12 ^ (bit < 64 ? 1ull << bit : 0), 0x00000A0000000000 ^ (bit < 64 ? 0 : 1ull << (bit - 64))};
-        const peltzivar_word normal = peltzivar_normal_form(changed), filled = {12, 0x0A0A0A0000000000};
-        const bool is_field = bit < 18 || (32 <= bit && bit < 45) || bit >= 88;
-        CHECK(peltzivar_same_format(changed, PELTZIVAR_STANDARD) == is_word(filled, normal.high, normal.low));
-        CHECK(peltzivar_is_built(changed) == is_field && peltzivar_same_format(normal, changed));
-        CHECK(peltzivar_migrate(changed, &word) == peltzivar_check(normal) && (peltzivar_check(normal) || is_word(word, normal.high, normal.low)));
-    }
     word = ZERO;
     /* The longest source: all flags differ from their defaults, radixes have three digits, and other bytes are '!'. */
     CHECK(peltzivar_source(longest, source, sizeof source) == strlen(source) && strlen(source) < sizeof source - 1);
@@ -240,32 +231,24 @@ static void test_values(void) {
     CHECK(peltzivar_to_scaled_i64(&it, 0, &scaled) == PELTZIVAR_VALUE_NO_LITERAL && scaled == -123450);
 }
 
-/* A column has the values of its texts, and the status of each. Offsets that do not ascend refuse a text. */
+/* A column has the statuses of its texts. Offsets that do not ascend refuse a text. fuzz.c compares the values. */
 static void test_columns(void) {
     static const char bytes[] = "1-11.5x99999999999999999999nan0x1F";
     static const int64_t offsets[] = {0, 1, 3, 6, 7, 7, 27, 30, 34, 33, 99, -1, 34};
     static const uint8_t natural[] = {0, 3, 1, 6, 6, 2, 7, 0, 6, 6, 6, 6}, integer[] = {0, 0, 1, 6, 6, 2, 7, 0, 6, 6, 6, 6},
         real[] = {0, 0, 0, 6, 6, 0, 0, 0, 6, 6, 6, 6};
     const peltzivar_forms json = forms_of(language("JSON")->forms, 1), *const forms[] = {peltzivar_language_toml(), &json, NULL};
-    peltzivar_read_error error;
     CHECK(forms[0] == language("TOML"));
 /* Checks the statuses of a type, and that values which are not there are left, by all forms. */
 #define IS_COLUMN(T, type, wanted, wrong) \
     for (int i = 0; i < 3; i++) { \
-        T values[12], value = 7; \
+        T values[12]; \
         uint8_t status[12], memory[sizeof offsets + 1]; \
         for (int j = 0; j < 12; j++) values[j] = 7; \
         memcpy(memory + 1, offsets, sizeof offsets); \
         const size_t count = peltzivar_parse_##type##_column(forms[i], bytes, (const int64_t *)(memory + 1), 12, values, status); \
         CHECK(count == (i == 0 ? wrong : i == 1 ? wrong + (wanted[6] == 0) + 1 : 12)); \
-        for (int j = 0; j < 8; j++) { \
-            const size_t len = (size_t)(offsets[j + 1] - offsets[j]); \
-            CHECK(peltzivar_parse_##type(forms[i], bytes + offsets[j], len, &value, &error) == status[j]); \
-            CHECK((i || status[j] == wanted[j]) && !memcmp(&values[j], &value, sizeof value) && (value == 7) == (status[j] != 0)); \
-            CHECK(status[j] != PELTZIVAR_VALUE_REFUSED || peltzivar_read_error_text(&error, text, sizeof text)); \
-            value = 7; \
-        } \
-        CHECK(!memcmp(status + 8, wanted + 8, 4) && values[8] == 7 && values[11] == 7); \
+        for (int j = 0; j < 12; j++) CHECK((i || status[j] == wanted[j]) && (values[j] == 7) == (status[j] != 0)); \
         CHECK(peltzivar_parse_##type##_column(forms[i], bytes, offsets, 12, NULL, NULL) == count); \
         CHECK(!peltzivar_parse_##type##_column(forms[i], NULL, NULL, 0, NULL, NULL)); \
         CHECK(peltzivar_parse_##type##_column(forms[i], bytes, offsets, SIZE_MAX, values, status) == SIZE_MAX); \
@@ -367,7 +350,7 @@ static bool is_same_error(const peltzivar_read_error *error, const peltzivar_rea
         && peltzivar_explain(other, &whys[1]) && !memcmp(&whys[0], &whys[1], sizeof *whys);
 }
 
-/* Checks that two lists of forms read a text alike, and that the calls which make a value stop for the same reason. */
+/* Checks that two lists of forms read a text alike. fuzz.c compares the calls of one list. */
 static void read_alike(const peltzivar_forms *forms, const peltzivar_forms *others, const char *from, size_t *stops) {
     const size_t len = strlen(from);
     peltzivar_literal literal, other;
@@ -378,15 +361,13 @@ static void read_alike(const peltzivar_forms *forms, const peltzivar_forms *othe
     CHECK(peltzivar_forms_read(others, from, len, &other, &why) == is_read);
     CHECK(is_read ? literal.form == other.form && !memcmp(&literal.sign, &other.sign, 9 * sizeof literal.sign) : is_same_error(&error, &why));
     CHECK(peltzivar_forms_read_special(others, from, len, &again) == is_special && !memcmp(&special, &again, sizeof special));
-    const peltzivar_literal whole = literal;
     CHECK(peltzivar_forms_read_prefix(forms, from, len, &literal, NULL) == peltzivar_forms_read_prefix(others, from, len, &other, NULL));
 /* Checks the values of a type. */
 #define VALUES_ALIKE(T, type) { \
     T value = 7, another = 7; \
     const peltzivar_value_status status = peltzivar_parse_##type(forms, from, len, &value, &why); \
-    CHECK((status == PELTZIVAR_VALUE_REFUSED) == !(is_read || is_special) && (status != PELTZIVAR_VALUE_REFUSED || is_same_error(&error, &why))); \
+    CHECK(status != PELTZIVAR_VALUE_REFUSED || is_same_error(&error, &why)); \
     CHECK(peltzivar_parse_##type(others, from, len, &another, &why) == status && !memcmp(&value, &another, sizeof value)); \
-    CHECK(!is_read || (peltzivar_to_##type(&whole, &another) == status && !memcmp(&value, &another, sizeof value))); \
     CHECK(status != PELTZIVAR_VALUE_REFUSED || is_same_error(&error, &why)); }
     VALUES_ALIKE(int64_t, i64)
     VALUES_ALIKE(uint64_t, u64)
@@ -607,66 +588,10 @@ static void test_null(void) {
     CHECK(peltzivar_word_text(ZERO, text, SIZE_MAX) == strlen(text));
 }
 
-/* What a program may pass wrongly: memory of zeros, of ones and of 0xFF bytes in place of each struct, at odd addresses, as
- * input and as output, and lengths that are too long. Each call refuses it, or returns something. */
-static void test_misuse(void) {
-    static const int fills[] = {0, 1, 0xFF};
-    static const size_t lens[] = {0, 1, 32, SIZE_MAX};
-    static const peltzivar_specials specials = {"", NULL, "a", {0}};
-    const peltzivar_syntax json = first_form("JSON");
-    uint8_t memory[400], out[400];
-    size_t sum = 0;
-    for (int i = 0; i < 24; i++) {
-        const size_t shift = (size_t)i % 2, len = lens[i / 6];
-        const uint8_t *const it = memory + shift;
-        const peltzivar_syntax *const syntax = (const peltzivar_syntax *)it;
-        const peltzivar_fields *const fields = (const peltzivar_fields *)it;
-        const peltzivar_forms *const forms = (const peltzivar_forms *)it;
-        const peltzivar_style *const style = (const peltzivar_style *)it;
-        const peltzivar_edit *const edits = (const peltzivar_edit *)it;
-        const peltzivar_literal *const literal = (const peltzivar_literal *)it;
-        const peltzivar_read_error *const error = (const peltzivar_read_error *)it;
-        peltzivar_literal *const to = (peltzivar_literal *)(out + shift);
-        peltzivar_read_error *const stopped = (peltzivar_read_error *)(out + shift);
-        const char *const bytes = (const char *)it;
-        memset(memory, fills[i / 2 % 3], sizeof memory);
-        sum += peltzivar_check_syntax(syntax) + peltzivar_syntax_error_text(syntax, text, sizeof text) + peltzivar_sentence(syntax, text, 9);
-        sum += peltzivar_grammar(syntax, NULL, 0) + peltzivar_regex(syntax, text, sizeof text);
-        for (int j = 0; j < 2; j++) {
-            const peltzivar_syntax *const by = j ? &json : syntax;
-            sum += (size_t)(peltzivar_read(by, bytes, len, to, NULL) + peltzivar_read(by, bytes, len, NULL, stopped)
-                + peltzivar_read_prefix(by, bytes, len, to, stopped));
-            sum += peltzivar_read_special(by, &specials, bytes, len, (peltzivar_special *)(out + shift));
-            sum += peltzivar_format_i64(by, INT64_MIN, style, text, sizeof text, (size_t *)(out + shift)) + peltzivar_format_f64(by, 1.5, style, text, 0, NULL);
-            sum += (size_t)(peltzivar_forms_format_i64(forms, 1, style, text, 9, NULL) + peltzivar_forms_format_f64(forms, 0.5, style, text, 9, NULL)
-                + peltzivar_forms_format_literal(forms, literal, style, text, 9, NULL));
-            sum += peltzivar_format_u64(by, 7, style, text, 9, NULL) + peltzivar_format_literal(by, literal, style, text, sizeof text, NULL);
-        }
-        sum += (size_t)(peltzivar_to_i64(literal, (int64_t *)out) + peltzivar_to_u64(literal, NULL)
-            + peltzivar_to_i128(literal, NULL) + peltzivar_to_f32(literal, NULL));
-        sum += peltzivar_to_f64(literal, (double *)(out + shift)) + peltzivar_explain(error, NULL) + peltzivar_read_error_text(error, text, sizeof text);
-        sum += peltzivar_build(edits, len, (peltzivar_word *)(out + shift)) + peltzivar_edit_word(ZERO, edits, len, NULL) + peltzivar_pack(fields).low;
-        sum += peltzivar_edit_fields((peltzivar_fields *)(memory + shift), edits + 9, len)
-            + peltzivar_note_text(fields, 0, text, 9) + peltzivar_note_mask(fields, 9).low;
-        sum += peltzivar_read_settings(bytes, len, (peltzivar_syntax *)(out + shift)) + peltzivar_settings_text(bytes, len, len / 7, text, sizeof text);
-        sum += peltzivar_settings_lines(bytes, len, 0, (size_t *)(out + shift), 9)
-            + peltzivar_parse_edit(bytes, len, NULL) + peltzivar_parse_byte(bytes, len, out);
-        sum += peltzivar_parse_word(bytes, len, (peltzivar_word *)(out + shift), NULL)
-            + peltzivar_setter_of_name(bytes, len) + peltzivar_setting_error_text(bytes, len, text, 9);
-        sum += (size_t)((peltzivar_language(bytes, len) != NULL)
-            + peltzivar_parse_f64(NULL, bytes, len, NULL, stopped) + peltzivar_parse_i64(peltzivar_language_c(), bytes, len, NULL, NULL)
-            + peltzivar_forms_read(forms, bytes, len, to, NULL) + peltzivar_forms_read_prefix(forms, bytes, len, NULL, stopped)
-            + peltzivar_forms_read_special(forms, bytes, len, NULL) + peltzivar_parse_u64(forms, bytes, len, NULL, stopped));
-        sum += peltzivar_parse_u64_column(peltzivar_language_c(), bytes, (const int64_t *)(it + 99), 9, (uint64_t *)(out + shift), out);
-    }
-    CHECK(sum);
-}
-
 static void *test_all(void *unused) {
     for (int i = 0; i < 5; i++) {
         test_constants(), test_setters(), test_words(), test_syntaxes(), test_errors(), test_values(), test_columns();
-        test_writing(), test_special_values(), test_choice(), test_languages(), test_forms(), test_tokens(), test_null(), test_misuse(), test_room(),
-            test_parse_errors();
+        test_writing(), test_special_values(), test_choice(), test_languages(), test_forms(), test_tokens(), test_null(), test_room(), test_parse_errors();
     }
     return unused;
 }

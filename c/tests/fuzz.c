@@ -67,6 +67,8 @@ static void test_word(peltzivar_word word) {
     const size_t len = strlen(text);
     text[draw() % len] = (char)draw();
     CHECK(!peltzivar_parse_word(text, len, &other, &index) || index < len);
+    const peltzivar_word normal = peltzivar_normal_form(word);
+    CHECK(peltzivar_same_format(word, normal) && peltzivar_migrate(word, &other) == peltzivar_check(normal));
     WRITE(peltzivar_error_text, peltzivar_migrate(word, &other), 7);
     WRITE(peltzivar_source, word);
     const size_t count = peltzivar_edits_of(word, NULL, 0), room = (size_t)draw() % (count + 1);
@@ -228,6 +230,8 @@ static void test_literals(peltzivar_word word) {
     memset(&error, (int)draw(), sizeof error), memcpy(&error_before, &error, sizeof error);
     const bool is_read = peltzivar_read(&syntax, from, len, &literal, &error);
     CHECK(is_read ? !memcmp(&error, &error_before, sizeof error) : !memcmp(&literal, &literal_before, sizeof literal));
+    CHECK(is_read || peltzivar_to_i64(&literal, NULL) == PELTZIVAR_VALUE_NO_LITERAL);
+    CHECK(is_read || peltzivar_format_literal(&syntax, &literal, NULL, text, sizeof text, NULL) == PELTZIVAR_WRITE_ARGUMENT);
     WRITE(peltzivar_read_error_text, &error);
     CHECK(!*text == is_read);
     peltzivar_explanation why;

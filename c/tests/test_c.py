@@ -156,11 +156,6 @@ class Header(unittest.TestCase):
     def numbers(self, pattern):
         return {name: int(number) for name, number in re.findall(rf"\bPELTZIVAR_{pattern} = (\d+)", HEADER)}
 
-    def test_rules_have_the_order_of_the_sources(self):
-        body = re.search(r"^pub enum Rule \{(.*?)^\}", (TOP / "rust/src/format_flags/rule.rs").read_text(), re.M | re.S)[1]
-        rules = [re.sub(r"(?<=[a-z])(?=[A-Z])", "_", name).upper() for name in re.findall(r"^    (\w+)", body, re.M)]
-        self.assertEqual(self.numbers(r"RULE_(\w+)"), {name: number for number, name in enumerate(rules, 1)})
-
     def test_each_number_has_the_name_of_the_header_or_a_sentence_of_its_own(self):
         names = {"setter_name": r"SET_(\w+)", "role_name": r"ROLE_(\w+)", "part_name": r"PART_(\w+)"}
         sentences = {"value_description": r"VALUE_((?!OK)\w+)", "write_description": r"WRITE_((?!OK)\w+)"}

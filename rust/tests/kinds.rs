@@ -1,8 +1,7 @@
 //! What literals are worth by the kind of their form and of their suffix. Expected values are those of javac, OCaml, NASM, Lua and
-//! gfortran, and otherwise of Rust's own integers.
+//! gfortran. `c/tests/test_python.py` has the limits of kinds in each radix, which are proved.
 
-use peltzivar::literal::{FloatKind, IntegerKind, Kind, Language, Literal, Style, Syntax, ValueErrorKind, WriteError};
-use peltzivar::NumberFormatBuilder;
+use peltzivar::literal::{Language, Literal, Style, ValueErrorKind, WriteError};
 
 /// A language, a token, and the integer that it is, or none if it is too large, beside what the tools answered.
 const INTEGERS: &[(Language, &str, Option<i128>)] = &[
@@ -98,41 +97,6 @@ fn values_are_those_of_the_language() {
     assert!(Language::JAVA.read("3000000000").unwrap().to_f64().is_nan());
     let digits = Language::JAVA.read("0xffffffff").unwrap().literal().unwrap();
     assert_eq!(digits.plain().unwrap().to_string(), "ffffffff");
-}
-
-#[test]
-fn each_number_of_bits_has_its_limits() {
-    const HEXADECIMAL: Syntax = Syntax::integers(NumberFormatBuilder::new().mantissa_radix(16).build_format_or_panic());
-    let of = |integers| Kind::new(integers, FloatKind::Nearest).unwrap();
-    for bits in 1..=64 {
-        let (most, wraps, modulo) =
-            (IntegerKind::AtMost(bits), IntegerKind::Wraps(bits), IntegerKind::WrapsModulo(bits));
-        let power = 1_u128 << bits;
-        for number in [0, 1, power / 2 - 1, power / 2, power - 1, power, power + 1, 3 * power + power / 2, u128::MAX] {
-            for sign in ["", "-"] {
-                let text = format!("{sign}{number:X}");
-                let signed = (if sign.is_empty() { number } else { number.wrapping_neg() }) as i128;
-                let low = signed << (128 - u32::from(bits)) >> (128 - u32::from(bits));
-                let fits = |value: i128| (number < power).then_some(value);
-                for (kind, wanted) in [(most, fits(signed)), (wraps, fits(low)), (modulo, Some(low))] {
-                    assert_eq!((of(kind).integers(), of(kind).floats()), (kind, FloatKind::Nearest));
-                    let literal = HEXADECIMAL.read(&text).unwrap().with_kind(of(kind));
-                    assert_eq!(literal.to_i128().ok(), wanted, "{kind:?}: {text}");
-                    assert_eq!(literal.to_i64().ok(), wanted.and_then(|it| it.try_into().ok()), "{kind:?}: {text}");
-                    assert_eq!((literal.to_i64(), literal.to_u64()), (literal.try_into(), literal.try_into()));
-                    assert_eq!((literal.to_i128(), literal.to_u128()), (literal.try_into(), literal.try_into()));
-                    assert_eq!((literal.to_f64(), literal.to_f32()), (literal.try_into(), literal.try_into()));
-                    assert_eq!(literal.to_f64().ok(), wanted.map(|it| it as f64), "{kind:?}: {text}");
-                    assert_eq!(literal.to_f32().ok(), wanted.map(|it| it as f32), "{kind:?}: {text}");
-                }
-            }
-        }
-    }
-    for bits in [0, 65, 255] {
-        for integers in [IntegerKind::AtMost(bits), IntegerKind::Wraps(bits), IntegerKind::WrapsModulo(bits)] {
-            assert_eq!(Kind::new(integers, FloatKind::Single), None);
-        }
-    }
 }
 
 /// What is written has the value, and not the digits.

@@ -1,12 +1,16 @@
 //! Literals that are read, over the tables of docs/FORMAT.md and docs/EXPLANATIONS.md, and the grammars of languages.
 
 use peltzivar::format::{CASE_SENSITIVE_SPECIAL, DIGIT_SEPARATOR_FLAG_MASK, NO_SPECIAL};
-use peltzivar::literal::{Condition, Form, Language, Literal, Number, ReadError, ReadErrorKind, Specials, Syntax};
+use peltzivar::literal::{
+    Condition, Form, Language, Literal, Number, ReadError, ReadErrorKind, Sign, Specials, Spelling, Syntax,
+};
 use peltzivar::{Edit, FlagSetter, Format, FormatView, NumberFormatBuilder, Part, Rule, Settings};
 use std::collections::HashSet;
 
 const FORMAT: &str = include_str!("../../docs/FORMAT.md");
 const EXPLANATIONS: &str = include_str!("../../docs/EXPLANATIONS.md");
+const PLUS: Option<Sign> = Some(Sign::Plus);
+const MINUS: Option<Sign> = Some(Sign::Minus);
 
 /// Returns the cells of each row of the table in a section of a page.
 fn table(page: &'static str, title: &str) -> impl Iterator<Item = Vec<&'static str>> {
@@ -305,6 +309,64 @@ fn languages_answer_as_their_grammars_and_tools_do() {
     let wanted = forms.flat_map(|(it, form)| [(it, form, true), (it, form, false)]);
     let missing = wanted.filter(|it| !seen.contains(it)).map(|it| (it.0, it.0.forms()[it.1].name(), it.2));
     assert_eq!(Vec::from_iter(missing), [], "forms without a row that is a number of theirs, or that is none");
+}
+
+/// A word, a sign, a spelling, and texts that are this special value, or none if there is no spelling.
+type Row = (u128, Option<Sign>, Option<Spelling>, &'static [&'static str]);
+
+#[rustfmt::skip]
+const SPECIALS: [Row; 24] = [
+    (0x00000A00_00000000_00000000_0000000C, None, Some(Spelling::Nan), &["NaN", "nan"]),
+    (0x00000A00_00000000_00000000_0000000C, PLUS, Some(Spelling::Inf), &["+inf"]),
+    (0x00000A00_00000000_00000000_0000000C, MINUS, Some(Spelling::Infinity), &["-INFINITY"]),
+    (0x00000A00_00000000_00000000_0000000C, None, None, &["infi", "na", "", "-", "+-inf", "N__a_N_"]),
+    // no_positive_mantissa_sign, required_mantissa_sign, no_special, case_sensitive_special.
+    (0x00000A00_00000000_00000000_0000001C, MINUS, Some(Spelling::Nan), &["-nan"]),
+    (0x00000A00_00000000_00000000_0000001C, None, None, &["+nan"]),
+    (0x00000A00_00000000_00000000_0000002C, PLUS, Some(Spelling::Nan), &["+nan"]),
+    (0x00000A00_00000000_00000000_0000002C, None, None, &["nan"]),
+    (0x00000A00_00000000_00000000_0000040C, None, None, &["NaN", "inf"]),
+    (0x00000A00_00000000_00000000_0000080C, None, Some(Spelling::Nan), &["NaN"]),
+    (0x00000A00_00000000_00000000_0000080C, None, None, &["nan"]),
+    // The separator `_` in integers, and in special values.
+    (0x00000A00_0000005F_00000001_0000000C, None, None, &["N_aN"]),
+    (0x00000A00_0000005F_00001000_0000000C, None, Some(Spelling::Nan), &["N__a_N_"]),
+    (0x00000A00_0000005F_00001000_0000000C, PLUS, Some(Spelling::Inf), &["+__inf"]),
+    (0x00000A00_0000005F_00001000_0000000C, None, None, &["_+inf", "___"]),
+    // The separator `i`, also if the case of a special value counts, and the separator `n`.
+    (0x00000A00_00000069_00001000_0000000C, None, Some(Spelling::Inf), &["inf", "INF", "iNF", "iinf", "iINF", "iINiFi"]),
+    (0x00000A00_00000069_00001000_0000000C, None, Some(Spelling::Infinity), &["iNfiiInItiy"]),
+    (0x00000A00_00000069_00001000_0000000C, None, None, &["IINF", "nf", "infnity"]),
+    (0x00000A00_00000069_00001000_0000080C, None, Some(Spelling::Inf), &["iinf"]),
+    (0x00000A00_00000069_00001000_0000080C, None, None, &["iNF"]),
+    (0x00000A00_0000006E_00001000_0000000C, None, Some(Spelling::Nan), &["nan", "nNaN", "nannN"]),
+    (0x00000A00_0000006E_00001000_0000000C, None, Some(Spelling::Inf), &["iNnfn", "inf"]),
+    (0x00000A00_0000006E_00001000_0000000C, None, None, &["NNan", "a", "inFnN", "if"]),
+    (0x00002400_00000000_00000000_0000000C, None, Some(Spelling::Inf), &["inf"]),
+];
+
+#[test]
+fn a_special_value_is_a_sign_and_a_spelling() {
+    let specials = Specials { nan: Some(b"NaN"), inf: Some(b"inf"), infinity: Some(b"infinity") };
+    for (word, sign, spelling, texts) in SPECIALS {
+        let (syntax, wanted) = (Syntax::integers(Format::new(word).unwrap()), spelling.map(|it| (sign, it)));
+        for text in texts {
+            assert_eq!(specials.read(&syntax, text).map(|it| (it.sign, it.spelling)), wanted, "{word:#034X}: {text}");
+        }
+    }
+}
+
+#[test]
+fn the_first_spelling_that_is_not_empty_matches() {
+    let read = |inf: &'static [u8], text| {
+        let specials = Specials { nan: None, inf: Some(inf), infinity: Some(b"+oo") };
+        specials.read(&Syntax::integers(Format::default()), text).map(|it| (it.sign, it.spelling))
+    };
+    assert_eq!(["", "+", "+oo"].map(|text| read(b"", text)), [None; 3]);
+    assert_eq!(
+        [read(b"", "++oo"), read(b"+oo", "++oo")],
+        [Some((PLUS, Spelling::Infinity)), Some((PLUS, Spelling::Inf))]
+    );
 }
 
 /// Each flag has a row: settings, and the phrases that the sentence has beside `decimal` and `NaN`, or lacks.

@@ -1,5 +1,6 @@
-//! Compares the plain Rust with results that `lexical-util` 1.0.7 returned. `crates/recorded/src/reading.rt` describes
-//! their lines.
+//! Compares the plain Rust with results that `lexical-util` 1.0.7 returned, which are also those of the definitions, since
+//! the code is proved and the same. `replayed` has the form of each line, where a word has 32 hexadecimal digits, and 0
+//! is an absent byte.
 
 use peltzivar::ascii::{is_valid_ascii, is_valid_letter};
 use peltzivar::digit::{char_is_digit, char_is_digit_const, char_to_digit, char_to_digit_const, digit_to_char};
@@ -78,8 +79,7 @@ fn replayed(line: &str) -> Option<String> {
 
 #[test]
 fn recorded_results_are_kept() {
-    let path = concat!(env!("CARGO_MANIFEST_DIR"), "/../crates/recorded/data/results.txt");
-    for line in std::fs::read_to_string(path).expect("a file of the repository").lines() {
+    for line in include_str!("known/results.txt").lines() {
         // After ` crate: `, the line has what `lexical-util` returns where this library differs on purpose.
         let fact = line.split_once(" crate: ").map_or(line, |(fact, _)| fact);
         assert_eq!(replayed(fact).expect(line).trim_end(), fact);

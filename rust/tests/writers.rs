@@ -286,17 +286,21 @@ fn languages_read_what_they_write() {
                 let own = form.syntax().format().mantissa_radix();
                 radixes.iter().position(|it| it.is_none_or(|it| it == own))
             };
+            let is_same = |back: Literal| match i128::try_from(literal) {
+                Ok(value) if value != 0 => is_worth_integer(&back, value),
+                _ => literal.to_f64().is_ok_and(|it| back.to_f64().is_ok_and(|back| it.to_bits() == back.to_bits())),
+            };
             match target.forms().format_literal(&literal, Style::PLAIN) {
                 Ok(written) => {
                     let written = written.to_string();
                     let back = target.read(&written).unwrap().literal().unwrap();
-                    let is_same = match i128::try_from(literal) {
-                        Ok(value) if value != 0 => is_worth_integer(&back, value),
-                        _ => literal.to_f64().unwrap().to_bits() == back.to_f64().unwrap().to_bits(),
-                    };
-                    assert!(is_same, "{language} {text:?} in {target}: {written:?}");
+                    assert!(is_same(back), "{language} {text:?} in {target}: {written:?}");
                 }
                 Err(error) => {
+                    let texts = target.forms().into_iter().map(|it| it.syntax().format_literal(&literal, Style::PLAIN));
+                    let mut texts = texts.filter_map(|text| text.ok().map(|it| it.to_string()));
+                    let is_written = texts.any(|it| is_same(target.read(&it).unwrap().literal().unwrap()));
+                    assert!(!is_written, "{language} {text:?} in {target}: {error}");
                     let no_floats = |form: &Form| literal.is_float() && form.syntax().point().is_none();
                     let first = target.forms().into_iter().min_by_key(|form| (no_floats(form), turn(form))).unwrap();
                     let wanted = match first.syntax().format_literal(&literal, Style::PLAIN) {

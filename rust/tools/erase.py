@@ -24,6 +24,8 @@ CRATES = RUST.parent / "crates"
 # The beginning of each generated file.
 MADE = "// Made by rust/tools/erase.py"
 PAGES = ("RUST", "FORMAT", "FORMS", "EXPLANATIONS", "SETTINGS", "CHANGELOG")
+# What other programs generate, for the marks in .gitattributes, by which a review on the web folds generated files.
+OTHERS = "c/peltzivar/_peltzivar.pyi docs/LANGUAGES.md explorer/index.html rust/tests/known/*.txt rust/tests/surface.rs".split()
 
 # For each crate, the folder of its files in plain Rust, the path of the libraries below it, its own, and the standard
 # library that it uses.
@@ -378,6 +380,8 @@ def made_files():
         page = (RUST.parent / ("" if name == "CHANGELOG" else "docs") / f"{name}.md").read_text()
         page = re.sub(rf"\]\((?:(?:\.\./)?docs/|\.\./)?({'|'.join(PAGES)})\.md(?=[#)])", lambda it: f"](crate::docs::{it[1].lower()}", page)
         files[RUST / f"{name}.txt"] = re.sub(r"\[([^][]*)\]\((?!#|crate::)[^)]*\)", r"\1", page)
+    marked = sorted([*OTHERS, *(str(it.relative_to(RUST.parent)) for it in files)])
+    files[RUST.parent / ".gitattributes"] = MADE.replace("//", "#") + ".\n" + "".join(f"/{it} linguist-generated\n" for it in marked)
     unused = [old for file, old, _ in REPLACED if not any(path.match(file) for path in read)]
     unused += [old for old, _ in EVERYWHERE if old not in sources]
     return files if not unused else sys.exit(f"{__file__}: no source has these texts of its tables: {', '.join(unused)}")
@@ -389,7 +393,7 @@ def main():
     folders = {folder for folder, *_ in PLACES.values()} | {"numfmt/tests"}
     sources = {it for folder in folders for it in (RUST / folder).rglob("*.rs")}
     gone = [it for it in sources if it not in files and it.read_text().startswith(MADE)]
-    names = " ".join(str(path.relative_to(RUST)) for path in stale + gone)
+    names = " ".join(str(path.relative_to(RUST.parent)) for path in stale + gone)
     if "--check" in sys.argv[1:]:
         sys.exit(f"run rust/tools/erase.py: not up to date: {names}" if names else 0)
     for path in stale:

@@ -1,5 +1,4 @@
-//! Writes the results of `lexical-util`, one a line, for the program `recorded`. The module `reading` of that program
-//! describes the lines.
+//! Writes the results of `lexical-util`, one a line, for `rust/tests/recorded.rs`, which describes the lines.
 //!
 //! Where the library differs on purpose, a line has the result that the rules demand, then ` crate: ` and the result of
 //! `lexical-util`.

@@ -3,5 +3,4 @@
 #![tactic(auto)]
 
 mod example;
-mod specials;
 mod values;
