@@ -1,7 +1,10 @@
-//! What literals are worth by the kind of their form and of their suffix. Expected values are those of javac, OCaml, NASM, Lua and
-//! gfortran, and otherwise of Rust's own integers.
+//! What literals are worth by the kind of their form and of their suffix. Expected values are those of gcc and g++ with
+//! `-pedantic-errors`, rustc with its lint of overflowing literals, javac, OCaml, NASM, Lua, Nim and gfortran, and otherwise of Rust's
+//! own integers and floats.
 
-use peltzivar::literal::{FloatKind, IntegerKind, Kind, Language, Literal, Style, Syntax, ValueErrorKind, WriteError};
+use peltzivar::literal::{
+    FloatKind, FloatLimits, IntegerKind, Kind, Language, Literal, Style, Syntax, ValueErrorKind, WriteError,
+};
 use peltzivar::NumberFormatBuilder;
 
 /// A language, a token, and the integer that it is, or none if it is too large, beside what the tools answered.
@@ -37,6 +40,35 @@ const INTEGERS: &[(Language, &str, Option<i128>)] = &[
     (Language::LUA, "9223372036854775808", Some(9223372036854775808)),
     (Language::JAVASCRIPT, "9007199254740993", Some(9007199254740993)),
     (Language::RUST, "0xffffffffffffffff", Some(18446744073709551615)),
+    (Language::RUST, "170141183460469231731687303715884105727u128", Some(i128::MAX)),
+    (Language::RUST, "170141183460469231731687303715884105728i128", None),
+    (Language::RUST, "340282366920938463463374607431768211456", None),
+    (Language::RUST, "255u8", Some(255)),
+    (Language::RUST, "300u8", None),
+    (Language::RUST, "0xffi8", None),
+    (Language::RUST, "127i8", Some(127)),
+    (Language::RUST, "128i8", None),
+    (Language::RUST, "18446744073709551616usize", None),
+    (Language::C, "9223372036854775807LL", Some(9223372036854775807)),
+    (Language::C, "9223372036854775808", None),
+    (Language::C, "9223372036854775808u", Some(9223372036854775808)),
+    (Language::C, "18446744073709551615ULL", Some(18446744073709551615)),
+    (Language::C, "18446744073709551616ULL", None),
+    (Language::C, "0xffffffffffffffffLL", Some(18446744073709551615)),
+    (Language::C, "0x10000000000000000", None),
+    (Language::C_PLUS_PLUS, "01777777777777777777777", Some(18446744073709551615)),
+    (Language::C_PLUS_PLUS, "02000000000000000000000", None),
+    (Language::C_PLUS_PLUS, "9223372036854775808ms", None),
+    (Language::C_PLUS_PLUS, "9223372036854775808i", Some(9223372036854775808)),
+    (Language::C_SHARP, "18446744073709551615", Some(18446744073709551615)),
+    (Language::C_SHARP, "0x10000000000000001", None),
+    (Language::KOTLIN, "9223372036854775808", None),
+    (Language::KOTLIN, "0xFFFFFFFFFFFFFFFF", None),
+    (Language::KOTLIN, "0xFFFFFFFFFFFFFFFFu", Some(18446744073709551615)),
+    (Language::FORTRAN, "-2147483648", Some(-2147483648)),
+    (Language::FORTRAN, "2147483648", None),
+    (Language::FORTRAN, "-128_1", Some(-128)),
+    (Language::NIM, "-128i8", Some(-128)),
 ];
 
 /// A language, a token, and the float that it is.
@@ -60,13 +92,35 @@ const FLOATS: &[(Language, &str, f64)] = &[
     (Language::LUA, "0x1p64", 18446744073709551616.0),
     (Language::FORTRAN, "0.1", 0.1_f32 as f64),
     (Language::FORTRAN, "1.000000059604644775390626", 1.0000001_f32 as f64),
-    (Language::FORTRAN, "-1.5e39", f64::NEG_INFINITY),
     (Language::FORTRAN, "16777217", 16777217.0),
     (Language::FORTRAN, "0.1d0", 0.1),
     (Language::JULIA, "0.1f0", 0.1_f32 as f64),
     (Language::C, "0.1F", 0.1_f32 as f64),
     (Language::RUST, "0.1f32", 0.1_f32 as f64),
     (Language::KOTLIN, "16777217f", 16777216.0),
+    (Language::C, "1e400", f64::INFINITY),
+    (Language::C, "1e-400", 0.0),
+    (Language::RUST, "1e-400", 0.0),
+    (Language::JAVA, "0e-400", 0.0),
+    (Language::FORTRAN, "-1e-50", -0.0),
+];
+
+/// A language, and a token that its tool refuses for its value, which is too large, too small, or 0 for digits that are not.
+const BEYOND: &[(Language, &str, ValueErrorKind)] = &[
+    (Language::JAVA, "1e400", ValueErrorKind::TooLarge),
+    (Language::JAVA, "1e-400", ValueErrorKind::Vanishes),
+    (Language::JAVA, "1e39f", ValueErrorKind::TooLarge),
+    (Language::JAVA, "1e-46f", ValueErrorKind::Vanishes),
+    (Language::JAVA, "2e-324d", ValueErrorKind::Vanishes),
+    (Language::JAVA, "0x1p2000", ValueErrorKind::TooLarge),
+    (Language::JAVA, "0x1p-2000", ValueErrorKind::Vanishes),
+    (Language::RUST, "1e400", ValueErrorKind::TooLarge),
+    (Language::RUST, "3.5e38f32", ValueErrorKind::TooLarge),
+    (Language::RUST, "340282366920938463463374607431768211456f32", ValueErrorKind::TooLarge),
+    (Language::C_SHARP, "1.8e308", ValueErrorKind::TooLarge),
+    (Language::ELIXIR, "1.8e308", ValueErrorKind::TooLarge),
+    (Language::FORTRAN, "-1.5e39", ValueErrorKind::TooSmall),
+    (Language::FORTRAN, "1d400", ValueErrorKind::TooLarge),
 ];
 
 /// Returns the literal that a token begins with, of a language that has no tokens the whole text.
@@ -90,11 +144,22 @@ fn values_are_those_of_the_language() {
         assert_eq!(literal.to_f64(), Ok(*wanted), "{language}: {text}");
         assert_eq!(literal.to_f32(), Ok(*wanted as f32), "{language}: {text}");
     }
+    for (language, text, wanted) in BEYOND {
+        let literal = literal(*language, text);
+        assert_eq!(literal.to_f64().unwrap_err().kind(), *wanted, "{language}: {text}");
+        assert_eq!(literal.to_f64(), f64::try_from(literal), "{language}: {text}");
+        assert_eq!(literal.to_f32(), f32::try_from(literal), "{language}: {text}");
+    }
     // It is below 0, in each call alike.
     assert_eq!(Language::JAVA.parse::<u32>("0xffffffff").unwrap_err().to_string(), "below 0, the least u32");
     assert_eq!(Language::JAVA.parse_prefix::<i64>("0xffffffff;"), Ok((-1, &b";"[..])));
     let error = Language::JAVA.parse::<i64>("3000000000").unwrap_err();
     assert_eq!(error.to_string(), "above 2147483647, the largest number of its form");
+    assert_eq!(Language::JAVA.parse("4.9e-324"), Ok(5e-324));
+    let error = Language::JAVA.parse::<f64>("1e400").unwrap_err();
+    assert_eq!(error.to_string(), "above the largest f64");
+    let error = Language::JAVA.parse::<f32>("1e-300").unwrap_err();
+    assert_eq!(error.to_string(), "too near to 0 for an f32");
     assert!(Language::JAVA.read("3000000000").unwrap().to_f64().is_nan());
     let digits = Language::JAVA.read("0xffffffff").unwrap().literal().unwrap();
     assert_eq!(digits.plain().unwrap().to_string(), "ffffffff");
@@ -103,34 +168,83 @@ fn values_are_those_of_the_language() {
 #[test]
 fn each_number_of_bits_has_its_limits() {
     const HEXADECIMAL: Syntax = Syntax::integers(NumberFormatBuilder::new().mantissa_radix(16).build_format_or_panic());
-    let of = |integers| Kind::new(integers, FloatKind::Nearest).unwrap();
-    for bits in 1..=64 {
-        let (most, wraps, modulo) =
-            (IntegerKind::AtMost(bits), IntegerKind::Wraps(bits), IntegerKind::WrapsModulo(bits));
-        let power = 1_u128 << bits;
-        for number in [0, 1, power / 2 - 1, power / 2, power - 1, power, power + 1, 3 * power + power / 2, u128::MAX] {
-            for sign in ["", "-"] {
-                let text = format!("{sign}{number:X}");
-                let signed = (if sign.is_empty() { number } else { number.wrapping_neg() }) as i128;
+    for bits in 1..=128_u8 {
+        let power = 1_u128.checked_shl(bits.into());
+        let (half, most) = (1_u128 << (bits - 1), power.map_or(u128::MAX, |it| it - 1));
+        let (above, far) = (most.saturating_add(2), half.saturating_add(most.saturating_mul(3)));
+        for number in [0, 1, half - 1, half, most, most.saturating_add(1), above, far, u128::MAX] {
+            for negative in [false, true] {
+                let signed = (if negative { number.wrapping_neg() } else { number }) as i128;
                 let low = signed << (128 - u32::from(bits)) >> (128 - u32::from(bits));
-                let fits = |value: i128| (number < power).then_some(value);
-                for (kind, wanted) in [(most, fits(signed)), (wraps, fits(low)), (modulo, Some(low))] {
-                    assert_eq!((of(kind).integers(), of(kind).floats()), (kind, FloatKind::Nearest));
-                    let literal = HEXADECIMAL.read(&text).unwrap().with_kind(of(kind));
-                    assert_eq!(literal.to_i128().ok(), wanted, "{kind:?}: {text}");
-                    assert_eq!(literal.to_i64().ok(), wanted.and_then(|it| it.try_into().ok()), "{kind:?}: {text}");
-                    assert_eq!((literal.to_i64(), literal.to_u64()), (literal.try_into(), literal.try_into()));
-                    assert_eq!((literal.to_i128(), literal.to_u128()), (literal.try_into(), literal.try_into()));
-                    assert_eq!((literal.to_f64(), literal.to_f32()), (literal.try_into(), literal.try_into()));
-                    assert_eq!(literal.to_f64().ok(), wanted.map(|it| it as f64), "{kind:?}: {text}");
-                    assert_eq!(literal.to_f32().ok(), wanted.map(|it| it as f32), "{kind:?}: {text}");
+                let (low, fits) = ((low < 0, low.unsigned_abs()), number <= most);
+                let own = (fits || negative && Some(number) == power).then_some((negative, number));
+                let mut kinds = vec![(IntegerKind::AtMost(bits), own)];
+                if bits <= 64 {
+                    kinds.push((IntegerKind::Wraps(bits), fits.then_some(low)));
+                    kinds.push((IntegerKind::WrapsModulo(bits), Some(low)));
                 }
+                let text = format!("{}{number:X}", if negative { "-" } else { "" });
+                kinds.into_iter().for_each(|(kind, wanted)| is_worth(HEXADECIMAL.read(&text).unwrap(), kind, wanted));
             }
         }
     }
-    for bits in [0, 65, 255] {
-        for integers in [IntegerKind::AtMost(bits), IntegerKind::Wraps(bits), IntegerKind::WrapsModulo(bits)] {
-            assert_eq!(Kind::new(integers, FloatKind::Single), None);
+    for bits in [0, 65, 129, 255] {
+        for integers in [IntegerKind::Wraps(bits), IntegerKind::WrapsModulo(bits), IntegerKind::AtMost(bits)] {
+            let kind = Kind::new(integers, FloatKind::Single);
+            assert_eq!(kind.map(Kind::integers), (integers == IntegerKind::AtMost(65)).then_some(integers));
+        }
+    }
+}
+
+/// A literal of a kind is worth an integer, which is given by its sign and its size, or none.
+fn is_worth(literal: Literal, integers: IntegerKind, wanted: Option<(bool, u128)>) {
+    let kind = Kind::new(integers, FloatKind::Nearest).unwrap();
+    assert_eq!((kind.integers(), kind.floats(), kind.limits()), (integers, FloatKind::Nearest, FloatLimits::None));
+    let literal = literal.with_kind(kind);
+    let whole = wanted.and_then(|(negative, size)| match negative {
+        true => 0_i128.checked_sub_unsigned(size),
+        false => size.try_into().ok(),
+    });
+    assert_eq!(literal.to_i128().ok(), whole, "{integers:?}: {literal}");
+    assert_eq!(literal.to_i64().ok(), whole.and_then(|it| it.try_into().ok()), "{integers:?}: {literal}");
+    assert_eq!(literal.to_u128().ok(), wanted.and_then(|it| (!it.0 || it.1 == 0).then_some(it.1)), "{literal}");
+    assert_eq!((literal.to_i64(), literal.to_u64()), (literal.try_into(), literal.try_into()));
+    assert_eq!((literal.to_i128(), literal.to_u128()), (literal.try_into(), literal.try_into()));
+    assert_eq!((literal.to_f64(), literal.to_f32()), (literal.try_into(), literal.try_into()));
+    let sign = wanted.map(|it| if it.0 { -1.0 } else { 1.0 });
+    assert_eq!(literal.to_f64().ok(), wanted.zip(sign).map(|it| it.0 .1 as f64 * it.1), "{integers:?}: {literal}");
+    assert_eq!(literal.to_f32().ok(), wanted.zip(sign).map(|it| it.0 .1 as f32 * it.1 as f32), "{literal}");
+}
+
+/// A limit holds for each float type, for integers of the exact kind, and for the nearest float and single alike.
+#[test]
+fn floats_have_the_limits_of_their_kind() {
+    let decimal = Syntax::default();
+    let wide = ["1".repeat(400), format!("{}e9", "1".repeat(400)), "1e99999999999999999999".into(), "1.8e308".into()];
+    let near = [format!("0.{}1", "0".repeat(400)), "1e-99999999999999999999".into(), "2.4e-324".into()];
+    let zeros = ["0".into(), "0.0e-999".into(), "0".repeat(400), "0e999".into()];
+    for limits in [FloatLimits::None, FloatLimits::Largest, FloatLimits::Both] {
+        for floats in [FloatKind::Nearest, FloatKind::Single] {
+            let kind = Kind::new(IntegerKind::Exact, floats).unwrap().with_limits(limits);
+            assert_eq!((kind.floats(), kind.limits()), (floats, limits));
+            let has = |text: &str, value: f64, error: Option<ValueErrorKind>| {
+                let literal = decimal.read(text).unwrap().with_kind(kind);
+                let wanted = error.map_or(Ok(value), Err);
+                assert_eq!(literal.to_f64().map_err(|it| it.kind()), wanted, "{kind:?}: {text}");
+                assert_eq!(literal.to_f32().map_err(|it| it.kind()), wanted.map(|it| it as f32), "{kind:?}: {text}");
+                assert_eq!((literal.to_f64(), literal.to_f32()), (literal.try_into(), literal.try_into()));
+            };
+            let is_limited = limits != FloatLimits::None;
+            for text in &wide {
+                has(text, f64::INFINITY, is_limited.then_some(ValueErrorKind::TooLarge));
+                let error = is_limited.then_some(ValueErrorKind::TooSmall);
+                has(&format!("-{text}"), f64::NEG_INFINITY, error);
+            }
+            for text in &near {
+                has(text, 0.0, (limits == FloatLimits::Both).then_some(ValueErrorKind::Vanishes));
+            }
+            zeros.iter().for_each(|text| has(text, 0.0, None));
+            has("1.5", 1.5, None);
         }
     }
 }
@@ -150,7 +264,9 @@ fn values_are_written() {
         (Language::FORTRAN, "0.50", Language::PYTHON, Ok("0.50")),
         (Language::FORTRAN, "0.1d0", Language::PYTHON, Ok("0.1e0")),
         (Language::JAVA, "0.1f", Language::JAVASCRIPT, Ok("0.10000000149011612")),
-        (Language::FORTRAN, "1e39", Language::PYTHON, Err(WriteError::Special)),
+        (Language::FORTRAN, "1e39", Language::PYTHON, Err(WriteError::TooLarge)),
+        (Language::JAVA, "1e-400", Language::PYTHON, Err(WriteError::TooLarge)),
+        (Language::C, "1e400", Language::PYTHON, Ok("1e400")),
     ];
     for (source, text, target, wanted) in rows {
         let written = target.forms()[0].syntax().format_literal(&literal(source, text), Style::PLAIN);
