@@ -1153,7 +1153,7 @@ class Syntax(_Reader, metaclass=_Class):
         exponent, point = (chr(it) if it else None for it in options)
         conditions = {name: _condition(name, getattr(self, name)) for name in _CONDITIONS}
         by = (*format._halves, *options, *(int(it or 0) for it in conditions.values()))
-        _c.make(self, (((None, by, 0, 0, 0, None),), (None, None, None), None), False)
+        _c.make(self, (((None, by, 0, 0, 0, 0, None),), (None, None, None), None), False)
         if sentence := self._notation(3):
             raise OptionsError((Reason(sentence),))
         vars(self).update(conditions, format=format, exponent=exponent, point=point, _notes=notes, _by=by)

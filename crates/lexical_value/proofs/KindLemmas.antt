@@ -1,12 +1,14 @@
 -- The lowest bits of a number, and what literals of the exact kind are worth.
 use Rattle.lexical_value.proofs.Common.{ℕ, ◌≡◌, ◌+◌, ◌-◌, ◌%◌, ◌^◌, ◌<◌, ◌≤◌, ◌||◌, ◌∙◌, Bool, true, false, not, if◌then◌else◌, Some, Ok, Err, arith, ap, refl}
-use Rattle.lexical_value.proofs.Common.{subst, sym, pow-le-pow_right, nat_tests, Record, width, worth, wrapped, Literal, is_binary, is_decimal, nearest}
+use Rattle.lexical_value.proofs.Common.{subst, sym, pow-le-pow_right, nat_tests, Record, limit, width, worth, wrapped, Kind, Literal, is_float, is_minus, mantissa, is_exact, integer_worth, within, format_by, round, is_binary, is_decimal, nearest}
 use Rattle.lexical_value.proofs.Common.{IsNoInteger, IsNotWorth, float_worth, ValueErrorKind}
 use Rattle.std.proofs.Common.{Result}
 use Rattle.std.proofs.Math.Nat.{mod-eq_of_lt}
 use Rattle.std.proofs.Math.Pow.{mod-mod-pow}
 use Rattle.std.proofs.lemmas.Bool.{false≢true}
 use Rattle.std.specs.Float.{Float, Format}
+use Rattle.std.specs.Option.{ok_or}
+use Rattle.std.specs.Prelude.{option_map}
 use Rattle.lexical_literal.specs.Read.{exact}
 use Rattle.lexical_literal.specs.declared.kind.IntegerKind.TheVariants as integers
 use Rattle.lexical_value.specs.declared.integer.ValueErrorKind.TheVariants as kinds
@@ -18,6 +20,29 @@ low n w most = let all : 64 - w + w ≡ 64 = omega (arith, most) in
 
 pub lowest_bits : (n bits : ℕ) → n % 2 ^ 64 % 2 ^ width bits ≡ n % 2 ^ width bits
 lowest_bits n bits = low n (width bits) (omega arith)
+
+-- A number within the limit is worth itself.
+pub kept : (negative : Bool) (n bits : ℕ) → n ≤ limit bits negative → worth (integers.AtMost bits) negative n ≡ Some (negative, n)
+kept negative n bits fits = grind (arith, nat_tests)
+
+-- The limit of 128 bits, and that of fewer.
+pub large_limit : (bits : ℕ) (negative : Bool) → 128 ≤ bits → 2 ^ 128 - 1 ≡ limit bits negative
+large_limit bits negative large = go negative where
+  above : 2 ^ 128 ≤ 2 ^ bits
+  above = pow-le-pow_right (omega arith) large
+
+  go : (b : Bool) → 2 ^ 128 - 1 ≡ limit bits b
+  go true = omega (arith, above)
+  go false = omega (arith, above)
+
+pub small_limit : (bits : ℕ) (negative : Bool) → bits < 128 → (if negative then 2 ^ bits else 2 ^ bits - 1) ≡ limit bits negative
+small_limit bits negative small = go negative where
+  below : 2 ^ bits ≤ 2 ^ 127
+  below = pow-le-pow_right (omega arith) (omega (arith, small))
+
+  go : (b : Bool) → (if b then 2 ^ bits else 2 ^ bits - 1) ≡ limit bits b
+  go true = omega (arith, below)
+  go false = omega (arith, below)
 
 -- A number of fewer bits than a kind has is worth itself.
 module _ (negative : Bool) (n bits : ℕ) (low : n < 2 ^ (width bits - 1)) where
@@ -36,7 +61,16 @@ module _ (negative : Bool) (n bits : ℕ) (low : n < 2 ^ (width bits - 1)) where
     go false = grind (arith, nat_tests)
 
   pub at_most_keeps : worth (integers.AtMost bits) negative n ≡ Some (negative, n)
-  at_most_keeps = let below = fits in grind (arith, nat_tests)
+  at_most_keeps = kept negative n bits (go negative) where
+    under : 2 ^ (width bits - 1) ≤ 2 ^ bits
+    under = pow-le-pow_right (omega arith) (omega arith)
+
+    short : 2 ^ (width bits - 1) ≤ 2 ^ 63
+    short = pow-le-pow_right (omega arith) (omega arith)
+
+    go : (b : Bool) → n ≤ limit bits b
+    go true = omega (arith, low, under, short)
+    go false = omega (arith, low, under, short)
 
   pub wraps_keeps : worth (integers.Wraps bits) negative n ≡ Some (negative, n)
   wraps_keeps = let below = fits in let same = wraps in grind (arith, nat_tests)
@@ -50,6 +84,7 @@ pub exact_error : (least largest : ℕ) (r : Record) (l : Literal) (error : Valu
 exact_error least largest r l kinds.Float is = is
 exact_error least largest r l kinds.TooLarge (whole, (sign, above)) = (whole, sign, above)
 exact_error least largest r l kinds.TooSmall (whole, (sign, below)) = (whole, sign, below)
+exact_error least largest r l kinds.Vanishes is = is
 exact_error least largest r l kinds.UnsupportedRadix is = is
 exact_error least largest r l kinds.Special is = is
 exact_error least largest r l kinds.NotWhole is = is
@@ -82,3 +117,18 @@ exact_radix f r l error same = go (is_decimal r.byte || is_binary r.byte) same w
   go : (known : Bool) → chosen known (nearest f r.byte l) ≡ Err error → (known ≡ false) × (error ≡ kinds.UnsupportedRadix)
   go true same = absurd (false≢true (ap is_ok (sym same)))
   go false same = (refl, λ i. error_of error (sym same i))
+
+-- A float, or an integer of the exact kind, is worth the nearest float, if that is within the limits.
+pub limited_worth : (f : Format) (kind : Kind) (r : Record) (l : Literal) (result : Result Float ValueErrorKind)
+    → (is_decimal r.byte || is_binary r.byte) ≡ true → (is_exact kind.integers || is_float l) ≡ true
+    → within kind.limits (is_minus l.sign) (mantissa r.byte l) (nearest (format_by kind.floats f) r.byte l) ≡ result → float_worth kind f r.byte l ≡ result
+limited_worth f kind r l result known plain same = (λ i. if not (known i) then Err kinds.UnsupportedRadix
+    else (if plain i then within kind.limits (is_minus l.sign) (mantissa r.byte l) (nearest (format_by kind.floats f) r.byte l)
+    else ok_or (option_map (λ w. round f w.0 w.1 1) (integer_worth kind.integers r.byte l)) (if is_minus l.sign then kinds.TooSmall else kinds.TooLarge))) ∙ same
+
+-- Without the radixes of floats, there is none.
+pub no_worth : (f : Format) (kind : Kind) (r : Record) (l : Literal) → (is_decimal r.byte || is_binary r.byte) ≡ false
+    → float_worth kind f r.byte l ≡ Err kinds.UnsupportedRadix
+no_worth f kind r l unknown = λ i. if not (unknown i) then Err kinds.UnsupportedRadix
+    else (if is_exact kind.integers || is_float l then within kind.limits (is_minus l.sign) (mantissa r.byte l) (nearest (format_by kind.floats f) r.byte l)
+    else ok_or (option_map (λ w. round f w.0 w.1 1) (integer_worth kind.integers r.byte l)) (if is_minus l.sign then kinds.TooSmall else kinds.TooLarge))

@@ -94,6 +94,8 @@ pub fn integer_numeral<'a>(literal: &Literal<'a>) -> Option<Numeral<'a>>
     ensures float { IsTrue (is_float literal.now.literal) ↔ IsNone result }
     ensures negative { IfSome result (λ numeral. numeral.negative ≡ is_minus literal.now.literal.sign) }
     ensures size { IfSome result (λ numeral. size_of numeral ≡ integer_size (bytes_of literal.now.format) literal.now.literal) }
+    ensures exponent { IfSome result (λ numeral. literal.now.literal.exponent ≡ []) }
+    ensures fraction { IfSome result (λ numeral. literal.now.literal.fraction ≡ []) }
 {
     if literal.is_float() {
         return None;
