@@ -8,7 +8,9 @@ use Rattle.std.proofs.Math.Pow.{mod-mod-pow}
 use Rattle.std.proofs.lemmas.Bool.{false≢true}
 use Rattle.std.specs.Float.{Float, Format}
 use Rattle.std.specs.Option.{ok_or}
-use Rattle.std.specs.Prelude.{option_map}
+use Rattle.std.specs.Prelude.{[], option_map}
+use Rattle.lexical_value.specs.Integer.{integer_size}
+use Rattle.lexical_value.proofs.ValueLemmas.{whole_denominator, whole_numerator}
 use Rattle.lexical_literal.specs.Read.{exact}
 use Rattle.lexical_literal.specs.declared.kind.IntegerKind.TheVariants as integers
 use Rattle.lexical_value.specs.declared.integer.ValueErrorKind.TheVariants as kinds
@@ -25,34 +27,25 @@ lowest_bits n bits = low n (width bits) (omega arith)
 pub kept : (negative : Bool) (n bits : ℕ) → n ≤ limit bits negative → worth (integers.AtMost bits) negative n ≡ Some (negative, n)
 kept negative n bits fits = grind (arith, nat_tests)
 
--- The limit of 128 bits, and that of fewer.
+powers : (i j : ℕ) → i ≤ j → 2 ^ i ≤ 2 ^ j
+powers i j within = pow-le-pow_right two within where
+  two : 0 < 2
+  two = omega arith
+
+-- A kind of 128 bits or more has all numbers of 128 bits.
 pub large_limit : (bits : ℕ) (negative : Bool) → 128 ≤ bits → 2 ^ 128 - 1 ≡ limit bits negative
 large_limit bits negative large = go negative where
   above : 2 ^ 128 ≤ 2 ^ bits
-  above = pow-le-pow_right (omega arith) large
+  above = powers 128 bits large
 
   go : (b : Bool) → 2 ^ 128 - 1 ≡ limit bits b
   go true = omega (arith, above)
   go false = omega (arith, above)
 
-pub small_limit : (bits : ℕ) (negative : Bool) → bits < 128 → (if negative then 2 ^ bits else 2 ^ bits - 1) ≡ limit bits negative
-small_limit bits negative small = go negative where
-  below : 2 ^ bits ≤ 2 ^ 127
-  below = pow-le-pow_right (omega arith) (omega (arith, small))
-
-  go : (b : Bool) → (if b then 2 ^ bits else 2 ^ bits - 1) ≡ limit bits b
-  go true = omega (arith, below)
-  go false = omega (arith, below)
-
 -- A number of fewer bits than a kind has is worth itself.
 module _ (negative : Bool) (n bits : ℕ) (low : n < 2 ^ (width bits - 1)) where
   fits : n < 2 ^ width bits
-  fits = let more = pow-le-pow_right two (less (width bits)) in omega (arith, low, more) where
-    two : 0 < 2
-    two = omega arith
-
-    less : (w : ℕ) → w - 1 ≤ w
-    less w = omega arith
+  fits = let more = powers (width bits - 1) (width bits) (omega arith) in omega (arith, low, more)
 
   wraps : wrapped (width bits) negative n ≡ (negative, n)
   wraps = go negative where
@@ -63,10 +56,10 @@ module _ (negative : Bool) (n bits : ℕ) (low : n < 2 ^ (width bits - 1)) where
   pub at_most_keeps : worth (integers.AtMost bits) negative n ≡ Some (negative, n)
   at_most_keeps = kept negative n bits (go negative) where
     under : 2 ^ (width bits - 1) ≤ 2 ^ bits
-    under = pow-le-pow_right (omega arith) (omega arith)
+    under = powers (width bits - 1) bits (omega arith)
 
     short : 2 ^ (width bits - 1) ≤ 2 ^ 63
-    short = pow-le-pow_right (omega arith) (omega arith)
+    short = powers (width bits - 1) 63 (omega arith)
 
     go : (b : Bool) → n ≤ limit bits b
     go true = omega (arith, low, under, short)
@@ -132,3 +125,12 @@ pub no_worth : (f : Format) (kind : Kind) (r : Record) (l : Literal) → (is_dec
 no_worth f kind r l unknown = λ i. if not (unknown i) then Err kinds.UnsupportedRadix
     else (if is_exact kind.integers || is_float l then within kind.limits (is_minus l.sign) (mantissa r.byte l) (nearest (format_by kind.floats f) r.byte l)
     else ok_or (option_map (λ w. round f w.0 w.1 1) (integer_worth kind.integers r.byte l)) (if is_minus l.sign then kinds.TooSmall else kinds.TooLarge))
+
+-- An integer of another kind that is worth itself is worth the nearest float.
+pub kept_float : (f : Format) (kind : Kind) (r : Record) (l : Literal) (x : Float) → (is_decimal r.byte || is_binary r.byte) ≡ true
+    → is_exact kind.integers ≡ false → is_float l ≡ false → integer_worth kind.integers r.byte l ≡ Some (is_minus l.sign, integer_size r.byte l)
+    → l.fraction ≡ [] → l.exponent ≡ [] → x ≡ nearest f r.byte l → float_worth kind f r.byte l ≡ Ok x
+kept_float f kind r l x known other whole kept fraction exponent near = (λ i. if not (known i) then Err kinds.UnsupportedRadix
+    else (if other i || whole i then within kind.limits (is_minus l.sign) (mantissa r.byte l) (nearest (format_by kind.floats f) r.byte l)
+    else ok_or (option_map (λ w. round f w.0 w.1 1) (kept i)) (if is_minus l.sign then kinds.TooSmall else kinds.TooLarge)))
+    ∙ ap Ok ((λ i. round f (is_minus l.sign) (sym (whole_numerator r l fraction exponent) i) (sym (whole_denominator r l fraction exponent) i)) ∙ sym near)

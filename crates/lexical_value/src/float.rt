@@ -22,7 +22,7 @@ use lexical_literal::literal::Literal;
 use lexical_number::decimal::{decimal_to_float, digits_to_float};
 use lexical_number::float::Float;
 use lexical_number::leading::{Leading, push_all, saturating};
-use lexical_number::numeral::{Magnitude, Numeral};
+use lexical_number::numeral::Magnitude;
 use lexical_number::scaling::{bits_of, raised_bits, raised_word};
 use lexical_util::format::NumberFormat;
 
@@ -133,14 +133,10 @@ fn whole_float<F: Float>(literal: &Literal) -> Result<F, ValueErrorKind>
         unreachable!()
     };
     match fewer(literal.kind().integers(), &numeral) {
-        Some(Numeral {
-            negative,
-            magnitude: Magnitude::Word(size),
-        }) => Ok(signed(digits_to_float(size, 0, false, 0), negative)),
-        Some(Numeral {
-            magnitude: Magnitude::Digits(_, _),
-            ..
-        }) => nearest_float(literal),
+        Some(own) => match own.magnitude {
+            Magnitude::Word(size) => Ok(signed(digits_to_float(size, 0, false, 0), own.negative)),
+            Magnitude::Digits(_, _) => nearest_float(literal),
+        },
         None => Err(ValueErrorKind::out_of_range(numeral.negative)),
     }
 }

@@ -1,6 +1,5 @@
 -- Powers grow with their exponents.
-use Rattle.lexical_value.proofs.Common.{ap, arith, if◌then◌else◌, sym, ◌-◌, ◌^◌, ◌∙◌}
-use Rattle.lexical_value.proofs.KindLemmas.{large_limit, small_limit}
+use Rattle.lexical_value.proofs.KindLemmas.{large_limit}
 use Rattle.lexical_value.proofs.kind.limit.Goals as goal
 
 pub returns-then-bits-ge128 : goal.returns-then-bits-ge128
