@@ -9,7 +9,7 @@ use crate::literal::value::kind::{fewer, is_exact};
 use crate::literal::value::number::decimal::{decimal_to_float, digits_to_float};
 use crate::literal::value::number::float::Float;
 use crate::literal::value::number::leading::{push_all, saturating, Leading};
-use crate::literal::value::number::numeral::{Magnitude, Numeral};
+use crate::literal::value::number::numeral::Magnitude;
 use crate::literal::value::number::scaling::{bits_of, raised_bits, raised_word};
 use crate::word::FormatView;
 
@@ -86,10 +86,10 @@ fn whole_float<F: Float>(literal: &Literal) -> Result<F, ValueErrorKind> {
     }
     let Some(numeral) = integer_numeral(literal) else { unreachable!() };
     match fewer(literal.kind().integers(), &numeral) {
-        Some(Numeral { negative, magnitude: Magnitude::Word(size) }) => {
-            Ok(signed(digits_to_float(size, 0, false, 0), negative))
-        }
-        Some(Numeral { magnitude: Magnitude::Digits(_, _), .. }) => nearest_float(literal),
+        Some(own) => match own.magnitude {
+            Magnitude::Word(size) => Ok(signed(digits_to_float(size, 0, false, 0), own.negative)),
+            Magnitude::Digits(_, _) => nearest_float(literal),
+        },
         None => Err(ValueErrorKind::out_of_range(numeral.negative)),
     }
 }
