@@ -1405,7 +1405,7 @@ class Specials(metaclass=_Class):
 
     def _reader(self, syntax: Syntax) -> Any:
         """Returns what reads special values by the flags of a syntax."""
-        form, reader = (None, _typed("syntax", syntax, Syntax)._by, 0, 0, 0, None), _Reader()
+        form, reader = (None, _typed("syntax", syntax, Syntax)._by, 0, 0, 0, 0, None), _Reader()
         _c.make(reader, ((form,), self._spellings(), None), True)
         return reader
 

@@ -506,12 +506,16 @@ static void test_forms(void) {
     list[0].float_kind = PELTZIVAR_FLOATS_SINGLE;
     CHECK(!peltzivar_parse_f64(&one, "0.1", 3, &real, NULL) && real == (double)0.1f);
     CHECK(!peltzivar_parse_f64(language("FORTRAN"), "0.1", 3, &real, NULL) && real == (double)0.1f);
+    static const peltzivar_value_status beyond[] = {
+        PELTZIVAR_VALUE_OK, PELTZIVAR_VALUE_TOO_LARGE, PELTZIVAR_VALUE_TOO_LARGE, PELTZIVAR_VALUE_REFUSED};
+    static const peltzivar_value_status vanished[] = {
+        PELTZIVAR_VALUE_OK, PELTZIVAR_VALUE_OK, PELTZIVAR_VALUE_VANISHES, PELTZIVAR_VALUE_REFUSED};
     for (uint8_t limits = 0; limits < 4; limits++) {
         list[0].float_limits = limits;
-        const peltzivar_value_status beyond = limits ? PELTZIVAR_VALUE_TOO_LARGE : 0, vanished = limits == PELTZIVAR_LIMITS_BOTH ? PELTZIVAR_VALUE_VANISHES : 0;
-        CHECK(peltzivar_parse_f64(&one, "1e39", 4, &real, NULL) == (limits < 3 ? beyond : PELTZIVAR_VALUE_REFUSED));
-        CHECK(peltzivar_parse_f64(&one, "1e-50", 5, &real, NULL) == (limits < 3 ? vanished : PELTZIVAR_VALUE_REFUSED));
+        CHECK(peltzivar_parse_f64(&one, "1e39", 4, &real, NULL) == beyond[limits]);
+        CHECK(peltzivar_parse_f64(&one, "1e-50", 5, &real, NULL) == vanished[limits]);
     }
+    float single;
     list[0].float_limits = PELTZIVAR_LIMITS_LARGEST;
     CHECK(peltzivar_forms_read(&one, "-1e39", 5, &literal, NULL) && peltzivar_to_f32(&literal, &single) == PELTZIVAR_VALUE_TOO_SMALL);
     CHECK(!peltzivar_parse_i64(language("JAVA"), "0xffffffff", 10, &value, NULL) && value == -1);
