@@ -172,7 +172,8 @@ enum {
     PELTZIVAR_VALUE_NO_LITERAL = 5, /* No call has made the literal. */
     PELTZIVAR_VALUE_REFUSED = 6, /* The text is neither a literal nor a special value, or an argument is refused. */
     PELTZIVAR_VALUE_SPECIAL = 7, /* The text is NaN or infinity, and the type an integer type. */
-    PELTZIVAR_VALUE_NOT_WHOLE = 8 /* The value times the power of ten is not whole. */
+    PELTZIVAR_VALUE_NOT_WHOLE = 8, /* The value times the power of ten is not whole. */
+    PELTZIVAR_VALUE_VANISHES = 9 /* The nearest float is 0, and the value is not, which is an error by its kind. */
 };
 
 /* Where reading stopped. The first `valid_up_to` bytes are the longest beginning of the text that some literal begins
@@ -190,8 +191,8 @@ typedef struct {
 
 /* Read a text of len bytes by a list of forms, write its value to *out and return PELTZIVAR_VALUE_OK. An integer has
  * neither a point nor an exponent character, and `-0` is 0. A float is the one nearest to the value of an integer or a
- * float, or the even one if two are as near. A value that is too large is infinity, which is no error, and `-0` is
- * -0.0. NaN and infinity are floats. The value is that of the kind of the form: Java's `0xffffffff` is -1. Otherwise,
+ * float, or the even one if two are as near. A value that is too large is infinity, and `-0` is -0.0. NaN and infinity
+ * are floats. The value is that of the kind of the form: Java's `0xffffffff` is -1, and its `1e400` an error. Otherwise,
  * leave *out unchanged and return another status but PELTZIVAR_VALUE_NO_LITERAL. With PELTZIVAR_VALUE_REFUSED, write
  * where reading stopped to *error. This is also the status if the list is null, has no array, too many forms, an
  * unknown kind, or reserved bytes that are not 0, or if len is above PTRDIFF_MAX. Then `valid_up_to` is 0. */
@@ -330,8 +331,8 @@ PELTZIVAR_MUST_USE peltzivar_value_status peltzivar_to_scaled_i64(
     const peltzivar_literal *literal, uint8_t places, int64_t *out);
 
 /* Write the nearest float of an integer or a float to *out and return PELTZIVAR_VALUE_OK, as peltzivar_parse_f64 does.
- * Otherwise, leave *out unchanged and return PELTZIVAR_VALUE_RADIX or _NO_LITERAL, or _TOO_LARGE or _TOO_SMALL for an
- * integer that is so for its kind. */
+ * Otherwise, leave *out unchanged and return PELTZIVAR_VALUE_RADIX or _NO_LITERAL, or _TOO_LARGE, _TOO_SMALL or
+ * _VANISHES for a number that is so for its kind. */
 PELTZIVAR_MUST_USE peltzivar_value_status peltzivar_to_f64(const peltzivar_literal *literal, double *out);
 PELTZIVAR_MUST_USE peltzivar_value_status peltzivar_to_f32(const peltzivar_literal *literal, float *out);
 
@@ -597,12 +598,14 @@ enum {
     PELTZIVAR_INTEGERS_WRAP_MODULO = 3 /* The lowest bits of any number count. */
 };
 enum { PELTZIVAR_FLOATS_NEAREST = 0, PELTZIVAR_FLOATS_SINGLE = 1 };
+/* Which floats are errors: none, those that are too large and would be infinite, or these and those that vanish. */
+enum { PELTZIVAR_LIMITS_NONE = 0, PELTZIVAR_LIMITS_LARGEST = 1, PELTZIVAR_LIMITS_BOTH = 2 };
 
 /* The kind of numbers with a suffix, such as `f`. Numbers with other suffixes have the kind of their form. */
 typedef struct {
     const char *word;
-    uint8_t integer_kind, integer_bits, float_kind;
-    uint8_t reserved[5];
+    uint8_t integer_kind, integer_bits, float_kind, float_limits;
+    uint8_t reserved[4];
 } peltzivar_suffix_kind;
 
 /* Bytes with which a number is not a token: if it ends in one of the bytes of the string `last`, one of `next` follows,
@@ -628,13 +631,14 @@ typedef struct {
 
 /* A form of numbers, such as `0x1F`: its name, which may be null, its syntax, its kind, by which the values of its
  * literals are found, and its suffixes, or null. FORMS.md describes kinds: integers have at most integer_bits bits, or
- * wrap at them, and so may be negative, and floats are the nearest single, or else the nearest value of the type.
- * integer_bits is from 1 to 64, or 0 for exact integers. Zeros are exact integers and nearest floats. */
+ * wrap at them, and so may be negative, and floats are the nearest single, or else the nearest value of the type,
+ * with float_limits or without. integer_bits is from 1 to 64, or to 128 for integers that have at most so many bits, or
+ * 0 for exact integers. Zeros are exact integers and nearest floats without limits. */
 typedef struct {
     const char *name;
     peltzivar_syntax syntax;
-    uint8_t integer_kind, integer_bits, float_kind;
-    uint8_t reserved[5];
+    uint8_t integer_kind, integer_bits, float_kind, float_limits;
+    uint8_t reserved[4];
     const peltzivar_suffixes *suffixes;
 } peltzivar_form;
 

@@ -70,7 +70,7 @@ class Code {
         const all = forms.map((form) => this.rustForm(form)).join("");
         const used = (name) => (all.includes(`${name}::`) ? `${name}, ` : "");
         const [float, kind] = [used("FloatKind"), used("IntegerKind") && "IntegerKind, Kind, "];
-        const names = `${used("Conditions")}${float}Form, FormError, Forms, ${kind}Number, ${nan ? "Specials, " : ""}Syntax`;
+        const names = `${used("Conditions")}${float}${used("FloatLimits")}Form, FormError, Forms, ${kind}Number, ${nan ? "Specials, " : ""}Syntax`;
         const ofFloat = forms.some(({ exponent, point }) => exponent || point) ? "`f64::try_from(number)` or, of an integer, " : "";
         return `${used("NonZeroU8") && "use core::num::NonZeroU8;\n"}use peltzivar::literal::{${names}};
 use peltzivar::NumberFormatBuilder;
@@ -100,9 +100,10 @@ ${this.rustTest(tests)}`;
             return `\n            .${name}(${isNumber ? `Some(${value})` : "true"})`;
         });
         const set = conditions.length ? `\n        .with_conditions_or_panic(Conditions::NONE${conditions.join("")})` : "";
-        const [integers, bits, single] = this.kind(form, ["Exact", "AtMost", "Wraps", "WrapsModulo"]);
+        const [integers, bits, single, limits] = this.kind(form, ["Exact", "AtMost", "Wraps", "WrapsModulo"]);
         const kinds = `IntegerKind::${integers}${bits && `(${bits})`}, FloatKind::${single ? "Single" : "Nearest"}`;
-        const kind = bits || single ? `\n        .with_kind(Kind::new(${kinds}).unwrap())` : "";
+        const limited = limits && `.with_limits(FloatLimits::${limits === "both" ? "Both" : "Largest"})`;
+        const kind = bits || single || limits ? `\n        .with_kind(Kind::new(${kinds}).unwrap()${limited})` : "";
         return `    // ${wordText(form.word)}\n    Form::new(${rustText(name)}, Syntax::${syntax})${set})${kind},\n`;
     }
 
@@ -117,9 +118,10 @@ ${this.rustTest(tests)}`;
         const settings = (form) => this.lines(form).map((line) => `\n    ${JSON.stringify(`${line}\n`)}`).join("") || '\n    ""';
         const all = forms.map((form) => `    /* ${wordText(form.word)} */${settings(form)},\n`).join("");
         const kind = (form) => {
-            const [integers, bits, single] = this.kind(form, ["", "AT_MOST", "WRAP", "WRAP_MODULO"]);
+            const [integers, bits, single, limits] = this.kind(form, ["", "AT_MOST", "WRAP", "WRAP_MODULO"]);
             const ofIntegers = bits && `, .integer_kind = PELTZIVAR_INTEGERS_${integers}, .integer_bits = ${bits}`;
-            return ofIntegers + (single ? ", .float_kind = PELTZIVAR_FLOATS_SINGLE" : "");
+            const ofFloats = single ? ", .float_kind = PELTZIVAR_FLOATS_SINGLE" : "";
+            return ofIntegers + ofFloats + (limits && `, .float_limits = PELTZIVAR_LIMITS_${limits.toUpperCase()}`);
         };
         const names = forms.map((form) => `\n    {.name = ${cText(form.name)}${kind(form)}},`).join("");
         const spelled = specials.length ? `, .specials = {${specials.join(", ")}}` : "";
@@ -175,8 +177,8 @@ bool test_numbers(void) {
         const settings = (form) => this.lines(form).map((line) => `\n        ${JSON.stringify(line)},`).join("") + (this.lines(form).length ? "\n    " : "");
         const one = (form) => `    # ${wordText(form.word)}\n    (${pythonText(form.name)}, Syntax.of(${settings(form)})),\n`;
         const ofKind = (form) => {
-            const [integers, bits, single] = this.kind(form, ["", "at_most", "wraps", "modulo=True, wraps"]);
-            const all = [bits && `${integers}=${bits}`, single && "single=True"].filter(Boolean).join(", ");
+            const [integers, bits, single, limits] = this.kind(form, ["", "at_most", "wraps", "modulo=True, wraps"]);
+            const all = [bits && `${integers}=${bits}`, single && "single=True", limits && `limits="${limits}"`].filter(Boolean).join(", ");
             return all && `${pythonText(form.name)}: Kind(${all})`;
         };
         const kinds = forms.map(ofKind).filter(Boolean).join(", ");
@@ -198,11 +200,11 @@ ${forms.map(one).join("")}]${kinds && `, kinds={${kinds}}`}${spelled})
 ${tests.length ? test : ""}`;
     }
 
-    /* Returns the kind of a form: one of four names and the bits of its integers, and whether its floats are single. */
+    /* Returns the kind of a form: one of four names and the bits of its integers, whether its floats are single, and their limits. */
     kind(form, names) {
         const numbers = KINDS.map(({ name }) => this.library.value(form, name));
         const place = numbers.slice(0, 3).findIndex(Boolean);
-        return [names[place + 1], numbers[place] ?? "", numbers[3]];
+        return [names[place + 1], numbers[place] ?? "", numbers[3], numbers[5] ? "both" : numbers[4] ? "largest" : ""];
     }
 
     /* Returns the settings of the syntax of a form that are not the usual ones. */

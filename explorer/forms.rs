@@ -4,7 +4,7 @@ use alloc::vec::Vec;
 use core::str::FromStr;
 
 use peltzivar::literal::{
-    Condition, Conditions, FloatKind, Form, Forms, IntegerKind, Kind, Number, Specials, ValueError,
+    Condition, Conditions, FloatKind, FloatLimits, Form, Forms, IntegerKind, Kind, Number, Specials, ValueError, ValueErrorKind,
 };
 
 use crate::suggest::{lines_of, Line, State};
@@ -75,18 +75,26 @@ pub fn state_of(form: &Form) -> State {
 /// The kinds of integers, each with its bits.
 const KINDS: [fn(u8) -> IntegerKind; 3] = [IntegerKind::AtMost, IntegerKind::Wraps, IntegerKind::WrapsModulo];
 
-/// Returns the kind of numbers: the bits of each kind of integers, of which one is not 0, and whether floats are single.
+/// Returns the kind of numbers: the bits of each kind of integers, of which one is not 0, whether floats are single, and whether those
+/// that are too large, or that vanish, are errors.
 fn kind_of(numbers: &[u8]) -> Kind {
     let integers = KINDS.iter().zip(numbers).find(|it| *it.1 > 0).map_or(IntegerKind::Exact, |(kind, &it)| kind(it));
     let floats = if numbers[KINDS.len()] > 0 { FloatKind::Single } else { FloatKind::Nearest };
-    Kind::new(integers, floats).unwrap_or(Kind::EXACT)
+    let limits = match numbers[KINDS.len() + 1..] {
+        [0, 0, ..] => FloatLimits::None,
+        [_, 0, ..] => FloatLimits::Largest,
+        _ => FloatLimits::Both,
+    };
+    Kind::new(integers, floats).unwrap_or(Kind::EXACT).with_limits(limits)
 }
 
 /// Returns the numbers of which [`kind_of`] makes the kind.
-pub fn numbers_of(kind: Kind) -> [u8; 4] {
-    let bits = |make: fn(u8) -> IntegerKind| (1..=64).find(|&bits| make(bits) == kind.integers()).unwrap_or(0);
+pub fn numbers_of(kind: Kind) -> [u8; 8] {
+    let bits = |make: fn(u8) -> IntegerKind| (1..=128).find(|&bits| make(bits) == kind.integers()).unwrap_or(0);
     let [at_most, wraps, modulo] = KINDS.map(bits);
-    [at_most, wraps, modulo, u8::from(kind.floats() == FloatKind::Single)]
+    let (single, limits) = (kind.floats() == FloatKind::Single, kind.limits());
+    let [single, largest, vanishing] = [single, limits != FloatLimits::None, limits == FloatLimits::Both].map(u8::from);
+    [at_most, wraps, modulo, single, largest, vanishing, 0, 0]
 }
 
 /// The value of a number: an integer by its sign and size, and a float by its bits. A number that is too large for its kind
@@ -112,6 +120,10 @@ pub fn value_of(number: Number<'_>) -> Value {
             Err(_) => literal.to_u128().map(|it| Value::Integer(false, it)),
         },
     };
-    let is_exact = literal.is_float() || literal.kind().integers() == IntegerKind::Exact;
-    value.unwrap_or_else(if is_exact { Value::Unknown } else { Value::Refused })
+    let is_exact = !literal.is_float() && literal.kind().integers() == IntegerKind::Exact;
+    value.unwrap_or_else(|error| match error.kind() {
+        ValueErrorKind::UnsupportedRadix => Value::Unknown(error),
+        _ if is_exact => Value::Unknown(error),
+        _ => Value::Refused(error),
+    })
 }

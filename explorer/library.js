@@ -15,10 +15,12 @@ const OPTIONS = [
 const STANDARD_OPTIONS = { exponent: 101, point: 46, conditions: 0n };
 /* The kind of a form, as numbers behind those of the conditions. Of those of integers, one is set. */
 const KINDS = [
-    { name: "at_most", meaning: "Bits that an integer has at most", limits: [1, 64] },
+    { name: "at_most", meaning: "Bits that an integer has at most", limits: [1, 128] },
     { name: "wraps", meaning: "Bits that an integer has at most, the highest of which makes it negative", limits: [1, 64] },
     { name: "wraps_modulo", meaning: "Lowest bits of an integer, which count, the highest of which makes it negative", limits: [1, 64] },
     { name: "single", meaning: "Floats have 32 bits" },
+    { name: "largest", meaning: "Floats that are too large are errors" },
+    { name: "vanishing", meaning: "So are those, and floats that are not 0 and vanish" },
 ];
 const SPECIALS = ["NaN", "inf", "infinity"];
 

@@ -186,7 +186,7 @@ fn suffix_of<'a>(language: &Language, text: &'a [u8]) -> Option<&'a str> {
 
 /// Returns the parts of an object with a state.
 fn parts_of(State { word: format, exponent, point, conditions, kind, .. }: State) -> String {
-    let kind = u128::from(u32::from_le_bytes(numbers_of(kind)));
+    let kind = u128::from(u64::from_le_bytes(numbers_of(kind)));
     let numbers = Condition::ALL.iter().rev().fold(kind, |all, &it| all << 8 | u128::from(conditions.number(it)));
     let (format, conditions) = (word(format), word(numbers));
     format!(r#""word":{format},"exponent":{exponent},"point":{point},"conditions":{conditions}"#)

@@ -728,9 +728,10 @@ class Literal(_Keyed, _peltzivar.Found, Generic[AnyStr]):
             return found if isinstance(found, int) else cast(int, found[0] << 64 | found[1])
         if self.is_float:
             raise ValueError(f"{reprlib.repr(self.text)} is a float")
-        if self.kind.at_most or self.kind.wraps:
+        bits, (sign, integer, *_) = self.kind.at_most, self._written()
+        most = min(2 ** (bits or 0) - (sign != "-"), 2**128 - 1)
+        if bits and int(integer, self.syntax.format.mantissa_radix) > most or self.kind.wraps:
             raise ValueError(f"{reprlib.repr(self.text)} is too large for its kind")
-        sign, integer, *_ = self._written()
         return int(sign + integer, self.syntax.format.mantissa_radix)
 
     def decimal(self) -> Decimal:
@@ -1152,7 +1153,7 @@ class Syntax(_Reader, metaclass=_Class):
         exponent, point = (chr(it) if it else None for it in options)
         conditions = {name: _condition(name, getattr(self, name)) for name in _CONDITIONS}
         by = (*format._halves, *options, *(int(it or 0) for it in conditions.values()))
-        _c.make(self, (((None, by, 0, 0, 0, None),), (None, None, None), None), False)
+        _c.make(self, (((None, by, 0, 0, 0, 0, None),), (None, None, None), None), False)
         if sentence := self._notation(3):
             raise OptionsError((Reason(sentence),))
         vars(self).update(conditions, format=format, exponent=exponent, point=point, _notes=notes, _by=by)
@@ -1404,7 +1405,7 @@ class Specials(metaclass=_Class):
 
     def _reader(self, syntax: Syntax) -> Any:
         """Returns what reads special values by the flags of a syntax."""
-        form, reader = (None, _typed("syntax", syntax, Syntax)._by, 0, 0, 0, None), _Reader()
+        form, reader = (None, _typed("syntax", syntax, Syntax)._by, 0, 0, 0, 0, None), _Reader()
         _c.make(reader, ((form,), self._spellings(), None), True)
         return reader
 
@@ -1475,33 +1476,42 @@ class Token(_Keyed, Generic[AnyStr]):
         return f"Token(literal={self.literal!r}, suffix={self.suffix!r}, rest={reprlib.repr(self.rest)})"
 
 
+_LIMITS = None, "largest", "both"
+
+
 @dataclass(frozen=True)
 class Kind(metaclass=_Class):
     """How the values of literals of a form are computed. Without arguments, they are the numbers as they are written.
 
-    From 2^at_most on, an integer is too large. From 2^(wraps - 1) on, it is 2^wraps less, and too large from 2^wraps on
-    or, if `modulo` is true, its lowest bits count. A float is the nearest one of 32 bits if `single` is true. Raises
-    ValueError if both numbers are given, or if one is not from 1 to 64.
+    From 2^at_most on, an integer is too large, and -2^at_most is taken, unless it has more than 128 bits. From
+    2^(wraps - 1) on, it is 2^wraps less, and too large from 2^wraps on or, if `modulo` is true, its lowest bits count. A
+    float is the nearest one of 32 bits if `single` is true. With the limits "largest", a float that would be infinite
+    is an error, and with "both", also one that would be 0 and is not. Raises ValueError if both numbers are given, or if
+    one is not from 1 to 64, or to 128 for `at_most`.
     """
 
     at_most: Optional[int] = None
     wraps: Optional[int] = None
     modulo: bool = False
     single: bool = False
+    limits: Optional[str] = None
 
     def __post_init__(self) -> None:
         bits = [_number("a number of bits", it, 256) for it in (self.at_most, self.wraps) if it is not None]
         flags = [_typed(name, getattr(self, name), bool) for name in ("modulo", "single")]
-        if len(bits) > 1 or not all(1 <= it <= 64 for it in bits) or flags[0] and self.wraps is None:
-            raise ValueError(f"a kind has one number of bits, from 1 to 64, and `modulo` only with `wraps`: {self}")
+        most = 64 if self.at_most is None else 128
+        if len(bits) > 1 or not all(1 <= it <= most for it in bits) or flags[0] and self.wraps is None:
+            raise ValueError(f"a kind has one number of bits, from 1 to {most}, and `modulo` only with `wraps`: {self}")
+        if self.limits not in _LIMITS:
+            raise ValueError(f"limits are None, 'largest' or 'both': {self.limits!r}")
 
-    def _numbers(self) -> Tuple[int, int, int]:
+    def _numbers(self) -> Tuple[int, int, int, int]:
         number = 1 if self.at_most else 0 if not self.wraps else 3 if self.modulo else 2
-        return number, self.at_most or self.wraps or 0, int(self.single)
+        return number, self.at_most or self.wraps or 0, int(self.single), _LIMITS.index(self.limits)
 
     @classmethod
-    def _of(cls, number: int, bits: int, single: int) -> Kind:
-        return cls(bits if number == 1 else None, bits if number > 1 else None, number == 3, bool(single))
+    def _of(cls, number: int, bits: int, single: int, limits: int) -> Kind:
+        return cls(bits if number == 1 else None, bits if number > 1 else None, number == 3, bool(single), _LIMITS[limits])
 
 
 @dataclass(frozen=True)

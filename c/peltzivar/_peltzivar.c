@@ -61,12 +61,12 @@ IS(syntax) M('8', syntax, format.low) M('8', syntax, format.high) B(syntax, expo
     B(syntax, required_leading_zero) B(syntax, decimal_first_digit) }};
 IS(specials) S(specials, nan) S(specials, inf) S(specials, infinity) }};
 IS(suffix_kind) S(suffix_kind, word) B(suffix_kind, integer_kind) B(suffix_kind, integer_bits)
-    B(suffix_kind, float_kind) }};
+    B(suffix_kind, float_kind) B(suffix_kind, float_limits) }};
 IS(stop) S(stop, last) S(stop, next) S(stop, second) }};
 IS(suffixes) S(suffixes, integers) S(suffixes, floats) S(suffixes, any) ARRAY(suffixes, kinds, kind_count, suffix_kind)
     ARRAY(suffixes, stops, stop_count, stop) B(suffixes, either_case) }};
 IS(form) S(form, name) OF('>', form, syntax, syntax) B(form, integer_kind) B(form, integer_bits) B(form, float_kind)
-    OF('*', form, suffixes, suffixes) }};
+    B(form, float_limits) OF('*', form, suffixes, suffixes) }};
 IS(tokens) ARRAY(tokens, forms, count, form) S(tokens, following) B(tokens, gives_points_back) }};
 IS(forms) ARRAY(forms, forms, count, form) OF('>', forms, specials, specials) OF('*', forms, tokens, tokens) }};
 IS(style) B(style, group) B(style, fraction_group) B(style, without_base) B(style, lowercase)
@@ -728,7 +728,7 @@ static PyMemberDef LITERAL_MEMBERS[] = {
 static PyGetSetDef LITERAL_GETTERS[] = {
     {"value", literal_value, NULL,
         "The value: an int if the literal is an integer, and otherwise a float. Raises ValueError if it is too large\n"
-        "for the kind of its form, as 3000000000 is for the decimal integers of JAVA.", NULL},
+        "for the kind of its form, as 3000000000 is for the decimal integers of JAVA, or vanishes.", NULL},
     {NULL, NULL, NULL, NULL, NULL},
 };
 

@@ -470,10 +470,10 @@ static void test_forms(void) {
     CHECK(value == 1105034 && real == -HUGE_VAL && peltzivar_forms_read(&most, "1", 1, &literal, NULL));
     /* A form has the value of its kind, and is refused if there is none with these numbers. */
     for (uint8_t kind = 0; kind < 5; kind++) {
-        for (uint8_t bits = 0; bits < 66; bits++) {
+        for (uint8_t bits = 0; bits < 130; bits++) {
             const peltzivar_forms one = forms_of(list, 1);
             list[0].integer_kind = kind, list[0].integer_bits = bits;
-            const bool is_kind = kind == 0 ? bits == 0 : kind < 4 && bits >= 1 && bits <= 64;
+            const bool is_kind = kind == 0 ? bits == 0 : kind < 4 && bits >= 1 && bits <= (kind == 1 ? 128 : 64);
             CHECK(peltzivar_forms_read(&one, "200", 3, &literal, NULL) == is_kind);
             if (bits != 8 || !is_kind) continue;
             CHECK(!peltzivar_to_i64(&literal, &value) && value == (kind == 1 ? 200 : -56) && !peltzivar_to_f64(&literal, &real) && real == (double)value);
@@ -487,8 +487,20 @@ static void test_forms(void) {
     list[0].float_kind = PELTZIVAR_FLOATS_SINGLE;
     CHECK(!peltzivar_parse_f64(&one, "0.1", 3, &real, NULL) && real == (double)0.1f);
     CHECK(!peltzivar_parse_f64(language("FORTRAN"), "0.1", 3, &real, NULL) && real == (double)0.1f);
+    static const peltzivar_value_status beyond[] = {
+        PELTZIVAR_VALUE_OK, PELTZIVAR_VALUE_TOO_LARGE, PELTZIVAR_VALUE_TOO_LARGE, PELTZIVAR_VALUE_REFUSED};
+    static const peltzivar_value_status vanished[] = {
+        PELTZIVAR_VALUE_OK, PELTZIVAR_VALUE_OK, PELTZIVAR_VALUE_VANISHES, PELTZIVAR_VALUE_REFUSED};
+    for (uint8_t limits = 0; limits < 4; limits++) {
+        list[0].float_limits = limits;
+        CHECK(peltzivar_parse_f64(&one, "1e39", 4, &real, NULL) == beyond[limits]);
+        CHECK(peltzivar_parse_f64(&one, "1e-50", 5, &real, NULL) == vanished[limits]);
+    }
+    float single;
+    list[0].float_limits = PELTZIVAR_LIMITS_LARGEST;
+    CHECK(peltzivar_forms_read(&one, "-1e39", 5, &literal, NULL) && peltzivar_to_f32(&literal, &single) == PELTZIVAR_VALUE_TOO_SMALL);
     CHECK(!peltzivar_parse_i64(language("JAVA"), "0xffffffff", 10, &value, NULL) && value == -1);
-    CHECK(language("JAVA")->forms[0].integer_kind == PELTZIVAR_INTEGERS_AT_MOST && language("JAVA")->forms[0].integer_bits == 31);
+    CHECK(language("JAVA")->forms[0].integer_kind == PELTZIVAR_INTEGERS_AT_MOST && language("JAVA")->forms[0].integer_bits == 31 && language("JAVA")->forms[0].float_limits == PELTZIVAR_LIMITS_BOTH);
 }
 
 /* All that a program fills. */
@@ -516,10 +528,10 @@ static void test_room(void) {
 #define BYTES(member) offsetof(struct filled, member), offsetof(struct filled, member) + sizeof((struct filled *)NULL)->member
     static const struct { size_t start, end; const char *known; int calls; } places[] = {
         {BYTES(form.syntax.reserved), "", ALL}, {BYTES(forms.specials.reserved), "", LIST | SPELL | SHOW}, {BYTES(forms.reserved), "", LIST},
-        {BYTES(form.reserved), "", LIST}, {BYTES(form.integer_kind), "\1\2\3", LIST}, {BYTES(form.float_kind), "\1", LIST},
-        {BYTES(behind.syntax.reserved), "", TOKEN}, {BYTES(behind.reserved), "", TOKEN}, {BYTES(behind.integer_kind), "\1\2\3", TOKEN},
+        {BYTES(form.reserved), "", LIST}, {BYTES(form.integer_kind), "\1\2\3", LIST}, {BYTES(form.float_kind), "\1", LIST}, {BYTES(form.float_limits), "\1\2", LIST},
+        {BYTES(behind.syntax.reserved), "", TOKEN}, {BYTES(behind.reserved), "", TOKEN}, {BYTES(behind.integer_kind), "\1\2\3", TOKEN}, {BYTES(behind.float_limits), "\1\2", TOKEN},
         {BYTES(suffixes.reserved), "", TOKEN}, {BYTES(stop.reserved), "", TOKEN}, {BYTES(tokens.reserved), "", TOKEN},
-        {BYTES(kind.reserved), "", TOKEN}, {BYTES(kind.integer_kind), "\1\2\3", TOKEN}, {BYTES(kind.float_kind), "\1", TOKEN},
+        {BYTES(kind.reserved), "", TOKEN}, {BYTES(kind.integer_kind), "\1\2\3", TOKEN}, {BYTES(kind.float_kind), "\1", TOKEN}, {BYTES(kind.float_limits), "\1\2", TOKEN},
         {BYTES(style.reserved), "", WRITE | FORMAT}, {BYTES(style.exponent), "\1\2\3", WRITE | FORMAT},
         {BYTES(special.spelling), "\1\2\3", SHOW}, {BYTES(special.sign), "+-", SHOW},
     };

@@ -411,7 +411,10 @@ class Literals(unittest.TestCase):
         for call in (int, float, lambda it: java.parse(it.text, int), lambda it: it.value, languages.RUBY.forms["decimal"].format_number):
             self.assertRaisesRegex(ValueError, "too large|above", call, java.read("3000000000"))
         self.assertNotEqual(Forms({"": syntax}, kinds={"": Kind(8)}).read("1"), syntax.read("1"))
-        for wrong in ({"at_most": 0}, {"wraps": 65}, {"at_most": 8, "wraps": 8}, {"modulo": True}):
+        for text, sentence in (("1e400", "above"), ("1e-400", "too near to 0")):
+            self.assertRaisesRegex(ValueError, sentence, float, java.read(text))
+            self.assertRaisesRegex(ValueError, sentence, java.parse, text)
+        for wrong in ({"at_most": 0}, {"at_most": 129}, {"wraps": 65}, {"at_most": 8, "wraps": 8}, {"modulo": True}, {"limits": "least"}):
             self.assertRaises(ValueError, Kind, **wrong)
         self.assertRaises(ValueError, Forms, {"": syntax}, kinds={"x": Kind(8)})
 
@@ -592,7 +595,7 @@ Syntax(Format()).read("1").parts.whole
 
 
 BITS = 1, 8, 32, 64
-KINDS = [Kind(), *(Kind(at_most=it) for it in BITS), *(Kind(wraps=it, modulo=by) for it in BITS for by in (False, True))]
+KINDS = [Kind(), *(Kind(at_most=it) for it in (*BITS, 65, 127, 128)), *(Kind(wraps=it, modulo=by) for it in BITS for by in (False, True))]
 LIMITS = {sign * (2**it + more) for it in (*BITS, 7, 31, 63, 127, 128) for more in (-1, 0, 1) for sign in (1, -1)}
 # These are values of each argument of format_number.
 WISHES = {"group": (3, 0, 254), "fraction_group": (2, 0), "min_digits": (8, 255), "decimals": (0, 1, 255)}
@@ -605,7 +608,7 @@ NEEDS = {"modulo": {"wraps": 8}, "higher_group_size": {"integer_group_size": 4}}
 SPELLED = dict.fromkeys(("nan", "inf", "infinity"), "x")
 WORDS = dict.fromkeys(("integers", "floats", "any"), "x")
 CHANGES = {
-    Kind: {"at_most": 8, "wraps": 8, "modulo": True, "single": True},
+    Kind: {"at_most": 8, "wraps": 8, "modulo": True, "single": True, "limits": "both"},
     Specials: SPELLED,
     Suffixes: {**WORDS, "kinds": {"x": Kind(8)}, "stops": [("", "x", "")], "either_case": True},
     Tokens: {"forms": Forms({"": SYNTAX}), "following": "x", "gives_points_back": True},
@@ -625,7 +628,7 @@ def digits(number, radix):
 def valued(kind, number):
     """Returns the value of an integer of a kind, or None if it is too large."""
     bits = kind.at_most or kind.wraps or 10**6
-    if abs(number) >> bits and not kind.modulo:
+    if abs(number) >> bits and not kind.modulo and (not kind.at_most or number != -(2**bits) or bits == 128):
         return None
     return (number + (1 << bits - 1)) % (1 << bits) - (1 << bits - 1) if kind.wraps else number
 

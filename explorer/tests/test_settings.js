@@ -41,6 +41,8 @@ function test_each_choice_lands_in_the_state_the_link_and_the_code() {
         wraps: ["::Wraps(%)", "_WRAP, .integer_bits = %}", "(wraps=%)"],
         wraps_modulo: ["::WrapsModulo(%)", "_WRAP_MODULO, .integer_bits = %}", "(modulo=True, wraps=%)"],
         single: ["::Single", "_FLOATS_SINGLE", "(single=True)"],
+        largest: ["::Largest", "_LIMITS_LARGEST", '(limits="largest")'],
+        vanishing: ["::Both", "_LIMITS_BOTH", '(limits="both")'],
     };
     const start = (name) => {
         show([formOf(...whole, name === "higher_group_size" ? "integer_group_size=3" : "")]);
@@ -59,7 +61,7 @@ function test_each_choice_lands_in_the_state_the_link_and_the_code() {
         const [form, control] = [start(name), find(name)];
         const usual = library.value(form, name);
         const isTaken = (it) => !library.explain(library.with(form, name, it)).problems.some(({ fields }) => fields.includes(name));
-        const numbers = range(0, 98).filter((it) => it === 0 || (isKind ? it <= 64 : isTaken(it)));
+        const numbers = range(0, isKind ? field.limits?.[1] ?? 1 : 98).filter((it) => it === 0 || isKind || isTaken(it));
         const typed = isNumber ? [2, 4, 8, 16, 32, 36] : [33, 59, 126];
         const values = control.type === "checkbox" ? [1 - usual, usual] : control.options ? numbers : typed;
         const options = control.options ? [...control.options].map(({ value }) => Number(value)) : values;

@@ -5,7 +5,7 @@
 //! Without a text, prints the forms of all languages: the language, the form, a sentence on its numbers, its kind, its
 //! suffixes, its syntax and the settings of its format, with tabs between them.
 
-use peltzivar::literal::{FloatKind, Form, IntegerKind, Kind, Language, Number, Suffixes};
+use peltzivar::literal::{FloatKind, FloatLimits, Form, IntegerKind, Kind, Language, Number, Suffixes};
 
 fn answer(language: Language, text: &[u8]) -> String {
     let form = |index: usize| language.forms()[index].name();
@@ -27,11 +27,15 @@ fn words(kind: Kind) -> String {
         IntegerKind::WrapsModulo(bits) => format!("the last {bits} bits of integers, with a sign"),
         _ => String::new(),
     };
-    match (integers.is_empty(), kind.floats()) {
-        (true, FloatKind::Single) => String::from("singles"),
-        (false, FloatKind::Single) => integers + "; singles",
-        _ => integers,
-    }
+    let floats = match (kind.floats(), kind.limits()) {
+        (FloatKind::Single, FloatLimits::None) => "singles",
+        (FloatKind::Single, FloatLimits::Largest) => "singles that are finite",
+        (FloatKind::Single, _) => "singles that are finite, and 0 only by zeros",
+        (_, FloatLimits::None) => "",
+        (_, FloatLimits::Largest) => "floats that are finite",
+        _ => "floats that are finite, and 0 only by zeros",
+    };
+    [integers.as_str(), floats].into_iter().filter(|it| !it.is_empty()).collect::<Vec<_>>().join("; ")
 }
 
 /// Returns the words of suffixes.

@@ -94,7 +94,7 @@ mod value;
 mod writer;
 
 pub use cause::{Place, ReadError, ReadErrorKind};
-pub use kind::{FloatKind, IntegerKind, Kind};
+pub use kind::{FloatKind, FloatLimits, IntegerKind, Kind};
 pub use language::{Language, LanguageError};
 /// Reads and writes numbers that have one of several forms, such as `10` and `0x1F`.
 ///

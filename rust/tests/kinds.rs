@@ -1,7 +1,10 @@
-//! What literals are worth by the kind of their form and of their suffix. Expected values are those of javac, OCaml, NASM, Lua and
-//! gfortran. `c/tests/test_python.py` has the limits of kinds in each radix, which are proved.
+//! What literals are worth by the kind of their form and of their suffix. Expected values are those of gcc and g++ with
+//! `-pedantic-errors`, rustc with its lint of overflowing literals, javac, OCaml, NASM, Lua, Nim and gfortran.
+//! `c/tests/test_python.py` has the limits of kinds of integers in each radix, which are proved.
 
-use peltzivar::literal::{Language, Literal, Style, ValueErrorKind, WriteError};
+use peltzivar::literal::{
+    FloatKind, FloatLimits, IntegerKind, Kind, Language, Literal, Style, Syntax, ValueErrorKind, WriteError,
+};
 
 /// A language, a token, and the integer that it is, or none if it is too large, beside what the tools answered.
 const INTEGERS: &[(Language, &str, Option<i128>)] = &[
@@ -36,6 +39,35 @@ const INTEGERS: &[(Language, &str, Option<i128>)] = &[
     (Language::LUA, "9223372036854775808", Some(9223372036854775808)),
     (Language::JAVASCRIPT, "9007199254740993", Some(9007199254740993)),
     (Language::RUST, "0xffffffffffffffff", Some(18446744073709551615)),
+    (Language::RUST, "170141183460469231731687303715884105727u128", Some(i128::MAX)),
+    (Language::RUST, "170141183460469231731687303715884105728i128", None),
+    (Language::RUST, "340282366920938463463374607431768211456", None),
+    (Language::RUST, "255u8", Some(255)),
+    (Language::RUST, "300u8", None),
+    (Language::RUST, "0xffi8", None),
+    (Language::RUST, "127i8", Some(127)),
+    (Language::RUST, "128i8", None),
+    (Language::RUST, "18446744073709551616usize", None),
+    (Language::C, "9223372036854775807LL", Some(9223372036854775807)),
+    (Language::C, "9223372036854775808", None),
+    (Language::C, "9223372036854775808u", Some(9223372036854775808)),
+    (Language::C, "18446744073709551615ULL", Some(18446744073709551615)),
+    (Language::C, "18446744073709551616ULL", None),
+    (Language::C, "0xffffffffffffffffLL", Some(18446744073709551615)),
+    (Language::C, "0x10000000000000000", None),
+    (Language::C_PLUS_PLUS, "01777777777777777777777", Some(18446744073709551615)),
+    (Language::C_PLUS_PLUS, "02000000000000000000000", None),
+    (Language::C_PLUS_PLUS, "9223372036854775808ms", None),
+    (Language::C_PLUS_PLUS, "9223372036854775808i", Some(9223372036854775808)),
+    (Language::C_SHARP, "18446744073709551615", Some(18446744073709551615)),
+    (Language::C_SHARP, "0x10000000000000001", None),
+    (Language::KOTLIN, "9223372036854775808", None),
+    (Language::KOTLIN, "0xFFFFFFFFFFFFFFFF", None),
+    (Language::KOTLIN, "0xFFFFFFFFFFFFFFFFu", Some(18446744073709551615)),
+    (Language::FORTRAN, "-2147483648", Some(-2147483648)),
+    (Language::FORTRAN, "2147483648", None),
+    (Language::FORTRAN, "-128_1", Some(-128)),
+    (Language::NIM, "-128i8", Some(-128)),
 ];
 
 /// A language, a token, and the float that it is.
@@ -59,13 +91,35 @@ const FLOATS: &[(Language, &str, f64)] = &[
     (Language::LUA, "0x1p64", 18446744073709551616.0),
     (Language::FORTRAN, "0.1", 0.1_f32 as f64),
     (Language::FORTRAN, "1.000000059604644775390626", 1.0000001_f32 as f64),
-    (Language::FORTRAN, "-1.5e39", f64::NEG_INFINITY),
     (Language::FORTRAN, "16777217", 16777217.0),
     (Language::FORTRAN, "0.1d0", 0.1),
     (Language::JULIA, "0.1f0", 0.1_f32 as f64),
     (Language::C, "0.1F", 0.1_f32 as f64),
     (Language::RUST, "0.1f32", 0.1_f32 as f64),
     (Language::KOTLIN, "16777217f", 16777216.0),
+    (Language::C, "1e400", f64::INFINITY),
+    (Language::C, "1e-400", 0.0),
+    (Language::RUST, "1e-400", 0.0),
+    (Language::JAVA, "0e-400", 0.0),
+    (Language::FORTRAN, "-1e-50", -0.0),
+];
+
+/// A language, and a token that its tool refuses for its value, which is too large, too small, or 0 for digits that are not.
+const BEYOND: &[(Language, &str, ValueErrorKind)] = &[
+    (Language::JAVA, "1e400", ValueErrorKind::TooLarge),
+    (Language::JAVA, "1e-400", ValueErrorKind::Vanishes),
+    (Language::JAVA, "1e39f", ValueErrorKind::TooLarge),
+    (Language::JAVA, "1e-46f", ValueErrorKind::Vanishes),
+    (Language::JAVA, "2e-324d", ValueErrorKind::Vanishes),
+    (Language::JAVA, "0x1p2000", ValueErrorKind::TooLarge),
+    (Language::JAVA, "0x1p-2000", ValueErrorKind::Vanishes),
+    (Language::RUST, "1e400", ValueErrorKind::TooLarge),
+    (Language::RUST, "3.5e38f32", ValueErrorKind::TooLarge),
+    (Language::RUST, "340282366920938463463374607431768211456f32", ValueErrorKind::TooLarge),
+    (Language::C_SHARP, "1.8e308", ValueErrorKind::TooLarge),
+    (Language::ELIXIR, "1.8e308", ValueErrorKind::TooLarge),
+    (Language::FORTRAN, "-1.5e39", ValueErrorKind::TooSmall),
+    (Language::FORTRAN, "1d400", ValueErrorKind::TooLarge),
 ];
 
 /// Returns the literal that a token begins with, of a language that has no tokens the whole text.
@@ -89,16 +143,59 @@ fn values_are_those_of_the_language() {
         assert_eq!(literal.to_f64(), Ok(*wanted), "{language}: {text}");
         assert_eq!(literal.to_f32(), Ok(*wanted as f32), "{language}: {text}");
     }
+    for (language, text, wanted) in BEYOND {
+        let literal = literal(*language, text);
+        assert_eq!(literal.to_f64().unwrap_err().kind(), *wanted, "{language}: {text}");
+        assert_eq!(literal.to_f64(), f64::try_from(literal), "{language}: {text}");
+        assert_eq!(literal.to_f32(), f32::try_from(literal), "{language}: {text}");
+    }
     // It is below 0, in each call alike.
     assert_eq!(Language::JAVA.parse::<u32>("0xffffffff").unwrap_err().to_string(), "below 0, the least u32");
     assert_eq!(Language::JAVA.parse_prefix::<i64>("0xffffffff;"), Ok((-1, &b";"[..])));
     let error = Language::JAVA.parse::<i64>("3000000000").unwrap_err();
     assert_eq!(error.to_string(), "above 2147483647, the largest number of its form");
+    assert_eq!(Language::JAVA.parse("4.9e-324"), Ok(5e-324));
+    let error = Language::JAVA.parse::<f64>("1e400").unwrap_err();
+    assert_eq!(error.to_string(), "above the largest f64");
+    let error = Language::JAVA.parse::<f32>("1e-300").unwrap_err();
+    assert_eq!(error.to_string(), "too near to 0 for an f32");
     assert!(Language::JAVA.read("3000000000").unwrap().to_f64().is_nan());
     let digits = Language::JAVA.read("0xffffffff").unwrap().literal().unwrap();
     assert_eq!(digits.plain().unwrap().to_string(), "ffffffff");
 }
 
+/// A limit holds for each float type, for integers of the exact kind, and for the nearest float and single alike.
+#[test]
+fn floats_have_the_limits_of_their_kind() {
+    let decimal = Syntax::default();
+    let wide = ["1".repeat(400), format!("{}e9", "1".repeat(400)), "1e99999999999999999999".into(), "1.8e308".into()];
+    let near = [format!("0.{}1", "0".repeat(400)), "1e-99999999999999999999".into(), "2.4e-324".into()];
+    let zeros = ["0".into(), "0.0e-999".into(), "0".repeat(400), "0e999".into()];
+    for limits in [FloatLimits::None, FloatLimits::Largest, FloatLimits::Both] {
+        for floats in [FloatKind::Nearest, FloatKind::Single] {
+            let kind = Kind::new(IntegerKind::Exact, floats).unwrap().with_limits(limits);
+            assert_eq!((kind.floats(), kind.limits()), (floats, limits));
+            let has = |text: &str, value: f64, error: Option<ValueErrorKind>| {
+                let literal = decimal.read(text).unwrap().with_kind(kind);
+                let wanted = error.map_or(Ok(value), Err);
+                assert_eq!(literal.to_f64().map_err(|it| it.kind()), wanted, "{kind:?}: {text}");
+                assert_eq!(literal.to_f32().map_err(|it| it.kind()), wanted.map(|it| it as f32), "{kind:?}: {text}");
+                assert_eq!((literal.to_f64(), literal.to_f32()), (literal.try_into(), literal.try_into()));
+            };
+            let is_limited = limits != FloatLimits::None;
+            for text in &wide {
+                has(text, f64::INFINITY, is_limited.then_some(ValueErrorKind::TooLarge));
+                let error = is_limited.then_some(ValueErrorKind::TooSmall);
+                has(&format!("-{text}"), f64::NEG_INFINITY, error);
+            }
+            for text in &near {
+                has(text, 0.0, (limits == FloatLimits::Both).then_some(ValueErrorKind::Vanishes));
+            }
+            zeros.iter().for_each(|text| has(text, 0.0, None));
+            has("1.5", 1.5, None);
+        }
+    }
+}
 /// What is written has the value, and not the digits.
 #[test]
 fn values_are_written() {
@@ -114,7 +211,9 @@ fn values_are_written() {
         (Language::FORTRAN, "0.50", Language::PYTHON, Ok("0.50")),
         (Language::FORTRAN, "0.1d0", Language::PYTHON, Ok("0.1e0")),
         (Language::JAVA, "0.1f", Language::JAVASCRIPT, Ok("0.10000000149011612")),
-        (Language::FORTRAN, "1e39", Language::PYTHON, Err(WriteError::Special)),
+        (Language::FORTRAN, "1e39", Language::PYTHON, Err(WriteError::TooLarge)),
+        (Language::JAVA, "1e-400", Language::PYTHON, Err(WriteError::TooLarge)),
+        (Language::C, "1e400", Language::PYTHON, Ok("1e400")),
     ];
     for (source, text, target, wanted) in rows {
         let written = target.forms()[0].syntax().format_literal(&literal(source, text), Style::PLAIN);

@@ -196,18 +196,19 @@ fn sentences_name_the_nearer_limit() {
     for (bits, of) in (1..=64).flat_map(|it| [IntegerKind::AtMost(it), IntegerKind::Wraps(it)].map(|of| (it, of))) {
         let forms = [Form::new("", integers(10)).with_kind(Kind::new(of, FloatKind::Nearest).unwrap())];
         let (forms, most) = (Forms::new_or_panic(&forms), (1_u128 << bits) - 1);
-        for (sign, limit) in [("", format!("above {most}, the largest")), ("-", format!("below -{most}, the least"))] {
-            let error = forms.parse::<Unlimited>(format!("{sign}{}", most + 1)).unwrap_err();
+        let size = most + u128::from(of == IntegerKind::AtMost(bits));
+        for (sign, limit) in [("", format!("above {most}, the largest")), ("-", format!("below -{size}, the least"))] {
+            let error = forms.parse::<Unlimited>(format!("{sign}{}", size + 1)).unwrap_err();
             assert_eq!(error.to_string(), limit + " number of its form");
         }
         each_type!(Type => {
             let (name, largest, least) = (std::any::type_name::<Type>(), Type::MAX as u128, Type::MIN as i128);
             let above = if most < largest { (most, "number of its form") } else { (largest, name) };
-            let is_nearer = least < -(most as i128);
-            let below = if is_nearer { (-(most as i128), "number of its form") } else { (least, name) };
+            let is_nearer = least < -(size as i128);
+            let below = if is_nearer { (-(size as i128), "number of its form") } else { (least, name) };
             let above = format!("above {}, the largest {}", above.0, above.1);
             for (sign, wanted) in [("", above), ("-", format!("below {}, the least {}", below.0, below.1))] {
-                for number in [most + 1, 1 << 100, u128::MAX] {
+                for number in [size + 1, 1 << 100, u128::MAX] {
                     let text = format!("{sign}{number}");
                     let error = forms.parse::<Type>(&text).unwrap_err();
                     assert_eq!((error.to_string(), error.span()), (wanted.clone(), 0..text.len()), "{text}");

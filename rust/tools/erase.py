@@ -95,7 +95,7 @@ EVERYWHERE = [
 
 # Types that may grow. In plain Rust, a match outside the crate has to have an arm for what they lack today.
 GROWS = {
-    "enum": "ArgumentKind Byte Cause Class Condition ConditionsErrorKind Edit EditErrorKind Error ExponentStyle FlagSetter FloatKind Grouping IntegerKind Note Part Place Radixes ReadErrorKind Role Rule "
+    "enum": "ArgumentKind Byte Cause Class Condition ConditionsErrorKind Edit EditErrorKind Error ExponentStyle FlagSetter FloatKind FloatLimits Grouping IntegerKind Note Part Place Radixes ReadErrorKind Role Rule "
     "Setter TokenError ValueErrorKind WriteError",
     "struct": "ConditionsError FormError NamedByte Separators Style",
 }
@@ -177,6 +177,8 @@ REPLACED += [
     ("lexical_value/src/float.rt", "binary_size(F::DOUBLE, literal)", "binary_size(F::DOUBLE, &{ *literal })"),
     ("lexical_value/src/float.rt", "match nearest_single(literal)", "match nearest_single(&{ *literal })"),
     ("lexical_value/src/float.rt", "        whole_float(literal)\n", "        whole_float(&{ *literal })\n"),
+    ("lexical_value/src/float.rt", "\npub(crate) fn beyond(", "\npub(crate) const fn beyond("),
+    ("lexical_value/src/float.rt", "\nfn has_digits", "\nconst fn has_digits"),
     ("lexical_value/src/scaled.rt", "long_scaled(literal, places", "long_scaled(&{ *literal }, places"),
     ("lexical_value/src/scaled.rt", "#[inline(always)]\nfn settled", "#[cfg_attr(not(peltzivar_small), inline(always))]\nfn settled"),
     ("lexical_value/src/kind.rt", "fewer(kind, &numeral)", "fewer(kind, &{ numeral })"),

@@ -1,6 +1,7 @@
 -- What the lengths of its parts tell of a literal, and what a syntax without conditions is.
-use Rattle.lexical_literal.proofs.Common.{ℕ, ◌≡◌, ◌≢◌, ◌||◌, not, false, List, take, ap, arith, is_present, notation_of, Grammar, ◌==◌, length, has_sizes}
+use Rattle.lexical_literal.proofs.Common.{ℕ, ◌≡◌, ◌≢◌, ◌||◌, not, false, true, List, take, ap, arith, is_present, notation_of, Grammar, ◌==◌, length, has_sizes}
 use Rattle.lexical_literal.proofs.Common.{is_minus}
+use Rattle.lexical_literal.specs.Literal.{is_absent}
 use Rattle.lexical_literal.specs.Additions.Scan.{IsUsual}
 
 -- The sign is what the text begins with, if it is there.
@@ -10,6 +11,9 @@ minus n text some = grind arith
 -- A part is there if its length is not 0.
 pub present : (n : ℕ) (bytes : List ℕ) → length bytes ≡ n → not (n == 0) ≡ is_present bytes
 present n bytes same = grind arith
+
+pub absent : (n : ℕ) (bytes : List ℕ) → length bytes ≡ n → not (n == 0) ≡ false → is_absent bytes ≡ true
+absent n bytes same none = grind arith
 
 pub first : (n k : ℕ) → n ≢ 0 → not (n == 0) ≡ (not (n == 0) || not (k == 0))
 first n k some = grind arith

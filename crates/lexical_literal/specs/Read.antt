@@ -5,6 +5,7 @@ use Rattle.lexical_util.specs.Layout as layout
 use Rattle.lexical_util.specs.Record.{effective}
 use Rattle.lexical_literal.specs.Literal.{Literal}
 use Rattle.lexical_literal.specs.declared.kind.FloatKind.TheVariants as floats
+use Rattle.lexical_literal.specs.declared.kind.FloatLimits.TheVariants as limits
 use Rattle.lexical_literal.specs.declared.kind.IntegerKind.TheVariants as integers
 use Rattle.lexical_literal.specs.declared.kind.Kind.{Kind}
 use Rattle.lexical_number.specs.Number.{number}
@@ -17,7 +18,7 @@ pub record Read : Type 0 where
 
 -- `exact` is the kind of literals that are worth the number that they represent.
 abbrev pub exact : Kind
-exact = record { integers = integers.Exact; floats = floats.Nearest }
+exact = record { integers = integers.Exact; floats = floats.Nearest; limits = limits.None }
 
 -- `mantissa b l` is the number of the integer and fraction digits of `l` together in a format with the bytes `b`.
 abbrev pub mantissa : (Byte → ℕ) → Literal → ℕ

@@ -1,16 +1,18 @@
 //! Kinds of numbers: what the digits of a literal are worth in a language whose integers have few bits, or whose floats are
-//! single.
+//! single or have limits.
 
 ghost use Rattle.std.specs.Prelude.{◌≡◌};
 ghost use Rattle.std.specs.Option.{SomeIff};
 ghost use Rattle.lexical_literal.specs.Kind.{HasBits};
+ghost use Rattle.lexical_literal.specs.declared.kind.FloatLimits.TheVariants as float_limits;
 
-/// What integers are worth, by the number that their digits represent. Numbers of bits are from 1 to 64.
+/// What integers are worth, by the number that their digits represent. Numbers of bits are from 1 to 64, and to 128 of [`AtMost`][IntegerKind::AtMost].
 #[derive(Debug, Clone, Copy, PartialEq, Eq, Hash)]
 pub enum IntegerKind {
     /// The number itself.
     Exact,
-    /// The number itself, which has at most so many bits. From `2 ^ bits` on, it is too large.
+    /// The number itself, which has at most so many bits. From `2 ^ bits` on, it is too large, but `-2 ^ bits` is taken, unless it has
+    /// more than 128 bits.
     AtMost(u8),
     /// An integer of so many bits, one of which is its sign: from `2 ^ (bits - 1)` on, `2 ^ bits` less than the number. From
     /// `2 ^ bits` on, the number is too large.
@@ -28,10 +30,21 @@ pub enum FloatKind {
     Single,
 }
 
+/// Which floats are errors, where another kind rounds them to infinity or to 0. So are integers of the kind [`IntegerKind::Exact`] as floats.
+#[derive(Debug, Clone, Copy, PartialEq, Eq, Hash)]
+pub enum FloatLimits {
+    /// None.
+    None,
+    /// Those that are too large: their nearest float is infinite.
+    Largest,
+    /// These, and those that vanish: they are not 0, and their nearest float is.
+    Both,
+}
+
 /// What the literals of a form, or of a suffix, are worth: the kind of its integers, and of its floats.
 ///
 /// ```
-/// use peltzivar::literal::{Form, Forms, FloatKind, IntegerKind, Kind, Syntax};
+/// use peltzivar::literal::{FloatKind, FloatLimits, Form, Forms, IntegerKind, Kind, Syntax, ValueErrorKind};
 /// use peltzivar::NumberFormatBuilder;
 ///
 /// // As in Java, where a hexadecimal `int` of 32 bits can be negative.
@@ -39,11 +52,18 @@ pub enum FloatKind {
 /// let syntax = Syntax::integers(NumberFormatBuilder::new().radix(16).build_format_or_panic());
 /// let forms = [Form::new("hexadecimal", syntax).with_kind(int)];
 /// assert_eq!(Forms::new_or_panic(&forms).parse::<i64>("FFFFFFFF"), Ok(-1));
+///
+/// // As in Java, where a float that rounds to 0 is an error.
+/// let decimal = Syntax::new_or_panic(NumberFormatBuilder::new().build_format_or_panic(), b'e', b'.');
+/// let forms = [Form::new("decimal", decimal).with_kind(Kind::EXACT.with_limits(FloatLimits::Both))];
+/// let error = Forms::new_or_panic(&forms).read("1e-400").unwrap().literal().unwrap().to_f64().unwrap_err();
+/// assert_eq!(error.kind(), ValueErrorKind::Vanishes);
 /// ```
 #[derive(Debug, Clone, Copy, PartialEq, Eq, Hash)]
 pub struct Kind {
     integers: IntegerKind,
     floats: FloatKind,
+    limits: FloatLimits,
 }
 
 impl Kind {
@@ -51,20 +71,34 @@ impl Kind {
     pub const EXACT: Kind = Kind {
         integers: IntegerKind::Exact,
         floats: FloatKind::Nearest,
+        limits: FloatLimits::None,
     };
 
-    /// Returns the kind with these kinds of integers and of floats, or `None` if a number of bits is 0 or above 64.
+    /// Returns the kind with these kinds of integers and of floats and without limits of floats, or `None` if a number of bits is 0
+    /// or too large.
     #[must_use]
     pub const fn new(integers: IntegerKind, floats: FloatKind) -> Option<Kind>
-        ensures { SomeIff result (HasBits integers) (record { integers = integers; floats = floats }) }
+        ensures { SomeIff result (HasBits integers) (record { integers = integers; floats = floats; limits = float_limits.None }) }
     {
         match integers {
-            IntegerKind::Exact | IntegerKind::AtMost(1..=64) => Some(Kind { integers, floats }),
-            IntegerKind::Wraps(1..=64) | IntegerKind::WrapsModulo(1..=64) => {
-                Some(Kind { integers, floats })
-            }
+            IntegerKind::Exact
+            | IntegerKind::AtMost(1..=128)
+            | IntegerKind::Wraps(1..=64)
+            | IntegerKind::WrapsModulo(1..=64) => Some(Kind {
+                integers,
+                floats,
+                ..Kind::EXACT
+            }),
             _ => None,
         }
+    }
+
+    /// Returns the same kind with limits of floats.
+    #[must_use]
+    pub const fn with_limits(self, limits: FloatLimits) -> Kind
+        ensures { result ≡ record self { limits = limits } }
+    {
+        Kind { limits, ..self }
     }
 
     /// Returns the kind of integers.
@@ -81,5 +115,13 @@ impl Kind {
         ensures { result ≡ self.floats }
     {
         self.floats
+    }
+
+    /// Returns the limits of floats.
+    #[must_use]
+    pub const fn limits(self) -> FloatLimits
+        ensures { result ≡ self.limits }
+    {
+        self.limits
     }
 }

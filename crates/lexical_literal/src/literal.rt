@@ -152,6 +152,7 @@ impl<'a> Literal<'a> {
     pub const fn is_float(&self) -> bool
         ensures value { result ≡ is_float self.now.literal }
         ensures fraction { IsFalse result → self.now.literal.fraction ≡ [] }
+        ensures exponent { IsFalse result → self.now.literal.exponent ≡ [] }
     {
         self.counts[3] != 0 || self.counts[5] != 0
     }

@@ -3,7 +3,7 @@
 ghost use Rattle.std.specs.Prelude.{◌≡◌, ◌*◌, ◌^◌, ◌<◌, ◌≤◌, ◌↔◌, Bool, true, false, IfSome, IsNone, IsTrue, from_bits, is_nan, if◌then◌else◌};
 ghost use Rattle.std.specs.Float as float;
 ghost use Rattle.std.specs.Float.Ieee.{hid, neg, ones, round};
-ghost use Rattle.lexical_number.specs.Float.{format_of};
+ghost use Rattle.lexical_number.specs.Float.{format_of, is_zero};
 
 /// A float type.
 pub trait Float: Copy {
@@ -32,6 +32,14 @@ pub trait Float: Copy {
     fn bits(self) -> Option<u64>
         ensures none { IsNone result ↔ IsTrue (is_nan (value self)) }
         ensures value { IfSome result (λ bits. from_bits (format_of DOUBLE) bits ≡ value self) };
+
+    /// Returns whether the float is infinite.
+    fn is_infinite(self) -> bool
+        ensures { result ≡ float.float_is_infinite (value self) };
+
+    /// Returns whether the float is 0 or -0.
+    fn is_zero(self) -> bool
+        ensures { result ≡ is_zero (value self) };
 
     /// Returns `digits * 10 ^ scale`, or `digits / 10 ^ scale` if `over` is true, rounded once, if both numbers are floats.
     fn by_ten_to(digits: u64, scale: u64, over: bool) -> Option<Self>
@@ -81,6 +89,16 @@ impl Float for f64 {
     }
 
     #[inline(always)]
+    fn is_infinite(self) -> bool {
+        self.is_infinite()
+    }
+
+    #[inline(always)]
+    fn is_zero(self) -> bool {
+        self == 0.0
+    }
+
+    #[inline(always)]
     fn by_ten_to(digits: u64, scale: u64, over: bool) -> Option<f64> {
         if digits > 1 << 53 || scale > 22 {
             return None;
@@ -120,6 +138,16 @@ impl Float for f32 {
         } else {
             Some(self.to_bits() as u64)
         }
+    }
+
+    #[inline(always)]
+    fn is_infinite(self) -> bool {
+        self.is_infinite()
+    }
+
+    #[inline(always)]
+    fn is_zero(self) -> bool {
+        self == 0.0
     }
 
     #[inline(always)]

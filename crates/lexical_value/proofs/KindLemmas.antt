@@ -1,12 +1,16 @@
 -- The lowest bits of a number, and what literals of the exact kind are worth.
 use Rattle.lexical_value.proofs.Common.{ℕ, ◌≡◌, ◌+◌, ◌-◌, ◌%◌, ◌^◌, ◌<◌, ◌≤◌, ◌||◌, ◌∙◌, Bool, true, false, not, if◌then◌else◌, Some, Ok, Err, arith, ap, refl}
-use Rattle.lexical_value.proofs.Common.{subst, sym, pow-le-pow_right, nat_tests, Record, width, worth, wrapped, Literal, is_binary, is_decimal, nearest}
+use Rattle.lexical_value.proofs.Common.{subst, sym, pow-le-pow_right, nat_tests, Record, limit, width, worth, wrapped, Kind, Literal, is_float, is_minus, mantissa, is_exact, integer_worth, within, format_by, round, is_binary, is_decimal, nearest}
 use Rattle.lexical_value.proofs.Common.{IsNoInteger, IsNotWorth, float_worth, ValueErrorKind}
 use Rattle.std.proofs.Common.{Result}
 use Rattle.std.proofs.Math.Nat.{mod-eq_of_lt}
 use Rattle.std.proofs.Math.Pow.{mod-mod-pow}
 use Rattle.std.proofs.lemmas.Bool.{false≢true}
 use Rattle.std.specs.Float.{Float, Format}
+use Rattle.std.specs.Option.{ok_or}
+use Rattle.std.specs.Prelude.{[], option_map}
+use Rattle.lexical_value.specs.Integer.{integer_size}
+use Rattle.lexical_value.proofs.ValueLemmas.{whole_denominator, whole_numerator}
 use Rattle.lexical_literal.specs.Read.{exact}
 use Rattle.lexical_literal.specs.declared.kind.IntegerKind.TheVariants as integers
 use Rattle.lexical_value.specs.declared.integer.ValueErrorKind.TheVariants as kinds
@@ -19,15 +23,29 @@ low n w most = let all : 64 - w + w ≡ 64 = omega (arith, most) in
 pub lowest_bits : (n bits : ℕ) → n % 2 ^ 64 % 2 ^ width bits ≡ n % 2 ^ width bits
 lowest_bits n bits = low n (width bits) (omega arith)
 
+-- A number within the limit is worth itself.
+pub kept : (negative : Bool) (n bits : ℕ) → n ≤ limit bits negative → worth (integers.AtMost bits) negative n ≡ Some (negative, n)
+kept negative n bits fits = grind (arith, nat_tests)
+
+powers : (i j : ℕ) → i ≤ j → 2 ^ i ≤ 2 ^ j
+powers i j within = pow-le-pow_right two within where
+  two : 0 < 2
+  two = omega arith
+
+-- A kind of 128 bits or more has all numbers of 128 bits.
+pub large_limit : (bits : ℕ) (negative : Bool) → 128 ≤ bits → 2 ^ 128 - 1 ≡ limit bits negative
+large_limit bits negative large = go negative where
+  above : 2 ^ 128 ≤ 2 ^ bits
+  above = powers 128 bits large
+
+  go : (b : Bool) → 2 ^ 128 - 1 ≡ limit bits b
+  go true = omega (arith, above)
+  go false = omega (arith, above)
+
 -- A number of fewer bits than a kind has is worth itself.
 module _ (negative : Bool) (n bits : ℕ) (low : n < 2 ^ (width bits - 1)) where
   fits : n < 2 ^ width bits
-  fits = let more = pow-le-pow_right two (less (width bits)) in omega (arith, low, more) where
-    two : 0 < 2
-    two = omega arith
-
-    less : (w : ℕ) → w - 1 ≤ w
-    less w = omega arith
+  fits = let more = powers (width bits - 1) (width bits) (omega arith) in omega (arith, low, more)
 
   wraps : wrapped (width bits) negative n ≡ (negative, n)
   wraps = go negative where
@@ -36,7 +54,16 @@ module _ (negative : Bool) (n bits : ℕ) (low : n < 2 ^ (width bits - 1)) where
     go false = grind (arith, nat_tests)
 
   pub at_most_keeps : worth (integers.AtMost bits) negative n ≡ Some (negative, n)
-  at_most_keeps = let below = fits in grind (arith, nat_tests)
+  at_most_keeps = kept negative n bits (go negative) where
+    under : 2 ^ (width bits - 1) ≤ 2 ^ bits
+    under = powers (width bits - 1) bits (omega arith)
+
+    short : 2 ^ (width bits - 1) ≤ 2 ^ 63
+    short = powers (width bits - 1) 63 (omega arith)
+
+    go : (b : Bool) → n ≤ limit bits b
+    go true = omega (arith, low, under, short)
+    go false = omega (arith, low, under, short)
 
   pub wraps_keeps : worth (integers.Wraps bits) negative n ≡ Some (negative, n)
   wraps_keeps = let below = fits in let same = wraps in grind (arith, nat_tests)
@@ -50,6 +77,7 @@ pub exact_error : (least largest : ℕ) (r : Record) (l : Literal) (error : Valu
 exact_error least largest r l kinds.Float is = is
 exact_error least largest r l kinds.TooLarge (whole, (sign, above)) = (whole, sign, above)
 exact_error least largest r l kinds.TooSmall (whole, (sign, below)) = (whole, sign, below)
+exact_error least largest r l kinds.Vanishes is = is
 exact_error least largest r l kinds.UnsupportedRadix is = is
 exact_error least largest r l kinds.Special is = is
 exact_error least largest r l kinds.NotWhole is = is
@@ -82,3 +110,27 @@ exact_radix f r l error same = go (is_decimal r.byte || is_binary r.byte) same w
   go : (known : Bool) → chosen known (nearest f r.byte l) ≡ Err error → (known ≡ false) × (error ≡ kinds.UnsupportedRadix)
   go true same = absurd (false≢true (ap is_ok (sym same)))
   go false same = (refl, λ i. error_of error (sym same i))
+
+-- A float, or an integer of the exact kind, is worth the nearest float, if that is within the limits.
+pub limited_worth : (f : Format) (kind : Kind) (r : Record) (l : Literal) (result : Result Float ValueErrorKind)
+    → (is_decimal r.byte || is_binary r.byte) ≡ true → (is_exact kind.integers || is_float l) ≡ true
+    → within kind.limits (is_minus l.sign) (mantissa r.byte l) (nearest (format_by kind.floats f) r.byte l) ≡ result → float_worth kind f r.byte l ≡ result
+limited_worth f kind r l result known plain same = (λ i. if not (known i) then Err kinds.UnsupportedRadix
+    else (if plain i then within kind.limits (is_minus l.sign) (mantissa r.byte l) (nearest (format_by kind.floats f) r.byte l)
+    else ok_or (option_map (λ w. round f w.0 w.1 1) (integer_worth kind.integers r.byte l)) (if is_minus l.sign then kinds.TooSmall else kinds.TooLarge))) ∙ same
+
+-- Without the radixes of floats, there is none.
+pub no_worth : (f : Format) (kind : Kind) (r : Record) (l : Literal) → (is_decimal r.byte || is_binary r.byte) ≡ false
+    → float_worth kind f r.byte l ≡ Err kinds.UnsupportedRadix
+no_worth f kind r l unknown = λ i. if not (unknown i) then Err kinds.UnsupportedRadix
+    else (if is_exact kind.integers || is_float l then within kind.limits (is_minus l.sign) (mantissa r.byte l) (nearest (format_by kind.floats f) r.byte l)
+    else ok_or (option_map (λ w. round f w.0 w.1 1) (integer_worth kind.integers r.byte l)) (if is_minus l.sign then kinds.TooSmall else kinds.TooLarge))
+
+-- An integer of another kind that is worth itself is worth the nearest float.
+pub kept_float : (f : Format) (kind : Kind) (r : Record) (l : Literal) (x : Float) → (is_decimal r.byte || is_binary r.byte) ≡ true
+    → is_exact kind.integers ≡ false → is_float l ≡ false → integer_worth kind.integers r.byte l ≡ Some (is_minus l.sign, integer_size r.byte l)
+    → l.fraction ≡ [] → l.exponent ≡ [] → x ≡ nearest f r.byte l → float_worth kind f r.byte l ≡ Ok x
+kept_float f kind r l x known other whole kept fraction exponent near = (λ i. if not (known i) then Err kinds.UnsupportedRadix
+    else (if other i || whole i then within kind.limits (is_minus l.sign) (mantissa r.byte l) (nearest (format_by kind.floats f) r.byte l)
+    else ok_or (option_map (λ w. round f w.0 w.1 1) (kept i)) (if is_minus l.sign then kinds.TooSmall else kinds.TooLarge)))
+    ∙ ap Ok ((λ i. round f (is_minus l.sign) (sym (whole_numerator r l fraction exponent) i) (sym (whole_denominator r l fraction exponent) i)) ∙ sym near)

@@ -1,6 +1,6 @@
 -- On what the value of a literal does not depend.
 use Rattle.lexical_value.proofs.Common.{nat_tests, number, mantissa, ℕ, ◌≡◌, ◌*◌, ◌<◌, ◌^◌, cond, if◌then◌else◌, ◌++◌, Some, refl, sym, ap, ◌∙◌, arith}
-use Rattle.lexical_value.proofs.Common.{pow-zero, Record, effective_exponent_base, effective_exponent_radix, Literal, is_float, numerator}
+use Rattle.lexical_value.proofs.Common.{pow-zero, Record, effective_exponent_base, effective_exponent_radix, Literal, is_float, denominator, numerator}
 use Rattle.std.proofs.Common.{IsTrue, IsFalse, List, [], ◌∷◌, nat_lt, None, append-nil, length}
 use Rattle.std.proofs.lemmas.List.Elements.{filter_map-append}
 use Rattle.std.specs.Int.Digits.{number_from_digits}
@@ -12,7 +12,7 @@ use Rattle.lexical_literal.specs.Literal.{Reads}
 use Rattle.lexical_literal.specs.Notation.{Notation}
 use Rattle.lexical_number.specs.Number.{digits_in}
 use Rattle.lexical_value.specs.Integer.{integer_size}
-use Rattle.lexical_value.specs.Value.{SameDigits, SameValue, power, spelled}
+use Rattle.lexical_value.specs.Value.{SameDigits, SameValue, power, scale, spelled}
 
 -- The value depends on the mantissa radix, and on the effective exponent base and radix.
 pub same_word : (r s : Record) (l : Literal) → SameFormat r s → SameValue r.byte l s.byte l
@@ -69,9 +69,28 @@ module _ (r : Record) (m : Notation) (l k : Literal) (same : SameDigits m l k)
     denominator = λ i. radix ^ length (same_fraction i) * (if same.exponent_sign i then same_power i else 1);
   }
 
+-- Without an exponent, its power is 1.
+no_power : (r : Record) (l : Literal) → l.exponent ≡ [] → power r.byte l ≡ 1
+no_power r l none = let base = effective_exponent_base r in
+    ap (λ bytes. base ^ number (effective_exponent_radix r) bytes) none ∙ pow-zero base
+
 -- Without fraction digits, the mantissa is the number that the integer digits represent.
 pub integer_mantissa : (r : Record) (l : Literal) → l.fraction ≡ [] → mantissa r.byte l ≡ integer_size r.byte l
 integer_mantissa r l none = ap (number (r.byte layout.mantissa_radix)) (ap (λ bytes. l.integer ++ bytes) none ∙ append-nil l.integer)
+
+-- Without fraction and exponent, the numerator is the number that the integer digits represent, and the denominator is 1.
+pub whole_numerator : (r : Record) (l : Literal) → l.fraction ≡ [] → l.exponent ≡ [] → numerator r.byte l ≡ integer_size r.byte l
+whole_numerator r l fraction exponent =
+    let same = integer_mantissa r l fraction in
+    let one = no_power r l exponent in
+    grind (arith, same, one)
+
+pub whole_denominator : (r : Record) (l : Literal) → l.fraction ≡ [] → l.exponent ≡ [] → denominator r.byte l ≡ 1
+whole_denominator r l fraction exponent =
+    let radix = r.byte layout.mantissa_radix in
+    let unit : scale r.byte l ≡ 1 = ap (λ bytes. radix ^ length (digits_in radix bytes)) fraction ∙ pow-zero radix in
+    let one = no_power r l exponent in
+    grind (arith, unit, one)
 
 -- Without a decimal point, there is no fraction.
 pub no_fraction : (m : Notation) (l : Literal) (text : List ℕ) → Reads m l text → IsFalse (is_float l) → l.fraction ≡ []
@@ -81,9 +100,4 @@ no_fraction m l text reads whole = reads.literal.spelled.after_point (grind arit
 pub integer_numerator : (m : Notation) (r : Record) (l : Literal) (text : List ℕ) → Reads m l text → IsFalse (is_float l)
     → numerator r.byte l ≡ integer_size r.byte l
 integer_numerator m r l text reads whole =
-    let fraction = no_fraction m l text reads whole in
-    let exponent : l.exponent ≡ [] = (reads.literal.spelled.after_character (grind arith)).1 in
-    let same = integer_mantissa r l fraction in
-    let base = effective_exponent_base r in
-    let one : power r.byte l ≡ 1 = ap (λ bytes. base ^ number (effective_exponent_radix r) bytes) exponent ∙ pow-zero base in
-    grind (arith, same, one)
+    whole_numerator r l (no_fraction m l text reads whole) (reads.literal.spelled.after_character (grind arith)).1

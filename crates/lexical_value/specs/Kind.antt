@@ -1,24 +1,32 @@
 -- What a literal is worth by its kind.
-use Rattle.std.specs.Prelude.{ℕ, ◌≡◌, ◌<◌, ◌-◌, ◌%◌, ◌^◌, ◌||◌, Bool, true, false, not, if◌then◌else◌, min, nat_le, nat_lt}
+use Rattle.std.specs.Prelude.{ℕ, ◌≡◌, ◌<◌, ◌-◌, ◌%◌, ◌^◌, ◌==◌, ◌&&◌, ◌||◌, Bool, true, false, not, if◌then◌else◌, min, nat_le, nat_lt}
 use Rattle.std.specs.Prelude.{IsFalse, IsTrue, IsSomeAnd, Option, Some, None, option_map, Result, Ok, Err, ℤ}
 use Rattle.std.specs.Option.{ok_or}
-use Rattle.std.specs.Float.{Float, Format, binary32}
+use Rattle.std.specs.Float.{Float, Format, binary32, float_is_infinite}
 use Rattle.std.specs.Float.Ieee.{round}
 use Rattle.lexical_util.specs.Layout.{Byte}
 use Rattle.lexical_util.specs.Layout as layout
 use Rattle.lexical_literal.specs.Literal.{Literal, is_float, is_minus}
 use Rattle.lexical_literal.specs.declared.kind.FloatKind.{FloatKind}
 use Rattle.lexical_literal.specs.declared.kind.FloatKind.TheVariants as floats
+use Rattle.lexical_literal.specs.declared.kind.FloatLimits.{FloatLimits}
+use Rattle.lexical_literal.specs.declared.kind.FloatLimits.TheVariants as limits
 use Rattle.lexical_literal.specs.declared.kind.IntegerKind.{IntegerKind}
 use Rattle.lexical_literal.specs.declared.kind.IntegerKind.TheVariants as integers
 use Rattle.lexical_literal.specs.declared.kind.Kind.{Kind}
+use Rattle.lexical_literal.specs.Read.{mantissa}
+use Rattle.lexical_number.specs.Float.{is_zero}
 use Rattle.lexical_number.specs.Numeral.{with_sign}
 use Rattle.lexical_value.specs.Float.{is_binary, is_decimal, nearest}
 use Rattle.lexical_number.specs.Number.{number}
 use Rattle.lexical_value.specs.declared.integer.ValueErrorKind.{ValueErrorKind}
 use Rattle.lexical_value.specs.declared.integer.ValueErrorKind.TheVariants as kinds
 
--- `width bits` is `bits`. No kind has more than 64.
+-- `limit bits negative` is the largest number of so many bits or, if `negative` is true, one more. It has at most 128 bits.
+abbrev pub limit : ℕ → Bool → ℕ
+limit bits negative = min (if negative then 2 ^ bits else 2 ^ bits - 1) (2 ^ 128 - 1)
+
+-- `width bits` is `bits`. No kind by which numbers wrap has more than 64.
 abbrev pub width : ℕ → ℕ
 width bits = min bits 64
 
@@ -27,10 +35,10 @@ width bits = min bits 64
 abbrev pub wrapped : ℕ → Bool → ℕ → Bool × ℕ
 wrapped bits negative n = if nat_le n (if negative then 2 ^ (bits - 1) else 2 ^ (bits - 1) - 1) then (negative, n) else (not negative, 2 ^ bits - n)
 
--- `worth kind negative n` is what `n`, or `-n` if `negative` is true, is worth: a sign and a size, or `None` if it is too large. A kind has at most 64 bits.
+-- `worth kind negative n` is what `n`, or `-n` if `negative` is true, is worth: a sign and a size, or `None` if it is too large.
 abbrev pub worth : IntegerKind → Bool → ℕ → Option (Bool × ℕ)
 worth integers.Exact negative n = Some (negative, n)
-worth (integers.AtMost bits) negative n = if nat_lt n (2 ^ min bits 64) then Some (negative, n) else None
+worth (integers.AtMost bits) negative n = if nat_le n (limit bits negative) then Some (negative, n) else None
 worth (integers.Wraps bits) negative n = if nat_lt n (2 ^ min bits 64) then Some (wrapped (min bits 64) negative n) else None
 worth (integers.WrapsModulo bits) negative n = Some (wrapped (min bits 64) negative (n % 2 ^ min bits 64))
 
@@ -69,9 +77,18 @@ abbrev pub format_by : FloatKind → Format → Format
 format_by floats.Nearest f = f
 format_by floats.Single f = binary32
 
+-- `within limits negative n x` is the float `x` of a literal with the digits of `n` and, if `negative` is true, the sign `-`, or by these
+-- limits why it is none: it is infinite, or it is 0, and `n` is not.
+abbrev pub within : FloatLimits → Bool → ℕ → Float → Result Float ValueErrorKind
+within limits.None negative n x = Ok x
+within limits.Largest negative n x = if float_is_infinite x then Err (if negative then kinds.TooSmall else kinds.TooLarge) else Ok x
+within limits.Both negative n x =
+    if float_is_infinite x then Err (if negative then kinds.TooSmall else kinds.TooLarge)
+    else (if is_zero x && not (n == 0) then Err kinds.Vanishes else Ok x)
+
 -- `float_worth kind f b l` is what `l` is worth as a float of `f`, or why it is none. Integers of the exact kind are floats, too.
 abbrev pub float_worth : Kind → Format → (Byte → ℕ) → Literal → Result Float ValueErrorKind
 float_worth kind f b l =
     if not (is_decimal b || is_binary b) then Err kinds.UnsupportedRadix
-    else (if is_exact kind.integers || is_float l then Ok (nearest (format_by kind.floats f) b l)
+    else (if is_exact kind.integers || is_float l then within kind.limits (is_minus l.sign) (mantissa b l) (nearest (format_by kind.floats f) b l)
     else ok_or (option_map (λ w. round f w.0 w.1 1) (integer_worth kind.integers b l)) (if is_minus l.sign then kinds.TooSmall else kinds.TooLarge))

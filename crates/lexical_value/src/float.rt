@@ -1,37 +1,39 @@
 //! The value of a literal as a value of a float type.
 
-ghost use Rattle.std.specs.Prelude.{ℕ, ◌≡◌, ◌↔◌, ◌≤◌, ◌^◌, ◌||◌, false, min, Err, IfErr, IfOk, Ok, IfSome, IsOk, IsSome, IsTrue};
-ghost use Rattle.std.specs.Float.{NotNan, binary32};
+ghost use Rattle.std.specs.Prelude.{ℕ, ◌≡◌, ◌↔◌, ◌≤◌, ◌^◌, ◌==◌, ◌||◌, false, min, not, Err, IfErr, IfOk, Ok, IfSome, IsOk, IsSome, IsTrue, MatchOption};
+ghost use Rattle.std.specs.Float.{Float as Value, NotNan, binary32, float_is_infinite};
 ghost use Rattle.std.specs.Float.Ieee.{round};
 ghost use Rattle.core.specs.Dec2flt.Rounding.{IsNearestBits};
 ghost use Rattle.lexical_util.specs.Layout as layout;
 ghost use Rattle.lexical_util.specs.Record.{bytes_of, effective_exponent_base, raw};
 ghost use Rattle.lexical_literal.specs.Literal.{is_float, is_minus};
 ghost use Rattle.lexical_literal.specs.Read.{exponent, mantissa};
-ghost use Rattle.lexical_number.specs.Float.{format_of};
+ghost use Rattle.lexical_number.specs.Float.{format_of, is_zero};
 ghost use Rattle.lexical_number.specs.Leading.{Leads};
 ghost use Rattle.lexical_value.specs.Float.{is_binary, is_decimal, nearest};
-ghost use Rattle.lexical_value.specs.Kind.{float_worth, format_by, is_exact};
+ghost use Rattle.lexical_value.specs.Kind.{float_worth, format_by, is_exact, within};
 ghost use Rattle.lexical_value.specs.Value.{denominator, numerator};
 ghost use Rattle.lexical_value.specs.declared.integer.ValueErrorKind.TheVariants as kinds;
 
 use crate::integer::{ValueErrorKind, integer_numeral};
-use crate::kind::{Worth, fewer, is_exact};
-use lexical_literal::kind::FloatKind;
+use crate::kind::{fewer, is_exact};
+use lexical_literal::kind::{FloatKind, FloatLimits};
 use lexical_literal::literal::Literal;
 use lexical_number::decimal::{decimal_to_float, digits_to_float};
 use lexical_number::float::Float;
 use lexical_number::leading::{Leading, push_all, saturating};
+use lexical_number::numeral::Magnitude;
 use lexical_number::scaling::{bits_of, raised_bits, raised_word};
 use lexical_util::format::NumberFormat;
 
 /// Returns the value of a literal by its kind as a value of a float type: rounded once to the nearest float, or to the even one
-/// if two are as near. The value is infinite if it is that large. Its sign is that of the literal, also for 0.
+/// if two are as near. Unless its kind has limits, the value is infinite if it is that large. Its sign is that of the literal, also
+/// for 0.
 ///
 /// # Errors
 ///
-/// If the mantissa radix and the exponent base are neither both 10 nor both powers of two, of any literal, or if an integer is
-/// too large for its kind.
+/// If the mantissa radix and the exponent base are neither both 10 nor both powers of two, of any literal, or if a number is too
+/// large for its kind, or vanishes.
 #[inline(always)]
 pub fn to_float<F: Float>(literal: &Literal) -> Result<F, ValueErrorKind>
     ensures value { IfOk result (λ value. float_worth literal.now.kind (format_of F.DOUBLE) (bytes_of literal.now.format) literal.now.literal
@@ -41,7 +43,15 @@ pub fn to_float<F: Float>(literal: &Literal) -> Result<F, ValueErrorKind>
 {
     let kind = literal.kind();
     if is_exact(kind.integers()) || literal.is_float() {
-        float_of_kind(kind.floats(), literal)
+        match float_of_kind::<F>(kind.floats(), literal) {
+            Ok(value) => {
+                match beyond(kind.limits(), value.is_infinite(), value.is_zero(), literal) {
+                    None => Ok(value),
+                    Some(error) => Err(error),
+                }
+            }
+            Err(error) => Err(error),
+        }
     } else {
         whole_float(literal)
     }
@@ -62,6 +72,36 @@ fn float_of_kind<F: Float>(kind: FloatKind, literal: &Literal) -> Result<F, Valu
             Err(error) => Err(error),
         },
     }
+}
+
+// Returns why a literal has no float by these limits, if its nearest one is infinite or 0.
+#[inline(always)]
+pub(crate) fn beyond(
+    limits: FloatLimits,
+    infinite: bool,
+    zero: bool,
+    literal: &Literal,
+) -> Option<ValueErrorKind>
+    requires { IsTrue (is_decimal (bytes_of literal.now.format) || is_binary (bytes_of literal.now.format)) }
+    ensures { (x : Value) → infinite ≡ float_is_infinite x → zero ≡ is_zero x
+        → MatchOption result (within limits (is_minus literal.now.literal.sign) (mantissa (bytes_of literal.now.format) literal.now.literal) x ≡ Ok x)
+        (λ error. within limits (is_minus literal.now.literal.sign) (mantissa (bytes_of literal.now.format) literal.now.literal) x ≡ Err error) }
+{
+    match limits {
+        FloatLimits::None => None,
+        _ if infinite => Some(ValueErrorKind::out_of_range(literal.is_negative())),
+        FloatLimits::Both if zero && has_digits(literal) => Some(ValueErrorKind::Vanishes),
+        _ => None,
+    }
+}
+
+// Returns whether a digit of the mantissa is not 0.
+#[cold]
+fn has_digits(literal: &Literal) -> bool
+    requires { IsTrue (is_decimal (bytes_of literal.now.format) || is_binary (bytes_of literal.now.format)) }
+    ensures { result ≡ not (mantissa (bytes_of literal.now.format) literal.now.literal == 0) }
+{
+    leading_of(literal, literal.format().mantissa_radix()).digits != 0
 }
 
 // Returns the nearest `f32`, in one copy.
@@ -93,9 +133,10 @@ fn whole_float<F: Float>(literal: &Literal) -> Result<F, ValueErrorKind>
         unreachable!()
     };
     match fewer(literal.kind().integers(), &numeral) {
-        Some(Worth { negative, size }) => {
-            Ok(signed(digits_to_float(size, 0, false, 0), negative))
-        }
+        Some(own) => match own.magnitude {
+            Magnitude::Word(size) => Ok(signed(digits_to_float(size, 0, false, 0), own.negative)),
+            Magnitude::Digits(_, _) => nearest_float(literal),
+        },
         None => Err(ValueErrorKind::out_of_range(numeral.negative)),
     }
 }

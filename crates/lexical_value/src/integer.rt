@@ -22,6 +22,8 @@ pub enum ValueErrorKind {
     TooLarge,
     /// The value is below the least value of the type.
     TooSmall,
+    /// The type is a float type, and the value, which is not 0, is so near to it that it is rounded to 0, which is an error by its kind.
+    Vanishes,
     /// The type is a float type, or a float is to be scaled, and the mantissa radix and the exponent base of the format are
     /// neither both 10 nor both powers of two.
     UnsupportedRadix,
@@ -92,6 +94,8 @@ pub fn integer_numeral<'a>(literal: &Literal<'a>) -> Option<Numeral<'a>>
     ensures float { IsTrue (is_float literal.now.literal) ↔ IsNone result }
     ensures negative { IfSome result (λ numeral. numeral.negative ≡ is_minus literal.now.literal.sign) }
     ensures size { IfSome result (λ numeral. size_of numeral ≡ integer_size (bytes_of literal.now.format) literal.now.literal) }
+    ensures exponent { IfSome result (λ numeral. literal.now.literal.exponent ≡ []) }
+    ensures fraction { IfSome result (λ numeral. literal.now.literal.fraction ≡ []) }
 {
     if literal.is_float() {
         return None;

@@ -1,20 +1,14 @@
 //! What an integer is worth by its kind.
 
-ghost use Rattle.std.specs.Prelude.{◌≡◌, ◌-◌, ◌%◌, ◌^◌, ◌<◌, ◌≤◌, IsTrue, Some, false, option_map};
-ghost use Rattle.lexical_value.specs.Kind.{width, worth, wrapped};
+ghost use Rattle.std.specs.Prelude.{◌≡◌, ◌-◌, ◌%◌, ◌^◌, ◌<◌, ◌≤◌, IfSome, IsTrue, Some, false, option_map, true};
+ghost use Rattle.lexical_value.specs.Kind.{limit, width, worth, wrapped};
 ghost use Rattle.lexical_number.specs.Numeral.{size_of};
 ghost use Rattle.lexical_number.specs.declared.numeral.Numeral.{Numeral};
 ghost use Rattle.lexical_value.specs.Kind.{is_exact};
+ghost use Rattle.lexical_value.specs.Private.{is_word};
 
 use lexical_literal::kind::IntegerKind;
 use lexical_number::numeral::{Magnitude, Numeral};
-
-// An integer of up to 64 bits and its sign.
-#[derive(Clone, Copy)]
-pub(crate) struct Worth {
-    pub(crate) negative: bool,
-    pub(crate) size: u64,
-}
 
 // Returns whether integers are the number that their digits represent.
 #[inline(always)]
@@ -57,29 +51,29 @@ pub(crate) const fn counted<'a>(kind: IntegerKind, numeral: Numeral<'a>) -> Opti
     if keeps(kind, &numeral) {
         return Some(numeral);
     }
-    match fewer(kind, &numeral) {
-        Some(Worth { negative, size }) => Some(Numeral {
-            negative,
-            magnitude: Magnitude::Word(size),
-        }),
-        None => None,
-    }
+    fewer(kind, &numeral)
 }
 
 // Returns what an integer is worth by a kind that is not exact, or `None` if it is too large.
 #[cold]
 #[inline(never)]
-pub(crate) const fn fewer(kind: IntegerKind, numeral: &Numeral) -> Option<Worth>
-    ensures { is_exact kind ≡ false
-        → option_map (λ own. (own.negative, own.size)) result ≡ worth kind numeral.now.negative (size_of numeral.now) }
+pub(crate) const fn fewer<'a>(kind: IntegerKind, numeral: &Numeral<'a>) -> Option<Numeral<'a>>
+    ensures worth { is_exact kind ≡ false
+        → option_map (λ (own : Numeral). (own.negative, size_of own)) result ≡ worth kind numeral.now.negative (size_of numeral.now) }
+    // By digits, it is the number itself.
+    ensures digits { IfSome result (λ own. is_word own.magnitude ≡ false
+        → (own.negative ≡ numeral.now.negative) × (size_of own ≡ size_of numeral.now)) }
 {
     let negative = numeral.negative;
     match kind {
         IntegerKind::Exact => None,
-        IntegerKind::AtMost(bits) => match numeral.size(most(bits), most(bits)) {
-            Some(size) => Some(Worth { negative, size }),
-            None => None,
-        },
+        IntegerKind::AtMost(bits) => {
+            let most = limit(bits, negative);
+            match numeral.wide_size(most, most) {
+                Some(_) => Some(*numeral),
+                None => None,
+            }
+        }
         IntegerKind::Wraps(bits) => match numeral.size(most(bits), most(bits)) {
             Some(size) => Some(wrapped(bits, negative, size)),
             None => None,
@@ -90,7 +84,18 @@ pub(crate) const fn fewer(kind: IntegerKind, numeral: &Numeral) -> Option<Worth>
     }
 }
 
-// Returns `2 ^ bits`. No kind has more than 64 bits.
+// Returns the largest number of so many bits or, with the sign `-`, one more. It has at most 128 bits.
+pub(crate) const fn limit(bits: u8, negative: bool) -> u128
+    ensures { result ≡ limit bits negative }
+{
+    if bits >= 128 {
+        return u128::MAX;
+    }
+    let power = 1 << bits;
+    if negative { power } else { power - 1 }
+}
+
+// Returns `2 ^ bits`. No kind by which numbers wrap has more than 64 bits.
 const fn power(bits: u8) -> u128
     ensures value { result ≡ 2 ^ width bits }
     ensures within { result ≤ 2 ^ 64 }
@@ -123,18 +128,22 @@ const fn lowest(bits: u8, number: u64) -> u64
 }
 
 // Returns an integer of so many bits, one of which is its sign.
-const fn wrapped(bits: u8, negative: bool, size: u64) -> Worth
+const fn wrapped<'a>(bits: u8, negative: bool, size: u64) -> Numeral<'a>
     requires { size < 2 ^ width bits }
-    ensures { (result.negative, result.size) ≡ wrapped (width bits) negative size }
+    ensures worth { (result.negative, size_of result) ≡ wrapped (width bits) negative size }
+    ensures word { is_word result.magnitude ≡ true }
 {
     let half = half(bits);
     let most = if negative { half } else { half - 1 };
     if size <= most {
-        Worth { negative, size }
+        Numeral {
+            negative,
+            magnitude: Magnitude::Word(size),
+        }
     } else {
-        Worth {
+        Numeral {
             negative: !negative,
-            size: (power(bits) - size as u128) as u64,
+            magnitude: Magnitude::Word((power(bits) - size as u128) as u64),
         }
     }
 }

@@ -8,11 +8,12 @@ use Rattle.std.specs.Float.Ieee.{round}
 use Rattle.std.specs.Prelude.{negsuc, option_map, pos}
 use Rattle.std.proofs.lemmas.List.{length-take-le}
 use Rattle.lexical_forms.specs.Forms.{HasKind, IsFirst, NoForm}
-use Rattle.lexical_literal.specs.Read.{exact}
-use Rattle.lexical_value.proofs.KindLemmas.{exact_float}
+use Rattle.lexical_literal.specs.Read.{exact, mantissa}
+use Rattle.lexical_value.proofs.KindLemmas.{exact_float, limited_worth}
 use Rattle.lexical_value.specs.Integer.{integer_size}
-use Rattle.lexical_value.specs.Kind.{float_worth, format_by}
+use Rattle.lexical_value.specs.Kind.{float_worth, format_by, within}
 use Rattle.lexical_literal.specs.declared.kind.FloatKind.TheVariants as floats
+use Rattle.lexical_literal.specs.declared.kind.FloatLimits.TheVariants as limits
 use Rattle.lexical_value.specs.declared.integer.ValueErrorKind.TheVariants as kinds
 use Rattle.lexical_writer.specs.Choice.{IsAmount, IsInStyle, IsReal, IsWrittenNumber, IsWrittenReal, IsWrittenWhole, has_float}
 
@@ -31,12 +32,11 @@ pub written_real : (f : Format) (x : Float) (decimals : Option ℕ) (g : Grammar
 written_real f x None g l near rounded = near refl
 written_real f x (Some n) g l near rounded = rounded n refl
 
--- A float, or an integer of the exact kind, is worth the float that is nearest to it.
+-- Without limits, a float, or an integer of the exact kind, is worth the float that is nearest to it.
 worth_nearest : (f : Format) (kind : Kind) (r : Record) (l : Literal) → (is_decimal r.byte || is_binary r.byte) ≡ true → kind.floats ≡ floats.Nearest
-    → (is_exact kind.integers || is_float l) ≡ true → float_worth kind f r.byte l ≡ Ok (nearest f r.byte l)
-worth_nearest f kind r l known near plain = (λ i. if not (known i) then Err kinds.UnsupportedRadix
-    else (if plain i then Ok (nearest (format_by (near i) f) r.byte l)
-    else ok_or (option_map (λ w. round f w.0 w.1 1) (integer_worth kind.integers r.byte l)) (if is_minus l.sign then kinds.TooSmall else kinds.TooLarge)))
+    → kind.limits ≡ limits.None → (is_exact kind.integers || is_float l) ≡ true → float_worth kind f r.byte l ≡ Ok (nearest f r.byte l)
+worth_nearest f kind r l known near free plain = limited_worth f kind r l (Ok (nearest f r.byte l)) known plain
+    (λ i. within (free i) (is_minus l.sign) (mantissa r.byte l) (nearest (format_by (near i) f) r.byte l))
 
 -- What is worth the float that is nearest to a literal that is written for a float is this float in the style.
 amount_is : (f : Format) (x : Float) (decimals : Option ℕ) (g : Grammar) (l : Literal) (read : Read) → IsWrittenReal f x decimals g l
@@ -47,10 +47,10 @@ amount_is f x (Some n) g l read has worth = (g, l, has, worth)
 -- If a literal is written for a float, and worth the nearest one, it is this float in the style.
 pub plain_real : (f : Format) (x : Float) (decimals : Option ℕ) (g : Grammar) (read : Read) → read.format ≡ g.word
     → (is_decimal (raw g.word).byte || is_binary (raw g.word).byte) ≡ true → read.kind.floats ≡ floats.Nearest
-    → (is_exact read.kind.integers || is_float read.literal) ≡ true → IsWrittenReal f x decimals g read.literal → IsAmount f x decimals read
-plain_real f x decimals g read word known near plain has = amount_is f x decimals g read.literal read has
+    → read.kind.limits ≡ limits.None → (is_exact read.kind.integers || is_float read.literal) ≡ true → IsWrittenReal f x decimals g read.literal → IsAmount f x decimals read
+plain_real f x decimals g read word known near free plain has = amount_is f x decimals g read.literal read has
     (inl (subst (λ w. float_worth read.kind f (raw w).byte read.literal ≡ Ok (nearest f (raw g.word).byte read.literal)) (sym word)
-    (worth_nearest f read.kind (raw g.word) read.literal known near plain)))
+    (worth_nearest f read.kind (raw g.word) read.literal known near free plain)))
 
 -- What is worth the same float as a literal of the exact kind that is written for a float is this float in the style.
 pub same_real : (f : Format) (x : Float) (decimals : Option ℕ) (g : Grammar) (own read : Read) → own.kind ≡ exact → own.format ≡ g.word

@@ -13,6 +13,7 @@ ghost use Rattle.lexical_number.specs.Numeral.{magnitude_size, with_sign};
 ghost use Rattle.lexical_value.specs.Float.{is_binary, is_decimal};
 ghost use Rattle.lexical_value.specs.Kind.{float_worth, integer_worth, is_exact, width, worth};
 ghost use Rattle.lexical_literal.specs.declared.kind.FloatKind.TheVariants as floats;
+ghost use Rattle.lexical_literal.specs.declared.kind.FloatLimits.TheVariants as limits;
 ghost use Rattle.lexical_writer.specs.Buffer.{IsTaken};
 ghost use Rattle.lexical_writer.specs.Layout.{literal_of as written};
 ghost use Rattle.lexical_writer.specs.Choice.{IsReadBack, IsReal, IsStyleOf, IsWhole, first_reason, turn};
@@ -25,7 +26,7 @@ use crate::layout::{Amount, ExponentStyle, Layout, Style, WriteError};
 use crate::literal::lay_out;
 use crate::near::format_near;
 use lexical_forms::list::{Form, Forms, Number};
-use lexical_literal::kind::{FloatKind, IntegerKind, Kind};
+use lexical_literal::kind::{FloatKind, FloatLimits, IntegerKind, Kind};
 use lexical_literal::laws::literal_facts;
 use lexical_literal::literal::Literal;
 use lexical_literal::syntax::{Condition, Syntax};
@@ -332,11 +333,12 @@ fn has_floats(syntax: &Syntax) -> bool
 const fn is_nearest(kind: Kind, float: bool) -> bool
     ensures near { result ≡ true → kind.floats ≡ floats.Nearest }
     ensures plain { result ≡ true → (is_exact kind.integers || float) ≡ true }
+    ensures free { result ≡ true → kind.limits ≡ limits.None }
 {
-    match (kind.floats(), kind.integers()) {
-        (FloatKind::Nearest, IntegerKind::Exact) => true,
-        (FloatKind::Nearest, _) => float,
-        (FloatKind::Single, _) => false,
+    match (kind.floats(), kind.limits(), kind.integers()) {
+        (FloatKind::Nearest, FloatLimits::None, IntegerKind::Exact) => true,
+        (FloatKind::Nearest, FloatLimits::None, _) => float,
+        _ => false,
     }
 }
 
@@ -394,7 +396,10 @@ fn whole_worth(literal: &Literal) -> Option<(bool, u128)>
 const fn is_exact(kind: Kind) -> bool
     ensures { result ≡ true → kind ≡ exact }
 {
-    matches!(kind.integers(), IntegerKind::Exact) && matches!(kind.floats(), FloatKind::Nearest)
+    matches!(
+        (kind.integers(), kind.floats(), kind.limits()),
+        (IntegerKind::Exact, FloatKind::Nearest, FloatLimits::None)
+    )
 }
 
 // The longest text that is read back.
@@ -581,7 +586,12 @@ fn write_by<N: Writable>(
 
 // Returns why a text is not used that is read as this literal, which is another number or has no value.
 fn mismatch(literal: &Literal) -> WriteError {
-    if !literal.is_float() && own_numeral(literal).is_err() {
+    let refused = if literal.is_float() {
+        to_float::<f64>(literal).is_err()
+    } else {
+        own_numeral(literal).is_err()
+    };
+    if refused {
         WriteError::TooLarge
     } else {
         WriteError::ReadBack

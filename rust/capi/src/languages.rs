@@ -7,7 +7,7 @@ use crate::tokens::{first, Constant, Laid, Memory, Reader, Stop, SuffixKind, Suf
 use core::ffi::CStr;
 use core::mem::MaybeUninit;
 use core::{ptr, slice};
-use peltzivar::literal::{self, FloatKind, IntegerKind, Kind, Language, Sign, Special, Spelling};
+use peltzivar::literal::{self, FloatKind, FloatLimits, IntegerKind, Kind, Language, Sign, Special, Spelling};
 
 /// The spellings of special values, as null-terminated strings. A null pointer is an absent one.
 #[repr(C)]
@@ -72,6 +72,7 @@ pub struct KindNumbers {
     integers: u8,
     bits: u8,
     floats: u8,
+    limits: u8,
 }
 
 /// Returns the numbers of a kind.
@@ -82,11 +83,16 @@ pub const fn numbers_of(kind: Kind) -> KindNumbers {
         IntegerKind::WrapsModulo(bits) => (3, bits),
         _ => (0, 0),
     };
-    KindNumbers { integers, bits, floats: matches!(kind.floats(), FloatKind::Single) as u8 }
+    let limits = match kind.limits() {
+        FloatLimits::Largest => 1,
+        FloatLimits::Both => 2,
+        _ => 0,
+    };
+    KindNumbers { integers, bits, floats: matches!(kind.floats(), FloatKind::Single) as u8, limits }
 }
 
 impl KindNumbers {
-    pub const EXACT: KindNumbers = KindNumbers { integers: 0, bits: 0, floats: 0 };
+    pub const EXACT: KindNumbers = KindNumbers { integers: 0, bits: 0, floats: 0, limits: 0 };
 
     /// Returns the kind, or `None` if there is none with these numbers.
     pub fn kind(self) -> Option<Kind> {
@@ -98,11 +104,13 @@ impl KindNumbers {
             _ => return None,
         };
         let floats = [FloatKind::Nearest, FloatKind::Single].get(usize::from(self.floats))?;
-        Kind::new(integers, *floats)
+        let limits = [FloatLimits::None, FloatLimits::Largest, FloatLimits::Both].get(usize::from(self.limits))?;
+        Some(Kind::new(integers, *floats)?.with_limits(*limits))
     }
 
     pub const fn is_same(self, other: KindNumbers) -> bool {
-        self.integers == other.integers && self.bits == other.bits && self.floats == other.floats
+        let is_same = self.integers == other.integers && self.bits == other.bits;
+        is_same && self.floats == other.floats && self.limits == other.limits
     }
 }
 
@@ -114,7 +122,7 @@ pub struct Form {
     name: *const u8,
     syntax: Syntax,
     kind: KindNumbers,
-    reserved: [u8; 5],
+    reserved: [u8; 4],
     suffixes: *const Suffixes,
 }
 
@@ -124,13 +132,13 @@ impl Form {
         name: ptr::null(),
         syntax: Syntax::NONE,
         kind: KindNumbers::EXACT,
-        reserved: [0; 5],
+        reserved: [0; 4],
         suffixes: ptr::null(),
     };
 
     /// Returns a form in C, with a name and suffixes.
     const fn of(name: *const u8, form: literal::Form, suffixes: *const Suffixes) -> Form {
-        Form { name, syntax: Syntax::of(form.syntax()), kind: numbers_of(form.kind()), reserved: [0; 5], suffixes }
+        Form { name, syntax: Syntax::of(form.syntax()), kind: numbers_of(form.kind()), reserved: [0; 4], suffixes }
     }
 }
 
@@ -286,7 +294,7 @@ unsafe fn forms_of(
         let form = forms.add(index);
         let (syntax, kind) = ((&raw const (*form).syntax).read_unaligned(), (&raw const (*form).kind).read_unaligned());
         let reserved = (&raw const (*form).reserved).read_unaligned();
-        let syntax = Syntax::given_at_once(Some(&syntax)).filter(|_| reserved == [0; 5])?;
+        let syntax = Syntax::given_at_once(Some(&syntax)).filter(|_| reserved == [0; 4])?;
         let kind = if kind.is_same(KindNumbers::EXACT) { Kind::EXACT } else { kind.kind()? };
         to.write(literal::Form::new("", syntax).with_kind(kind));
     }

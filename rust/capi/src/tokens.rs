@@ -14,7 +14,7 @@ use peltzivar::literal::{self, Kind, TokenError};
 pub struct SuffixKind {
     word: *const u8,
     kind: KindNumbers,
-    reserved: [u8; 5],
+    reserved: [u8; 4],
 }
 
 /// Bytes behind a number with which it is not a token. A null pointer is any bytes.
@@ -166,7 +166,7 @@ impl Reader {
             let (kinds, stops) = (self.kinds.len, self.stops.len);
             for index in 0..it.kind_count {
                 let SuffixKind { word, kind, reserved } = it.kinds.add(index).read_unaligned();
-                self.kinds.push((string(word), kind.kind().filter(|_| reserved == [0; 5])?))?;
+                self.kinds.push((string(word), kind.kind().filter(|_| reserved == [0; 4])?))?;
             }
             for index in 0..it.stop_count {
                 let Stop { bytes: [last, next, second], reserved } = it.stops.add(index).read_unaligned();
@@ -200,7 +200,7 @@ unsafe fn string(text: *const u8) -> &'static [u8] {
 pub struct Laid {
     pub text: [u8; 2048],
     pub size: usize,
-    pub kinds: [SuffixKind; 64],
+    pub kinds: [SuffixKind; 128],
     pub kind_count: usize,
     pub stops: [Stop; 64],
     pub stop_count: usize,
@@ -232,7 +232,7 @@ impl Laid {
         let mut laid = Laid {
             text: [0; 2048],
             size: 0,
-            kinds: [SuffixKind { word: ptr::null(), kind: KindNumbers::EXACT, reserved: [0; 5] }; 64],
+            kinds: [SuffixKind { word: ptr::null(), kind: KindNumbers::EXACT, reserved: [0; 4] }; 128],
             kind_count: 0,
             stops: [Stop { bytes: [ptr::null(); 3], reserved: [0; 8] }; 64],
             stop_count: 0,
@@ -292,7 +292,7 @@ impl Laid {
         while self.kind_count - kind < own_kinds.len() {
             let (word, of) = own_kinds[self.kind_count - kind];
             let word = self.put(&[word], base);
-            self.kinds[self.kind_count] = SuffixKind { word, kind: numbers_of(of), reserved: [0; 5] };
+            self.kinds[self.kind_count] = SuffixKind { word, kind: numbers_of(of), reserved: [0; 4] };
             self.kind_count += 1;
         }
         while self.stop_count - stop < own_stops.len() {

@@ -13,7 +13,7 @@ type ValueStatus = u8;
 const REFUSED: ValueStatus = 6;
 
 texts! {
-    DESCRIPTIONS: [9] = |status| match status {
+    DESCRIPTIONS: [10] = |status| match status {
         1 => b"a float, where an integer is required",
         2 => b"above the largest value of the type",
         3 => b"below the least value of the type",
@@ -22,6 +22,7 @@ texts! {
         6 => b"neither a literal nor a special value",
         7 => b"NaN or infinity, where an integer is required",
         8 => b"not whole after scaling, where an integer is required",
+        9 => b"too near to 0 for the type",
         _ => b"",
     };
 }
@@ -66,6 +67,7 @@ fn write_value<T, C: From<T>>(value: Result<T, ValueErrorKind>, out: Out<C>) -> 
             ValueErrorKind::TooSmall => 3,
             ValueErrorKind::Special => 7,
             ValueErrorKind::NotWhole => 8,
+            ValueErrorKind::Vanishes => 9,
             _ => 4,
         },
     }

@@ -7,7 +7,7 @@ use crate::literal::list::Furthest;
 use crate::literal::stop::Stopped;
 use crate::literal::value::Decimal;
 use crate::literal::{
-    Form, FormError, Forms, FromLiteral, Kind, Literal, Number, ParseError, ReadError, ReadErrorKind, Special,
+    Form, FormError, Forms, FromLiteral, IntegerKind, Literal, Number, ParseError, ReadError, ReadErrorKind, Special,
     Specials, Syntax, ValueError,
 };
 
@@ -100,17 +100,17 @@ impl<'a> Forms<'a> {
     fn parse_behind<T: FromLiteral>(&self, text: &[u8], stop: Option<Stopped>) -> Result<T, ParseError> {
         let (error, kind) = match self.find::<false>(text, stop) {
             Ok((form, literal)) => {
-                let kind = self.as_slice()[form].kind;
-                match T::from_literal(literal.with_kind(kind)) {
+                let literal = literal.with_kind(self.as_slice()[form].kind);
+                match T::from_literal(literal) {
                     Ok(value) => return Ok(value),
-                    Err(error) => (error, kind),
+                    Err(error) => (error, literal.integer_kind()),
                 }
             }
             Err(furthest) => match self.special(text) {
                 None => return self.refuse(text, furthest),
                 Some(special) => match T::from_special(special) {
                     Ok(value) => return Ok(value),
-                    Err(error) => (error, Kind::EXACT),
+                    Err(error) => (error, IntegerKind::Exact),
                 },
             },
         };

@@ -5,7 +5,7 @@ use core::fmt::{self, Write};
 use crate::format_flags::Part;
 use crate::literal::literal::Sums;
 use crate::literal::stop::Stopped;
-use crate::literal::{FloatKind, IntegerKind, Kind, Literal, Number, Sign, Special, Spelling, Syntax};
+use crate::literal::{FloatKind, FloatLimits, IntegerKind, Kind, Literal, Number, Sign, Special, Spelling, Syntax};
 
 mod error;
 #[allow(clippy::question_mark, reason = "as it is proved")]
@@ -33,10 +33,11 @@ pub(crate) mod number {
 pub use error::{ParseError, Target, ValueError};
 pub use integer::ValueErrorKind;
 
-use float::{binary_size, exponent_of, nearest_float, to_float};
+use float::{beyond, binary_size, exponent_of, nearest_float, to_float};
 use integer::{integer_numeral, own_numeral, to_integer};
 use number::decimal::{decimal_to_bits, digits_to_bits};
 use number::float::Float;
+use number::numeral::{Magnitude, Numeral};
 use scaled::to_scaled;
 
 /// A type that can be [parsed][Syntax::parse]: each integer type of Rust, `f64` and `f32`, and a type of your own.
@@ -44,7 +45,7 @@ use scaled::to_scaled;
 /// Rust's types are also [made][TryFrom] from a [`Literal`] or a [`Number`], as in `u16::try_from(literal)`.
 ///
 /// A float is the value of the literal, rounded once to the nearest float, or to the even one if two are as near. Values
-/// from halfway above the largest float on are infinite, and `-0` is `-0.0`. A decimal number of up to 19 digits takes one
+/// from halfway above the largest float on are infinite, unless their [kind][Kind::limits] has limits, and `-0` is `-0.0`. A decimal number of up to 19 digits takes one
 /// or two multiplications, or a division. One that its first 19 digits do not decide can take 3.5 kB of the stack.
 ///
 /// ```
@@ -127,7 +128,7 @@ impl<'a> Literal<'a> {
             Ok((true, size)) => T::try_from(0_i128.wrapping_sub_unsigned(size)).map_err(|_| ValueErrorKind::TooSmall),
             Err(kind) => Err(kind),
         };
-        value.map_err(|kind| ValueError::of::<T>(kind, self.text.len(), self.kind()))
+        value.map_err(|kind| ValueError::of::<T>(kind, self.text.len(), self.integer_kind()))
     }
 
     /// Returns the literal as Rust and most other programs read it: without digit separators, prefix, suffix and plus
@@ -183,10 +184,10 @@ pub(crate) enum Decimal<T> {
 
 /// Makes the conversions to types, by their calls for literals, and for NaN and infinity.
 macro_rules! conversions {
-    ($($type:ident)*: $convert:ident, $special:expr) => {
+    ($($type:ident)*: $target:path, $convert:ident, $special:expr) => {
         $(
             impl FromLiteral for $type {
-                const TARGET: Target = Target::integer(stringify!($type), $type::MIN as i128, $type::MAX as u128);
+                const TARGET: Target = $target(stringify!($type), $type::MIN as i128, $type::MAX as u128);
 
                 #[inline(always)]
                 fn from_literal(literal: Literal<'_>) -> Result<$type, ValueErrorKind> {
@@ -204,7 +205,7 @@ macro_rules! conversions {
 
                 #[inline(always)]
                 fn try_from(literal: Literal<'_>) -> Result<$type, ValueError> {
-                    let (size, of) = (literal.text.len(), literal.kind());
+                    let (size, of) = (literal.text.len(), literal.integer_kind());
                     $type::from_literal(literal).map_err(|kind| ValueError::of::<$type>(kind, size, of))
                 }
             }
@@ -222,10 +223,10 @@ macro_rules! conversions {
 }
 
 conversions! {
-    u8 u16 u32 u64 usize u128 i8 i16 i32 i64 isize i128: to_integer, |_| Err(ValueErrorKind::Special)
+    u8 u16 u32 u64 usize u128 i8 i16 i32 i64 isize i128: Target::integer, to_integer, |_| Err(ValueErrorKind::Special)
 }
-conversions! { f64: to_float, |special: Special| Ok(special.to_f64()) }
-conversions! { f32: to_float, |special: Special| Ok(special.to_f32()) }
+conversions! { f64: Target::unlimited, to_float, |special: Special| Ok(special.to_f64()) }
+conversions! { f32: Target::unlimited, to_float, |special: Special| Ok(special.to_f32()) }
 
 /// Makes the calls for constants.
 macro_rules! constant_calls {
@@ -245,7 +246,7 @@ macro_rules! constant_calls {
                             None => ValueErrorKind::out_of_range(numeral.negative),
                         },
                     };
-                    Err(ValueError::of::<$type>(kind, self.text.len(), self.kind()))
+                    Err(self.error::<$type>(kind))
                 }
             )*
         }
@@ -254,7 +255,7 @@ macro_rules! constant_calls {
 
 constant_calls! { to_i64 as_i64 i64, to_u64 as_u64 u64, to_i128 as_i128 i128, to_u128 as_u128 u128, }
 
-/// The value of a literal by its kind, which is not the number that it represents.
+/// The value of a literal by its kind, which is not the number that it represents, or none.
 pub(crate) enum Other {
     Integer(i128),
     Single(f64),
@@ -270,23 +271,37 @@ impl Literal<'_> {
             let value = own.as_i128()?;
             let written = integer_numeral(self)?.as_i128();
             (written != Some(value)).then_some(Other::Integer(value))
-        } else if self.is_single() {
-            let value = to_float::<f64>(self).ok()?;
+        } else if self.is_single() || self.is_float() && !matches!(self.kind().limits(), FloatLimits::None) {
             let nearest = nearest_float::<f64>(self).ok()?;
+            let Ok(value) = to_float::<f64>(self) else { return Some(Other::TooLarge) };
             (value.to_bits() != nearest.to_bits()).then_some(Other::Single(value))
         } else {
             None
         }
     }
 
-    /// Returns whether the literal is an integer of a kind that is not exact.
-    const fn is_whole(&self) -> bool {
-        !self.is_float() && !matches!(self.kind().integers(), IntegerKind::Exact)
+    /// Returns the error of the literal in a type.
+    const fn error<T: FromLiteral>(&self, kind: ValueErrorKind) -> ValueError {
+        ValueError::of::<T>(kind, self.text.len(), self.integer_kind())
     }
 
-    /// Returns whether floats are single.
+    /// Returns the kind of the literal if it is an integer. A float has none.
+    pub(crate) const fn integer_kind(&self) -> IntegerKind {
+        if self.is_float() {
+            IntegerKind::Exact
+        } else {
+            self.kind().integers()
+        }
+    }
+
+    /// Returns whether the literal is an integer of a kind that is not exact.
+    const fn is_whole(&self) -> bool {
+        !matches!(self.integer_kind(), IntegerKind::Exact)
+    }
+
+    /// Returns whether the literal is worth a single as a float.
     const fn is_single(&self) -> bool {
-        matches!(self.kind().floats(), FloatKind::Single)
+        matches!(self.kind().floats(), FloatKind::Single) && !self.is_whole()
     }
 }
 
@@ -313,13 +328,13 @@ macro_rules! floats {
         $(
             impl Literal<'_> {
                 #[doc = concat!("Returns the value, rounded once to the nearest `", stringify!($type), "`, or to the even")]
-                /// one if two are as near. It can be infinite, and the sign is that of the literal, also for 0. A constant can
-                /// have it, too.
+                /// one if two are as near. Unless its kind has [limits][Kind::limits], it can be infinite. The sign is that of
+                /// the literal, also for 0. A constant can have it, too.
                 ///
                 /// # Errors
                 ///
                 /// If the mantissa radix and the exponent base are neither both 10 nor both powers of two, as
-                /// [`Syntax::supports_floats`] finds out once for all literals.
+                /// [`Syntax::supports_floats`] finds out once for all literals, or if the literal has no value by its kind.
                 pub const fn $to_float(self) -> Result<$type, ValueError> {
                     let double = <$type as Float>::DOUBLE && !self.is_single();
                     let bits = match decimal_size(double, &self) {
@@ -328,7 +343,7 @@ macro_rules! floats {
                     };
                     match bits {
                         Some(bits) => self.$worth(double, bits),
-                        None => Err(ValueError::of::<$type>(ValueErrorKind::UnsupportedRadix, self.text.len(), self.kind())),
+                        None => Err(self.error::<$type>(ValueErrorKind::UnsupportedRadix)),
                     }
                 }
 
@@ -336,10 +351,15 @@ macro_rules! floats {
                 const fn $worth(&self, double: bool, bits: u64) -> Result<$type, ValueError> {
                     let size = if double { f64::from_bits(bits) as $type } else { f32::from_bits(bits as u32) as $type };
                     let (size, negative) = match own_numeral(self) {
-                        Ok(own) if self.is_whole() => (own.low_bits() as $type, own.negative),
-                        Err(kind) if self.is_whole() => return Err(ValueError::of::<$type>(kind, self.text.len(), self.kind())),
+                        Err(kind) if self.is_whole() => return Err(self.error::<$type>(kind)),
+                        Ok(Numeral { negative, magnitude: Magnitude::Word(own) }) if self.is_whole() => (own as $type, negative),
                         _ => (size, self.is_negative()),
                     };
+                    if !self.is_whole() {
+                        if let Some(kind) = beyond(self.kind().limits(), size.is_infinite(), size == 0.0, self) {
+                            return Err(self.error::<$type>(kind));
+                        }
+                    }
                     Ok(if negative { -size } else { size })
                 }
             }
@@ -432,7 +452,7 @@ impl Syntax {
     fn parse_generally<T: FromLiteral>(&self, text: &[u8]) -> Result<T, ParseError> {
         match self.read_generally(text) {
             Ok(literal) => value_in_memory::<T>(literal)
-                .map_err(|kind| ParseError::Value(ValueError::of::<T>(kind, text.len(), Kind::EXACT))),
+                .map_err(|kind| ParseError::Value(ValueError::of::<T>(kind, text.len(), IntegerKind::Exact))),
             Err(error) => Err(error.into()),
         }
     }
@@ -506,8 +526,8 @@ impl Number<'_> {
     #[inline]
     pub fn value<T: FromLiteral>(self) -> Result<T, ValueError> {
         let (value, size, of) = match self {
-            Number::Literal { literal, .. } => (T::from_literal(literal), literal.text.len(), literal.kind()),
-            Number::Special(special) => (T::from_special(special), 0, Kind::EXACT),
+            Number::Literal { literal, .. } => (T::from_literal(literal), literal.text.len(), literal.integer_kind()),
+            Number::Special(special) => (T::from_special(special), 0, IntegerKind::Exact),
         };
         value.map_err(|kind| ValueError::of::<T>(kind, size, of))
     }
@@ -521,12 +541,12 @@ impl Number<'_> {
     pub fn to_scaled<T: FromLiteral + TryFrom<i128> + TryFrom<u128>>(self, places: u8) -> Result<T, ValueError> {
         match self {
             Number::Literal { literal, .. } => literal.to_scaled(places),
-            Number::Special(_) => Err(ValueError::of::<T>(ValueErrorKind::Special, 0, Kind::EXACT)),
+            Number::Special(_) => Err(ValueError::of::<T>(ValueErrorKind::Special, 0, IntegerKind::Exact)),
         }
     }
 
     /// Returns the value, rounded once to the nearest `f64`. The literals of each [`Language`][crate::literal::Language]
-    /// have one, unless an integer is too large for its kind, and NaN and infinity keep their sign. For a literal that has
+    /// have one, unless a number is too large for its kind, or vanishes, and NaN and infinity keep their sign. For a literal that has
     /// none, returns NaN.
     ///
     /// ```

@@ -1,7 +1,9 @@
 //! The forms of each language. The comment of a setter has a text that is accepted or rejected because of the setter.
 
 use super::{Definition, Language};
-use crate::literal::{Conditions, FloatKind, Form, Forms, IntegerKind, Kind, Specials, Stop, Suffixes, Syntax, Tokens};
+use crate::literal::{
+    Conditions, FloatKind, FloatLimits, Form, Forms, IntegerKind, Kind, Specials, Stop, Suffixes, Syntax, Tokens,
+};
 use crate::NumberFormatBuilder;
 use core::num::NonZeroU8;
 
@@ -137,6 +139,16 @@ const fn whole(integers: IntegerKind) -> Kind {
     Kind::new(integers, FloatKind::Nearest).unwrap()
 }
 
+/// The same kind, by which floats that are too large are errors.
+const fn finite(kind: Kind) -> Kind {
+    kind.with_limits(FloatLimits::Largest)
+}
+
+/// The same kind, by which floats that are too large or vanish are errors.
+const fn within(kind: Kind) -> Kind {
+    kind.with_limits(FloatLimits::Both)
+}
+
 /// Floats of 32 bits.
 const SINGLE: Kind = Kind::new(IntegerKind::Exact, FloatKind::Single).unwrap();
 
@@ -150,14 +162,17 @@ const WRAPS_64: Kind = whole(IntegerKind::Wraps(64));
 const AT_MOST_62: Kind = whole(IntegerKind::AtMost(62));
 const WRAPS_63: Kind = whole(IntegerKind::Wraps(63));
 
-/// Integers of D and Nim without a sign.
+/// Integers of 64 bits without a sign.
 const AT_MOST_64: Kind = whole(IntegerKind::AtMost(64));
+
+/// Integers of Rust of any type.
+const AT_MOST_128: Kind = whole(IntegerKind::AtMost(128));
 
 /// Integers of Lua, NASM and Nim, of which the last 64 bits count.
 const LAST_64: Kind = whole(IntegerKind::WrapsModulo(64));
 
 /// Integers and reals of Fortran.
-const DEFAULT: Kind = Kind::new(IntegerKind::AtMost(31), FloatKind::Single).unwrap();
+const DEFAULT: Kind = finite(Kind::new(IntegerKind::AtMost(31), FloatKind::Single).unwrap());
 
 /// The suffix of a float of 32 bits, of C and of Kotlin.
 const FLOAT: &[(&[u8], Kind)] = &[(b"f", SINGLE), (b"F", SINGLE)];
@@ -171,14 +186,14 @@ const ADA_STOPS: &[Stop] = &[
     Stop::new(b"", b".", &LETTERS),
 ];
 
-/// Kinds of Fortran, of so many bytes or by a name: `1_8`, `1.0_dp`. `1._8`, whose point is not given back, is refused.
+/// Kinds of Fortran, of so many bytes or by a name: `1_8`, `1.0_dp`. Those of 10 and 16 bytes have floats that an `f64` has not. `1._8`, whose point is not given back, is refused.
 const FORTRAN_WORDS: Suffixes =
     Suffixes::new(&[], &[], &[Stop::new(b"", b".", b"_0123456789")]).any_word(b"_").with_kinds(&[
         (b"_1", whole(IntegerKind::AtMost(7))),
         (b"_2", whole(IntegerKind::AtMost(15))),
-        (b"_8", AT_MOST_63),
+        (b"_8", finite(AT_MOST_63)),
         (b"_10", Kind::EXACT),
-        (b"_16", Kind::EXACT),
+        (b"_16", whole(IntegerKind::AtMost(127))),
     ]);
 
 /// Words behind integers and floats, in this case.
@@ -200,8 +215,16 @@ const C_DECIMAL_FLOATS: &[&[u8]] = &[b"f", b"F", b"l", b"L", b"df", b"dd", b"dl"
 
 /// What goes on a preprocessing number of C: `1.2.3`, `1'`, `1$x`, `1\u00E9` and `0xe+1`.
 const C_STOPS: &[Stop] = &[Stop::new(b"", b".'$", b""), Stop::new(b"", b"\\", b"uU"), Stop::new(b"eEpP", b"+-", b"")];
-const C_WORDS: Suffixes = Suffixes::new(C_INTEGERS, C_FLOATS, C_STOPS).with_kinds(FLOAT);
-const C_DECIMALS: Suffixes = Suffixes::new(C_INTEGERS, C_DECIMAL_FLOATS, C_STOPS).with_kinds(FLOAT);
+const C_WORDS: Suffixes = Suffixes::new(C_INTEGERS, C_FLOATS, C_STOPS).with_kinds(C_KINDS);
+const C_DECIMALS: Suffixes = Suffixes::new(C_INTEGERS, C_DECIMAL_FLOATS, C_STOPS).with_kinds(C_KINDS);
+#[rustfmt::skip]
+const C_KINDS: &[(&[u8], Kind)] = &[
+    (b"f", SINGLE), (b"F", SINGLE), (b"u", AT_MOST_64), (b"U", AT_MOST_64), (b"ul", AT_MOST_64), (b"uL", AT_MOST_64),
+    (b"ull", AT_MOST_64), (b"uLL", AT_MOST_64), (b"Ul", AT_MOST_64), (b"UL", AT_MOST_64), (b"Ull", AT_MOST_64), (b"ULL", AT_MOST_64),
+    (b"lu", AT_MOST_64), (b"lU", AT_MOST_64), (b"llu", AT_MOST_64), (b"llU", AT_MOST_64), (b"Lu", AT_MOST_64), (b"LU", AT_MOST_64),
+    (b"LLu", AT_MOST_64), (b"LLU", AT_MOST_64), (b"wb", Kind::EXACT), (b"WB", Kind::EXACT), (b"uwb", Kind::EXACT), (b"uWB", Kind::EXACT),
+    (b"Uwb", Kind::EXACT), (b"UWB", Kind::EXACT), (b"wbu", Kind::EXACT), (b"wbU", Kind::EXACT), (b"WBu", Kind::EXACT), (b"WBU", Kind::EXACT),
+];
 
 /// Suffixes of C++, of its library, such as `1ms` and `1.5if`, and of its users: `1_km`.
 const C_PLUS_PLUS_INTEGERS: &[&[u8]] = &[
@@ -211,9 +234,17 @@ const C_PLUS_PLUS_INTEGERS: &[&[u8]] = &[
 ];
 const C_PLUS_PLUS_FLOATS: &[&[u8]] =
     &[b"f", b"F", b"l", b"L", b"h", b"min", b"s", b"ms", b"us", b"ns", b"i", b"il", b"if"];
-const C_PLUS_PLUS_WORDS: Suffixes = Suffixes::new(C_PLUS_PLUS_INTEGERS, C_PLUS_PLUS_FLOATS, C_STOPS)
-    .any_word(b"_")
-    .with_kinds(&[(b"f", SINGLE), (b"F", SINGLE), (b"if", SINGLE)]);
+const C_PLUS_PLUS_WORDS: Suffixes =
+    Suffixes::new(C_PLUS_PLUS_INTEGERS, C_PLUS_PLUS_FLOATS, C_STOPS).any_word(b"_").with_kinds(C_PLUS_PLUS_KINDS);
+#[rustfmt::skip]
+const C_PLUS_PLUS_KINDS: &[(&[u8], Kind)] = &[
+    (b"f", SINGLE), (b"F", SINGLE), (b"u", AT_MOST_64), (b"U", AT_MOST_64), (b"ul", AT_MOST_64), (b"uL", AT_MOST_64),
+    (b"ull", AT_MOST_64), (b"uLL", AT_MOST_64), (b"Ul", AT_MOST_64), (b"UL", AT_MOST_64), (b"Ull", AT_MOST_64), (b"ULL", AT_MOST_64),
+    (b"lu", AT_MOST_64), (b"lU", AT_MOST_64), (b"llu", AT_MOST_64), (b"llU", AT_MOST_64), (b"Lu", AT_MOST_64), (b"LU", AT_MOST_64),
+    (b"LLu", AT_MOST_64), (b"LLU", AT_MOST_64), (b"h", AT_MOST_63), (b"min", AT_MOST_63), (b"s", AT_MOST_63), (b"ms", AT_MOST_63),
+    (b"us", AT_MOST_63), (b"ns", AT_MOST_63), (b"d", AT_MOST_64), (b"y", AT_MOST_64), (b"i", AT_MOST_64), (b"il", AT_MOST_64),
+    (b"if", Kind::new(IntegerKind::AtMost(64), FloatKind::Single).unwrap()),
+];
 
 /// Units of CSS: any word, such as `px`. A name may also have `-` and escapes: `1px-x`, `1-x` and `1--x` are refused.
 const CSS_WORDS: Suffixes = Suffixes::new(&[], &[], CSS_STOPS).any_word(&LETTERS);
@@ -240,8 +271,9 @@ const fn letters() -> [u8; 181] {
 
 /// Suffixes of C#, in either case.
 const C_SHARP_INTEGERS: &[&[u8]] = &[b"u", b"l", b"ul", b"lu"];
-const C_SHARP_DECIMALS: Suffixes =
-    words(&[b"u", b"l", b"ul", b"lu", b"f", b"d", b"m"], &[b"f", b"d", b"m"]).either_case(true).with_kinds(FLOAT);
+const C_SHARP_DECIMALS: Suffixes = words(&[b"u", b"l", b"ul", b"lu", b"f", b"d", b"m"], &[b"f", b"d", b"m"])
+    .either_case(true)
+    .with_kinds(&[(b"f", finite(SINGLE)), (b"d", finite(Kind::EXACT)), (b"m", finite(Kind::EXACT))]);
 
 /// Suffixes of D: `1uL` and `1.5Li`.
 const D_INTEGERS: Suffixes = words(&[b"L", b"u", b"U", b"Lu", b"LU", b"uL", b"UL"], &[]);
@@ -253,21 +285,27 @@ const D_WORDS: Suffixes = words(
 #[rustfmt::skip]
 const D_KINDS: &[(&[u8], Kind)] = &[
     (b"u", AT_MOST_64), (b"U", AT_MOST_64), (b"Lu", AT_MOST_64), (b"LU", AT_MOST_64), (b"uL", AT_MOST_64), (b"UL", AT_MOST_64),
-    (b"f", SINGLE), (b"F", SINGLE), (b"i", Kind::EXACT), (b"fi", SINGLE), (b"Fi", SINGLE), (b"Li", Kind::EXACT),
+    (b"f", finite(SINGLE)), (b"F", finite(SINGLE)), (b"i", finite(Kind::EXACT)), (b"fi", finite(SINGLE)), (b"Fi", finite(SINGLE)),
+    (b"L", AT_MOST_63), (b"Li", Kind::EXACT),
 ];
 
 /// Suffixes of imaginary numbers of Go, and a point that no binary and octal number has: `0b1.`.
 const GO_WORDS: Suffixes = words(&[b"i"], &[b"i"]);
 const GO_POINTLESS: Suffixes = Suffixes::new(&[b"i"], &[], &[Stop::new(b"", b".", b"")]);
 
-/// Suffixes of Java, in either case.
+/// Suffixes of Java and Scala, in either case.
 const JAVA_DECIMALS: Suffixes = words(&[b"l", b"f", b"d"], &[b"f", b"d"]).either_case(true).with_kinds(&[
     (b"l", AT_MOST_63),
-    (b"f", SINGLE),
-    (b"d", Kind::EXACT),
+    (b"f", within(SINGLE)),
+    (b"d", within(Kind::EXACT)),
 ]);
+const SCALA_DECIMALS: Suffixes =
+    JAVA_DECIMALS.with_kinds(&[(b"l", AT_MOST_63), (b"f", finite(SINGLE)), (b"d", finite(Kind::EXACT))]);
 const JAVA_INTEGERS: Suffixes = words(&[b"l"], &[]).either_case(true).with_kinds(&[(b"l", WRAPS_64)]);
-const JAVA_FLOATS: Suffixes = words(&[b"f", b"d"], &[b"f", b"d"]).either_case(true).with_kinds(FLOAT);
+const JAVA_FLOATS: Suffixes = words(&[b"f", b"d"], &[b"f", b"d"])
+    .either_case(true)
+    .with_kinds(&[(b"f", within(SINGLE)), (b"d", within(Kind::EXACT))]);
+const SCALA_FLOATS: Suffixes = JAVA_FLOATS.with_kinds(&[(b"f", finite(SINGLE)), (b"d", finite(Kind::EXACT))]);
 
 /// The suffix of big integers of JavaScript. A name, which `$` and `\\` may begin, does not follow a number.
 const BIG: Suffixes = Suffixes::new(&[b"n"], &[], &[Stop::new(b"", b"$\\", b"")]);
@@ -279,7 +317,13 @@ const NASM_WORDS: Suffixes = JULIA_WORDS;
 
 /// Suffixes of Kotlin.
 const KOTLIN_INTEGERS: &[&[u8]] = &[b"u", b"U", b"L", b"uL", b"UL"];
-const KOTLIN_DECIMALS: Suffixes = words(&[b"u", b"U", b"L", b"uL", b"UL", b"f", b"F"], &[b"f", b"F"]).with_kinds(FLOAT);
+const KOTLIN_DECIMALS: Suffixes =
+    words(&[b"u", b"U", b"L", b"uL", b"UL", b"f", b"F"], &[b"f", b"F"]).with_kinds(KOTLIN_KINDS);
+const KOTLIN_WORDS: Suffixes = words(KOTLIN_INTEGERS, &[]).with_kinds(KOTLIN_KINDS);
+#[rustfmt::skip]
+const KOTLIN_KINDS: &[(&[u8], Kind)] = &[
+    (b"u", AT_MOST_64), (b"U", AT_MOST_64), (b"uL", AT_MOST_64), (b"UL", AT_MOST_64), (b"f", SINGLE), (b"F", SINGLE),
+];
 const KOTLIN_FLOATS: Suffixes = words(&[b"f", b"F"], &[]).with_kinds(FLOAT);
 
 /// Suffixes of Nim, in either case. A word behind `'`, as in `1'i8`, is refused, and so is a second point.
@@ -349,8 +393,15 @@ const RUST_INTEGERS: &[&[u8]] =
 const RUST_DECIMALS: &[&[u8]] = &[
     b"u8", b"u16", b"u32", b"u64", b"u128", b"usize", b"i8", b"i16", b"i32", b"i64", b"i128", b"isize", b"f32", b"f64",
 ];
-const RUST_WORDS: Suffixes = words(RUST_DECIMALS, &[b"f32", b"f64"]).with_kinds(&[(b"f32", SINGLE)]);
-const RUST_PREFIXED_WORDS: Suffixes = Suffixes::new(RUST_INTEGERS, &[], POINT_AND_NO_NAME);
+const RUST_WORDS: Suffixes = words(RUST_DECIMALS, &[b"f32", b"f64"]).with_kinds(RUST_KINDS);
+const RUST_PREFIXED_WORDS: Suffixes = Suffixes::new(RUST_INTEGERS, &[], POINT_AND_NO_NAME).with_kinds(RUST_KINDS);
+#[rustfmt::skip]
+const RUST_KINDS: &[(&[u8], Kind)] = &[
+    (b"u8", whole(IntegerKind::AtMost(8))), (b"u16", whole(IntegerKind::AtMost(16))), (b"u32", whole(IntegerKind::AtMost(32))),
+    (b"u64", AT_MOST_64), (b"usize", AT_MOST_64),
+    (b"i8", whole(IntegerKind::AtMost(7))), (b"i16", whole(IntegerKind::AtMost(15))), (b"i32", AT_MOST_31), (b"i64", AT_MOST_63),
+    (b"isize", AT_MOST_63), (b"i128", whole(IntegerKind::AtMost(127))), (b"f32", finite(SINGLE)), (b"f64", finite(Kind::EXACT)),
+];
 
 /// A decimal point before a byte that is neither a second one nor begins a name.
 const POINT_AND_NO_NAME: &[Stop] = &[Stop::new(b"", b".", &NO_NAME)];
@@ -386,13 +437,14 @@ languages! {
         ) => ADA_WORDS,
     } => POINTS_BACK;
 
-    /// C's integer and floating constants (C23, 6.4.4.1 and 6.4.4.2). The value of a decimal float has all
+    /// C's integer and floating constants (C23, 6.4.4.1 and 6.4.4.2). A decimal integer has the type `long long`, which has 63 bits
+    /// and a sign, unless its suffix has a `u`. The value of a decimal float has all
     /// its digits: that of `16777217.0df` is not rounded to seven.
     C: "C" = {
-        "decimal": decimal(C.no_integer_leading_zeros(true)) => C_DECIMALS, // rejects `08`, not `08.5`
-        "octal": octal(C) => C_WORDS,
-        "hexadecimal": prefixed(b'x', 16, C) => C_WORDS,
-        "binary": prefixed(b'b', 2, C) => C_WORDS,
+        "decimal": decimal(C.no_integer_leading_zeros(true)) => C_DECIMALS; AT_MOST_63, // rejects `08`, not `08.5`
+        "octal": octal(C) => C_WORDS; AT_MOST_64,
+        "hexadecimal": prefixed(b'x', 16, C) => C_WORDS; AT_MOST_64,
+        "binary": prefixed(b'b', 2, C) => C_WORDS; AT_MOST_64,
         "hexadecimal float": binary_floats(b'x', 16, C.required_exponent_notation(true)) => C_WORDS, // rejects `0x1.8`
     } => Tokens::new(&[], &[]);
 
@@ -415,18 +467,18 @@ languages! {
     /// C++'s integer and floating literals (C++20, 5.13.2 and 5.13.4). The standard library has the suffixes of durations and
     /// dates, and `i`, `il` and `if` of imaginary numbers.
     C_PLUS_PLUS: "C++" = {
-        "decimal": decimal(C.no_integer_leading_zeros(true)) => C_PLUS_PLUS_WORDS, // rejects `08`, not `08.5`
-        "octal": octal(C) => C_PLUS_PLUS_WORDS,
-        "hexadecimal": prefixed(b'x', 16, C) => C_PLUS_PLUS_WORDS,
-        "binary": prefixed(b'b', 2, C) => C_PLUS_PLUS_WORDS,
+        "decimal": decimal(C.no_integer_leading_zeros(true)) => C_PLUS_PLUS_WORDS; AT_MOST_63, // rejects `08`, not `08.5`
+        "octal": octal(C) => C_PLUS_PLUS_WORDS; AT_MOST_64,
+        "hexadecimal": prefixed(b'x', 16, C) => C_PLUS_PLUS_WORDS; AT_MOST_64,
+        "binary": prefixed(b'b', 2, C) => C_PLUS_PLUS_WORDS; AT_MOST_64,
         "hexadecimal float": binary_floats(b'x', 16, C.required_exponent_notation(true)) => C_PLUS_PLUS_WORDS, // rejects `0x1.8`
     } => Tokens::new(&[], &[]);
 
     /// C#'s integer and real literals (C# standard, 6.4.5.3 and 6.4.5.4).
     C_SHARP: "C#" = {
-        "decimal": decimal(JAVA.required_fraction_digits(true)) => C_SHARP_DECIMALS, // rejects `1.`, not `.5`
-        "hexadecimal": prefixed(b'x', 16, JAVA.integer_leading_digit_separator(true)) => words(C_SHARP_INTEGERS, &[]).either_case(true), // accepts `0x_1F`
-        "binary": prefixed(b'b', 2, JAVA.integer_leading_digit_separator(true)) => words(C_SHARP_INTEGERS, &[]).either_case(true), // accepts `0b_1`
+        "decimal": decimal(JAVA.required_fraction_digits(true)) => C_SHARP_DECIMALS; finite(AT_MOST_64), // rejects `1.`, not `.5`
+        "hexadecimal": prefixed(b'x', 16, JAVA.integer_leading_digit_separator(true)) => words(C_SHARP_INTEGERS, &[]).either_case(true); AT_MOST_64, // accepts `0x_1F`
+        "binary": prefixed(b'b', 2, JAVA.integer_leading_digit_separator(true)) => words(C_SHARP_INTEGERS, &[]).either_case(true); AT_MOST_64, // accepts `0b_1`
     } => POINTS_BACK;
 
     /// D's integers and floats (D Language Specification, Lexical, Integer Literals and Floating Point Literals). Compilers
@@ -436,27 +488,27 @@ languages! {
             .required_fraction_digits(true) // rejects `1.` and `1.e5`, not `.5`
             .no_integer_leading_zeros(true) // rejects `08`, not `08.5`
             .exponent_leading_digit_separator(true) // accepts `1e_5`
-        ) => D_WORDS; AT_MOST_63,
+        ) => D_WORDS; finite(AT_MOST_63),
         "with a point at the end": decimal(RUST
             .exponent_digit_separator_flags(false)
             .no_integer_leading_zeros(true) // rejects `08`, not `08.`
             .no_exponent_notation(true) // rejects `1.e5`
-        ); AT_MOST_63,
+        ); finite(AT_MOST_63),
         "hexadecimal": prefixed(b'x', 16, D_PREFIXED) => D_INTEGERS; AT_MOST_64,
         "binary": prefixed(b'b', 2, D_PREFIXED) => D_INTEGERS; AT_MOST_64,
         "hexadecimal float": binary_floats(b'x', 16, D_PREFIXED
             .required_fraction_digits(true) // rejects `0x1.p3`, not `0x.8p3`
             .exponent_leading_digit_separator(true) // accepts `0x1p_3`
             .required_exponent_notation(true) // rejects `0x1.8`
-        ) => D_WORDS,
+        ) => D_WORDS; finite(Kind::EXACT),
     } => POINTS_BACK;
 
-    /// Elixir's integers and floats (Syntax reference 1.14, Numbers). Elixir refuses numbers from 1.8e308 on, which are infinity here.
+    /// Elixir's integers and floats (Syntax reference 1.14, Numbers).
     ELIXIR: "Elixir" = {
         "decimal": decimal(separated(b'_')
             .required_digits(true) // rejects `.5`, `1.`, `1e` and `.`
             .no_exponent_without_fraction(true) // rejects `1e5`, not `1.0e5`
-        ),
+        ); finite(Kind::EXACT),
         "hexadecimal": prefixed(b'x', 16, separated(b'_').case_sensitive_base_prefix(true)), // rejects `0X1F`
         "octal": prefixed(b'o', 8, separated(b'_').case_sensitive_base_prefix(true)), // rejects `0O17`
         "binary": prefixed(b'b', 2, separated(b'_').case_sensitive_base_prefix(true)), // rejects `0B1`
@@ -471,7 +523,7 @@ languages! {
         "double precision": numbers(b'd', b'.', NumberFormatBuilder::new()
             .no_special(true)
             .required_exponent_notation(true) // rejects `1.0`, which the first form reads
-        ),
+        ); finite(Kind::EXACT),
     } => POINTS_BACK;
 
     /// Go's integer and floating-point literals (Language Specification).
@@ -511,11 +563,11 @@ languages! {
     /// with `L`, of `long`: a hexadecimal, octal or binary integer from 2^31 on is negative, as `0xffffffff`, which is -1.
     /// `2147483648`, which is lawful only after the operator `-`, is too large.
     JAVA: "Java" = {
-        "decimal": decimal(JAVA.no_integer_leading_zeros(true)) => JAVA_DECIMALS; AT_MOST_31, // rejects `08`, not `08.5`
+        "decimal": decimal(JAVA.no_integer_leading_zeros(true)) => JAVA_DECIMALS; within(AT_MOST_31), // rejects `08`, not `08.5`
         "octal": octal(JAVA) => JAVA_INTEGERS; WRAPS_32,
         "hexadecimal": prefixed(b'x', 16, JAVA) => JAVA_INTEGERS; WRAPS_32,
         "binary": prefixed(b'b', 2, JAVA) => JAVA_INTEGERS; WRAPS_32,
-        "hexadecimal float": binary_floats(b'x', 16, JAVA.required_exponent_notation(true)) => JAVA_FLOATS, // rejects `0x1.8`
+        "hexadecimal float": binary_floats(b'x', 16, JAVA.required_exponent_notation(true)) => JAVA_FLOATS; within(Kind::EXACT), // rejects `0x1.8`
     } => Tokens::new(
         &[Form::new("float, leading zeros", integers(10, JAVA, UNSIGNED)).with_suffixes(&JAVA_FLOATS)],
         &[],
@@ -557,14 +609,15 @@ languages! {
         ),
     } => Tokens::new(&[], &[]);
 
-    /// Kotlin's integer and real literals (Kotlin language specification 1.9, Literals).
+    /// Kotlin's integer and real literals (Kotlin language specification 1.9, Literals). An integer is an `Int` or a `Long` or, with
+    /// `u`, a `ULong`.
     KOTLIN: "Kotlin" = {
         "decimal": decimal(JAVA
             .required_fraction_digits(true) // rejects `1.`, not `.5`
             .no_integer_leading_zeros(true) // rejects `01`, not `01.0`
-        ) => KOTLIN_DECIMALS,
-        "hexadecimal": prefixed(b'x', 16, JAVA) => words(KOTLIN_INTEGERS, &[]),
-        "binary": prefixed(b'b', 2, JAVA) => words(KOTLIN_INTEGERS, &[]),
+        ) => KOTLIN_DECIMALS; AT_MOST_63,
+        "hexadecimal": prefixed(b'x', 16, JAVA) => KOTLIN_WORDS; AT_MOST_63,
+        "binary": prefixed(b'b', 2, JAVA) => KOTLIN_WORDS; AT_MOST_63,
     } => Tokens::new(
         &[Form::new("float, leading zeros", integers(10, JAVA, UNSIGNED)).with_suffixes(&KOTLIN_FLOATS)],
         &[],
@@ -604,9 +657,8 @@ languages! {
     } => Tokens::new(&[], &[]);
 
     /// Nim's integers and floats, with the sign `-` (Nim Manual 1.6, Numeric literals). A hexadecimal, octal or binary integer
-    /// keeps its last 64 bits: `0xffffffffffffffff` is -1. Nim also accepts the least integers, such as `-128i8`, which are too
-    /// small here, and `0c17`, which the manual does not, but refuses `-1u8`. Tokens with `'` are refused here, and so is
-    /// `0b1f32`, whose digits are the bits of a float.
+    /// keeps its last 64 bits: `0xffffffffffffffff` is -1. Nim also accepts `0c17`, which the manual does not, but refuses `-1u8`.
+    /// Tokens with `'` are refused here, and so is `0b1f32`, whose digits are the bits of a float.
     NIM: "Nim" = {
         "decimal": numbers(b'e', b'.', separated(b'_').required_digits(true)) => NIM_DECIMALS; AT_MOST_63, // rejects `.5`, `1.`, `1e` and `.`
         "hexadecimal": signed(prefixed(b'x', 16, separated(b'_'))) => NIM_INTEGERS; LAST_64,
@@ -691,22 +743,24 @@ languages! {
     )
     .gives_points_back(true);
 
-    /// Rust's integers and floats (Reference, Integer literals and Floating-point literals). At the end of a text, the
+    /// Rust's integers and floats (Reference, Integer literals and Floating-point literals). The type of an integer without a suffix
+    /// is inferred, so its value has up to 128 bits. With a suffix, `128i8`, which is lawful only after the operator `-`, is too
+    /// large. At the end of a text, the
     /// token of `0b1.` is `0b1`, but rustc takes the point, and refuses it.
     RUST: "Rust" = {
         "decimal": decimal(RUST
             .required_integer_digits(true) // rejects `.5`
             .required_fraction_digits(true) // rejects `1.` and `1.e5`
             .exponent_leading_digit_separator(true) // accepts `1e_5`
-        ) => RUST_WORDS,
+        ) => RUST_WORDS; finite(AT_MOST_128),
         "with a point at the end": decimal(RUST
             .exponent_digit_separator_flags(false)
             .required_integer_digits(true) // rejects `.5`, not `1.`
             .no_exponent_notation(true) // rejects `1.e5`
-        ) => RUST_WORDS,
-        "hexadecimal": prefixed(b'x', 16, RUST_PREFIXED) => RUST_PREFIXED_WORDS,
-        "octal": prefixed(b'o', 8, RUST_PREFIXED) => RUST_PREFIXED_WORDS,
-        "binary": prefixed(b'b', 2, RUST_PREFIXED) => RUST_PREFIXED_WORDS,
+        ) => RUST_WORDS; finite(AT_MOST_128),
+        "hexadecimal": prefixed(b'x', 16, RUST_PREFIXED) => RUST_PREFIXED_WORDS; AT_MOST_128,
+        "octal": prefixed(b'o', 8, RUST_PREFIXED) => RUST_PREFIXED_WORDS; AT_MOST_128,
+        "binary": prefixed(b'b', 2, RUST_PREFIXED) => RUST_PREFIXED_WORDS; AT_MOST_128,
     } => POINTS_BACK;
 
     /// Scala's integers and floats (Scala 3.3 Reference, Syntax). Values are those of `Int` or, with `L`, of `Long`:
@@ -715,10 +769,10 @@ languages! {
         "decimal": decimal(JAVA
             .required_fraction_digits(true) // rejects `1.`, not `.5`
             .no_integer_leading_zeros(true) // rejects `01`, not `01.0`
-        ) => JAVA_DECIMALS; AT_MOST_31,
+        ) => SCALA_DECIMALS; finite(AT_MOST_31),
         "hexadecimal": prefixed(b'x', 16, JAVA) => JAVA_INTEGERS; WRAPS_32,
     } => Tokens::new(
-        &[Form::new("float, leading zeros", integers(10, JAVA, UNSIGNED)).with_suffixes(&JAVA_FLOATS)],
+        &[Form::new("float, leading zeros", integers(10, JAVA, UNSIGNED)).with_suffixes(&SCALA_FLOATS)],
         &[],
     ).gives_points_back(true);
 

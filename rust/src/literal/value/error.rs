@@ -3,8 +3,9 @@
 use core::fmt;
 use core::ops::Range;
 
+use crate::literal::value::kind::limit;
 use crate::literal::value::{FromLiteral, ValueErrorKind};
-use crate::literal::{FormError, IntegerKind, Kind, ReadError};
+use crate::literal::{FormError, IntegerKind, ReadError};
 
 /// Why a number has no value in a type.
 #[derive(Debug, Clone, Copy, PartialEq, Eq, Hash)]
@@ -12,8 +13,8 @@ pub struct ValueError {
     kind: ValueErrorKind,
     target: &'static Target,
     size: usize,
-    /// The bits of integers of its kind, from which on a number is too large, or 0.
-    bits: u8,
+    /// The kind of an integer.
+    of: IntegerKind,
 }
 
 /// What the errors of a type that is parsed name: the type, with its limits.
@@ -36,6 +37,11 @@ impl Target {
         Target { name, limits: Some((least, largest)) }
     }
 
+    /// Returns the name of a type of floats.
+    pub(super) const fn unlimited(name: &'static str, _: i128, _: u128) -> Target {
+        Target::new(name)
+    }
+
     /// Returns the sizes of the least and the largest value that the type may have.
     pub(super) const fn limits(&self) -> (u128, u128) {
         match self.limits {
@@ -54,23 +60,21 @@ impl Target {
 }
 
 impl ValueError {
-    /// Returns the error of a literal of `size` bytes of a kind.
-    pub(crate) const fn of<T: FromLiteral>(kind: ValueErrorKind, size: usize, of: Kind) -> ValueError {
-        let bits = match of.integers() {
-            IntegerKind::AtMost(bits) | IntegerKind::Wraps(bits) => bits,
-            _ => 0,
-        };
-        ValueError { kind, target: const { &T::TARGET }, size, bits }
+    /// Returns the error of a literal of `size` bytes, whose kind is that of an integer.
+    pub(crate) const fn of<T: FromLiteral>(kind: ValueErrorKind, size: usize, of: IntegerKind) -> ValueError {
+        ValueError { kind, target: const { &T::TARGET }, size, of }
     }
 
-    /// Returns whether a number that is out of range is so for its kind: the type has more values.
-    fn is_above_kind(&self) -> bool {
-        let most = (1_i128 << self.bits) - 1;
-        let has_more = |(least, largest): (i128, u128)| match self.kind {
-            ValueErrorKind::TooSmall => least < -most,
-            _ => largest > most.unsigned_abs(),
+    /// Returns the size of the largest or least number of its kind, if a number is out of range for it: the type has more values.
+    fn limit_of_kind(&self) -> Option<u128> {
+        let negative = matches!(self.kind, ValueErrorKind::TooSmall);
+        let most = match self.of {
+            IntegerKind::AtMost(bits) => limit(bits, negative),
+            IntegerKind::Wraps(bits) => limit(bits, false),
+            _ => return None,
         };
-        self.bits > 0 && self.target.limits.is_none_or(has_more)
+        let has_more = |(least, largest): (i128, u128)| if negative { least.unsigned_abs() } else { largest } > most;
+        self.target.limits.is_none_or(has_more).then_some(most)
     }
 
     /// Returns what is wrong.
@@ -97,6 +101,7 @@ impl ValueError {
 impl fmt::Display for ValueError {
     fn fmt(&self, f: &mut fmt::Formatter<'_>) -> fmt::Result {
         let target = self.target();
+        let (limits, of_kind) = (self.target.limits, self.limit_of_kind());
         match self.kind {
             ValueErrorKind::Float => write!(f, "a float, and {target} is an integer type"),
             ValueErrorKind::Special => write!(f, "NaN or infinity, and {target} is an integer type"),
@@ -105,19 +110,16 @@ impl fmt::Display for ValueError {
             ValueErrorKind::UnsupportedRadix => {
                 write!(f, "no {target}: the mantissa radix and the exponent base are not both 10 or both powers of two")
             }
-            ValueErrorKind::TooLarge if self.is_above_kind() => {
-                write!(f, "above {}, the largest number of its form", (1_u128 << self.bits) - 1)
-            }
-            ValueErrorKind::TooSmall if self.is_above_kind() => {
-                write!(f, "below -{}, the least number of its form", (1_u128 << self.bits) - 1)
-            }
-            ValueErrorKind::TooLarge => match self.target.limits {
-                Some((_, largest)) => write!(f, "above {largest}, the largest {target}"),
-                None => write!(f, "above the largest {target}"),
+            ValueErrorKind::Vanishes => write!(f, "too near to 0 for an {target}"),
+            ValueErrorKind::TooLarge => match (of_kind, limits) {
+                (Some(most), _) => write!(f, "above {most}, the largest number of its form"),
+                (_, Some((_, largest))) => write!(f, "above {largest}, the largest {target}"),
+                _ => write!(f, "above the largest {target}"),
             },
-            ValueErrorKind::TooSmall => match self.target.limits {
-                Some((least, _)) => write!(f, "below {least}, the least {target}"),
-                None => write!(f, "below the least {target}"),
+            ValueErrorKind::TooSmall => match (of_kind, limits) {
+                (Some(most), _) => write!(f, "below -{most}, the least number of its form"),
+                (_, Some((least, _))) => write!(f, "below {least}, the least {target}"),
+                _ => write!(f, "below the least {target}"),
             },
         }
     }

@@ -2,28 +2,36 @@
 
 //! The value of a literal as a value of a float type.
 
-use crate::literal::kind::FloatKind;
+use crate::literal::kind::{FloatKind, FloatLimits};
 use crate::literal::literal::Literal;
 use crate::literal::value::integer::{integer_numeral, ValueErrorKind};
-use crate::literal::value::kind::{fewer, is_exact, Worth};
+use crate::literal::value::kind::{fewer, is_exact};
 use crate::literal::value::number::decimal::{decimal_to_float, digits_to_float};
 use crate::literal::value::number::float::Float;
 use crate::literal::value::number::leading::{push_all, saturating, Leading};
+use crate::literal::value::number::numeral::Magnitude;
 use crate::literal::value::number::scaling::{bits_of, raised_bits, raised_word};
 use crate::word::FormatView;
 
 /// Returns the value of a literal by its kind as a value of a float type: rounded once to the nearest float, or to the even one
-/// if two are as near. The value is infinite if it is that large. Its sign is that of the literal, also for 0.
+/// if two are as near. Unless its kind has limits, the value is infinite if it is that large. Its sign is that of the literal, also
+/// for 0.
 ///
 /// # Errors
 ///
-/// If the mantissa radix and the exponent base are neither both 10 nor both powers of two, of any literal, or if an integer is
-/// too large for its kind.
+/// If the mantissa radix and the exponent base are neither both 10 nor both powers of two, of any literal, or if a number is too
+/// large for its kind, or vanishes.
 #[inline(always)]
 pub fn to_float<F: Float>(literal: &Literal) -> Result<F, ValueErrorKind> {
     let kind = literal.kind();
     if is_exact(kind.integers()) || literal.is_float() {
-        float_of_kind(kind.floats(), literal)
+        match float_of_kind::<F>(kind.floats(), literal) {
+            Ok(value) => match beyond(kind.limits(), value.is_infinite(), value.is_zero(), literal) {
+                None => Ok(value),
+                Some(error) => Err(error),
+            },
+            Err(error) => Err(error),
+        }
     } else {
         whole_float(&{ *literal })
     }
@@ -41,6 +49,28 @@ fn float_of_kind<F: Float>(kind: FloatKind, literal: &Literal) -> Result<F, Valu
     }
 }
 
+// Returns why a literal has no float by these limits, if its nearest one is infinite or 0.
+#[inline(always)]
+pub(crate) const fn beyond(
+    limits: FloatLimits,
+    infinite: bool,
+    zero: bool,
+    literal: &Literal,
+) -> Option<ValueErrorKind> {
+    match limits {
+        FloatLimits::None => None,
+        _ if infinite => Some(ValueErrorKind::out_of_range(literal.is_negative())),
+        FloatLimits::Both if zero && has_digits(literal) => Some(ValueErrorKind::Vanishes),
+        _ => None,
+    }
+}
+
+// Returns whether a digit of the mantissa is not 0.
+#[cold]
+const fn has_digits(literal: &Literal) -> bool {
+    leading_of(literal, literal.format().mantissa_radix()).digits != 0
+}
+
 // Returns the nearest `f32`, in one copy.
 #[cold]
 #[inline(never)]
@@ -56,7 +86,10 @@ fn whole_float<F: Float>(literal: &Literal) -> Result<F, ValueErrorKind> {
     }
     let Some(numeral) = integer_numeral(literal) else { unreachable!() };
     match fewer(literal.kind().integers(), &numeral) {
-        Some(Worth { negative, size }) => Ok(signed(digits_to_float(size, 0, false, 0), negative)),
+        Some(own) => match own.magnitude {
+            Magnitude::Word(size) => Ok(signed(digits_to_float(size, 0, false, 0), own.negative)),
+            Magnitude::Digits(_, _) => nearest_float(literal),
+        },
         None => Err(ValueErrorKind::out_of_range(numeral.negative)),
     }
 }

@@ -5,13 +5,6 @@
 use crate::literal::kind::IntegerKind;
 use crate::literal::value::number::numeral::{Magnitude, Numeral};
 
-// An integer of up to 64 bits and its sign.
-#[derive(Clone, Copy)]
-pub(crate) struct Worth {
-    pub(crate) negative: bool,
-    pub(crate) size: u64,
-}
-
 // Returns whether integers are the number that their digits represent.
 #[inline(always)]
 pub(crate) const fn is_exact(kind: IntegerKind) -> bool {
@@ -44,23 +37,23 @@ pub(crate) const fn counted<'a>(kind: IntegerKind, numeral: Numeral<'a>) -> Opti
     if keeps(kind, &numeral) {
         return Some(numeral);
     }
-    match fewer(kind, &{ numeral }) {
-        Some(Worth { negative, size }) => Some(Numeral { negative, magnitude: Magnitude::Word(size) }),
-        None => None,
-    }
+    fewer(kind, &{ numeral })
 }
 
 // Returns what an integer is worth by a kind that is not exact, or `None` if it is too large.
 #[cold]
 #[inline(never)]
-pub(crate) const fn fewer(kind: IntegerKind, numeral: &Numeral) -> Option<Worth> {
+pub(crate) const fn fewer<'a>(kind: IntegerKind, numeral: &Numeral<'a>) -> Option<Numeral<'a>> {
     let negative = numeral.negative;
     match kind {
         IntegerKind::Exact => None,
-        IntegerKind::AtMost(bits) => match numeral.size(most(bits), most(bits)) {
-            Some(size) => Some(Worth { negative, size }),
-            None => None,
-        },
+        IntegerKind::AtMost(bits) => {
+            let most = limit(bits, negative);
+            match numeral.wide_size(most, most) {
+                Some(_) => Some(*numeral),
+                None => None,
+            }
+        }
         IntegerKind::Wraps(bits) => match numeral.size(most(bits), most(bits)) {
             Some(size) => Some(wrapped(bits, negative, size)),
             None => None,
@@ -69,7 +62,20 @@ pub(crate) const fn fewer(kind: IntegerKind, numeral: &Numeral) -> Option<Worth>
     }
 }
 
-// Returns `2 ^ bits`. No kind has more than 64 bits.
+// Returns the largest number of so many bits or, with the sign `-`, one more. It has at most 128 bits.
+pub(crate) const fn limit(bits: u8, negative: bool) -> u128 {
+    if bits >= 128 {
+        return u128::MAX;
+    }
+    let power = 1 << bits;
+    if negative {
+        power
+    } else {
+        power - 1
+    }
+}
+
+// Returns `2 ^ bits`. No kind by which numbers wrap has more than 64 bits.
 const fn power(bits: u8) -> u128 {
     let width = if bits < 64 { bits } else { 64 };
     1 << width
@@ -92,12 +98,12 @@ const fn lowest(bits: u8, number: u64) -> u64 {
 }
 
 // Returns an integer of so many bits, one of which is its sign.
-const fn wrapped(bits: u8, negative: bool, size: u64) -> Worth {
+const fn wrapped<'a>(bits: u8, negative: bool, size: u64) -> Numeral<'a> {
     let half = half(bits);
     let most = if negative { half } else { half - 1 };
     if size <= most {
-        Worth { negative, size }
+        Numeral { negative, magnitude: Magnitude::Word(size) }
     } else {
-        Worth { negative: !negative, size: (power(bits) - size as u128) as u64 }
+        Numeral { negative: !negative, magnitude: Magnitude::Word((power(bits) - size as u128) as u64) }
     }
 }

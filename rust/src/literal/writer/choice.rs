@@ -2,7 +2,7 @@
 
 //! A list of forms writes numbers: in the first form whose text the list reads as the number.
 
-use crate::literal::kind::{FloatKind, IntegerKind, Kind};
+use crate::literal::kind::{FloatKind, FloatLimits, IntegerKind, Kind};
 use crate::literal::list::{Form, Forms, Number};
 use crate::literal::literal::Literal;
 use crate::literal::syntax::{Condition, Syntax};
@@ -218,10 +218,10 @@ fn has_floats(syntax: &Syntax) -> bool {
 
 // Returns whether literals of a kind, with a decimal point or an exponent or without, are worth the nearest float.
 const fn is_nearest(kind: Kind, float: bool) -> bool {
-    match (kind.floats(), kind.integers()) {
-        (FloatKind::Nearest, IntegerKind::Exact) => true,
-        (FloatKind::Nearest, _) => float,
-        (FloatKind::Single, _) => false,
+    match (kind.floats(), kind.limits(), kind.integers()) {
+        (FloatKind::Nearest, FloatLimits::None, IntegerKind::Exact) => true,
+        (FloatKind::Nearest, FloatLimits::None, _) => float,
+        _ => false,
     }
 }
 
@@ -268,7 +268,10 @@ fn whole_worth(literal: &Literal) -> Option<(bool, u128)> {
 
 // Returns whether literals of a kind are the number that their digits represent.
 const fn is_exact(kind: Kind) -> bool {
-    matches!(kind.integers(), IntegerKind::Exact) && matches!(kind.floats(), FloatKind::Nearest)
+    matches!(
+        (kind.integers(), kind.floats(), kind.limits()),
+        (IntegerKind::Exact, FloatKind::Nearest, FloatLimits::None)
+    )
 }
 
 // The longest text that is read back.
@@ -425,7 +428,8 @@ fn write_by<N: Writable + ?Sized>(
 
 // Returns why a text is not used that is read as this literal, which is another number or has no value.
 fn mismatch(literal: &Literal) -> WriteError {
-    if !literal.is_float() && own_numeral(literal).is_err() {
+    let refused = if literal.is_float() { to_float::<f64>(literal).is_err() } else { own_numeral(literal).is_err() };
+    if refused {
         WriteError::TooLarge
     } else {
         WriteError::ReadBack

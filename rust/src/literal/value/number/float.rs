@@ -19,6 +19,12 @@ pub trait Float: Copy {
     /// Returns the bits, or `None` for NaN.
     fn bits(self) -> Option<u64>;
 
+    /// Returns whether the float is infinite.
+    fn is_infinite(self) -> bool;
+
+    /// Returns whether the float is 0 or -0.
+    fn is_zero(self) -> bool;
+
     /// Returns `digits * 10 ^ scale`, or `digits / 10 ^ scale` if `over` is true, rounded once, if both numbers are floats.
     fn by_ten_to(digits: u64, scale: u64, over: bool) -> Option<Self>;
 }
@@ -59,6 +65,16 @@ impl Float for f64 {
     }
 
     #[inline(always)]
+    fn is_infinite(self) -> bool {
+        self.is_infinite()
+    }
+
+    #[inline(always)]
+    fn is_zero(self) -> bool {
+        self == 0.0
+    }
+
+    #[inline(always)]
     fn by_ten_to(digits: u64, scale: u64, over: bool) -> Option<f64> {
         if digits > 1 << 53 || scale > 22 {
             return None;
@@ -93,6 +109,16 @@ impl Float for f32 {
         } else {
             Some(self.to_bits() as u64)
         }
+    }
+
+    #[inline(always)]
+    fn is_infinite(self) -> bool {
+        self.is_infinite()
+    }
+
+    #[inline(always)]
+    fn is_zero(self) -> bool {
+        self == 0.0
     }
 
     #[inline(always)]

@@ -8,4 +8,5 @@ returns-then-is_nearest g c equal style read kind word float has =
     plain_real (format_of g.F.Float.DOUBLE) (g.F.Float.value c.args.self.now.value) style.decimals c.args.syntax.now read word
     (sym c.has_floats.ensures ∙ equal)
     ((λ i. (kind i).floats) ∙ c.is_nearest.ensures.near c.if-is_nearest.true)
+    ((λ i. (kind i).limits) ∙ c.is_nearest.ensures.free c.if-is_nearest.true)
     ((λ i. is_exact (kind i).integers || float i) ∙ c.is_nearest.ensures.plain c.if-is_nearest.true) has
