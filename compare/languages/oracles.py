@@ -100,6 +100,12 @@ def out_of_range(most, single=None, pattern=".*"):
     return Cause("-", pattern, "a number that the tool has no type for", test)
 
 
+def doubles(least):
+    """The tool makes doubles of integers from `least` on. Only those that are written have to be exact."""
+    return Cause("=", ".*", "an integer that is a double to the tool, which rounds it",
+                 lambda ours, theirs: not ours.is_float and isinstance(theirs, float) and least <= abs(theirs) == abs(ours.double))
+
+
 ZERO = Cause("=", r"-[0.,]+([eE].*)?", "a negative zero, which the tool does not have", lambda _, theirs: theirs == 0)
 ROUNDED = Cause("=", ".*", "a fault of the tool, which rounds to the next float", lambda ours, theirs: ours.double == nearest(ours.text)
                 and theirs in [math.nextafter(ours.double, to) for to in (-math.inf, math.inf)])
@@ -114,7 +120,8 @@ CELLS = [
         (r"-?\d{4,}[.,]\d{3}[\d.,]*", "a first group of four digits"),
     )
 ] + [ZERO, Cause("-", ".*", "a subnormal or infinite number, which the tool has no type for",
-                lambda ours, _: ours.exact != 0 and not 2**-1022 <= abs(ours.double) < math.inf)]
+                lambda ours, _: ours.exact != 0 and not 2**-1022 <= abs(ours.double) < math.inf),
+     doubles(2**53)]
 
 # A language: its name, its tool, the alphabet of the short texts, the separator of the seeds, and what other random texts are
 # near to.
@@ -154,13 +161,13 @@ LANGUAGES = [
     Language("JAVA", "javac", "018._exp-+b", "_", "1L 1f 08f 0x1p3d", [
         suffix("[lLfFdD]"), Cause("+", r"[0-9_]*[fFdD]", "a float by its suffix alone"),
         out_of_range(math.inf)]),
-    Language("JAVASCRIPT", "v8", "018._exn-+b", "_", "1n 0b1n", [suffix("n"), Cause("+", "NaN|Infinity", "a name")]),
-    Language("JSON", "json", "012.eE+-x_", "_", "", []),
-    Language("JSON5", "json5", "018.eE+-x", "", "NaN Infinity -Infinity +NaN nan -0x1F", []),
+    Language("JAVASCRIPT", "v8", "018._exn-+b", "_", "1n 0b1n", [suffix("n"), Cause("+", "NaN|Infinity", "a name"), doubles(2**53)]),
+    Language("JSON", "json", "012.eE+-x_", "_", "", [doubles(2**53)]),
+    Language("JSON5", "json5", "018.eE+-x", "", "NaN Infinity -Infinity +NaN nan -0x1F", [doubles(2**53)]),
     Language("KOTLIN", "kotlinc", "01._exL-", "_", "1L 1f 1u 1uL", [
         suffix("[uU]?L|[uU]|[fF]"), Cause("+", r"\d[\d_]*[fF]", "a float by its suffix alone"), out_of_range(2**63),
         Cause("+", r"[\da-fA-FxXbB_]+_[uU]L?", "a separator before a suffix, beside the specification")]),
-    Language("LUA", "lua", "018.aexp-+", "_", "0x.8 0x1.8 0x1p3", []),
+    Language("LUA", "lua", "018.aexp-+", "_", "0x.8 0x1.8 0x1p3", [doubles(2**63)]),
     Language("NASM", "nasm", "01a._hxebd", "_", "0c8h 0c8x 17q 17o 10d 10t 101b 101y 0h1F 0y1 0q7 0t9 $0c8 1h. 1x. 7q. 7o. 9d. 9t. 1b. 1y.", [
         Cause("+", r"\$[\w$.]*", "the prefix $, or an address"),
         Cause("+", r"0[a-zA-Z][_.]*([eEpP][+-]?[0-9_]*)?", "no digits behind a prefix"),
@@ -177,12 +184,14 @@ LANGUAGES = [
     Language("PERL", "perl", "018._exp-o", "_", "01.4p0 0o1.4p0 0b1.1p0 07_7 1.2.3", [
         Cause("-", "0_[0-7_]+(\\.[0-7_]*)?([pP][+-]?[\\d_]+)?", "a separator behind the first zero, of which the tool warns"),
         Cause("-", r"0(\.[0-7_]*)?[pP][+-]?[\d_]+", "an octal float with one digit before its point"),
-        Cause("=", "0.*[pP].*", "a fraction of more than 52 bits, of which the tool drops the rest", lambda ours, theirs: theirs < ours.double)]),
-    Language("PHP", "php", "018._exo-b", "_", "0o17 0O17 0b1", []),
+        Cause("=", "0.*[pP].*", "a fraction of more than 52 bits, of which the tool drops the rest", lambda ours, theirs: theirs < ours.double),
+        doubles(2**63)]),
+    Language("PHP", "php", "018._exo-b", "_", "0o17 0O17 0b1", [doubles(2**63)]),
     Language("PYTHON", "ast", "018._exj-+b", "_", "1j 0j", [
         suffix("[jJ]"), Cause("+", "0[0_]*", "an integer of zeros alone"), Cause("+", "[0-9_]+[jJ]", "digits of an imaginary number")]),
     Language("R", "r", "018.aexp-L", "_", "1L 1i 0x1.8p3", [
-        suffix("[Li]"), Cause("+", "NaN|Inf", "a name"), ROUNDED, Cause("+", r"0[xX]\.[pP][+-]?\d+[Li]?", "no digits behind a prefix")]),
+        suffix("[Li]"), Cause("+", "NaN|Inf", "a name"), ROUNDED, Cause("+", r"0[xX]\.[pP][+-]?\d+[Li]?", "no digits behind a prefix"),
+        doubles(2**53)]),
     Language("RUBY", "ruby", "018._exr-+b", "_", "1r 1i 1ri 0d10", [suffix("ri?|i")]),
     Language("RUST", "rustc", "018._exo-u", "_", "1u8 1.5f32 1_i64 0x1z", [
         suffix("([ui](8|16|32|64|128|size)|f32|f64)"), out_of_range(2**128)]),
@@ -190,13 +199,13 @@ LANGUAGES = [
     Language("SCALA", "scala", "0189.exf-+", "", "1L 1f 08f 08.5 1d", [
         suffix("[lLfFdD]"), Cause("+", "[0-9]*[fFdD]", "a float by its suffix alone"), out_of_range(math.inf)]),
     Language("SQL", "postgres", "019.eE+-x_", "_", "", [ZERO]),
-    Language("SQL", "sqlite", "019.eE+-x_", "_", "", [Cause("+", r"[+-]?0[xX][\da-fA-F]+", "hexadecimal, beyond the standard"), ROUNDED]),
+    Language("SQL", "sqlite", "019.eE+-x_", "_", "", [Cause("+", r"[+-]?0[xX][\da-fA-F]+", "hexadecimal, beyond the standard"), ROUNDED, doubles(2**63)]),
     Language("TCL", "tcl", "018.exo-bI", "", "Inf inf Infinity -Inf 1eq1 017.5", []),
     Language("TOML", "tomllib", "018._exo-+b", "_", "inf nan +inf", []),
     Language("XML_SCHEMA", "xmllint", "0189.eE+-x", "_", "+1.5 -.5", [
         Cause("-", r"[+-]?[\d.]{25,}", "more than the 24 digits of the tool")]),
     Language("YAML", "yaml", "018.exo-+inf", "_", ".inf -.Inf .NaN .iNF -.nan", [
-        Cause("-", r"[+-]?\.(?i:inf|nan)", "a case or a sign that a format cannot refuse")]),
+        Cause("-", r"[+-]?\.(?i:inf|nan)", "a case or a sign that a format cannot refuse"), doubles(2**53)]),
     Language("YAML_1_1", "pyyaml", "018._ex-+:", "_", ".inf -.Inf .NaN .iNF -.nan 1:30 1:30.5 1.5e+3 0b1_ ._5", [
         Cause("-", r"[+-]?\.(?i:inf|nan)", "a case or a sign that a format cannot refuse"),
         Cause("-", r"([+-]\.|\._)[\d_]+(e[+-]\d+)?", "a string for PyYAML, beside the standard"),

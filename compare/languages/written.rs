@@ -1,6 +1,7 @@
 //! The writer of the library. Reads numbers on standard input, one a line, a language and a literal of it, or `f64` and
-//! the bits of one, and prints each in another language: `+` and the text, or `!` if it is read as another number, and
-//! the one that was given; or `-` and why it is not written, or `?`, the number and why, if that is not true.
+//! the bits of one, and prints each in another language: `+` and the text, or `!` if it is read as another number, the
+//! one that was given, and its exact value if it is an integer; or `-` and why it is not written, or `?`, the number and
+//! why, if that is not true.
 
 use peltzivar::literal::{Condition, Forms, Kind, Language, Literal, Number, Style, Syntax, WriteError};
 use peltzivar::Part;
@@ -12,8 +13,8 @@ enum Given<'a> {
     Literal(Literal<'a>),
 }
 
-/// Returns the integer that a literal is worth, as an integer or a float: its decimal digits, or those of its radix if
-/// no type has it.
+/// Returns the integer that a literal is worth, as an integer or a float: its decimal digits, or those of its radix, with
+/// `:` and the radix behind, if no type has it.
 fn integer(literal: &Literal<'_>) -> Option<String> {
     if literal.is_float() {
         let value = literal.to_f64().ok().filter(|it| it.fract() == 0.0 && it.abs() < 2_f64.powi(128));
@@ -22,7 +23,9 @@ fn integer(literal: &Literal<'_>) -> Option<String> {
     let signed = i128::try_from(*literal).map(|it| it.to_string());
     let value = signed.or_else(|_| u128::try_from(*literal).map(|it| it.to_string()));
     let digits = literal.digits(Part::Integer).skip_while(|it| *it == 0);
-    Some(value.unwrap_or_else(|_| format!("{}: {:?}", literal.radix(Part::Integer), digits.collect::<Vec<_>>())))
+    let digits: String = digits.filter_map(|it| char::from_digit(it.into(), 36)).collect();
+    let sign = if literal.is_negative() { "-" } else { "" };
+    Some(value.unwrap_or_else(|_| format!("{sign}{digits}:{}", literal.radix(Part::Integer))))
 }
 
 /// Returns the literal that a text is to a list.
@@ -43,6 +46,14 @@ impl Given<'_> {
             Given::Float(value) => bits(literal) == Some(value.to_bits()),
             Given::Literal(own) if own.is_float() => bits(own).is_some() && bits(own) == bits(literal),
             Given::Literal(own) => integer(own) == integer(literal) && bits(own) == bits(literal),
+        }
+    }
+
+    /// Returns the exact value of a literal without a fraction and an exponent.
+    fn integer(&self) -> Option<String> {
+        match self {
+            Given::Literal(own) if !own.is_float() => integer(own),
+            _ => None,
         }
     }
 
@@ -130,7 +141,7 @@ fn main() -> io::Result<()> {
         match given.in_forms(forms) {
             Ok(written) => {
                 let mark = if given.is(&read(forms, &written).expect(&line)) { '+' } else { '!' };
-                writeln!(out, "{mark} {written} {text}")?;
+                writeln!(out, "{mark} {written} {text} {}", given.integer().unwrap_or_default())?;
             }
             Err(error) if given.is_refused(forms, error) => writeln!(out, "- {error}")?,
             Err(error) => writeln!(out, "? {text} {error}")?,

@@ -1,4 +1,5 @@
-// The judge of C#: the tokenizer of mcs. Reads texts on standard input, and prints `-`, or `+` and the value.
+// The judge of C#: the tokenizer of mcs. Reads texts on standard input, and prints `-`, or the length of the number that each
+// begins with, and its value, or `-` if mcs refuses it.
 using System;
 using System.Collections.Generic;
 using System.IO;
@@ -6,8 +7,6 @@ using System.Text;
 using Mono.CSharp;
 
 static class Judge {
-    const int EndOfFile = 257; // Mono.CSharp.Token.EOF
-
     static string Answer(string text) {
         var context = new CompilerContext(new CompilerSettings(), new StreamReportPrinter(TextWriter.Null));
         var file = new SourceFile("", "", 0);
@@ -19,9 +18,11 @@ static class Judge {
             tokenizer.token();
             var value = (tokenizer.Value as Constant)?.GetValue();
             bool isNumber = value is IConvertible && !(value is char || value is string);
-            if (!isNumber || tokenizer.token() != EndOfFile || context.Report.Errors != 0) return "-";
+            if (!isNumber) return "-";
+            string size = tokenizer.Location.Column + " ";
+            if (context.Report.Errors != 0) return size + "-";
             bool isFloat = value is float || value is double || value is decimal;
-            return isFloat ? "+ d" + BitConverter.DoubleToInt64Bits(Convert.ToDouble(value)).ToString("x16") : "+ " + value;
+            return size + (isFloat ? "d" + BitConverter.DoubleToInt64Bits(Convert.ToDouble(value)).ToString("x16") : value);
         } catch (FormatException) {
             return "-";
         }

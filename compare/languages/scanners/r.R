@@ -1,10 +1,11 @@
 # The parser of R. Reads texts on standard input, and prints the length of the number that each begins with, or `-`, or `?` if it
-# does not parse the text.
+# ends before its first token. It has the tokens in front of an error.
 size <- function(text) {
-    found <- tryCatch(suppressWarnings(parse(text = text, keep.source = TRUE)), error = function(it) NULL)
-    if (length(found) == 0) return("?")
-    data <- getParseData(found)
+    file <- srcfilecopy("", text)
+    tryCatch(suppressWarnings(parse(text = text, srcfile = file, keep.source = TRUE)), error = function(it) NULL)
+    data <- getParseData(file)
     data <- data[data$terminal, ]
+    if (NROW(data) == 0) return("?")
     first <- data[order(data$line1, data$col1)[1], ]
     if (first$token == "NUM_CONST") as.character(first$col2) else "-"
 }
