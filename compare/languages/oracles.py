@@ -70,7 +70,8 @@ def suffix(pattern):
 def number(text):
     """Returns the number that a text represents, without what the library reads; none if it is not one of C, Python or Fortran."""
     text = re.sub("[_']", "", text.lower())
-    text = re.sub(r"(?<=[\d.])[lfdu]+$", "", text if "x" in text else text.replace("d", "e"))
+    suffix = "[lu]+$" if "x" in text and "p" not in text else r"(?<=[\d.])[lfdu]+$"
+    text = re.sub(suffix, "", text if "x" in text else text.replace("d", "e"))
     if match := re.fullmatch(r"([+-]?)0x([\da-f]*)\.?([\da-f]*)p([+-]?\d+)", text):
         sign, whole, part, power = match.groups()
         return int(f"{sign}{whole}{part}", 16) * fractions.Fraction(2) ** (int(power) - 4 * len(part))
@@ -141,7 +142,9 @@ LANGUAGES = [
         suffix("([uU]|ll?|LL?)+|[fFlL]"), out_of_range(2**63, pattern="[1-9].*"), out_of_range(2**64)]),
     # mcs has faults with separators, so it gets none.
     Language("C_SHARP", "mcs", "0189.exf-+b", "", "1m 1f 1UL", [
-        suffix("[uUlL]+|[fFdDmM]"), out_of_range(2**64), ROUNDED]),
+        suffix("[uUlL]+|[fFdDmM]"), out_of_range(2**64), ROUNDED,
+        *(Cause(mark, ".*[mM]", "a number that is not a decimal of 28 digits", lambda ours, _: not 1e-28 < abs(ours.double) < 2**96)
+          for mark in "-=")]),
     Language("D", "gdc", "018._exp-b", "_", "1L 1uL 1.5f 1i 0x1p3L 0x.8p3 1e_5 0x_1p_3", [
         suffix("[uU]?L?[uU]?|[fFL]?i?"), Cause("+", "0[0-7_]+([uU]?L?[uU]?)", "an octal number below 8, beside the specification"),
         Cause("+", "0[0-9_]*([fF]i?|L?i)", "a float of leading zeros, beside the specification"),

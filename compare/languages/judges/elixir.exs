@@ -14,5 +14,5 @@ judge = fn text ->
   end
 end
 
-texts = IO.binread(:stdio, :eof) |> String.trim_trailing("\n") |> String.split("\n")
+texts = IO.read(:stdio, :eof) |> String.trim_trailing("\n") |> String.split("\n")
 IO.write(Enum.map(texts, &[judge.(&1), "\n"]))

@@ -2,6 +2,7 @@
 // begins with, and its value, or `-` if mcs refuses it.
 using System;
 using System.Collections.Generic;
+using System.Globalization;
 using System.IO;
 using System.Text;
 using Mono.CSharp;
@@ -21,8 +22,9 @@ static class Judge {
             if (!isNumber) return "-";
             string size = tokenizer.Location.Column + " ";
             if (context.Report.Errors != 0) return size + "-";
-            bool isFloat = value is float || value is double || value is decimal;
-            return size + (isFloat ? "d" + BitConverter.DoubleToInt64Bits(Convert.ToDouble(value)).ToString("x16") : value);
+            bool isFloat = value is float || value is double;
+            if (isFloat) return size + "d" + BitConverter.DoubleToInt64Bits(Convert.ToDouble(value)).ToString("x16");
+            return size + Convert.ToString(value, CultureInfo.InvariantCulture);
         } catch (FormatException) {
             return "-";
         }
