@@ -1,16 +1,16 @@
 # The judge of Elixir: its tokenizer. Reads texts on standard input, and prints `-`, or the length of the number that each begins
-# with, and its value.
-judge = fn text ->
-  tokens =
-    case :elixir_tokenizer.tokenize(String.to_charlist(text), 1, []) do
-      {:ok, _, _, _, tokens} -> tokens
-      {:error, _, _, _, tokens} -> Enum.reverse(tokens)
-    end
+# with, and its value, or `-` if no float has it.
+answer = fn
+  [{:int, {_, _, value}, digits} | _] -> "#{length(digits)} #{value}"
+  [{:flt, {_, _, value}, digits} | _] -> "#{length(digits)} d" <> Base.encode16(<<value::float>>)
+  _ -> "-"
+end
 
-  case tokens do
-    [{:int, {_, _, value}, digits} | _] -> "#{length(digits)} #{value}"
-    [{:flt, {_, _, value}, digits} | _] -> "#{length(digits)} d" <> Base.encode16(<<value::float>>)
-    _ -> "-"
+judge = fn text ->
+  case :elixir_tokenizer.tokenize(String.to_charlist(text), 1, []) do
+    {:ok, _, _, _, tokens} -> answer.(tokens)
+    {:error, {_, _, 'invalid float number ', digits}, _, _, []} -> "#{length(digits)} -"
+    {:error, _, _, _, tokens} -> answer.(Enum.reverse(tokens))
   end
 end
 
