@@ -89,16 +89,15 @@ def nearest(text):
         return math.inf
 
 
-def out_of_range(most, single=None, pattern=".*"):
-    """The tool refuses integers from `most` on, and floats that become infinite or zero. Those of a form are singles."""
+def out_of_range(most):
+    """The tool refuses integers from `most` on, and floats that become infinite or zero."""
     def test(ours, _):
         exact = number(ours.text)
         if exact is None or not ours.is_float:
             return exact is not None and abs(exact) >= most and ours.exact in (None, exact)
-        is_far = not 2.0**-149 < abs(exact) < 2**127
-        return exact != 0 and is_far and abs(ours.single if ours.form == single else ours.double) in (0, math.inf)
+        return exact != 0 and abs(ours.double) in (0, math.inf)
 
-    return Cause("-", pattern, "a number that the tool has no type for", test)
+    return Cause("-", ".*", "a number that the tool has no type for", test)
 
 
 def doubles(least):
@@ -133,16 +132,15 @@ LANGUAGES = [
         Cause("+", r"[\d_]+#[\da-fA-F_.]+#([eE][+-]?[\d_]+)?", "a based literal"),
         Cause("-", r"[\d_]+[eE]-[\d_]+", "a negative exponent of an integer"), out_of_range(2**127), ROUNDED]),
     Language("C", "gcc", "018.'exp-b", "'", "1u 1UL 1.0f 0x1p3L 10wb", [
-        suffix("([uU]|ll?|LL?|wb|WB)+|[fFlL]|[dD][fFdDlL]"), Cause("+", r"[\d']+[fF]", "a float by its suffix alone"),
-        out_of_range(2**63, pattern="[1-9].*"), out_of_range(2**64)]),
+        suffix("([uU]|ll?|LL?|wb|WB)+|[fFlL]|[dD][fFdDlL]"), Cause("+", r"[\d']+[fF]", "a float by its suffix alone")]),
     Language("CSS", "tinycss2", "0189.eE+-x", "_", "1e3px 10%", []),
     Language("CSV_DE", "calc 1031", "0125.,-e", ".", "1.234,50 1.234.567,25 12.34 0,50 1.2345,0", CELLS),
     Language("CSV_EN", "calc 1033", "0125.,-e", ",", "1,234.50 1,234,567.25 12,34 0.50 1,2345.0", CELLS),
     Language("C_PLUS_PLUS", "g++", "018.'exp-b", "'", "1u 1UL 1.0f 0x1p3L", [
-        suffix("([uU]|ll?|LL?)+|[fFlL]"), out_of_range(2**63, pattern="[1-9].*"), out_of_range(2**64)]),
+        suffix("([uU]|ll?|LL?)+|[fFlL]")]),
     # mcs has faults with separators, so it gets none.
     Language("C_SHARP", "mcs", "0189.exf-+b", "", "1m 1f 1UL", [
-        suffix("[uUlL]+|[fFdDmM]"), out_of_range(2**64), ROUNDED,
+        suffix("[uUlL]+|[fFdDmM]"), ROUNDED,
         *(Cause(mark, ".*[mM]", "a number that is not a decimal of 28 digits", lambda ours, _: not 1e-28 < abs(ours.double) < 2**96)
           for mark in "-=")]),
     Language("D", "gdc", "018._exp-b", "_", "1L 1uL 1.5f 1i 0x1p3L 0x.8p3 1e_5 0x_1p_3", [
@@ -150,11 +148,11 @@ LANGUAGES = [
         Cause("+", "0[0-9_]*([fF]i?|L?i)", "a float of leading zeros, beside the specification"),
         Cause("+", r"0[\d_]+\._*([eE][+-]?[\d_]+|_[\d_]*([eE][+-]?[\d_]+)?)?[fFL]?i?", "no digit behind a point and leading zeros, beside the specification"),
         Cause("+", r"0[xX]_*(\.[\da-fA-F_]*)?[pP][+-]?[\d_]+[fFL]?i?", "no digits behind a prefix, beside the specification"),
-        out_of_range(math.inf), ROUNDED]),
-    Language("ELIXIR", "elixir", "018._exo-+", "_", "1.0e10 1.5e-3", [out_of_range(math.inf)]),
+        ROUNDED]),
+    Language("ELIXIR", "elixir", "018._exo-+", "_", "1.0e10 1.5e-3", []),
     Language("FORTRAN", "gfortran", "019.edD-+_", "_", "1.0_8 1d3 1.5d300", [
-        out_of_range(math.inf, single="0"), Cause("=", ".*", "a subnormal number, which the tool rounds to zero",
-                                               lambda ours, theirs: theirs == (0.0,) and abs(ours.single) < 2**-126), ROUNDED]),
+        Cause("=", ".*", "a subnormal number, which the tool rounds to zero",
+              lambda ours, theirs: theirs == (0.0,) and abs(ours.single) < 2**-126), ROUNDED]),
     Language("GO", "go", "018._exp-+b", "_", "1i 0x1p3i", [
         suffix("i"), Cause("+", "0[oObB]?[0-9_]+i", "digits of an imaginary number")]),
     Language("HASKELL", "ghc", "018._exo-+", "_", "0o17 0xFF 1e5", []),
@@ -162,13 +160,12 @@ LANGUAGES = [
         Cause("+", r"(0[xX])?[\da-fA-F_]+(\.[\da-fA-F_]+)?_[eEpP][+-]?\d[\d_]*", "a separator before an exponent"),
         Cause("+", r"_+(?P<number>\d.*)", "a separator before a float, beside the guide")]),
     Language("JAVA", "javac", "018._exp-+b", "_", "1L 1f 08f 0x1p3d", [
-        suffix("[lLfFdD]"), Cause("+", r"[0-9_]*[fFdD]", "a float by its suffix alone"),
-        out_of_range(math.inf)]),
+        suffix("[lLfFdD]"), Cause("+", r"[0-9_]*[fFdD]", "a float by its suffix alone")]),
     Language("JAVASCRIPT", "v8", "018._exn-+b", "_", "1n 0b1n", [suffix("n"), Cause("+", "NaN|Infinity", "a name"), doubles(2**53)]),
     Language("JSON", "json", "012.eE+-x_", "_", "", [doubles(2**53)]),
     Language("JSON5", "json5", "018.eE+-x", "", "NaN Infinity -Infinity +NaN nan -0x1F", [doubles(2**53)]),
     Language("KOTLIN", "kotlinc", "01._exL-", "_", "1L 1f 1u 1uL", [
-        suffix("[uU]?L|[uU]|[fF]"), Cause("+", r"\d[\d_]*[fF]", "a float by its suffix alone"), out_of_range(2**63),
+        suffix("[uU]?L|[uU]|[fF]"), Cause("+", r"\d[\d_]*[fF]", "a float by its suffix alone"),
         Cause("+", r"[\da-fA-FxXbB_]+_[uU]L?", "a separator before a suffix, beside the specification")]),
     Language("LUA", "lua", "018.aexp-+", "_", "0x.8 0x1.8 0x1p3", [doubles(2**63)]),
     Language("NASM", "nasm", "01a._hxebd", "_", "0c8h 0c8x 17q 17o 10d 10t 101b 101y 0h1F 0y1 0q7 0t9 $0c8 1h. 1x. 7q. 7o. 9d. 9t. 1b. 1y.", [
@@ -179,8 +176,7 @@ LANGUAGES = [
         ROUNDED, Cause("=", ".*", "an infinite value, which the tool makes NaN",
                        lambda ours, theirs: ours.double == math.inf and math.isnan(theirs))]),
     Language("NIM", "nim", "018._exo-b", "_", "1'i8 1'u64 1i8 1u 1.5f32 1d -1.5e3 0xFF'u8 1'x 0c17 -9223372036854775808", [
-        suffix("'?([iI](8|16|32|64)|[uU](8|16|32|64)?|[fF](32|64)?|[dD])"), Cause("+", r"-?0[cC][0-7_]+\w*", "the prefix 0c, beside the manual"),
-        Cause("+", r"-[\d_]+", "the least integer", lambda _, theirs: theirs == -2**63)]),
+        suffix("'?([iI](8|16|32|64)|[uU](8|16|32|64)?|[fF](32|64)?|[dD])"), Cause("+", r"-?0[cC][0-7_]+\w*", "the prefix 0c, beside the manual")]),
     Language("OCAML", "ocaml", "018._exp-+b", "_", "1l 1n 1L 1z", [
         suffix("[lLn]"), Cause("+", r"\w+\._+([eEpP][+-]?\d[\d_]*)?", "a fraction of separators alone"),
         Cause("+", r"[\d_]+", "the least integer without its sign", lambda _, theirs: theirs == -2**62)]),
@@ -197,10 +193,10 @@ LANGUAGES = [
         doubles(2**53)]),
     Language("RUBY", "ruby", "018._exr-+b", "_", "1r 1i 1ri 0d10", [suffix("ri?|i")]),
     Language("RUST", "rustc", "018._exo-u", "_", "1u8 1.5f32 1_i64 0x1z", [
-        suffix("([ui](8|16|32|64|128|size)|f32|f64)"), out_of_range(2**128)]),
+        suffix("([ui](8|16|32|64|128|size)|f32|f64)")]),
     # Debian's compiler, 2.11, has no separators, so it gets none.
     Language("SCALA", "scala", "0189.exf-+", "", "1L 1f 08f 08.5 1d", [
-        suffix("[lLfFdD]"), Cause("+", "[0-9]*[fFdD]", "a float by its suffix alone"), out_of_range(math.inf)]),
+        suffix("[lLfFdD]"), Cause("+", "[0-9]*[fFdD]", "a float by its suffix alone")]),
     Language("SQL", "postgres", "019.eE+-x_", "_", "", [ZERO]),
     Language("SQL", "sqlite", "019.eE+-x_", "_", "", [Cause("+", r"[+-]?0[xX][\da-fA-F]+", "hexadecimal, beyond the standard"), ROUNDED, doubles(2**63)]),
     Language("TCL", "tcl", "018.exo-bI", "", "Inf inf Infinity -Inf 1eq1 017.5", []),

@@ -15,7 +15,7 @@ fn shown(mark: &str, number: Number<'_>) -> String {
     let kind = if number.literal().is_some_and(|it| !it.is_float()) { 'i' } else { 'f' };
     let exact = i128::try_from(number).map(|it| it.to_string());
     let exact = exact.or_else(|_| u128::try_from(number).map(|it| it.to_string())).unwrap_or("none".into());
-    let single = f32::try_from(number).expect("a float").to_bits();
+    let single = f32::try_from(number).map_or(0, f32::to_bits);
     format!("{mark} {form} {kind} {exact} {:016x} {single:08x}", number.to_f64().to_bits())
 }
 

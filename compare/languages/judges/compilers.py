@@ -57,8 +57,8 @@ void main() {
 FORTRAN = "implicit double precision (v)\n", "data value{i} / &\n{text} &\n/\n", "end\n"
 # The value, with the digits that its kind has, and the kind: 4 is that of integers and singles.
 PRINT_FORTRAN = "", "print '(G0, 1X, I0)', {text}, kind( &\n{text} &\n)\n", "end\n"
-RUST = ("#![allow(overflowing_literals)]\nmacro_rules! number { ($x:literal) => { const _: f64 = $x as f64; } }\n",
-        "number! {{\n{text}\n}}\n", "fn main() {}\n")
+# The type of an integer is inferred, so its value may wrap here, and a float is to be finite.
+RUST = "#![allow(overflowing_literals)]\n", "const _: () = assert!((\n{text}\n) as f64 <= f64::MAX);\n", "fn main() {}\n"
 PRINT_RUST = """trait Show { fn show(it: Self); }
 impl Show for u128 { fn show(it: u128) { println!("{it}") } }
 impl Show for f32 { fn show(it: f32) { println!("{it:?}f") } }

@@ -45,8 +45,9 @@ use scaled::to_scaled;
 /// Rust's types are also [made][TryFrom] from a [`Literal`] or a [`Number`], as in `u16::try_from(literal)`.
 ///
 /// A float is the value of the literal, rounded once to the nearest float, or to the even one if two are as near. Values
-/// from halfway above the largest float on are infinite, unless their [kind][Kind::limits] has limits, and `-0` is `-0.0`. A decimal number of up to 19 digits takes one
-/// or two multiplications, or a division. One that its first 19 digits do not decide can take 3.5 kB of the stack.
+/// from halfway above the largest float on are infinite, unless their [kind][Kind::limits] has limits, and `-0` is `-0.0`.
+/// A decimal number of up to 19 digits takes one or two multiplications, or a division. One that its first 19 digits do not
+/// decide can take 3.5 kB of the stack.
 ///
 /// ```
 /// use core::num::NonZeroU16;

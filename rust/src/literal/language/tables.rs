@@ -215,15 +215,16 @@ const C_DECIMAL_FLOATS: &[&[u8]] = &[b"f", b"F", b"l", b"L", b"df", b"dd", b"dl"
 
 /// What goes on a preprocessing number of C: `1.2.3`, `1'`, `1$x`, `1\u00E9` and `0xe+1`.
 const C_STOPS: &[Stop] = &[Stop::new(b"", b".'$", b""), Stop::new(b"", b"\\", b"uU"), Stop::new(b"eEpP", b"+-", b"")];
-const C_WORDS: Suffixes = Suffixes::new(C_INTEGERS, C_FLOATS, C_STOPS).with_kinds(C_KINDS);
+/// Those of decimal integers alone have kinds of their own, behind the first twelve.
+const C_WORDS: Suffixes = Suffixes::new(C_INTEGERS, C_FLOATS, C_STOPS).with_kinds(C_KINDS.split_at(12).0);
 const C_DECIMALS: Suffixes = Suffixes::new(C_INTEGERS, C_DECIMAL_FLOATS, C_STOPS).with_kinds(C_KINDS);
 #[rustfmt::skip]
 const C_KINDS: &[(&[u8], Kind)] = &[
-    (b"f", SINGLE), (b"F", SINGLE), (b"u", AT_MOST_64), (b"U", AT_MOST_64), (b"ul", AT_MOST_64), (b"uL", AT_MOST_64),
-    (b"ull", AT_MOST_64), (b"uLL", AT_MOST_64), (b"Ul", AT_MOST_64), (b"UL", AT_MOST_64), (b"Ull", AT_MOST_64), (b"ULL", AT_MOST_64),
-    (b"lu", AT_MOST_64), (b"lU", AT_MOST_64), (b"llu", AT_MOST_64), (b"llU", AT_MOST_64), (b"Lu", AT_MOST_64), (b"LU", AT_MOST_64),
-    (b"LLu", AT_MOST_64), (b"LLU", AT_MOST_64), (b"wb", Kind::EXACT), (b"WB", Kind::EXACT), (b"uwb", Kind::EXACT), (b"uWB", Kind::EXACT),
+    (b"f", SINGLE), (b"F", SINGLE), (b"wb", Kind::EXACT), (b"WB", Kind::EXACT), (b"uwb", Kind::EXACT), (b"uWB", Kind::EXACT),
     (b"Uwb", Kind::EXACT), (b"UWB", Kind::EXACT), (b"wbu", Kind::EXACT), (b"wbU", Kind::EXACT), (b"WBu", Kind::EXACT), (b"WBU", Kind::EXACT),
+    (b"u", AT_MOST_64), (b"U", AT_MOST_64), (b"ul", AT_MOST_64), (b"uL", AT_MOST_64), (b"ull", AT_MOST_64), (b"uLL", AT_MOST_64),
+    (b"Ul", AT_MOST_64), (b"UL", AT_MOST_64), (b"Ull", AT_MOST_64), (b"ULL", AT_MOST_64), (b"lu", AT_MOST_64), (b"lU", AT_MOST_64),
+    (b"llu", AT_MOST_64), (b"llU", AT_MOST_64), (b"Lu", AT_MOST_64), (b"LU", AT_MOST_64), (b"LLu", AT_MOST_64), (b"LLU", AT_MOST_64),
 ];
 
 /// Suffixes of C++, of its library, such as `1ms` and `1.5if`, and of its users: `1_km`.
