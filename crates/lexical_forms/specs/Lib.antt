@@ -1,3 +1,5 @@
+pub mod AffixText
+pub mod Affix
 pub mod Specials
 pub mod Suffix
 pub mod FormList

@@ -80,6 +80,8 @@ pub struct Literal<'a> {
     // The number, if there is one. An `Option` would have 8 bytes more.
     exponent: u64,
     has_exponent: bool,
+    // The number of bytes of the opening before the literal, from which its spans count.
+    pub(crate) opened: u8,
     kind: Kind,
 }
 
@@ -124,6 +126,18 @@ impl<'a> Literal<'a> {
         ensures kind { result.kind ≡ kind }
     {
         Literal { kind, ..self }
+    }
+
+    // Returns the same literal behind an opening of `opened` bytes.
+    #[doc(hidden)]
+    #[must_use]
+    #[inline(always)]
+    pub const fn behind(self, opened: u8) -> Literal<'a>
+        ensures format { result.format ≡ self.entry.format }
+        ensures literal { result.literal ≡ self.entry.literal }
+        ensures kind { result.kind ≡ self.entry.kind }
+    {
+        Literal { opened, ..self }
     }
 
     /// Returns the parts.
@@ -246,6 +260,7 @@ impl Syntax {
             places,
             exponent,
             has_exponent,
+            opened: 0,
             kind: Kind::EXACT,
         }
     }

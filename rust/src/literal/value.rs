@@ -127,7 +127,7 @@ impl<'a> Literal<'a> {
             Ok((true, size)) => T::try_from(0_i128.wrapping_sub_unsigned(size)).map_err(|_| ValueErrorKind::TooSmall),
             Err(kind) => Err(kind),
         };
-        value.map_err(|kind| ValueError::of::<T>(kind, self.text.len(), self.kind()))
+        value.map_err(|kind| ValueError::of::<T>(kind, self.size_in_text(), self.kind()))
     }
 
     /// Returns the literal as Rust and most other programs read it: without digit separators, prefix, suffix and plus
@@ -204,7 +204,7 @@ macro_rules! conversions {
 
                 #[inline(always)]
                 fn try_from(literal: Literal<'_>) -> Result<$type, ValueError> {
-                    let (size, of) = (literal.text.len(), literal.kind());
+                    let (size, of) = (literal.size_in_text(), literal.kind());
                     $type::from_literal(literal).map_err(|kind| ValueError::of::<$type>(kind, size, of))
                 }
             }
@@ -245,7 +245,7 @@ macro_rules! constant_calls {
                             None => ValueErrorKind::out_of_range(numeral.negative),
                         },
                     };
-                    Err(ValueError::of::<$type>(kind, self.text.len(), self.kind()))
+                    Err(ValueError::of::<$type>(kind, self.size_in_text(), self.kind()))
                 }
             )*
         }
@@ -328,7 +328,7 @@ macro_rules! floats {
                     };
                     match bits {
                         Some(bits) => self.$worth(double, bits),
-                        None => Err(ValueError::of::<$type>(ValueErrorKind::UnsupportedRadix, self.text.len(), self.kind())),
+                        None => Err(ValueError::of::<$type>(ValueErrorKind::UnsupportedRadix, self.size_in_text(), self.kind())),
                     }
                 }
 
@@ -337,7 +337,7 @@ macro_rules! floats {
                     let size = if double { f64::from_bits(bits) as $type } else { f32::from_bits(bits as u32) as $type };
                     let (size, negative) = match own_numeral(self) {
                         Ok(own) if self.is_whole() => (own.low_bits() as $type, own.negative),
-                        Err(kind) if self.is_whole() => return Err(ValueError::of::<$type>(kind, self.text.len(), self.kind())),
+                        Err(kind) if self.is_whole() => return Err(ValueError::of::<$type>(kind, self.size_in_text(), self.kind())),
                         _ => (size, self.is_negative()),
                     };
                     Ok(if negative { -size } else { size })
@@ -506,7 +506,7 @@ impl Number<'_> {
     #[inline]
     pub fn value<T: FromLiteral>(self) -> Result<T, ValueError> {
         let (value, size, of) = match self {
-            Number::Literal { literal, .. } => (T::from_literal(literal), literal.text.len(), literal.kind()),
+            Number::Literal { literal, .. } => (T::from_literal(literal), literal.size_in_text(), literal.kind()),
             Number::Special(special) => (T::from_special(special), 0, Kind::EXACT),
         };
         value.map_err(|kind| ValueError::of::<T>(kind, size, of))
