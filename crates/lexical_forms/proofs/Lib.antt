@@ -2,7 +2,7 @@ mod Common
 mod SpecialLemmas
 mod ExcludeLemmas
 mod StrangerLemmas
-mod OpeningLemmas
+pub mod OpeningLemmas
 mod FormLemmas
 mod TokenLemmas
 mod LeadingLemmas

@@ -1,7 +1,7 @@
 -- Several forms of numbers: which form has a text, and which error a text has that is of no form.
 use Rattle.std.specs.Prelude.{ℕ, ◌≡◌, ◌+◌, ◌*◌, ◌<◌, ◌≤◌, if◌then◌else◌, IfErr, IfOk, IsErr, IsSomeAnd, List, Option, Some, None, Result}
 use Rattle.std.specs.Prelude.{All}
-use Rattle.std.specs.Prelude.{Bool, drop, length, nat_lt, option_map, slice_get, take}
+use Rattle.std.specs.Prelude.{◌==◌, Bool, drop, length, not, option_map, slice_get, take}
 use Rattle.std.specs.List.{list_any}
 use Rattle.std.specs.Result.{result_ok}
 use Rattle.std.specs.Borrow.{Bor}
@@ -24,11 +24,11 @@ use Rattle.lexical_forms.specs.declared.specials.Specials.{Specials}
 
 -- `have_openings forms` is true if one of `forms` has an opening.
 abbrev pub have_openings : List Form → Bool
-have_openings forms = list_any (λ (form : Form). nat_lt 0 (length form.opening.bytes)) forms
+have_openings forms = list_any (λ (form : Form). not (length form.opening.bytes.now == 0)) forms
 
 -- `behind form text` is what follows as many bytes of `text` as the opening of `form` has.
 abbrev pub behind : Form → List ℕ → List ℕ
-behind form text = drop (length form.opening.bytes) text
+behind form text = drop (length form.opening.bytes.now) text
 
 -- `ReadsIn form l text` holds if `text` is a literal of `form` with the parts of `l`: the opening, and then a literal of its syntax.
 pub record ReadsIn (form : Form) (l : Literal) (text : List ℕ) : Type 0 where
@@ -38,9 +38,9 @@ pub record ReadsIn (form : Form) (l : Literal) (text : List ℕ) : Type 0 where
 -- `IsErrorIn form text opened error` holds if `opened` bytes of the opening of `form` are right, and if `error` says why what is behind it
 -- is not a literal of the syntax, or is `None`, and they are not all.
 abbrev pub IsErrorIn : Form → List ℕ → ℕ → Option Refusal → Type 0
-IsErrorIn form text opened None = IsOpenedTo form.opening text opened × (opened < length form.opening.bytes)
+IsErrorIn form text opened None = IsOpenedTo form.opening text opened × (opened < length form.opening.bytes.now)
 IsErrorIn form text opened (Some error) =
-    IsOpened form.opening text × (opened ≡ length form.opening.bytes) × IsRefusal (notation_of form.syntax) (behind form text) error
+    IsOpened form.opening text × (opened ≡ length form.opening.bytes.now) × IsRefusal (notation_of form.syntax) (behind form text) error
 
 -- `GoesTo text form size` holds if some literal of `form` begins with the first `size` bytes of `text`, and none with more.
 abbrev pub GoesTo : List ℕ → Form → ℕ → Type 0

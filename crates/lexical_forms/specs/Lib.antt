@@ -1,4 +1,3 @@
-pub mod AffixText
 pub mod Affix
 pub mod Specials
 pub mod Suffix

@@ -1,10 +1,9 @@
 //! What stands before the literals of a form, such as `16r` or `#x`.
 
-ghost use Rattle.std.specs.Prelude.{◌≡◌, ◌<◌, ◌≤◌, ◌↔◌, All, SomeIff, false, length, true};
+ghost use Rattle.std.specs.Prelude.{◌≡◌, ◌==◌, ◌<◌, ◌≤◌, ◌↔◌, All, SomeIff, false, length, true};
 ghost use Rattle.lexical_forms.specs.Affix.{IsOpenedTo, spells};
 
 use lexical_literal::cause::other_case;
-use std::marker::Model;
 
 /// Up to 8 bytes of ASCII that stand before each literal of a form, its *opening*, such as `$`, `16r` or `#x`. An empty one is
 /// none. Letters are in either case, unless [`case_sensitive`][Self::case_sensitive] says otherwise.
@@ -30,17 +29,6 @@ pub struct Affix {
     case_sensitive: bool,
 }
 
-impl Model for Affix {
-    ghost use Rattle.std.specs.Prelude.{◌≤◌, length};
-    ghost use Rattle.lexical_forms.specs.AffixText.{AffixText};
-
-    ghost Value = { AffixText };
-
-    ghost view = { λ it. record { bytes = it.bytes.now; case_sensitive = it.case_sensitive } };
-
-    ghost invariant = { λ it. length it.bytes.now ≤ 8 };
-}
-
 impl Affix {
     /// No bytes.
     pub const NONE: Affix = Affix {
@@ -52,7 +40,7 @@ impl Affix {
     #[must_use]
     pub const fn new(bytes: &'static [u8]) -> Option<Affix>
         ensures { SomeIff result ((length bytes.now ≤ 8) × All (λ byte. byte < 128) bytes.now)
-            (record { bytes = bytes.now; case_sensitive = false }) }
+            (record { bytes = bytes.entry; case_sensitive = false }) }
     {
         if bytes.len() > 8 || !is_ascii(bytes) {
             return None;
@@ -77,16 +65,23 @@ impl Affix {
     /// Returns the bytes.
     #[must_use]
     pub const fn as_bytes(&self) -> &'static [u8]
-        ensures { result.now ≡ self.now.bytes }
+        ensures { result ≡ self.now.bytes }
     {
         self.bytes
+    }
+
+    /// Returns whether there are no bytes.
+    #[must_use]
+    pub const fn is_empty(&self) -> bool
+        ensures { result ≡ (length self.now.bytes.now == 0) }
+    {
+        self.bytes.len() == 0
     }
 
     // Returns the number of bytes.
     #[inline(always)]
     pub(crate) const fn size(&self) -> usize
-        ensures size { result ≡ length self.now.bytes }
-        ensures small { result ≤ 8 }
+        ensures { result ≡ length self.now.bytes.now }
     {
         self.bytes.len()
     }
@@ -106,7 +101,7 @@ impl Affix {
     // Returns whether `byte` may be the byte with this index.
     #[inline(always)]
     const fn spells(&self, index: usize, byte: u8) -> bool
-        requires { index < length self.now.bytes }
+        requires { index < length self.now.bytes.now }
         ensures { result ≡ spells self.now index byte }
     {
         let own = self.bytes[index];

@@ -37,7 +37,7 @@ impl Form {
     #[must_use]
     pub const fn new(name: &'static str, syntax: Syntax) -> Form
         ensures name { result.name.now ≡ name.now }
-        ensures opening { result.opening.bytes ≡ [] }
+        ensures opening { result.opening.bytes.now ≡ [] }
         ensures syntax { result.syntax ≡ syntax }
         ensures suffixes { result.suffixes ≡ None }
         ensures kind { result.kind ≡ exact }
@@ -133,12 +133,15 @@ impl Form {
             return None;
         }
         let (_, found) = self.syntax.front(rest);
-        match found {
-            Some(found) if found.size > least => Some(Found {
-                size: opened + found.size,
-                counts: found.counts,
-            }),
-            _ => None,
+        let Some(found) = found else {
+            return None;
+        };
+        let Found { size, counts } = found;
+        if size > least {
+            let size = opened + size;
+            Some(Found { size, counts })
+        } else {
+            None
         }
     }
 }
@@ -169,7 +172,7 @@ impl Form {
         ensures stopped { IfSome result (λ it. IsStopped (notation_of self.now.syntax) it.0.now it.1) }
         ensures refused { IfSome result (λ it. NoLiteral (notation_of self.now.syntax) it.0.now) }
         ensures rest { IfSome result (λ it. it.0.now ≡ behind self.now text.now) }
-        ensures size { IfSome result (λ it. it.1.size ≡ stop.size - length self.now.opening.bytes) }
+        ensures size { IfSome result (λ it. it.1.size ≡ stop.size - length self.now.opening.bytes.now) }
     {
         let opened = self.opening.size();
         if stop.size < opened {
@@ -197,10 +200,11 @@ impl Form {
         ensures form { result.form ≡ form }
         ensures error { IsErrorOfForm text.now result self.now }
     {
+        let syntax = self.syntax();
         let (opened, error) = match self.behind(text, stop) {
             None => (stop.size, Err(self.unopened(text, stop.size))),
             Some((rest, inside)) => {
-                let Err(error) = inside.refuse::<()>(&self.syntax, rest) else {
+                let Err(error) = inside.refuse::<()>(&syntax, rest) else {
                     unreachable!()
                 };
                 (self.opening.size(), Ok(error))
@@ -518,7 +522,7 @@ impl<'a> Forms<'a> {
         ensures kind { HasKind self.now.forms form result }
     {
         let it = &self.as_slice()[form];
-        literal.with_kind(it.kind).behind(it.opening.size() as u8)
+        literal.with_kind(it.kind).behind(it.opening.size())
     }
 
     // Returns the special value that `text` is, if it is one.
@@ -595,7 +599,7 @@ impl<'a> Forms<'a> {
         let mut form = 1;
         while form < self.forms.len() {
             let it = &self.forms[form];
-            if it.opening.size() > 0 || !is_settled(it.syntax.grammar(), text, furthest.stop.size) {
+            if !it.opening.is_empty() || !is_settled(it.syntax.grammar(), text, furthest.stop.size) {
                 let stop = it.stop(text);
                 furthest = self.further(text, furthest, form, stop);
             }
@@ -728,7 +732,7 @@ const fn have_openings(forms: &[Form]) -> bool
 {
     let mut form = 0;
     while form < forms.len() {
-        if forms[form].opening.size() > 0 {
+        if !forms[form].opening.is_empty() {
             return true;
         }
         form += 1;

@@ -53,6 +53,12 @@ impl Affix {
         self.bytes
     }
 
+    /// Returns whether there are no bytes.
+    #[must_use]
+    pub const fn is_empty(&self) -> bool {
+        self.bytes.len() == 0
+    }
+
     // Returns the number of bytes.
     #[inline(always)]
     pub(crate) const fn size(&self) -> usize {

@@ -426,7 +426,7 @@ impl<'a> Forms<'a> {
         let mut form = 1;
         while form < self.forms.len() {
             let it = &self.forms[form];
-            if it.opening.size() > 0 || !is_settled(it.syntax.as_grammar(), text, furthest.stop.size) {
+            if !it.opening.is_empty() || !is_settled(it.syntax.as_grammar(), text, furthest.stop.size) {
                 let stop = it.stop(text);
                 furthest = self.further(text, furthest, form, stop);
             }
@@ -523,7 +523,7 @@ impl<'a> Forms<'a> {
 const fn have_openings(forms: &[Form]) -> bool {
     let mut form = 0;
     while form < forms.len() {
-        if forms[form].opening.size() > 0 {
+        if !forms[form].opening.is_empty() {
             return true;
         }
         form += 1;

@@ -64,12 +64,12 @@ IsBehind m text (Some best) = IsNoBetter m text best.stop.size
 -- there, and if what is behind it is not a literal, and reading it stops at `stop`. `IsRefusedAt text stop g` holds if one of both does.
 pub record IsStoppedBefore (text : List ℕ) (stop : Stopped) (g : Form) : Type 0 where
   pub opened : IsOpenedTo g.opening text stop.size
-  pub short : stop.size < length g.opening.bytes
+  pub short : stop.size < length g.opening.bytes.now
 
 pub record IsStoppedBehind (text : List ℕ) (stop : Stopped) (g : Form) : Type 0 where
   pub opened : IsOpened g.opening text
-  pub behind : length g.opening.bytes ≤ stop.size
-  pub stopped : IsStopped (notation_of g.syntax) (behind g text) (record stop { size = stop.size - length g.opening.bytes })
+  pub past : length g.opening.bytes.now ≤ stop.size
+  pub stopped : IsStopped (notation_of g.syntax) (behind g text) (record stop { size = stop.size - length g.opening.bytes.now })
   pub none : NoLiteral (notation_of g.syntax) (behind g text)
 
 abbrev pub IsRefusedAt : List ℕ → Stopped → Form → Type 0
@@ -126,8 +126,8 @@ NonePast text size g = (more : ℕ) → size < more → more ≤ length text →
 
 pub record IsFrontIn (text : List ℕ) (found : Found) (g : Form) : Type 0 where
   pub opened : IsOpened g.opening text
-  pub behind : length g.opening.bytes ≤ found.size
-  pub front : IsCountedFront (notation_of g.syntax) (behind g text) (record found { size = found.size - length g.opening.bytes })
+  pub past : length g.opening.bytes.now ≤ found.size
+  pub front : IsCountedFront (notation_of g.syntax) (behind g text) (record found { size = found.size - length g.opening.bytes.now })
 
 -- `IsLongestPast forms text size longest` holds if `longest` has the longest front of `text` with more than `size` bytes that is a literal of a
 -- form, of the first form of equals, or if it is `None`, and there is no such front.
