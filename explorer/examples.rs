@@ -8,6 +8,7 @@ use peltzivar::literal::{FormError, IntegerKind, Number, ReadError, ReadErrorKin
 use peltzivar::{FormatView, Role};
 
 use crate::forms::{value_of, List, Value};
+use crate::read_error;
 use crate::suggest::State;
 
 /// The parts of the texts that are tried, the usual one first. `_`, `x`, `e`, `.`, `h` and `F` stand for the separator, the
@@ -149,8 +150,9 @@ fn told_apart(
     other: Result<Number<'_>, FormError>,
 ) -> Option<(Cause, Result<[Value; 2], ReadError>)> {
     match (number, other) {
-        (Number::Special(special), Err(it)) => Some((Cause::Special(special.spelling), Err(it.error))),
-        (Number::Literal { form, .. }, Err(FormError { error, .. })) => {
+        (Number::Special(special), Err(it)) => Some((Cause::Special(special.spelling), Err(read_error(it)))),
+        (Number::Literal { form, .. }, Err(it)) => {
+            let error = read_error(it);
             let syntax = forms.forms()[form].syntax();
             let role = error.byte().and_then(|byte| syntax.role_of(byte));
             Some((Cause::Refused(error.kind(), error.mask(), role), Err(error)))

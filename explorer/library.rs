@@ -13,8 +13,8 @@ use examples::{examples, Example};
 use forms::{numbers_of, state_of, states_of, value_of, List, Value};
 use peltzivar::edits::{apply, is_built, normal_form};
 use peltzivar::literal::{
-    Condition, Conditions, ConditionsError, ConditionsErrorKind, FormError, Forms, Language, Number, Special, Specials,
-    Syntax,
+    Condition, Conditions, ConditionsError, ConditionsErrorKind, FormError, Forms, Language, Number, ReadError,
+    Special, Specials, Syntax,
 };
 use peltzivar::{Byte, Cause, Edit, Format, FormatView, NamedByte, NumberFormatBuilder, Reason};
 use suggest::{lines_of, offers, State};
@@ -159,6 +159,11 @@ fn options_of(cause: Cause) -> String {
     cause.bytes().into_iter().flatten().map(name).collect()
 }
 
+/// Returns why a text is not a literal of a form. Those of the page have no opening.
+pub(crate) fn read_error(error: FormError) -> ReadError {
+    error.error().unwrap_or_else(|| unreachable!())
+}
+
 /// Returns for each line and each language the form of a literal, and the value, or why the line is no number, and its
 /// suffix if it is a token.
 fn readers(lines: &[u8]) -> String {
@@ -169,7 +174,7 @@ fn readers(lines: &[u8]) -> String {
         }
         Err(it) => {
             let suffix = quoted(suffix_of(language, line).unwrap_or_default());
-            format!(r#"{{"error":{},"suffix":{suffix}}}"#, quoted(it.error.full_text().as_str()))
+            format!(r#"{{"error":{},"suffix":{suffix}}}"#, quoted(read_error(it).full_text().as_str()))
         }
     };
     list(lines_of(lines).map(|line| list(Language::ALL.iter().map(|language| reader(line.text, language)))))
@@ -230,7 +235,8 @@ fn reading(forms: Forms<'_>, text: &[u8]) -> String {
             let is = is_float.map_or("special value", |is_float| if is_float { "float" } else { "integer" });
             format!(r#""is":"{is}",{},"form":{}"#, value(value_of(number)), number.form().unwrap_or(0))
         }
-        Err(FormError { form, error, .. }) => {
+        Err(it) => {
+            let (form, error) = (it.form, read_error(it));
             let (mask, Range { start, end }) = (word(error.mask()), error.span());
             let (end, error) =
                 (start + utf8(&text[start..end]).encode_utf16().count(), quoted(error.full_text().as_str()));

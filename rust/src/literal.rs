@@ -48,6 +48,7 @@
 //! # Ok::<(), WriteError>(())
 //! ```
 
+mod affix;
 #[allow(clippy::redundant_pattern_matching, reason = "as it is proved")]
 mod cause;
 mod conditions;
@@ -93,6 +94,7 @@ mod tokens;
 mod value;
 mod writer;
 
+pub use affix::Affix;
 pub use cause::{Place, ReadError, ReadErrorKind};
 pub use kind::{FloatKind, FloatLimits, IntegerKind, Kind};
 pub use language::{Language, LanguageError};
@@ -122,7 +124,7 @@ pub use list::{Form, FormError, Number, Tokens};
 /// A number that was read from a text: its parts, which can be converted to a type of Rust.
 ///
 /// A part that is absent has no bytes. All bytes are ASCII. Two literals are equal if they have the same format, up to
-/// its [normal form][crate::Format::normal_form], and the same parts.
+/// its [normal form][crate::Format::normal_form], the same parts, and openings of the same length.
 ///
 /// An integer type of Rust, `f64` or `f32` can be made from a literal. Some of these can be made in a constant. A [`Syntax`]
 /// can [parse][Syntax::parse] a text in one call.

@@ -5,11 +5,12 @@
 mod random;
 
 use peltzivar::literal::{
-    Condition, Form, FormError, Forms, FromLiteral, Kind, Language, Literal, Number, ParseError, ReadError,
-    ReadErrorKind, Specials,
+    Affix, Condition, Form, FormError, Forms, FromLiteral, Kind, Language, Number, ParseError, ReadError,
+    ReadErrorKind, Special, Specials, Syntax,
 };
 use random::Random;
 use std::fmt::{Debug, Display};
+use std::ops::Range;
 
 /// Pieces of texts. All forms have a meaning for some, and some have none for any.
 #[rustfmt::skip]
@@ -30,51 +31,87 @@ fn text(random: &mut Random) -> Vec<u8> {
     (0..count).flat_map(|_| random.pick(&PIECES)).copied().collect()
 }
 
-/// Returns a list of forms of any languages, some with the kind of another form, and some with special values that begin
-/// as literals do.
+/// Openings that overlap each other and literals. Those with a capital letter are case-sensitive.
+const OPENINGS: [&[u8]; 9] = [b"0", b"0x", b"x", b"1", b"12", b"0Xe5", b"-", b"e", b"8F.+0001"];
+
+/// Returns a list of forms of any languages, some with the kind of another form, some with an opening, and some with special values that
+/// begin as literals do.
 fn list(random: &mut Random) -> Forms<'static> {
     let forms: Vec<Form> = Language::ALL.iter().flat_map(Language::forms).copied().collect();
-    let form = |random: &mut Random| random.pick(&forms).with_kind(random.pick(&forms).kind());
+    let are_opened = random.one_in(2);
+    let form = |random: &mut Random| {
+        let form = random.pick(&forms).with_kind(random.pick(&forms).kind());
+        let bytes = random.pick(&OPENINGS);
+        let opening = Affix::new(bytes).unwrap().case_sensitive(bytes.iter().any(u8::is_ascii_uppercase));
+        if are_opened && random.one_in(2) {
+            form.with_opening(opening)
+        } else {
+            form
+        }
+    };
     let count = random.byte(1, 5);
     let list = Forms::new_or_panic((0..count).map(|_| form(random)).collect::<Vec<_>>().leak());
     let odd = Specials { nan: Some(b"1x"), inf: Some(b"0x"), infinity: Some(b"q1") };
     list.with_specials(random.pick(&[Specials::default(), Language::TOML.forms().specials(), odd]))
 }
 
-/// Returns the error of the form that goes furthest. Of several, it is the first whose cause is not a wrong byte and that does not
-/// lack a required prefix, or the first if there is none.
-fn error_of(forms: &Forms, errors: &[ReadError]) -> FormError {
-    let furthest = errors.iter().map(ReadError::valid_up_to).max().unwrap();
-    let is_stray = |it: &ReadError| it.kind() == ReadErrorKind::Byte || it.conditions().has(Condition::BasePrefix);
-    let goes = |it: &ReadError| it.valid_up_to() == furthest;
-    let first = errors.iter().position(|it| goes(it) && !is_stray(it)).or(errors.iter().position(goes)).unwrap();
-    let mut error = forms.read(b"\x00").unwrap_err();
-    (error.form, error.name, error.error) = (first, forms[first].name(), errors[first]);
-    error
+/// Why a text is not a literal of a form: how many bytes are right, whether the cause is stray, the bytes to show, and the sentence.
+type Why = (usize, bool, Range<usize>, [String; 2]);
+
+/// What the syntax of a form reads behind the opening, by `read`.
+fn behind<T>(form: &Form, text: &[u8], read: fn(&Syntax, &[u8]) -> Result<T, ReadError>) -> Result<T, Why> {
+    let opening = form.opening().as_bytes();
+    let is_sensitive = opening.iter().any(u8::is_ascii_uppercase);
+    let same = |(own, byte): &(&u8, &u8)| own == byte || !is_sensitive && own.eq_ignore_ascii_case(byte);
+    let size = opening.iter().zip(text).take_while(same).count();
+    if size < opening.len() {
+        let shown = if text[size..].starts_with("é".as_bytes()) { 2 } else { 1.min(text.len() - size) };
+        let sentence = format!("expected the opening `{}`", std::str::from_utf8(opening).unwrap());
+        return Err((size, true, size..size + shown, [sentence.clone(), sentence]));
+    }
+    read(&form.syntax(), &text[size..]).map_err(|it| {
+        let is_stray = it.kind() == ReadErrorKind::Byte || it.conditions().has(Condition::BasePrefix);
+        let span = size + it.span().start..size + it.span().end;
+        (size + it.valid_up_to(), is_stray, span, [format!("{it}"), format!("{it:#}")])
+    })
 }
 
-/// What a list reads: a literal of a form with its kind, or else a special value, or else an error.
-fn read<'t>(forms: &Forms, text: &'t [u8]) -> Result<Number<'t>, FormError> {
-    let of_form = |form: &Form| form.syntax().read(text).map(|it| it.with_kind(form.kind()));
-    let results: Vec<Result<Literal, ReadError>> = forms.into_iter().map(of_form).collect();
+/// Returns the error of the form that goes furthest, with its index. Of several, it is the first whose cause is not a wrong byte and that does
+/// not lack an opening or a required prefix, or the first if there is none.
+fn error_of(errors: &[Why]) -> (usize, Why) {
+    let furthest = errors.iter().map(|it| it.0).max().unwrap();
+    let goes = |it: &Why| it.0 == furthest;
+    let first = errors.iter().position(|it| goes(it) && !it.1).or(errors.iter().position(goes)).unwrap();
+    (first, errors[first].clone())
+}
+
+/// What a list reads: the text of the literal of a form with its kind, or else a special value, or else an error.
+fn read(forms: &Forms, text: &[u8]) -> Result<Result<(usize, String, Kind), Special>, (usize, Why)> {
+    let of_form = |form| behind(form, text, |syntax, text| syntax.read(text).map(|it| format!("{it:?}")));
+    let results: Vec<Result<String, Why>> = forms.into_iter().map(of_form).collect();
     if let Some(form) = results.iter().position(Result::is_ok) {
-        return Ok(Number::Literal { literal: results[form].unwrap(), form });
+        return Ok(Ok((form, results[form].clone().unwrap(), forms[form].kind())));
     }
     match forms.specials().read(&forms[0].syntax(), text) {
-        Some(special) => Ok(Number::Special(special)),
-        None => Err(error_of(forms, &results.into_iter().map(Result::unwrap_err).collect::<Vec<_>>())),
+        Some(special) => Ok(Err(special)),
+        None => Err(error_of(&results.into_iter().map(Result::unwrap_err).collect::<Vec<_>>())),
     }
 }
 
-/// The longest front that is a literal of a form, of the first form of equals.
-fn read_prefix<'t>(forms: &Forms, text: &'t [u8]) -> Result<(Number<'t>, &'t [u8]), FormError> {
-    let of_form = |form: &Form| form.syntax().read_prefix(text).map(|(it, rest)| (it.with_kind(form.kind()), rest));
+/// The longest front that is a literal of a form, of the first form of equals: its index, and how many bytes follow.
+fn read_prefix(forms: &Forms, text: &[u8]) -> Result<(usize, usize), (usize, Why)> {
+    let of_form = |form| behind(form, text, |syntax, text| syntax.read_prefix(text).map(|(_, rest)| rest.len()));
     let results: Vec<_> = forms.into_iter().map(of_form).collect();
-    let fronts = results.iter().enumerate().filter_map(|(form, it)| Some((form, it.as_ref().ok()?)));
-    match fronts.min_by_key(|(_, (_, rest))| rest.len()) {
-        Some((form, &(literal, rest))) => Ok((Number::Literal { literal, form }, rest)),
-        None => Err(error_of(forms, &results.into_iter().map(Result::unwrap_err).collect::<Vec<_>>())),
+    let fronts = results.iter().enumerate().filter_map(|(form, it)| Some((form, *it.as_ref().ok()?)));
+    match fronts.min_by_key(|(_, rest)| *rest) {
+        Some(front) => Ok(front),
+        None => Err(error_of(&results.into_iter().map(Result::unwrap_err).collect::<Vec<_>>())),
     }
+}
+
+/// What an error answers.
+fn answers(error: FormError) -> (usize, usize, Range<usize>, [String; 2]) {
+    (error.form, error.valid_up_to(), error.span(), [format!("{error}"), format!("{error:#}")])
 }
 
 /// Asserts that two results are the same, and print the same.
@@ -87,7 +124,7 @@ fn same<T: PartialEq + Debug, E: PartialEq + Debug + Display>(own: Result<T, E>,
 
 /// Asserts that a text has the value of its number in a type, which `bits` compares.
 fn parses<T: FromLiteral, B: PartialEq + Debug>(forms: &Forms, text: &[u8], bits: fn(T) -> B) {
-    let rule = match read(forms, text) {
+    let rule = match forms.read(text) {
         Ok(number) => number.value::<T>().map_err(ParseError::from),
         Err(error) => Err(ParseError::from(error)),
     };
@@ -102,13 +139,14 @@ fn parses<T: FromLiteral, B: PartialEq + Debug>(forms: &Forms, text: &[u8], bits
 }
 
 fn agrees(forms: &Forms, text: &[u8]) {
-    let (number, rule) = (forms.read(text), read(forms, text));
-    if let (Err(own), Err(rule)) = (number, rule) {
-        assert_eq!((own.span(), own.valid_up_to()), (rule.span(), rule.valid_up_to()), "{text:?}");
-    }
-    let kind = |number: &Number| number.literal().map_or(Kind::EXACT, |it| it.kind());
-    same(number.map(|it| (kind(&it), it)), rule.map(|it| (kind(&it), it)), text);
-    same(forms.read_prefix(text), read_prefix(forms, text), text);
+    let number = forms.read(text).map(|it| match it {
+        Number::Literal { literal, form } => Ok((form, format!("{literal:?}"), literal.kind())),
+        Number::Special(special) => Err(special),
+    });
+    let rule = |(form, (right, _, span, sentences)): (usize, Why)| (form, right, span, sentences);
+    assert_eq!(number.map_err(answers), read(forms, text).map_err(rule), "{text:?} {forms:?}");
+    let front = forms.read_prefix(text).map(|(it, rest)| (it.form().unwrap(), rest.len()));
+    assert_eq!(front.map_err(answers), read_prefix(forms, text).map_err(rule), "{text:?} {forms:?}");
     parses::<i64, _>(forms, text, |it| it);
     parses::<u8, _>(forms, text, |it| it);
     parses::<u128, _>(forms, text, |it| it);

@@ -132,7 +132,7 @@ fn a_chain_of_errors_has_each_sentence_once() {
     let errors = [
         named(Error::Empty(1)), named(Format::new(0).unwrap_err()), named(FormatView::new(0).reasons().next().unwrap()),
         named("".parse::<Edit>().unwrap_err()), named(Settings::new().add("x").unwrap_err()), named(WriteError::Radix),
-        named(settings.reasons().next().unwrap()), named(misfit), named(read), named(read.error), named("".parse::<Language>().unwrap_err()),
+        named(settings.reasons().next().unwrap()), named(misfit), named(read), named(read.error().unwrap()), named("".parse::<Language>().unwrap_err()),
         named(missing), named(large), named(Language::C.token("1e").unwrap_err()), named(i8::try_from(Language::JSON.read("1.5").unwrap()).unwrap_err()),
     ];
     let listed = include_str!("surface.rs").lines().filter_map(|line| line.strip_suffix(": std::error::Error {} };"));

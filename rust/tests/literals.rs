@@ -296,7 +296,7 @@ fn languages_answer_as_their_grammars_and_tools_do() {
         let is_number = result.is_ok_and(|it| f64::try_from(it).is_ok());
         assert_eq!(is_number, is_accepted, "{row}: {result:?}");
         for (form, syntax) in language.forms().as_slice().iter().map(Form::syntax).enumerate() {
-            let is_furthest = |size: usize| size > 1 && result.is_err_and(|it| it.error.valid_up_to() == size);
+            let is_furthest = |size: usize| size > 1 && result.is_err_and(|it| it.valid_up_to() == size);
             let is_refused = syntax.read(text).is_err_and(|it| is_furthest(it.valid_up_to()));
             let is_given = result.is_ok_and(|it| it.form() == Some(form));
             seen.extend((is_refused || is_given).then_some((language, form, is_given)));

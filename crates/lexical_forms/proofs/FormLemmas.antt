@@ -1,22 +1,19 @@
 -- Several forms: what has been found in the first of them, and what one form more adds.
 use Rattle.lexical_forms.proofs.Common.{ℕ, ◌≡◌, ◌*◌, inl, inr, Bool, true, false, ◌<◌, ◌≤◌, ◌+◌, List, Ok, Option, Some, None, All, IsSomeAnd, []}
 use Rattle.lexical_forms.proofs.Common.{◌∷◌, take, get_or, refl, sym, subst, ap, arith, nat_tests, cases_lt, false≢true, take_all, All-more}
-use Rattle.lexical_forms.proofs.Common.{◌∙◌, length-take-le, slice_get-get_or, Literal}
-use Rattle.lexical_forms.proofs.Common.{◌++◌, ◌||◌, Notation, NoLiteral, is_absent, is_present, notation_of, common_steps, if◌then◌else◌, length, slice_get}
-use Rattle.lexical_forms.proofs.Common.{IsFurthestForm, sign_size, IsCountedFront, IsStopped, Refusal, FormList, NoForm, ReadsForm, is_stray, reach}
+use Rattle.lexical_forms.proofs.Common.{◌∙◌, length-take-le, slice_get-get_or, Notation, notation_of, common_steps, if◌then◌else◌, length, slice_get}
+use Rattle.lexical_forms.proofs.Common.{IsFurthestForm, sign_size, IsCountedFront, IsStopped, IsValidUpTo, FormList, NoForm, ReadsForm, Reads}
 use Rattle.lexical_forms.proofs.Common.{Read, Found, Stopped, Form}
-use Rattle.lexical_literal.specs.Front.{IsValidBy, NoFrontBy, ReadsFrontBy}
-use Rattle.lexical_forms.specs.Additions.Forms.{AreBelow, IsBehind, IsFoundForm, IsFoundFrontForm, IsFrontPast, IsLed, IsLongestPast}
-use Rattle.lexical_forms.specs.Additions.Forms.{IsNoBetter, IsRefusedAt, Leads, NoFrontPast, greater, limit}
-use Rattle.lexical_forms.specs.Forms.{GoesTo, HasFront, HasKind, IsErrorIn, IsErrorOfForm, IsFirst, IsFormError, IsGreatest, IsReadByForms, Reaches, ReadsIn}
-use Rattle.std.proofs.Common.{not}
-use Rattle.std.proofs.Math.Nat.{le_antisymm}
+use Rattle.lexical_literal.specs.Front.{NoFrontBy}
+use Rattle.lexical_forms.specs.Additions.Forms.{AreBelow, IsFoundForm, IsFoundFrontForm, IsFrontIn, IsLed, IsLeftOut, IsLongestPast, IsLow}
+use Rattle.lexical_forms.specs.Additions.Forms.{IsNearSign, IsRefusedAt, Leads, NoFrontPast, NonePast, greater, limit}
+use Rattle.lexical_forms.specs.Forms.{HasFront, HasKind, IsErrorOfForm, IsFirst, IsFormError, IsGreatest, IsReadByForms, Reaches, ReadsIn, reach_in, refusal_in}
+use Rattle.lexical_forms.proofs.OpeningLemmas.{bit_within, front_in, none_empty, none_in, one_reach, one_size, reach_least, reach_most}
 use Rattle.std.proofs.lemmas.List.{get_or-take}
 use Rattle.std.proofs.lemmas.Option.{slice_get_within}
 use Rattle.lexical_forms.specs.declared.list.FormError.{FormError}
 use Rattle.lexical_forms.specs.declared.list.Furthest.{Furthest}
 use Rattle.lexical_forms.specs.declared.list.Number.TheVariants as numbers
-use Rattle.lexical_literal.proofs.OneCauseLemmas.{one_refusal}
 
 -- What holds of some value of an option holds of the value that it is.
 some_of : {X : Type 0} (P : X → Type 0) (o : Option X) → IsSomeAnd o P → (x : X) × (o ≡ Some x) × P x
@@ -44,44 +41,6 @@ here_at P forms i d holds = grind (arith, common_steps, some_of, slice_get-get_o
 pub at_index : (P : Form → Type 0) (forms list : List Form) (g : Form) (i : ℕ) → list ≡ forms → i < length list → P (get_or list i g)
     → IsSomeAnd (slice_get forms i) P
 at_index P forms list g i same inside holds = grind (arith, common_steps, slice_get-get_or)
-
--- A text has one longest front that some literal begins with, and one that is a literal.
-module _ (R : Literal → List ℕ → Type 0) (text : List ℕ) where
-  pub one_size : (a b : ℕ) → IsValidBy R text a → IsValidBy R text b → a ≤ b
-  one_size a b is other = let longer = λ (below : b < a). other.no_longer a below is.within is.front in grind arith
-
-  pub one_front : (l k : Literal) (a b : ℕ) → ReadsFrontBy R l text a → ReadsFrontBy R k text b → a ≤ b
-  one_front l k a b is other = let longer = λ (below : b < a). other.no_longer a below is.within l is.reads in grind arith
-
--- A number and at most 1 more.
-bit_within : (n a b : ℕ) (t : Bool) → a ≤ 1 → b ≤ 1 → (n ≤ n + (if t then a else b)) × (n + (if t then a else b) ≤ n + 1)
-bit_within n a b true most other = (omega arith, omega (arith, most))
-bit_within n a b false most other = (omega arith, omega (arith, other))
-
-module _ (text : List ℕ) (g : Form) where
-  reach_within : (error : Refusal) → (2 * error.valid_up_to ≤ reach error) × (reach error ≤ 2 * error.valid_up_to + 1)
-  reach_within error = bit_within (2 * error.valid_up_to) 0 1 (is_stray error) (omega arith) (omega arith)
-
-  -- The reach of a form that goes up to `size`, or less far.
-  pub reach_up_to : (size : ℕ) → ((other : ℕ) → GoesTo text g other → other ≤ size) → (n : ℕ) → Reaches text g n → n ≤ 2 * size + 1
-  reach_up_to size up n is = let most = reach_within is.0 in omega (arith, up is.0.valid_up_to is.1.valid_up_to, most.1, is.2)
-
-  -- The reach of a form that stops at `stop`.
-  module _ (stop : Stopped) (is : IsRefusedAt text stop g) where
-    size_of : (error : Refusal) → IsErrorIn g text error → error.valid_up_to ≡ stop.size
-    size_of error refusal = le_antisymm (one_size (ReadsIn g) text error.valid_up_to stop.size refusal.valid_up_to is.0.valid)
-        (one_size (ReadsIn g) text stop.size error.valid_up_to is.0.valid refusal.valid_up_to)
-
-    pub reach_least : (n : ℕ) → Reaches text g n → 2 * stop.size ≤ n
-    reach_least n reaches = let least = reach_within reaches.0 in omega (arith, size_of reaches.0 reaches.1, least.0, reaches.2)
-
-    pub reach_most : (n : ℕ) → Reaches text g n → n ≤ 2 * stop.size + 1
-    reach_most n reaches = let most = reach_within reaches.0 in omega (arith, size_of reaches.0 reaches.1, most.1, reaches.2)
-
-    pub reach_is : (b : Bool) → ((error : Refusal) → IsErrorIn g text error → is_stray error ≡ b)
-        → (n : ℕ) → Reaches text g n → n ≡ 2 * stop.size + (if b then 0 else 1)
-    reach_is b stray n reaches = sym reaches.2 ∙ ap (λ (b : Bool). 2 * reaches.0.valid_up_to + (if b then 0 else 1)) (stray reaches.0 reaches.1)
-        ∙ ap (λ k. 2 * k + (if b then 0 else 1)) (size_of reaches.0 reaches.1)
 
 -- `Measure X` has what is compared: values with a size. It tells which sizes and values a form has, and whether it has none.
 pub record Measure (X : Type 0) : Type 1 where
@@ -126,10 +85,10 @@ module _ {X : Type 0} (M : Measure X) (forms : List Form) where
 abbrev pub goes : List ℕ → Measure Stopped
 goes text = record {
   size = λ stop. stop.size;
-  IsSize = GoesTo text;
+  IsSize = λ g n. IsValidUpTo (notation_of g.syntax) text n;
   IsValue = λ g stop. IsStopped (notation_of g.syntax) text stop;
   IsNot = λ g. ⊥;
-  one = λ g a b is other. one_size (ReadsIn g) text a b is other;
+  one = λ g a b is other. one_size (Reads (notation_of g.syntax)) text a b is other;
   sized = λ g stop is. is.valid;
   none = λ g a none is. none;
 }
@@ -178,11 +137,12 @@ each P Q None follows holds = holds
 -- Of the first `i` forms, no front has more than `reached` bytes, and the first as many, more than `size`, is `longest`, if there is one.
 module _ (forms : List Form) (text : List ℕ) (size : ℕ) where
   abbrev Past : ℕ → Form → Type 0
-  Past reached g = NoFrontPast (notation_of g.syntax) text reached
+  Past reached g = NonePast text reached g
 
   pub record IsFound (reached form : ℕ) (found : Found) : Type 0 where
     pub same : reached ≡ found.size
-    pub here : IsSomeAnd (slice_get forms form) (λ g. IsFrontPast (notation_of g.syntax) text size found)
+    pub here : IsSomeAnd (slice_get forms form) (IsFrontIn text found)
+    pub far : size < found.size
     pub before : All (λ g. (n : ℕ) → HasFront text g n → n < found.size) (take form forms)
 
   abbrev pub IsReached : ℕ → Option (ℕ × Found) → Type 0
@@ -206,13 +166,15 @@ module _ (forms : List Form) (text : List ℕ) (size : ℕ) where
     front_stays none = record { low = old.low; past = All-more (Past reached) forms i d inside old.past none; best = old.best }
 
     -- It has a longer one.
-    pub front_more : (found : Found) → IsFrontPast (notation_of (get_or forms i d).syntax) text reached found → AreWithin (i + 1) found.size (Some (i, found))
+    pub front_more : (found : Found) → (reached < found.size) × IsFrontIn text found (get_or forms i d) → AreWithin (i + 1) found.size (Some (i, found))
     front_more found is = record {
       low = omega (arith, old.low, is.0);
-      past = All-more (Past found.size) forms i d inside (λ k e below n more. old.past k e below n (omega (arith, more, is.0))) is.1.reads.no_longer;
+      past = All-more (Past found.size) forms i d inside (λ k e below n more. old.past k e below n (omega (arith, more, is.0)))
+          (front_in text (get_or forms i d) found is.1).no_longer;
       best = record {
         same = refl;
-        here = at_index (λ g. IsFrontPast (notation_of g.syntax) text size found) forms forms d i refl inside (omega (arith, old.low, is.0), is.1);
+        here = at_index (IsFrontIn text found) forms forms d i refl inside is.1;
+        far = omega (arith, old.low, is.0);
         before = λ k e below n front. let most = up_to reached (get_or (take i forms) k e) (old.past k e below) n front in omega (arith, most, is.0);
       };
     }
@@ -225,12 +187,13 @@ module _ (forms : List Form) (text : List ℕ) (size : ℕ) where
       let past = all_tried forms text i end (Past reached) is.past in
       record {
         longest = record {
-          here = each (λ g. IsFrontPast (notation_of g.syntax) text size best.1) (λ g. HasFront text g best.1.size) (slice_get forms best.0)
-              (λ g found. (found.1.literal, found.1.reads)) is.best.here;
+          here = each (IsFrontIn text best.1) (λ g. HasFront text g best.1.size) (slice_get forms best.0)
+              (λ g found. (found.front.literal, front_in text g best.1 found)) is.best.here;
           before = is.best.before;
           others = λ k d below n front. let most = up_to reached (get_or forms k d) (past k d below) n front in omega (arith, most, is.best.same);
         };
         counted = is.best.here;
+        past = is.best.far;
       }
 
 -- The longest front has no more bytes.
@@ -242,34 +205,14 @@ pub front_is : (forms : List Form) (text : List ℕ) (size index : ℕ) (found :
     → IsFoundFrontForm forms text (Ok (index, found))
 front_is forms text size index found is = record {
   longest = is.longest;
-  found = each (λ g. IsFrontPast (notation_of g.syntax) text size found) (λ g. IsCountedFront (notation_of g.syntax) text found) (slice_get forms index)
-      (λ g past. past.1) is.counted;
+  found = is.counted;
   none = λ err. absurd (false≢true err);
   error = tt;
 }
 
-empty_both : (xs ys : List ℕ) → [] ≡ xs ++ ys → ([] ≡ xs) × ([] ≡ ys)
-empty_both [] ys is = (refl, is)
-empty_both (x ∷ xs) ys is = absurd (let no = ap length is in omega (arith, no))
-
-empty_take : (text : List ℕ) → take 0 text ≡ []
-empty_take [] = refl
-empty_take (x ∷ text) = refl
-
--- A literal has a byte.
-no_empty : (m : Notation) → NoLiteral m []
-no_empty m l reads =
-    let a = empty_both l.sign _ reads.whole in let b = empty_both l.prefix _ a.1 in let integer = empty_both l.integer _ b.1 in
-    let point = empty_both l.point _ integer.1 in let c = empty_both l.fraction _ point.1 in let character = empty_both l.exponent_character _ c.1 in
-    false≢true (subst (λ e. (is_present [] || (not (is_absent []) || not (is_absent e))) ≡ true) (sym character.0)
-    (subst (λ p. (is_present [] || (not (is_absent p) || not (is_absent l.exponent_character))) ≡ true) (sym point.0)
-    (subst (λ i. (is_present i || (not (is_absent l.point) || not (is_absent l.exponent_character))) ≡ true) (sym integer.0)
-    reads.literal.spelled.some_number)))
-
 -- No front has a byte.
 pub no_front : (forms : List Form) (text : List ℕ) → IsLongestPast forms text 0 None → All (λ g. NoFrontBy (ReadsIn g) text) forms
-no_front forms text none k d below ℕ.zero within l reads =
-    no_empty (notation_of (get_or forms k d).syntax) l (subst (ReadsIn (get_or forms k d) l) (empty_take text) reads)
+no_front forms text none k d below ℕ.zero within l reads = none_empty (get_or forms k d) l reads
 no_front forms text none k d below (ℕ.suc n) within l reads = none k d below (ℕ.suc n) (omega arith) within l reads
 
 pub limit_within : (best : Furthest) → (2 * best.stop.size ≤ limit best) × (limit best ≤ 2 * best.stop.size + 1)
@@ -278,7 +221,7 @@ limit_within best = bit_within (2 * best.stop.size) 1 0 best.settled (omega arit
 -- The first form does not read the text.
 pub first_none : (forms : List Form) (text : List ℕ) (stop : Stopped) → IsSomeAnd (slice_get forms 0) (IsRefusedAt text stop) → NoForm (take 1 forms) text
 first_none [] text stop here k d below = absurd here
-first_none (form ∷ forms) text stop here ℕ.zero d below = here.1
+first_none (form ∷ forms) text stop here ℕ.zero d below = none_in text form stop here
 first_none (form ∷ forms) text stop here (ℕ.suc k) d below = absurd (omega (arith, below))
 
 module _ (forms : List Form) (text : List ℕ) where
@@ -341,9 +284,9 @@ module _ (forms : List Form) (text : List ℕ) where
         (weaker (best.form + 1) i (limit best + 1) most (omega (arith, less)) old.behind))
 
     -- One form more is left out.
-    pub left_out : IsSomeAnd (slice_get forms i) (λ g. IsNoBetter (notation_of g.syntax) text best.stop.size) → Leads forms text (i + 1) best
-    left_out is = kept (each (λ g. IsNoBetter (notation_of g.syntax) text best.stop.size) (λ g. (n : ℕ) → Reaches text g n → n ≤ limit best)
-        (slice_get forms i) (λ g is n reaches. let most = is reaches.0 reaches.1 in omega (arith, most, reaches.2)) is)
+    pub left_out : IsSomeAnd (slice_get forms i) (IsLow text best.stop.size) → Leads forms text (i + 1) best
+    left_out is = kept (each (IsLow text best.stop.size) (λ g. (n : ℕ) → Reaches text g n → n ≤ limit best) (slice_get forms i)
+        (λ g is n reaches. let most = is n reaches in let least = (limit_within best).0 in omega (arith, most, least)) is)
 
   -- One form more stops at `stop`.
   module _ (i : ℕ) (best : Furthest) (old : Leads forms text i best) (stop : Stopped) (here : IsSomeAnd (slice_get forms i) (IsRefusedAt text stop)) where
@@ -393,11 +336,11 @@ module _ (forms : List Form) (text : List ℕ) where
   }
 
   pub led_out : (i : ℕ) (furthest : Option Furthest) → IsLed forms text i furthest
-      → IsSomeAnd (slice_get forms i) (λ g. IsBehind (notation_of g.syntax) text furthest) → IsLed forms text (i + 1) furthest
-  led_out i None old is = λ k d below n goes. elim (cases_lt k i) [
-    | inl before ↦ old k d before n goes
+      → IsSomeAnd (slice_get forms i) (IsLeftOut text furthest) → IsLed forms text (i + 1) furthest
+  led_out i None old is = λ k d below n reaches. elim (cases_lt k i) [
+    | inl before ↦ old k d before n reaches
     | inr past ↦ (let same : k ≡ i = omega (arith, below, past) in
-        here_at (λ g. (n : ℕ) → GoesTo text g n → n ≤ sign_size text + 1) forms i d is n (subst (λ k. GoesTo text (get_or forms k d) n) same goes))
+        here_at (IsNearSign text) forms i d is n (subst (λ k. Reaches text (get_or forms k d) n) same reaches))
   ]
   led_out i (Some best) old is = left_out i best old is
 
@@ -408,7 +351,7 @@ module _ (forms : List Form) (text : List ℕ) where
     furthest = record {
       here = subst (λ k. IsSomeAnd (slice_get forms k) (λ g. Reaches text g reached)) (sym same)
           (each (IsErrorOfForm text error) (λ g. Reaches text g reached) (slice_get forms best.form)
-          (λ g is. (error.error.refusal, is.refusal, refl)) own);
+          (λ g is. (error.opened, refusal_in error, is.refusal, refl)) own);
       before = subst (λ k. All (λ g. (n : ℕ) → Reaches text g n → n < reached) (take k forms)) (sym same)
           (λ k d below n reaches.
           let within = inside_of (IsErrorOfForm text error) forms best.form own in
@@ -422,19 +365,19 @@ module _ (forms : List Form) (text : List ℕ) where
           | inl behind ↦ (λ n reaches. let less = is.behind k d (omega (arith, behind)) below n reaches in omega (arith, less, least))
           | inr here ↦ (λ n reaches. let most = one_below best.form (reached + 1)
               (each (IsErrorOfForm text error) (λ g. (n : ℕ) → Reaches text g n → n < reached + 1) (slice_get forms best.form)
-              (λ g is n reaches. let one = ap reach (one_refusal (notation_of g.syntax) text reaches.0 error.error.refusal reaches.1 is.refusal) in
-              omega (arith, one, reaches.2)) own) k d past (omega (arith, here)) n reaches in omega (arith, most))
+              (λ g is n reaches. let one = one_reach text g reaches.0 error.opened reaches.1 (refusal_in error) reaches.2 is.refusal in
+              omega (arith, one, reaches.3)) own) k d past (omega (arith, here)) n reaches in omega (arith, most))
         ])
       ];
     };
     refusal = subst (λ k. IsSomeAnd (slice_get forms k) (IsErrorOfForm text error)) (sym same) own;
   } where
     reached : ℕ
-    reached = reach error.error.refusal
+    reached = reach_in error.opened (refusal_in error)
 
     least : limit best ≤ reached
     least = go (slice_get forms best.form) own is.low where
       go : (o : Option Form) → IsSomeAnd o (IsErrorOfForm text error) → IsSomeAnd o (λ g. (n : ℕ) → Reaches text g n → limit best ≤ n)
           → limit best ≤ reached
-      go (Some form) own low = low reached (error.error.refusal, own.refusal, refl)
+      go (Some form) own low = low reached (error.opened, refusal_in error, own.refusal, refl)
       go None own low = absurd own

@@ -3,11 +3,11 @@ use Rattle.lexical_forms.proofs.Common.{ℕ, ◌≡◌, ◌&&◌, ◌||◌, Bool
 use Rattle.lexical_forms.proofs.Common.{IsSomeAnd, take, drop, get_or, append-nil, refl, sym, subst, ap, ◌∙◌, arith, cases_lt, false≢true, nat_tests}
 use Rattle.lexical_forms.proofs.Common.{length-take-le, All-more, slice_get-get_or, Literal, Reads, is_float, text_of, Notation, notation_of, Record, ◌==◌}
 use Rattle.lexical_forms.proofs.Common.{if◌then◌else◌, IsTrue, length, slice_get, sign_size, IsMeasured, IsStopped, AreSums, cut, Cuts, HasLengths, IsWithin}
-use Rattle.lexical_forms.proofs.Common.{FormList, ReadsForm, IsFront, IsValidUpTo, NoFront, NoLiteral, IsAhead, Form, Stopped, Candidate}
+use Rattle.lexical_forms.proofs.Common.{FormList, ReadsSyntax, IsFront, IsValidUpTo, NoFront, NoLiteral, IsAhead, Form, Stopped, Candidate}
 use Rattle.lexical_forms.specs.Additions.Forms.{NoFrontPast, PlaysNoRole}
 use Rattle.lexical_literal.specs.Additions.Literal.{HasSums, before_exponent}
 use Rattle.lexical_forms.specs.Additions.Token.{FrontsWithin, IsLeading, IsNear, IsPicked, has_float, has_prefix}
-use Rattle.lexical_forms.specs.Forms.{HasFront}
+use Rattle.lexical_forms.specs.Token.{HasFrontOfSyntax}
 use Rattle.lexical_forms.specs.Token.{IsCandidate, IsToken, gives_back, is_shorter}
 use Rattle.std.specs.Borrow.{Bor}
 use Rattle.std.proofs.lemmas.List.{drop-take, get_or-take, get_or_append_left, length-append, take-take}
@@ -206,7 +206,7 @@ near_more P forms but i r inside old own k d below other = elim (cases_lt k i) [
 
 -- A literal behind which no literal goes on is the longest front.
 pub front_of : (text : List ℕ) (form : Form) (size : ℕ) → size ≤ length text → (l : Literal) → Reads (notation_of form.syntax) l (take size text)
-    → IsWithin (notation_of form.syntax) text size → HasFront text form size
+    → IsWithin (notation_of form.syntax) text size → HasFrontOfSyntax text form size
 front_of text form size within l reads is = (
   l,
   record {
@@ -219,7 +219,7 @@ front_of text form size within l reads is = (
 -- The literal before a point that is given back, where reading stops, is that of a candidate.
 abbrev HasLongest : Bool → List ℕ → Form → ℕ → Type 0
 HasLongest back text form size =
-    (longest : ℕ) × HasFront text form longest × (size ≡ (if gives_back back (notation_of form.syntax) text longest then longest - 1 else longest))
+    (longest : ℕ) × HasFrontOfSyntax text form longest × (size ≡ (if gives_back back (notation_of form.syntax) text longest then longest - 1 else longest))
 
 pub front_before : (back : Bool) (text : List ℕ) (form : Form) (stop : Stopped) (size : ℕ) → IsStopped (notation_of form.syntax) text stop
     → stop.size ≡ size + 1 → gives_back back (notation_of form.syntax) text stop.size ≡ true → gives_back back (notation_of form.syntax) text size ≡ false
@@ -354,7 +354,7 @@ module _ (list : FormList) (t : Tokens) (text : List ℕ) (index : ℕ) (form : 
               let alone = ahead.more in let back = given.0 in grind (arith, nat_tests)
         ]
 
-    pub leading_token : (token : Token) → token.form ≡ index → ReadsForm (take size text) token.literal form
+    pub leading_token : (token : Token) → token.form ≡ index → ReadsSyntax (take size text) token.literal form
         → token.literal.kind ≡ kind_with form.suffixes token.suffix.now form.kind → token.suffix.now ≡ take more (drop size text)
         → token.rest.now ≡ drop (size + more) text → IsToken list t text token
     leading_token token same literal kind suffix rest = token_is list t text index form found picked token same literal kind

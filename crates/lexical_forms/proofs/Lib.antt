@@ -2,6 +2,7 @@ mod Common
 mod SpecialLemmas
 mod ExcludeLemmas
 mod StrangerLemmas
+pub mod OpeningLemmas
 mod FormLemmas
 mod TokenLemmas
 mod LeadingLemmas

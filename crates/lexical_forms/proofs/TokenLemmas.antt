@@ -2,7 +2,7 @@
 use Rattle.lexical_forms.proofs.Common.{ℕ, ◌≡◌, ◌&&◌, ◌||◌, Bool, true, false, ◌<◌, ◌≤◌, ◌+◌, ◌-◌, ◌⊎◌, inl, inr, List, Option, Some, None, All, IsNone}
 use Rattle.lexical_forms.proofs.Common.{IsSomeAnd, take, drop, get_or, refl, sym, subst, ap, ◌∙◌, arith, nat_tests, length-take-le, take_all, All-more}
 use Rattle.lexical_forms.proofs.Common.{slice_get-get_or, Literal, Reads, is_float, Notation, notation_of, ◌==◌, if◌then◌else◌, IsTrue, length, slice_get}
-use Rattle.lexical_forms.proofs.Common.{IsCountedFront, HasLengths, cuts_of, FormList, NoForm, ReadsForm, IsValidUpTo, NoFront, Read, IsAhead, Form, Found}
+use Rattle.lexical_forms.proofs.Common.{IsCountedFront, HasLengths, cuts_of, FormList, NoForm, ReadsForm, ReadsSyntax, IsValidUpTo, NoFront, Read, IsAhead, Form, Found}
 use Rattle.lexical_forms.proofs.Common.{Candidate}
 use Rattle.lexical_forms.specs.Forms.{IsFirst}
 use Rattle.lexical_forms.specs.Token.{AllShorter, IsChosen, IsFollowed, IsOver, IsCut, IsRefused, IsToken, IsTokenError, IsCandidate, NoCandidate, NoLonger}
@@ -10,11 +10,14 @@ use Rattle.lexical_forms.specs.Additions.Token.{IsBestMade, IsBestOf, IsEnd, IsM
 use Rattle.lexical_literal.specs.Cause.{is_in}
 use Rattle.lexical_forms.specs.Suffix.{is_digit, is_stopped, is_word_byte, kind_with, stop_end, suffix_size, suffix_words}
 use Rattle.lexical_forms.specs.Token.{gives_back, is_shorter}
+use Rattle.lexical_forms.specs.Forms.{ReadsIn}
+use Rattle.lexical_literal.specs.Front.{NoneBy}
 use Rattle.lexical_forms.specs.declared.list.Tokens.{Tokens}
 use Rattle.lexical_forms.specs.declared.token.Token.{Token}
 use Rattle.lexical_forms.specs.declared.token.TokenError.{TokenError}
 use Rattle.lexical_forms.specs.declared.token.TokenError.TheVariants as errors
-use Rattle.lexical_forms.proofs.FormLemmas.{all_at, one_front, one_size}
+use Rattle.lexical_forms.proofs.FormLemmas.{all_at}
+use Rattle.lexical_forms.proofs.OpeningLemmas.{one_front, one_size}
 use Rattle.lexical_literal.proofs.MadeLemmas.{present}
 
 -- The order of candidates, each with the length of its literal and its end.
@@ -308,7 +311,7 @@ pub some_form : (forms : List Form) (text : List ℕ) (i : ℕ) (read : Read) �
 some_form forms text i read is none = go (slice_get forms i) refl is.reads where
   go : (o : Option Form) → slice_get forms i ≡ o → IsSomeAnd o (ReadsForm text read) → ⊥
   go None at reads = reads
-  go (Some form) at reads = all_at (λ form. (l : Literal) → Reads (notation_of form.syntax) l text → ⊥) forms i form at none read.literal reads.1
+  go (Some form) at reads = all_at (λ form. NoneBy (ReadsIn form) text) forms i form at none read.literal reads.1
 
 -- The best candidate of the list, and of the forms that need a suffix.
 module _ (list : FormList) (t : Tokens) (text : List ℕ) where
@@ -359,7 +362,7 @@ module _ (list : FormList) (t : Tokens) (text : List ℕ) where
 
   -- The token that was picked, or why there is none.
   module _ (index : ℕ) (form : Form) (c : Candidate) (is : IsPicked list t text index form c) where
-    pub token_is : (token : Token) → token.form ≡ index → ReadsForm (take c.size text) token.literal form
+    pub token_is : (token : Token) → token.form ≡ index → ReadsSyntax (take c.size text) token.literal form
         → token.literal.kind ≡ kind_with form.suffixes token.suffix.now form.kind → token.suffix.now ≡ take (c.end - c.size) (drop c.size text)
         → token.rest.now ≡ drop c.end text
         → IsFollowed list t text c.end ⊎ (IsOver list t text c.end × (is_stopped form.suffixes text c.end ≡ false)) → IsToken list t text token

@@ -1,9 +1,12 @@
 -- Several forms of numbers: which form has a text, and which error a text has that is of no form.
 use Rattle.std.specs.Prelude.{ℕ, ◌≡◌, ◌+◌, ◌*◌, ◌<◌, ◌≤◌, if◌then◌else◌, IfErr, IfOk, IsErr, IsSomeAnd, List, Option, Some, None, Result}
 use Rattle.std.specs.Prelude.{All}
-use Rattle.std.specs.Prelude.{drop, slice_get, take}
+use Rattle.std.specs.Prelude.{◌==◌, Bool, drop, length, not, option_map, slice_get, take}
+use Rattle.std.specs.List.{list_any}
+use Rattle.std.specs.Result.{result_ok}
 use Rattle.std.specs.Borrow.{Bor}
-use Rattle.lexical_literal.specs.Cause.{IsRefusal, is_stray}
+use Rattle.lexical_literal.specs.Cause.{Explained, IsRefusal, is_stray, tail_of}
+use Rattle.lexical_forms.specs.Affix.{IsOpened, IsOpenedTo}
 use Rattle.lexical_forms.specs.FormList.{FormList}
 use Rattle.lexical_literal.specs.Front.{IsValidBy, NoFrontBy, NoneBy, ReadsFrontBy}
 use Rattle.lexical_literal.specs.Literal.{Literal, Reads}
@@ -13,18 +16,31 @@ use Rattle.lexical_forms.specs.Specials.{special_of}
 use Rattle.lexical_literal.specs.declared.cause.Refusal.{Refusal}
 use Rattle.lexical_forms.specs.declared.list.Form.{Form}
 use Rattle.lexical_forms.specs.declared.list.FormError.{FormError}
+use Rattle.lexical_forms.specs.declared.list.Unopened.{Unopened}
 use Rattle.lexical_forms.specs.declared.list.Number.{Number}
 use Rattle.lexical_forms.specs.declared.list.Number.TheVariants as numbers
 use Rattle.lexical_forms.specs.declared.specials.Special.{Special}
 use Rattle.lexical_forms.specs.declared.specials.Specials.{Specials}
 
--- `ReadsIn form l text` holds if `text` is a literal of `form` with the parts of `l`.
-abbrev pub ReadsIn : Form → Literal → List ℕ → Type 0
-ReadsIn form = Reads (notation_of form.syntax)
+-- `have_openings forms` is true if one of `forms` has an opening.
+abbrev pub have_openings : List Form → Bool
+have_openings forms = list_any (λ (form : Form). not (length form.opening.bytes.now == 0)) forms
 
--- `IsErrorIn form text error` holds if `error` says why `text` is not a literal of `form`.
-abbrev pub IsErrorIn : Form → List ℕ → Refusal → Type 0
-IsErrorIn form = IsRefusal (notation_of form.syntax)
+-- `behind form text` is what follows as many bytes of `text` as the opening of `form` has.
+abbrev pub behind : Form → List ℕ → List ℕ
+behind form text = drop (length form.opening.bytes.now) text
+
+-- `ReadsIn form l text` holds if `text` is a literal of `form` with the parts of `l`: the opening, and then a literal of its syntax.
+pub record ReadsIn (form : Form) (l : Literal) (text : List ℕ) : Type 0 where
+  pub opened : IsOpened form.opening text
+  pub reads : Reads (notation_of form.syntax) l (behind form text)
+
+-- `IsErrorIn form text opened error` holds if `opened` bytes of the opening of `form` are right, and if `error` says why what is behind it
+-- is not a literal of the syntax, or is `None`, and they are not all.
+abbrev pub IsErrorIn : Form → List ℕ → ℕ → Option Refusal → Type 0
+IsErrorIn form text opened None = IsOpenedTo form.opening text opened × (opened < length form.opening.bytes.now)
+IsErrorIn form text opened (Some error) =
+    IsOpened form.opening text × (opened ≡ length form.opening.bytes.now) × IsRefusal (notation_of form.syntax) (behind form text) error
 
 -- `GoesTo text form size` holds if some literal of `form` begins with the first `size` bytes of `text`, and none with more.
 abbrev pub GoesTo : List ℕ → Form → ℕ → Type 0
@@ -62,19 +78,42 @@ pub record IsGreatest (P : Form → ℕ → Type 0) (forms : List Form) (index s
 abbrev pub reach : Refusal → ℕ
 reach error = 2 * error.valid_up_to + (if is_stray error then 0 else 1)
 
+-- `reach_in opened error` is the same for an error behind `opened` bytes of an opening. An opening that is not there counts as a wrong byte.
+abbrev pub reach_in : ℕ → Option Refusal → ℕ
+reach_in opened None = 2 * opened
+reach_in opened (Some error) = 2 * opened + reach error
+
+-- `right_in opened error` is the number of bytes that are right.
+abbrev pub right_in : ℕ → Option Refusal → ℕ
+right_in opened None = opened
+right_in opened (Some error) = opened + error.valid_up_to
+
 -- `Reaches text form n` holds if an error of `text` in `form` has the reach `n`.
 abbrev pub Reaches : List ℕ → Form → ℕ → Type 0
-Reaches text form n = (error : Refusal) × IsErrorIn form text error × (reach error ≡ n)
+Reaches text form n = (opened : ℕ) × (error : Option Refusal) × IsErrorIn form text opened error × (reach_in opened error ≡ n)
 
--- `IsErrorOfForm text error form` holds if `error` has the name of `form`, and says why `text` is not a literal of it.
+-- `refusal_in error` is why what is behind the opening is not a literal, or `None` if the opening is not there.
+abbrev pub refusal_in : FormError → Option Refusal
+refusal_in error = option_map (λ (it : Explained). it.refusal) (result_ok error.error)
+
+-- `IsUnopened text form size unopened` holds if `unopened` has the opening of `form`, and the byte behind the first `size`, with its character.
+pub record IsUnopened (text : List ℕ) (form : Form) (size : ℕ) (unopened : Unopened) : Type 0 where
+  pub opening : unopened.opening ≡ form.opening
+  pub byte : unopened.byte ≡ slice_get text size
+  pub tail : unopened.tail ≡ tail_of text size
+
+-- `IsErrorOfForm text error form` holds if `error` has the name of `form`, and says why `text` is not a literal of it. The bytes that are right
+-- are the longest front with which some literal begins.
 pub record IsErrorOfForm (text : List ℕ) (error : FormError) (form : Form) : Type 0 where
   pub name : error.name.now ≡ form.name.now
-  pub refusal : IsErrorIn form text error.error.refusal
+  pub refusal : IsErrorIn form text error.opened (refusal_in error)
+  pub valid : GoesTo text form (right_in error.opened (refusal_in error))
+  pub unopened : IfErr error.error (IsUnopened text form error.opened)
 
 -- `IsFormError forms text error` holds if `error` is that of the form that goes furthest in `text`. Of several, it is the first
 -- whose cause is not a wrong byte and that does not lack a required prefix, or the first if there is none.
 pub record IsFormError (forms : List Form) (text : List ℕ) (error : FormError) : Type 0 where
-  pub furthest : IsGreatest (Reaches text) forms error.form (reach error.error.refusal)
+  pub furthest : IsGreatest (Reaches text) forms error.form (reach_in error.opened (refusal_in error))
   pub refusal : IsSomeAnd (slice_get forms error.form) (IsErrorOfForm text error)
 
 -- `special_in specials text form` is the special value that `text` is by the flags and conditions of `form`, or `None`, and

@@ -1,3 +1,4 @@
+pub mod Affix
 pub mod Specials
 pub mod Suffix
 pub mod FormList

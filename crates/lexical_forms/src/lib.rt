@@ -1,6 +1,7 @@
 //! Numbers of several forms, with their suffixes and special values, and tokens of source text.
 #![tactic(auto)]
 
+pub mod affix;
 mod exclude;
 pub mod list;
 pub mod specials;

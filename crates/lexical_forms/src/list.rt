@@ -1,47 +1,62 @@
 //! Numbers that have several forms, such as `10`, `0x1F` and `0b1`.
 
-ghost use Rattle.std.specs.Prelude.{ℕ, ◌≡◌, ◌<◌, ◌≤◌, ◌+◌, ◌*◌, IfSome, IsSomeAnd, IsTrue, None, Some, SomeIff, false, if◌then◌else◌, length, slice_get};
+ghost use Rattle.std.specs.Prelude.{ℕ, ◌≡◌, ◌<◌, ◌≤◌, ◌+◌, ◌-◌, ◌*◌, ◌||◌, [], IfSome, IsNone, IsSome, IsSomeAnd, IsTrue, None, Some, SomeIff};
+ghost use Rattle.std.specs.Prelude.{false, if◌then◌else◌, length, slice_get};
 ghost use Rattle.lexical_forms.specs.Additions.Forms.{IsBehind, IsFoundForm, IsFoundFrontForm, IsLed, IsLongestPast, IsRefusedAt};
-ghost use Rattle.lexical_forms.specs.Additions.Forms.{Leads, sign_size};
-ghost use Rattle.lexical_forms.specs.Forms.{HasKind, IsFormError, IsFrontByForms, IsReadByForms, NoForm, Reaches, special_by};
-ghost use Rattle.lexical_literal.specs.Front.{NoLiteral};
+ghost use Rattle.lexical_forms.specs.Additions.Forms.{IsFrontIn, IsStoppedBefore, IsStoppedBehind, Leads, NonePast, sign_size};
+ghost use Rattle.lexical_forms.specs.Forms.{HasKind, IsErrorOfForm, IsFormError, IsFrontByForms, IsReadByForms, IsUnopened, NoForm, Reaches, ReadsIn, behind, have_openings, special_by};
+ghost use Rattle.lexical_literal.specs.Additions.Stop.{IsStopped};
+ghost use Rattle.lexical_literal.specs.Front.{NoLiteral, NoneBy};
 ghost use Rattle.lexical_literal.specs.Read.{exact};
 ghost use Rattle.lexical_literal.specs.Notation.{notation_of};
 
+use crate::affix::Affix;
 use crate::exclude::{excludes, has_letter_behind_zero, is_settled, lacks_longer, sign_size};
 use crate::specials::{Special, Specials};
 use crate::suffix::Suffixes;
 use lexical_literal::cause::ReadError;
 use lexical_literal::kind::Kind;
+use lexical_literal::laws::literal_facts;
 use lexical_literal::literal::Literal;
-use lexical_literal::stop::{Found, Stopped};
+use lexical_literal::stop::{BEGIN, Found, Stopped, byte_at, tail_at};
 use lexical_literal::syntax::{Grammar, Syntax};
 use std::marker::Model;
 
-/// A form of numbers: its name, such as `hexadecimal`, its syntax, the suffixes of its tokens, and its kind.
+/// A form of numbers: its name, such as `hexadecimal`, its opening, its syntax, the suffixes of its tokens, and its kind.
 #[derive(Clone, Copy)]
 pub struct Form {
     pub(crate) name: &'static str,
+    pub(crate) opening: Affix,
     pub(crate) syntax: Syntax,
     pub(crate) suffixes: Option<&'static Suffixes>,
     pub(crate) kind: Kind,
 }
 
 impl Form {
-    /// Returns the form with a name, which may be empty, and a syntax, without suffixes, of the kind [`Kind::EXACT`].
+    /// Returns the form with a name, which may be empty, and a syntax, without an opening and suffixes, of the kind [`Kind::EXACT`].
     #[must_use]
     pub const fn new(name: &'static str, syntax: Syntax) -> Form
         ensures name { result.name.now ≡ name.now }
+        ensures opening { result.opening.bytes.now ≡ [] }
         ensures syntax { result.syntax ≡ syntax }
         ensures suffixes { result.suffixes ≡ None }
         ensures kind { result.kind ≡ exact }
     {
         Form {
             name,
+            opening: Affix::NONE,
             syntax,
             suffixes: None,
             kind: Kind::EXACT,
         }
+    }
+
+    /// Returns the same form with an opening before each of its literals.
+    #[must_use]
+    pub const fn with_opening(&self, opening: Affix) -> Form
+        ensures { result ≡ record self.now { opening = opening } }
+    {
+        Form { opening, ..*self }
     }
 
     /// Returns the same form with the suffixes that its tokens may have.
@@ -61,6 +76,14 @@ impl Form {
         ensures { result ≡ record self.now { kind = kind } }
     {
         Form { kind, ..*self }
+    }
+
+    /// Returns the opening, which is empty if there is none.
+    #[must_use]
+    pub const fn opening(&self) -> Affix
+        ensures { result ≡ self.now.opening }
+    {
+        self.opening
     }
 
     /// Returns the kind.
@@ -93,6 +116,121 @@ impl Form {
         ensures { result ≡ self.now.syntax }
     {
         self.syntax
+    }
+}
+
+impl Form {
+    // Returns the longest front of `text` that is a literal, if it has more than `size` bytes.
+    #[inline(always)]
+    fn front_past(&self, text: &[u8], size: usize) -> Option<Found>
+        ensures none { IsNone result → NonePast text.now size self.now }
+        ensures some { IfSome result (λ found. (size < found.size) × IsFrontIn text.now found self.now) }
+    {
+        let opened = self.opening.opened(text);
+        let (_, rest) = text.split_at(opened);
+        let least = size.saturating_sub(opened);
+        if opened < self.opening.size() || lacks_longer(self.syntax.grammar(), rest, least) {
+            return None;
+        }
+        let (_, found) = self.syntax.front(rest);
+        let Some(found) = found else {
+            return None;
+        };
+        let Found { size, counts } = found;
+        if size > least {
+            let size = opened + size;
+            Some(Found { size, counts })
+        } else {
+            None
+        }
+    }
+}
+
+// Calls for a form in which a text is not a literal.
+impl Form {
+    // Returns where reading `text` stops.
+    #[cold]
+    fn stop(&self, text: &[u8]) -> Stopped
+        requires { NoneBy (ReadsIn self.now) text.now }
+        ensures { IsRefusedAt text.now result self.now }
+    {
+        let opened = self.opening.opened(text);
+        if opened < self.opening.size() {
+            return BEGIN.at(opened);
+        }
+        let (_, rest) = text.split_at(opened);
+        let stop = self.syntax.stop(rest);
+        stop.at(opened + stop.size)
+    }
+
+    // Returns what is behind the opening, and where reading this stops, or `None` if the opening is not there.
+    #[inline(always)]
+    fn behind<'t>(&self, text: &'t [u8], stop: Stopped) -> Option<(&'t [u8], Stopped)>
+        requires { IsRefusedAt text.now stop self.now }
+        ensures none { IsNone result → IsStoppedBefore text.now stop self.now }
+        ensures opened { IsSome result → IsStoppedBehind text.now stop self.now }
+        ensures stopped { IfSome result (λ it. IsStopped (notation_of self.now.syntax) it.0.now it.1) }
+        ensures refused { IfSome result (λ it. NoLiteral (notation_of self.now.syntax) it.0.now) }
+        ensures rest { IfSome result (λ it. it.0.now ≡ behind self.now text.now) }
+        ensures size { IfSome result (λ it. it.1.size ≡ stop.size - length self.now.opening.bytes.now) }
+    {
+        let opened = self.opening.size();
+        if stop.size < opened {
+            return None;
+        }
+        let (_, rest) = text.split_at(opened);
+        Some((rest, stop.at(stop.size - opened)))
+    }
+
+    // Returns whether the cause is stray: it is a wrong byte, or the opening or a required prefix is not there.
+    fn is_stray(&self, text: &[u8], stop: Stopped) -> bool
+        requires { IsRefusedAt text.now stop self.now }
+        ensures { (n : ℕ) → Reaches text.now self.now n → n ≡ 2 * stop.size + (if result then 0 else 1) }
+    {
+        match self.behind(text, stop) {
+            None => true,
+            Some((rest, stop)) => stop.is_stray(&self.syntax, rest),
+        }
+    }
+
+    // Returns why `text` is not a literal of the form, which has the index `form`.
+    #[inline(always)]
+    fn refuse(&self, text: &[u8], form: usize, stop: Stopped) -> FormError
+        requires { IsRefusedAt text.now stop self.now }
+        ensures form { result.form ≡ form }
+        ensures error { IsErrorOfForm text.now result self.now }
+    {
+        let syntax = self.syntax();
+        let (opened, error) = match self.behind(text, stop) {
+            None => (stop.size, Err(self.unopened(text, stop.size))),
+            Some((rest, inside)) => {
+                let Err(error) = inside.refuse::<()>(&syntax, rest) else {
+                    unreachable!()
+                };
+                (self.opening.size(), Ok(error))
+            }
+        };
+        literal_facts();
+        FormError {
+            form,
+            name: self.name,
+            opened,
+            error,
+        }
+    }
+
+    // Returns that the opening is not there behind the first `size` bytes.
+    #[inline(always)]
+    fn unopened(&self, text: &[u8], size: usize) -> Unopened
+        requires { size ≤ length text.now }
+        ensures { IsUnopened text.now self.now size result }
+    {
+        let byte = byte_at(text, size);
+        Unopened {
+            opening: self.opening,
+            byte,
+            tail: tail_at(text, size, byte),
+        }
     }
 }
 
@@ -220,8 +358,18 @@ pub struct FormError {
     pub form: usize,
     /// The name of the form.
     pub name: &'static str,
-    /// Why the text is not a literal of this form.
-    pub error: ReadError,
+    // The number of bytes of the opening that are there.
+    pub(crate) opened: usize,
+    // Why what is behind the opening is not a literal of the syntax, or that the opening is not there.
+    pub(crate) error: Result<ReadError, Unopened>,
+}
+
+// An opening that is not there, the byte that differs, or `None` if the text ends, and what follows it in its character.
+#[derive(Debug, Clone, Copy, PartialEq, Eq, Hash)]
+pub struct Unopened {
+    pub(crate) opening: Affix,
+    pub(crate) byte: Option<u8>,
+    pub(crate) tail: [u8; 3],
 }
 
 impl<'a> Forms<'a> {
@@ -266,17 +414,21 @@ impl<'a> Forms<'a> {
         Forms { specials, ..self }
     }
 
-    /// Returns the same forms with rules for tokens, without which there are none.
+    /// Returns the same forms with rules for tokens, without which there are none. A list with an opening has no tokens yet: it takes no
+    /// rules.
     #[must_use]
     pub const fn with_tokens(self, tokens: &'a Tokens) -> Forms<'a>
         ensures forms { result.forms ≡ self.entry.forms }
         ensures specials { result.specials ≡ self.entry.specials }
-        ensures tokens { result.tokens ≡ Some tokens.entry }
+        ensures tokens { result.tokens
+            ≡ (if have_openings self.entry.forms || have_openings tokens.now.forms.now then None else Some tokens.entry) }
     {
-        Forms {
-            tokens: Some(tokens),
-            ..self
-        }
+        let tokens = if have_openings(self.forms) || have_openings(tokens.forms) {
+            None
+        } else {
+            Some(tokens)
+        };
+        Forms { tokens, ..self }
     }
 
     /// Returns the forms.
@@ -351,16 +503,17 @@ impl<'a> Forms<'a> {
         match self.find_front(text) {
             Ok((form, found)) => {
                 let Found { size, counts } = found;
+                let it = &self.as_slice()[form];
                 let (front, rest) = text.split_at(size);
-                let summed = self.as_slice()[form].syntax.summed(front, counts);
-                let literal = self.of_form(form, summed);
+                let (_, inside) = front.split_at(it.opening.size());
+                let literal = self.of_form(form, it.syntax.summed(inside, counts));
                 Ok((Number::Literal { literal, form }, rest))
             }
             Err(error) => Err(error),
         }
     }
 
-    // Returns a literal with the kind of the form with the index `form`.
+    // Returns a literal with the kind of the form with the index `form`, behind its opening.
     #[inline(always)]
     fn of_form<'t>(&self, form: usize, literal: Literal<'t>) -> Literal<'t>
         requires { form < length self.now.forms }
@@ -368,7 +521,8 @@ impl<'a> Forms<'a> {
         ensures literal { result.literal ≡ literal.entry.literal }
         ensures kind { HasKind self.now.forms form result }
     {
-        literal.with_kind(self.as_slice()[form].kind)
+        let it = &self.as_slice()[form];
+        literal.with_kind(it.kind).behind(it.opening.size())
     }
 
     // Returns the special value that `text` is, if it is one.
@@ -380,7 +534,7 @@ impl<'a> Forms<'a> {
 
     // Returns the index of the first form of which `text` is a literal, and the literal, or the form whose error is that of the list.
     // The first form stops at `stop`, if it has been asked. Each form is asked once, but if it has not been asked and no form goes beyond
-    // the first byte behind the sign, all are asked again.
+    // the first byte behind the sign, all are asked again. A form whose opening is not there does not ask its syntax.
     #[inline(always)]
     pub(crate) fn find<'t>(
         &self,
@@ -402,15 +556,23 @@ impl<'a> Forms<'a> {
             form = 1;
         }
         while form < self.forms.len() {
-            let syntax = &self.forms[form].syntax;
-            if !is_behind(syntax.grammar(), text, sign, furthest) {
-                let begun = syntax.begin(false, text, false);
-                if begun.is_whole(syntax, text) {
-                    return Ok((form, syntax.literal(text, begun.counts, begun.sums)));
+            let it = &self.forms[form];
+            let syntax = &it.syntax;
+            let opened = it.opening.opened(text);
+            if opened < it.opening.size() {
+                furthest = self.further_on(text, sign, furthest, form, BEGIN.at(opened));
+            } else if opened > 0 || !is_behind(syntax.grammar(), text, sign, furthest) {
+                let (_, rest) = text.split_at(opened);
+                let begun = syntax.begin(false, rest, false);
+                if begun.is_whole(syntax, rest) {
+                    return Ok((form, syntax.literal(rest, begun.counts, begun.sums)));
                 }
-                match begun.lengths(syntax, text) {
-                    Ok(counts) => return Ok((form, syntax.summed(text, counts))),
-                    Err(stop) => furthest = self.further_on(text, sign, furthest, form, stop),
+                match begun.lengths(syntax, rest) {
+                    Ok(counts) => return Ok((form, syntax.summed(rest, counts))),
+                    Err(stop) => {
+                        let stop = stop.at(opened + stop.size);
+                        furthest = self.further_on(text, sign, furthest, form, stop);
+                    }
                 }
             }
             form += 1;
@@ -428,7 +590,7 @@ impl<'a> Forms<'a> {
         requires { NoForm self.now.forms text.now }
         ensures { Leads self.now.forms text.now (length self.now.forms) result }
     {
-        let first = self.forms[0].syntax.stop(text);
+        let first = self.forms[0].stop(text);
         let mut furthest = Furthest {
             form: 0,
             stop: first,
@@ -436,9 +598,9 @@ impl<'a> Forms<'a> {
         };
         let mut form = 1;
         while form < self.forms.len() {
-            let syntax = &self.forms[form].syntax;
-            if !is_settled(syntax.grammar(), text, furthest.stop.size) {
-                let stop = syntax.stop(text);
+            let it = &self.forms[form];
+            if !it.opening.is_empty() || !is_settled(it.syntax.grammar(), text, furthest.stop.size) {
+                let stop = it.stop(text);
                 furthest = self.further(text, furthest, form, stop);
             }
             form += 1;
@@ -507,13 +669,13 @@ impl<'a> Forms<'a> {
         }
     }
 
-    // Returns whether the cause is stray where a form stops: it is a wrong byte, or a required prefix is not there.
+    // Returns whether the cause is stray where a form stops.
     fn is_stray(&self, text: &[u8], it: Furthest) -> bool
         requires { IsSomeAnd (slice_get self.now.forms it.form) (IsRefusedAt text.now it.stop) }
         ensures { IsSomeAnd (slice_get self.now.forms it.form) (λ g. (n : ℕ) → Reaches text.now g n
             → n ≡ 2 * it.stop.size + (if result then 0 else 1)) }
     {
-        it.stop.is_stray(&self.as_slice()[it.form].syntax, text)
+        self.as_slice()[it.form].is_stray(text, it.stop)
     }
 
     // Returns the longest front of `text` that is a literal of a form, with the index of the form, the first of equals, or
@@ -543,15 +705,10 @@ impl<'a> Forms<'a> {
         let mut longest = None;
         let mut form = 0;
         while form < self.forms.len() {
-            let syntax = &self.forms[form].syntax;
-            if !lacks_longer(syntax.grammar(), text, reached) {
-                let (_, found) = syntax.front(text);
-                if let Some(found) = found {
-                    if found.size > reached {
-                        reached = found.size;
-                        longest = Some((form, found));
-                    }
-                }
+            let it = &self.forms[form];
+            if let Some(found) = it.front_past(text, reached) {
+                reached = found.size;
+                longest = Some((form, found));
             }
             form += 1;
         }
@@ -565,16 +722,22 @@ impl<'a> Forms<'a> {
         ensures { IsFormError self.now.forms text.now result }
     {
         let Furthest { form, stop, .. } = furthest;
-        let it = &self.as_slice()[form];
-        let Err(error) = stop.refuse::<()>(&it.syntax, text) else {
-            unreachable!()
-        };
-        FormError {
-            form,
-            name: it.name,
-            error,
-        }
+        self.as_slice()[form].refuse(text, form, stop)
     }
+}
+
+// Returns whether a form has an opening.
+const fn have_openings(forms: &[Form]) -> bool
+    ensures { result ≡ have_openings forms.now }
+{
+    let mut form = 0;
+    while form < forms.len() {
+        if !forms[form].opening.is_empty() {
+            return true;
+        }
+        form += 1;
+    }
+    false
 }
 
 // Returns whether a form need not be asked: its first bytes exclude that `text` is a literal, or no error of it goes further than the

@@ -11,11 +11,10 @@ ghost use Rattle.lexical_forms.specs.Additions.Token.{IsNear, IsOwn, IsPicked, I
 ghost use Rattle.lexical_forms.specs.Additions.Token.{goes_on};
 ghost use Rattle.lexical_forms.specs.Additions.Token.{has_float, suffixed, whole};
 ghost use Rattle.lexical_literal.specs.Cause.{is_in};
-ghost use Rattle.lexical_forms.specs.Forms.{ReadsForm};
 ghost use Rattle.lexical_literal.specs.Notation.{notation_of};
 ghost use Rattle.lexical_forms.specs.Suffix.{is_digit, kind_with, stop_end};
 ghost use Rattle.lexical_forms.specs.Token.{HasNone, IsAhead, IsReadByTokens, IsToken, IsTokenError, IsRefused, IsWordUpTo, NoCandidate, gives_back};
-ghost use Rattle.lexical_forms.specs.Token.{is_shorter};
+ghost use Rattle.lexical_forms.specs.Token.{ReadsSyntax, is_shorter};
 ghost use Rattle.lexical_util.specs.Record.{raw};
 
 use crate::exclude::{has_letter_behind_zero, is_over, lacks_longer, sign_size};
@@ -356,7 +355,7 @@ fn made<'t>(it: &Form, text: &'t [u8], form: usize, candidate: Candidate) -> Tok
     requires order { candidate.size ≤ candidate.end }
     requires within { candidate.end ≤ length text.now }
     ensures form { result.form ≡ form }
-    ensures literal { ReadsForm (take candidate.size text.now) result.literal it.now }
+    ensures literal { ReadsSyntax (take candidate.size text.now) result.literal it.now }
     ensures kind { result.literal.kind ≡ kind_with it.now.suffixes result.suffix.now it.now.kind }
     ensures suffix { result.suffix.now ≡ take (candidate.end - candidate.size) (drop candidate.size text.now) }
     ensures rest { result.rest.now ≡ drop candidate.end text.now }

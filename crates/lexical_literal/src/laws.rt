@@ -1,11 +1,12 @@
 //! Theorems on literals. Each is a clause of a function with an empty body.
 
-ghost use Rattle.std.specs.Prelude.{◌≡◌, ◌≢◌, ◌≤◌, ◌↔◌, ◌&&◌, ◌||◌, ◌∷◌, ℕ, Bool, IsFalse, IsTrue, List, Option, length, not};
+ghost use Rattle.std.specs.Prelude.{◌≡◌, ◌≢◌, ◌≤◌, ◌↔◌, ◌&&◌, ◌||◌, ◌∷◌, [], ℕ, Bool, IsFalse, IsTrue, List, Option, length, not};
 ghost use Rattle.lexical_util.specs.Layout as layout;
 ghost use Rattle.lexical_util.specs.Layout.{Flag};
 ghost use Rattle.lexical_util.specs.NormalForm.{normal_form_of};
 ghost use Rattle.lexical_util.specs.declared.format_flags.Part.{Part};
 ghost use Rattle.lexical_literal.specs.Cause.{IsCause, IsRefusal, SameBlame};
+ghost use Rattle.lexical_literal.specs.Front.{IsFront};
 ghost use Rattle.lexical_literal.specs.Literal.{Literal, Reads, condition, requirement};
 ghost use Rattle.lexical_literal.specs.Notation.{Notation, has, notation_of};
 ghost use Rattle.lexical_literal.specs.Readings.{AllIn, PartsHaveRoles, refuses_first};
@@ -30,6 +31,9 @@ pub fn literal_facts()
     // No text has two readings.
     ensures one_reading { (g : Grammar) → IsSyntax g → (l k : Literal) → (text : List ℕ)
         → Reads (notation_of g) l text → Reads (notation_of g) k text → l ≡ k }
+
+    // A syntax has a literal.
+    ensures some { (g : Grammar) → IsSyntax g → IsFront (notation_of g) [] }
 
     // Equivalent words have the same literals. The words and the options may be any.
     ensures same_literals { (a b : ℕ) → normal_form_of a ≡ normal_form_of b → (options : Option Options)

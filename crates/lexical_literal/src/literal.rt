@@ -80,6 +80,8 @@ pub struct Literal<'a> {
     // The number, if there is one. An `Option` would have 8 bytes more.
     exponent: u64,
     has_exponent: bool,
+    // The number of bytes of the opening before the literal, from which its spans count.
+    pub(crate) opened: u8,
     kind: Kind,
 }
 
@@ -124,6 +126,21 @@ impl<'a> Literal<'a> {
         ensures kind { result.kind ≡ kind }
     {
         Literal { kind, ..self }
+    }
+
+    // Returns the same literal behind an opening of `size` bytes, which are fewer than 256.
+    #[doc(hidden)]
+    #[must_use]
+    #[inline(always)]
+    pub const fn behind(self, size: usize) -> Literal<'a>
+        ensures format { result.format ≡ self.entry.format }
+        ensures literal { result.literal ≡ self.entry.literal }
+        ensures kind { result.kind ≡ self.entry.kind }
+    {
+        Literal {
+            opened: (size % 256) as u8,
+            ..self
+        }
     }
 
     /// Returns the parts.
@@ -247,6 +264,7 @@ impl Syntax {
             places,
             exponent,
             has_exponent,
+            opened: 0,
             kind: Kind::EXACT,
         }
     }

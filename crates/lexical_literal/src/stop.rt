@@ -44,7 +44,8 @@ pub struct Stopped {
 }
 
 // Where no byte has been read.
-pub(crate) const BEGIN: Stopped = Stopped {
+#[doc(hidden)]
+pub const BEGIN: Stopped = Stopped {
     size: 0,
     read: START,
 };
@@ -100,6 +101,14 @@ impl Begun {
 
 #[doc(hidden)]
 impl Stopped {
+    // Returns what has been read with another number of bytes, which are counted from the beginning of another text.
+    #[inline(always)]
+    pub const fn at(self, size: usize) -> Stopped
+        ensures { result ≡ record self { size = size } }
+    {
+        Stopped { size, ..self }
+    }
+
     // Goes on, and returns the lengths of the parts of `text`, or where reading stops if it is not a literal.
     #[inline(never)]
     fn all_lengths(self, syntax: &Syntax, text: &[u8]) -> Result<[usize; 9], Stopped>
@@ -418,7 +427,8 @@ const fn tail_size(byte: Option<u8>) -> usize
 }
 
 // Returns the bytes that follow `byte`, the one behind the first `size`, in its character, and 0 for each that does not.
-const fn tail_at(text: &[u8], size: usize, byte: Option<u8>) -> [u8; 3]
+#[doc(hidden)]
+pub const fn tail_at(text: &[u8], size: usize, byte: Option<u8>) -> [u8; 3]
     requires size { size ≤ length text.now }
     requires byte { byte ≡ slice_get text.now size }
     ensures { result ≡ tail_of text.now size }

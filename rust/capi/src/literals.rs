@@ -6,7 +6,7 @@ use crate::numbers::{error_number, ErrorNumber, Setter, Word, NO_PART, NO_SETTER
 use core::fmt::{self, Display, Formatter};
 use core::mem::ManuallyDrop;
 use core::ops::Range;
-use peltzivar::literal::{self, Condition, Conditions, Form, Number, ReadErrorKind};
+use peltzivar::literal::{self, Condition, Conditions, Form, FormError, Number, ReadErrorKind};
 use peltzivar::{Error, Format, FormatError};
 
 /// A word with an exponent character, a decimal point and conditions, of any values. If both are 0, literals are
@@ -313,13 +313,18 @@ unsafe fn number<'a>(
 /// A C caller passes the text.
 #[inline(never)]
 pub unsafe fn whole<'a>(forms: Given<'_>, text: *const u8, len: usize, error: Out<ReadError>) -> Option<Number<'a>> {
-    number((text, len, error), |text| Ok(forms?.read_bytes(text).map_err(|it| (it.error, it.form))))
+    number((text, len, error), |text| Ok(forms?.read_bytes(text).map_err(of_form)))
 }
 
 /// Returns the longest literal that a text begins with. It is called in several places, and is large.
 #[inline(never)]
 fn front<'a>(forms: &literal::Forms<'_>, text: &'a [u8]) -> Read<'a> {
-    forms.read_prefix_bytes(text).map(|(it, _)| it).map_err(|it| (it.error, it.form))
+    forms.read_prefix_bytes(text).map(|(it, _)| it).map_err(of_form)
+}
+
+/// Returns why a text is not a literal of a form, and its index. Forms of C have no opening.
+pub fn of_form(error: FormError) -> (literal::ReadError, usize) {
+    (error.error().unwrap_or_else(|| unreachable!()), error.form)
 }
 
 /// Why a call refuses a text.

@@ -2,7 +2,7 @@
 
 use crate::arguments::{input, write_text, Out};
 use crate::languages::{form_at, numbers_of, with_tokens, Form, Forms, Given, KindNumbers};
-use crate::literals::{Literal, ReadError, Refusal, Span, TOO_LONG};
+use crate::literals::{of_form, Literal, ReadError, Refusal, Span, TOO_LONG};
 use core::ffi::CStr;
 use core::mem::MaybeUninit;
 use core::{ptr, slice};
@@ -386,7 +386,10 @@ fn token<'a>(forms: Given<'_>, text: &'a [u8], print: &mut dyn FnMut(&TokenError
             let (literal, rest) = (Literal::of(it.literal, it.form), it.rest.as_ptr());
             Ok(Token { literal, suffix: Span { start, end: size }, size, rest, reserved: [0; 2] })
         }
-        Err(TokenError::Literal(it)) => Err((it.error.valid_up_to(), it.form, Refusal::Library(it.error))),
+        Err(TokenError::Literal(it)) => {
+            let (why, form) = of_form(it);
+            Err((why.valid_up_to(), form, Refusal::Library(why)))
+        }
         Err(why @ TokenError::UnknownSuffix { form, start, end, .. }) => {
             print(&why);
             Err((start, form, Refusal::Suffix { start, end }))

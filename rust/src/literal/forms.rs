@@ -1,9 +1,10 @@
 //! What is written by hand around the proved calls of [`Forms`].
 
-use core::{fmt, ops, ops::Range, slice};
+use core::{fmt, ops, ops::Range, slice, str};
 
 use crate::literal::exclude::has_letter_behind_zero;
-use crate::literal::list::Furthest;
+use crate::literal::list::{Furthest, Unopened};
+use crate::literal::sentence::first_character;
 use crate::literal::stop::Stopped;
 use crate::literal::value::Decimal;
 use crate::literal::{
@@ -63,7 +64,9 @@ impl<'a> Forms<'a> {
     // The library for C and the page, which set `peltzivar_small`, have no copy for it.
     #[inline(always)]
     fn asks_first(&self, text: &[u8]) -> bool {
-        !cfg!(peltzivar_small) && (self.as_slice().len() == 1 || !has_letter_behind_zero(text))
+        !cfg!(peltzivar_small)
+            && self.as_slice()[0].opening.as_bytes().is_empty()
+            && (self.as_slice().len() == 1 || !has_letter_behind_zero(text))
     }
 
     /// Returns the longest literal of any form that `text` begins with, and the rest of `text`, which may be anything.
@@ -212,10 +215,32 @@ impl fmt::Display for Special {
 }
 
 impl FormError {
-    /// Returns the range of the bytes to show, as [`ReadError::span`] does.
+    // Returns the error of a single syntax.
+    pub(crate) const fn alone(error: ReadError) -> FormError {
+        FormError { form: 0, name: "", opened: 0, error: Ok(error) }
+    }
+
+    /// Returns why what is behind the [opening][Form::with_opening] is not a literal of the syntax, or `None` if the opening is not there.
+    /// All indexes count from the beginning of the text.
+    #[must_use]
+    pub const fn error(&self) -> Option<ReadError> {
+        match &self.error {
+            Ok(error) => Some(error.behind(self.opened)),
+            Err(_) => None,
+        }
+    }
+
+    /// Returns the range of the bytes to show, as [`ReadError::span`] does, or the character that differs from the opening.
     #[must_use]
     pub const fn span(&self) -> Range<usize> {
-        self.error.span()
+        let Range { start, end } = match &self.error {
+            Ok(error) => error.span(),
+            Err(Unopened { byte: None, .. }) => 0..0,
+            Err(Unopened { byte: Some(byte), tail, .. }) => {
+                0..first_character(&[*byte, tail[0], tail[1], tail[2]]).len()
+            }
+        };
+        self.opened + start..self.opened + end
     }
 
     /// Returns the index of the form.
@@ -230,48 +255,59 @@ impl FormError {
         self.name
     }
 
-    /// Returns the kind, as [`ReadError::kind`] does.
+    /// Returns the kind, as [`ReadError::kind`] does, or `None` if the [opening][Form::with_opening] is not there.
     #[must_use]
-    pub const fn kind(&self) -> ReadErrorKind {
-        self.error.kind()
+    pub const fn kind(&self) -> Option<ReadErrorKind> {
+        match &self.error {
+            Ok(error) => Some(error.kind()),
+            Err(_) => None,
+        }
     }
 
     /// Returns whether bytes are missing, as [`ReadError::is_incomplete`] does.
     #[must_use]
     pub const fn is_incomplete(&self) -> bool {
-        self.error.is_incomplete()
+        self.byte().is_none()
     }
 
     /// Returns the byte that cannot follow, or `None` if bytes are missing, as [`ReadError::byte`] does.
     #[must_use]
     pub const fn byte(&self) -> Option<u8> {
-        self.error.byte()
+        match &self.error {
+            Ok(error) => error.byte(),
+            Err(it) => it.byte,
+        }
     }
 
-    /// Returns the mask of the flags to blame, as [`ReadError::mask`] does.
+    /// Returns the mask of the flags to blame, as [`ReadError::mask`] does, or 0 if the opening is not there.
     #[must_use]
     pub const fn mask(&self) -> u128 {
-        self.error.mask()
+        match &self.error {
+            Ok(error) => error.mask(),
+            Err(_) => 0,
+        }
     }
 
     /// Returns the number of bytes at the beginning of the text that are right, as [`ReadError::valid_up_to`] does.
     #[must_use]
     pub const fn valid_up_to(&self) -> usize {
-        self.error.valid_up_to()
+        match &self.error {
+            Ok(error) => self.opened + error.valid_up_to(),
+            Err(_) => self.opened,
+        }
     }
 }
 
-/// Prints the error of the form.
+/// Prints the error of the form, or the opening that is not there.
 impl fmt::Display for FormError {
     fn fmt(&self, f: &mut fmt::Formatter<'_>) -> fmt::Result {
-        self.error.fmt(f)
+        match &self.error {
+            Ok(error) => error.fmt(f),
+            Err(it) => {
+                write!(f, "expected the opening `{}`", str::from_utf8(it.opening.as_bytes()).unwrap_or_default())
+            }
+        }
     }
 }
 
 impl core::error::Error for FormError {}
-
-impl From<FormError> for ReadError {
-    fn from(error: FormError) -> ReadError {
-        error.error
-    }
-}

@@ -2,29 +2,37 @@
 
 //! Numbers that have several forms, such as `10`, `0x1F` and `0b1`.
 
+use crate::literal::affix::Affix;
 use crate::literal::cause::ReadError;
 use crate::literal::exclude::{excludes, has_letter_behind_zero, is_settled, lacks_longer, sign_size};
 use crate::literal::kind::Kind;
 use crate::literal::literal::Literal;
 use crate::literal::specials::{Special, Specials};
-use crate::literal::stop::{Found, Stopped};
+use crate::literal::stop::{byte_at, tail_at, Found, Stopped, BEGIN};
 use crate::literal::suffix::Suffixes;
 use crate::literal::syntax::{Grammar, Syntax};
 
-/// A form of numbers: its name, such as `hexadecimal`, its syntax, the suffixes of its tokens, and its kind.
+/// A form of numbers: its name, such as `hexadecimal`, its opening, its syntax, the suffixes of its tokens, and its kind.
 #[derive(Debug, Clone, Copy, PartialEq, Eq, Hash)]
 pub struct Form {
     pub(crate) name: &'static str,
+    pub(crate) opening: Affix,
     pub(crate) syntax: Syntax,
     pub(crate) suffixes: Option<&'static Suffixes>,
     pub(crate) kind: Kind,
 }
 
 impl Form {
-    /// Returns the form with a name, which may be empty, and a syntax, without suffixes, of the kind [`Kind::EXACT`].
+    /// Returns the form with a name, which may be empty, and a syntax, without an opening and suffixes, of the kind [`Kind::EXACT`].
     #[must_use]
     pub const fn new(name: &'static str, syntax: Syntax) -> Form {
-        Form { name, syntax, suffixes: None, kind: Kind::EXACT }
+        Form { name, opening: Affix::NONE, syntax, suffixes: None, kind: Kind::EXACT }
+    }
+
+    /// Returns the same form with an opening before each of its literals.
+    #[must_use]
+    pub const fn with_opening(&self, opening: Affix) -> Form {
+        Form { opening, ..*self }
     }
 
     /// Returns the same form with the suffixes that its tokens may have.
@@ -37,6 +45,12 @@ impl Form {
     #[must_use]
     pub const fn with_kind(&self, kind: Kind) -> Form {
         Form { kind, ..*self }
+    }
+
+    /// Returns the opening, which is empty if there is none.
+    #[must_use]
+    pub const fn opening(&self) -> Affix {
+        self.opening
     }
 
     /// Returns the kind.
@@ -61,6 +75,78 @@ impl Form {
     #[must_use]
     pub const fn syntax(&self) -> Syntax {
         self.syntax
+    }
+}
+
+impl Form {
+    // Returns the longest front of `text` that is a literal, if it has more than `size` bytes.
+    #[inline(always)]
+    const fn front_past(&self, text: &[u8], size: usize) -> Option<Found> {
+        let opened = self.opening.opened(text);
+        let (_, rest) = text.split_at(opened);
+        let least = size.saturating_sub(opened);
+        if opened < self.opening.size() || lacks_longer(self.syntax.as_grammar(), rest, least) {
+            return None;
+        }
+        let (_, found) = self.syntax.front(rest);
+        match found {
+            Some(found) if found.size > least => Some(Found { size: opened + found.size, counts: found.counts }),
+            _ => None,
+        }
+    }
+}
+
+// Calls for a form in which a text is not a literal.
+impl Form {
+    // Returns where reading `text` stops.
+    #[cold]
+    const fn stop(&self, text: &[u8]) -> Stopped {
+        let opened = self.opening.opened(text);
+        if opened < self.opening.size() {
+            return BEGIN.at(opened);
+        }
+        let (_, rest) = text.split_at(opened);
+        let stop = self.syntax.stop(rest);
+        stop.at(opened + stop.size)
+    }
+
+    // Returns what is behind the opening, and where reading this stops, or `None` if the opening is not there.
+    #[inline(always)]
+    const fn behind<'t>(&self, text: &'t [u8], stop: Stopped) -> Option<(&'t [u8], Stopped)> {
+        let opened = self.opening.size();
+        if stop.size < opened {
+            return None;
+        }
+        let (_, rest) = text.split_at(opened);
+        Some((rest, stop.at(stop.size - opened)))
+    }
+
+    // Returns whether the cause is stray: it is a wrong byte, or the opening or a required prefix is not there.
+    const fn is_stray(&self, text: &[u8], stop: Stopped) -> bool {
+        match self.behind(text, stop) {
+            None => true,
+            Some((rest, stop)) => stop.is_stray(&self.syntax, rest),
+        }
+    }
+
+    // Returns why `text` is not a literal of the form, which has the index `form`.
+    #[inline(always)]
+    const fn refuse(&self, text: &[u8], form: usize, stop: Stopped) -> FormError {
+        let (opened, error) = match self.behind(text, stop) {
+            None => (stop.size, Err(self.unopened(text, stop.size))),
+            Some((rest, inside)) => {
+                let Err(error) = inside.refuse::<()>(&self.syntax, rest) else { unreachable!() };
+                (self.opening.size(), Ok(error))
+            }
+        };
+        FormError { form, name: self.name, opened, error }
+    }
+
+    // Returns that the opening is not there behind the first `size` bytes.
+    #[inline(always)]
+    const fn unopened(&self, text: &[u8], size: usize) -> Unopened {
+        let byte = byte_at(text, size);
+        Unopened { opening: self.opening, byte, tail: tail_at(text, size, byte) }
     }
 }
 
@@ -163,8 +249,18 @@ pub struct FormError {
     pub form: usize,
     /// The name of the form.
     pub name: &'static str,
-    /// Why the text is not a literal of this form.
-    pub error: ReadError,
+    // The number of bytes of the opening that are there.
+    pub(crate) opened: usize,
+    // Why what is behind the opening is not a literal of the syntax, or that the opening is not there.
+    pub(crate) error: Result<ReadError, Unopened>,
+}
+
+// An opening that is not there, the byte that differs, or `None` if the text ends, and what follows it in its character.
+#[derive(Debug, Clone, Copy, PartialEq, Eq, Hash)]
+pub struct Unopened {
+    pub(crate) opening: Affix,
+    pub(crate) byte: Option<u8>,
+    pub(crate) tail: [u8; 3],
 }
 
 impl<'a> Forms<'a> {
@@ -193,10 +289,12 @@ impl<'a> Forms<'a> {
         Forms { specials, ..self }
     }
 
-    /// Returns the same forms with rules for tokens, without which there are none.
+    /// Returns the same forms with rules for tokens, without which there are none. A list with an opening has no tokens yet: it takes no
+    /// rules.
     #[must_use]
     pub const fn with_tokens(self, tokens: &'a Tokens) -> Forms<'a> {
-        Forms { tokens: Some(tokens), ..self }
+        let tokens = if have_openings(self.forms) || have_openings(tokens.forms) { None } else { Some(tokens) };
+        Forms { tokens, ..self }
     }
 
     /// Returns the forms.
@@ -253,19 +351,21 @@ impl<'a> Forms<'a> {
         match self.find_front(text) {
             Ok((form, found)) => {
                 let Found { size, counts } = found;
+                let it = &self.as_slice()[form];
                 let (front, rest) = text.split_at(size);
-                let summed = self.as_slice()[form].syntax.summed(front, counts);
-                let literal = self.of_form(form, summed);
+                let (_, inside) = front.split_at(it.opening.size());
+                let literal = self.of_form(form, it.syntax.summed(inside, counts));
                 Ok((Number::Literal { literal, form }, rest))
             }
             Err(error) => Err(error),
         }
     }
 
-    // Returns a literal with the kind of the form with the index `form`.
+    // Returns a literal with the kind of the form with the index `form`, behind its opening.
     #[inline(always)]
     const fn of_form<'t>(&self, form: usize, literal: Literal<'t>) -> Literal<'t> {
-        literal.with_kind(self.as_slice()[form].kind)
+        let it = &self.as_slice()[form];
+        literal.with_kind(it.kind).behind(it.opening.size() as u8)
     }
 
     // Returns the special value that `text` is, if it is one.
@@ -275,7 +375,7 @@ impl<'a> Forms<'a> {
 
     // Returns the index of the first form of which `text` is a literal, and the literal, or the form whose error is that of the list.
     // The first form stops at `stop`, if it has been asked. Each form is asked once, but if it has not been asked and no form goes beyond
-    // the first byte behind the sign, all are asked again.
+    // the first byte behind the sign, all are asked again. A form whose opening is not there does not ask its syntax.
     #[inline(always)]
     pub(crate) const fn find<'t, const RARE: bool>(
         &self,
@@ -290,15 +390,23 @@ impl<'a> Forms<'a> {
             form = 1;
         }
         while form < self.forms.len() {
-            let syntax = &self.forms[form].syntax;
-            if !is_behind(syntax.as_grammar(), text, sign, furthest) {
-                let begun = if RARE { syntax.begin_any(text, false) } else { syntax.begin(false, text, false) };
-                if begun.is_whole(syntax, text) {
-                    return Ok((form, syntax.literal(text, begun.counts, begun.sums)));
+            let it = &self.forms[form];
+            let syntax = &it.syntax;
+            let opened = it.opening.opened(text);
+            if opened < it.opening.size() {
+                furthest = self.further_on(text, sign, furthest, form, BEGIN.at(opened));
+            } else if opened > 0 || !is_behind(syntax.as_grammar(), text, sign, furthest) {
+                let (_, rest) = text.split_at(opened);
+                let begun = if RARE { syntax.begin_any(rest, false) } else { syntax.begin(false, rest, false) };
+                if begun.is_whole(syntax, rest) {
+                    return Ok((form, syntax.literal(rest, begun.counts, begun.sums)));
                 }
-                match begun.lengths(syntax, text) {
-                    Ok(counts) => return Ok((form, syntax.summed(text, counts))),
-                    Err(stop) => furthest = self.further_on(text, sign, furthest, form, stop),
+                match begun.lengths(syntax, rest) {
+                    Ok(counts) => return Ok((form, syntax.summed(rest, counts))),
+                    Err(stop) => {
+                        let stop = stop.at(opened + stop.size);
+                        furthest = self.further_on(text, sign, furthest, form, stop);
+                    }
                 }
             }
             form += 1;
@@ -313,13 +421,13 @@ impl<'a> Forms<'a> {
     #[cold]
     #[inline(never)]
     const fn furthest(&self, text: &[u8]) -> Furthest {
-        let first = self.forms[0].syntax.stop(text);
+        let first = self.forms[0].stop(text);
         let mut furthest = Furthest { form: 0, stop: first, settled: false };
         let mut form = 1;
         while form < self.forms.len() {
-            let syntax = &self.forms[form].syntax;
-            if !is_settled(syntax.as_grammar(), text, furthest.stop.size) {
-                let stop = syntax.stop(text);
+            let it = &self.forms[form];
+            if !it.opening.is_empty() || !is_settled(it.syntax.as_grammar(), text, furthest.stop.size) {
+                let stop = it.stop(text);
                 furthest = self.further(text, furthest, form, stop);
             }
             form += 1;
@@ -365,9 +473,9 @@ impl<'a> Forms<'a> {
         }
     }
 
-    // Returns whether the cause is stray where a form stops: it is a wrong byte, or a required prefix is not there.
+    // Returns whether the cause is stray where a form stops.
     const fn is_stray(&self, text: &[u8], it: Furthest) -> bool {
-        it.stop.is_stray(&self.as_slice()[it.form].syntax, text)
+        self.as_slice()[it.form].is_stray(text, it.stop)
     }
 
     // Returns the longest front of `text` that is a literal of a form, with the index of the form, the first of equals, or
@@ -393,15 +501,10 @@ impl<'a> Forms<'a> {
         let mut longest = None;
         let mut form = 0;
         while form < self.forms.len() {
-            let syntax = &self.forms[form].syntax;
-            if !lacks_longer(syntax.as_grammar(), text, reached) {
-                let (_, found) = syntax.front(text);
-                if let Some(found) = found {
-                    if found.size > reached {
-                        reached = found.size;
-                        longest = Some((form, found));
-                    }
-                }
+            let it = &self.forms[form];
+            if let Some(found) = it.front_past(text, reached) {
+                reached = found.size;
+                longest = Some((form, found));
             }
             form += 1;
         }
@@ -412,10 +515,20 @@ impl<'a> Forms<'a> {
     #[inline(always)]
     pub(crate) const fn error_at(&self, text: &[u8], furthest: Furthest) -> FormError {
         let Furthest { form, stop, .. } = furthest;
-        let it = &self.as_slice()[form];
-        let Err(error) = stop.refuse::<()>(&it.syntax, text) else { unreachable!() };
-        FormError { form, name: it.name, error }
+        self.as_slice()[form].refuse(text, form, stop)
     }
+}
+
+// Returns whether a form has an opening.
+const fn have_openings(forms: &[Form]) -> bool {
+    let mut form = 0;
+    while form < forms.len() {
+        if !forms[form].opening.is_empty() {
+            return true;
+        }
+        form += 1;
+    }
+    false
 }
 
 // Returns whether a form need not be asked: its first bytes exclude that `text` is a literal, or no error of it goes further than the

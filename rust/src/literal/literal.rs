@@ -60,6 +60,8 @@ pub struct Literal<'a> {
     // The number, if there is one. An `Option` would have 8 bytes more.
     exponent: u64,
     has_exponent: bool,
+    // The number of bytes of the opening before the literal, from which its spans count.
+    pub(crate) opened: u8,
     kind: Kind,
 }
 
@@ -83,6 +85,14 @@ impl<'a> Literal<'a> {
     #[inline(always)]
     pub const fn with_kind(self, kind: Kind) -> Literal<'a> {
         Literal { kind, ..self }
+    }
+
+    // Returns the same literal behind an opening of `opened` bytes.
+    #[doc(hidden)]
+    #[must_use]
+    #[inline(always)]
+    pub const fn behind(self, opened: u8) -> Literal<'a> {
+        Literal { opened, ..self }
     }
 
     /// Returns the parts.
@@ -157,6 +167,7 @@ impl Syntax {
             places,
             exponent,
             has_exponent,
+            opened: 0,
             kind: Kind::EXACT,
         }
     }

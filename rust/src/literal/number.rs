@@ -201,10 +201,15 @@ impl<'a> Literal<'a> {
         self.counts
     }
 
-    /// Returns all bytes of the literal.
+    /// Returns all bytes of the literal, which are behind the [opening][crate::literal::Form::with_opening] of its form, if this has one.
     #[must_use]
     pub const fn as_bytes(&self) -> &'a [u8] {
         self.text
+    }
+
+    // Returns the number of bytes up to its end, with the opening before it.
+    pub(crate) const fn size_in_text(&self) -> usize {
+        self.opened as usize + self.text.len()
     }
 
     /// Returns all bytes of the literal, as a string.

@@ -48,6 +48,17 @@ impl ReadError {
         }
     }
 
+    // Returns the same error in a text that has `size` bytes before.
+    pub(crate) const fn behind(self, size: usize) -> ReadError {
+        let mut spot = self.spot;
+        spot.size += size;
+        spot.exponent += size;
+        spot.first += size;
+        spot.run += size;
+        spot.group += size;
+        ReadError { spot }
+    }
+
     /// Returns the edits that end the cause, one for each flag to blame. Each edit that sets a separator flag ends it
     /// alone, and edits that clear other flags end it together. Another cause may follow. If two bytes of the syntax are
     /// the two cases of one letter, check the edited format again: they may no longer fit. The iterator is empty for a
@@ -259,7 +270,7 @@ const fn required_by(flag: FlagSetter) -> &'static str {
 }
 
 /// Returns the first character of bytes in UTF-8, or the first byte alone if it begins none.
-const fn first_character(bytes: &[u8; 4]) -> &[u8] {
+pub(crate) const fn first_character(bytes: &[u8; 4]) -> &[u8] {
     let size = match bytes[0] {
         0xC2..=0xDF => 2,
         0xE0..=0xEF => 3,

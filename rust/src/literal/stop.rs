@@ -68,6 +68,12 @@ impl Begun {
 }
 
 impl Stopped {
+    // Returns what has been read with another number of bytes, which are counted from the beginning of another text.
+    #[inline(always)]
+    pub(crate) const fn at(self, size: usize) -> Stopped {
+        Stopped { size, ..self }
+    }
+
     // Goes on, and returns the lengths of the parts of `text`, or where reading stops if it is not a literal.
     #[inline(never)]
     const fn all_lengths(self, syntax: &Syntax, text: &[u8]) -> Result<[usize; 9], Stopped> {
@@ -295,7 +301,7 @@ const fn tail_size(byte: Option<u8>) -> usize {
 }
 
 // Returns the bytes that follow `byte`, the one behind the first `size`, in its character, and 0 for each that does not.
-const fn tail_at(text: &[u8], size: usize, byte: Option<u8>) -> [u8; 3] {
+pub(crate) const fn tail_at(text: &[u8], size: usize, byte: Option<u8>) -> [u8; 3] {
     let tail = tail_size(byte);
     [tail_byte(text, size, tail, 1), tail_byte(text, size, tail, 2), tail_byte(text, size, tail, 3)]
 }

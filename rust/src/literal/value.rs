@@ -129,7 +129,7 @@ impl<'a> Literal<'a> {
             Ok((true, size)) => T::try_from(0_i128.wrapping_sub_unsigned(size)).map_err(|_| ValueErrorKind::TooSmall),
             Err(kind) => Err(kind),
         };
-        value.map_err(|kind| ValueError::of::<T>(kind, self.text.len(), self.integer_kind()))
+        value.map_err(|kind| ValueError::of::<T>(kind, self.size_in_text(), self.integer_kind()))
     }
 
     /// Returns the literal as Rust and most other programs read it: without digit separators, prefix, suffix and plus
@@ -206,7 +206,7 @@ macro_rules! conversions {
 
                 #[inline(always)]
                 fn try_from(literal: Literal<'_>) -> Result<$type, ValueError> {
-                    let (size, of) = (literal.text.len(), literal.integer_kind());
+                    let (size, of) = (literal.size_in_text(), literal.integer_kind());
                     $type::from_literal(literal).map_err(|kind| ValueError::of::<$type>(kind, size, of))
                 }
             }
@@ -283,7 +283,7 @@ impl Literal<'_> {
 
     /// Returns the error of the literal in a type.
     const fn error<T: FromLiteral>(&self, kind: ValueErrorKind) -> ValueError {
-        ValueError::of::<T>(kind, self.text.len(), self.integer_kind())
+        ValueError::of::<T>(kind, self.size_in_text(), self.integer_kind())
     }
 
     /// Returns the kind of the literal if it is an integer. A float has none.
@@ -527,7 +527,7 @@ impl Number<'_> {
     #[inline]
     pub fn value<T: FromLiteral>(self) -> Result<T, ValueError> {
         let (value, size, of) = match self {
-            Number::Literal { literal, .. } => (T::from_literal(literal), literal.text.len(), literal.integer_kind()),
+            Number::Literal { literal, .. } => (T::from_literal(literal), literal.size_in_text(), literal.integer_kind()),
             Number::Special(special) => (T::from_special(special), 0, IntegerKind::Exact),
         };
         value.map_err(|kind| ValueError::of::<T>(kind, size, of))

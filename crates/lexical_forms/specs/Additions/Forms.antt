@@ -1,5 +1,5 @@
 -- What one pass over several forms finds.
-use Rattle.std.specs.Prelude.{ℕ, ◌≡◌, ◌+◌, ◌*◌, ◌<◌, ◌≤◌, [], ◌∷◌, false, if◌then◌else◌, nat_lt, IfErr, IfOk, IsErr, IsSomeAnd, List, Option, get_or}
+use Rattle.std.specs.Prelude.{ℕ, ◌≡◌, ◌+◌, ◌-◌, ◌*◌, ◌<◌, ◌≤◌, ◌⊎◌, [], ◌∷◌, false, if◌then◌else◌, nat_lt, IfErr, IfOk, IsErr, IsSomeAnd, List, Option, get_or}
 use Rattle.std.specs.Prelude.{Some, None, Result, All, length, slice_get, take}
 use Rattle.lexical_util.specs.Ascii.{ByteSet}
 use Rattle.lexical_util.specs.Roles.{other_case, signs}
@@ -7,7 +7,8 @@ use Rattle.lexical_util.specs.declared.feature_format.roles.Role.{Role}
 use Rattle.lexical_util.specs.declared.feature_format.roles.Role.TheVariants as roles
 use Rattle.lexical_literal.specs.Additions.Stop.{IsCountedFront, IsStopped}
 use Rattle.lexical_literal.specs.Cause.{IsRefusal}
-use Rattle.lexical_forms.specs.Forms.{GoesTo, HasFront, IsFirst, IsFormError, IsGreatest, NoForm, Reaches, ReadsIn, reach}
+use Rattle.lexical_forms.specs.Affix.{IsOpened, IsOpenedTo}
+use Rattle.lexical_forms.specs.Forms.{HasFront, IsFirst, IsFormError, IsGreatest, NoForm, Reaches, ReadsIn, behind, reach}
 use Rattle.lexical_literal.specs.Front.{IsValidUpTo, NoFrontBy, NoLiteral, NoneBy}
 use Rattle.lexical_literal.specs.Read.{Read}
 use Rattle.lexical_literal.specs.Notation.{Notation, notation_of, set_of_role}
@@ -59,9 +60,32 @@ abbrev pub IsBehind : Notation → List ℕ → Option Furthest → Type 0
 IsBehind m text None = (n : ℕ) → IsValidUpTo m text n → n ≤ sign_size text + 1
 IsBehind m text (Some best) = IsNoBetter m text best.stop.size
 
--- `IsRefusedAt text stop g` holds if `text` is not a literal of the form `g`, and reading it stops at `stop`.
+-- `IsStoppedBefore text stop g` holds if reading stops at `stop` in the opening of the form `g`. `IsStoppedBehind text stop g` holds if the opening is
+-- there, and if what is behind it is not a literal, and reading it stops at `stop`. `IsRefusedAt text stop g` holds if one of both does.
+pub record IsStoppedBefore (text : List ℕ) (stop : Stopped) (g : Form) : Type 0 where
+  pub opened : IsOpenedTo g.opening text stop.size
+  pub short : stop.size < length g.opening.bytes.now
+
+pub record IsStoppedBehind (text : List ℕ) (stop : Stopped) (g : Form) : Type 0 where
+  pub opened : IsOpened g.opening text
+  pub past : length g.opening.bytes.now ≤ stop.size
+  pub stopped : IsStopped (notation_of g.syntax) (behind g text) (record stop { size = stop.size - length g.opening.bytes.now })
+  pub none : NoLiteral (notation_of g.syntax) (behind g text)
+
 abbrev pub IsRefusedAt : List ℕ → Stopped → Form → Type 0
-IsRefusedAt text stop g = IsStopped (notation_of g.syntax) text stop × NoneBy (ReadsIn g) text
+IsRefusedAt text stop g = IsStoppedBefore text stop g ⊎ IsStoppedBehind text stop g
+
+-- `IsLow text size g` holds if no error of `text` in the form `g` has a greater reach than one that goes up to `size` and whose cause is a wrong byte.
+-- `IsLeftOut text furthest g` holds if none has a greater one than `furthest`, or if none goes beyond the first byte behind the sign, where it is `None`.
+abbrev pub IsLow : List ℕ → ℕ → Form → Type 0
+IsLow text size g = (n : ℕ) → Reaches text g n → n ≤ 2 * size
+
+abbrev pub IsNearSign : List ℕ → Form → Type 0
+IsNearSign text g = (n : ℕ) → Reaches text g n → n ≤ 2 * (sign_size text + 1) + 1
+
+abbrev pub IsLeftOut : List ℕ → Option Furthest → Form → Type 0
+IsLeftOut text None g = IsNearSign text g
+IsLeftOut text (Some best) g = IsLow text best.stop.size g
 
 -- `AreBelow forms text start end most` holds if each error of `text` in the forms with indexes from `start` to `end` has a reach below `most`.
 abbrev pub AreBelow : List Form → List ℕ → ℕ → ℕ → ℕ → Type 0
@@ -82,7 +106,7 @@ pub record Leads (forms : List Form) (text : List ℕ) (asked : ℕ) (best : Fur
 -- `IsLed forms text asked furthest` holds if `furthest` leads the first `asked` forms, or if it is `None`, and none of them goes beyond the first byte
 -- behind the sign.
 abbrev pub IsLed : List Form → List ℕ → ℕ → Option Furthest → Type 0
-IsLed forms text asked None = (k : ℕ) (d : Form) → k < asked → (n : ℕ) → GoesTo text (get_or forms k d) n → n ≤ sign_size text + 1
+IsLed forms text asked None = (k : ℕ) (d : Form) → k < asked → IsNearSign text (get_or forms k d)
 IsLed forms text asked (Some best) = Leads forms text asked best
 
 -- `IsFoundForm forms text result` holds if `result` has the first form of which `text` is a literal and the literal, or if `text` is a literal
@@ -92,34 +116,41 @@ pub record IsFoundForm (forms : List Form) (text : List ℕ) (result : Result (�
   pub none : IsErr result → NoForm forms text
   pub furthest : IfErr result (Leads forms text (length forms))
 
--- `NoFrontPast m text size` holds if no front of `text` with more than `size` bytes is a literal. `IsFrontPast m text size found` holds if
--- `found` has the longest front, which has more, and the lengths of its parts.
+-- `NoFrontPast m text size` holds if no front of `text` with more than `size` bytes is a literal, and `NonePast text size g` if none is one of the form `g`.
+-- `IsFrontIn text found g` holds if `found` has the longest front that is a literal of `g`, and the lengths of its parts behind the opening.
 abbrev pub NoFrontPast : Notation → List ℕ → ℕ → Type 0
 NoFrontPast m text size = (more : ℕ) → size < more → more ≤ length text → NoLiteral m (take more text)
 
-abbrev pub IsFrontPast : Notation → List ℕ → ℕ → Found → Type 0
-IsFrontPast m text size found = (size < found.size) × IsCountedFront m text found
+abbrev pub NonePast : List ℕ → ℕ → Form → Type 0
+NonePast text size g = (more : ℕ) → size < more → more ≤ length text → NoneBy (ReadsIn g) (take more text)
+
+pub record IsFrontIn (text : List ℕ) (found : Found) (g : Form) : Type 0 where
+  pub opened : IsOpened g.opening text
+  pub past : length g.opening.bytes.now ≤ found.size
+  pub front : IsCountedFront (notation_of g.syntax) (behind g text) (record found { size = found.size - length g.opening.bytes.now })
 
 -- `IsLongestPast forms text size longest` holds if `longest` has the longest front of `text` with more than `size` bytes that is a literal of a
 -- form, of the first form of equals, or if it is `None`, and there is no such front.
 pub record IsFirstPast (forms : List Form) (text : List ℕ) (size index : ℕ) (found : Found) : Type 0 where
   pub longest : IsGreatest (HasFront text) forms index found.size
-  pub counted : IsSomeAnd (slice_get forms index) (λ g. IsFrontPast (notation_of g.syntax) text size found)
+  pub counted : IsSomeAnd (slice_get forms index) (IsFrontIn text found)
+  pub past : size < found.size
 
 abbrev pub IsLongestPast : List Form → List ℕ → ℕ → Option (ℕ × Found) → Type 0
-IsLongestPast forms text size None = All (λ g. NoFrontPast (notation_of g.syntax) text size) forms
+IsLongestPast forms text size None = All (NonePast text size) forms
 IsLongestPast forms text size (Some best) = IsFirstPast forms text size best.0 best.1
 
 -- `IsFoundFrontForm forms text result` holds if `result` has the longest front of `text` that is a literal of a form, of the
 -- first form of equals, and the lengths of its parts, or the error of a text for which there is no such front.
 pub record IsFoundFrontForm (forms : List Form) (text : List ℕ) (result : Result (ℕ × Found) FormError) : Type 0 where
   pub longest : IfOk result (λ found. IsGreatest (HasFront text) forms found.0 found.1.size)
-  pub found : IfOk result (λ found. IsSomeAnd (slice_get forms found.0) (λ g. IsCountedFront (notation_of g.syntax) text found.1))
+  pub found : IfOk result (λ found. IsSomeAnd (slice_get forms found.0) (IsFrontIn text found.1))
   pub none : IsErr result → All (λ g. NoFrontBy (ReadsIn g) text) forms
   pub error : IfErr result (IsFormError forms text)
 
--- `IsFurthestForm forms text furthest` holds if `furthest` has the index of the form that goes furthest in `text`, the first of
+-- `IsFurthestForm forms text furthest` holds if `furthest` has the index of the form whose syntax goes furthest in `text`, the first of
 -- equals, and where it stops.
 abbrev pub IsFurthestForm : List Form → List ℕ → Option (ℕ × Stopped) → Type 0
 IsFurthestForm forms text furthest = IsSomeAnd furthest (λ best.
-    IsGreatest (GoesTo text) forms best.0 best.1.size × IsSomeAnd (slice_get forms best.0) (λ g. IsStopped (notation_of g.syntax) text best.1))
+    IsGreatest (λ g n. IsValidUpTo (notation_of g.syntax) text n) forms best.0 best.1.size
+    × IsSomeAnd (slice_get forms best.0) (λ g. IsStopped (notation_of g.syntax) text best.1))

@@ -5,11 +5,10 @@ use Rattle.std.specs.Borrow.{Bor}
 use Rattle.lexical_literal.specs.Additions.Stop.{IsMeasured}
 use Rattle.lexical_literal.specs.Cause.{is_in}
 use Rattle.lexical_forms.specs.FormList.{FormList}
-use Rattle.lexical_forms.specs.Forms.{HasFront}
 use Rattle.lexical_literal.specs.Front.{IsFront, NoLiteral}
 use Rattle.lexical_forms.specs.Suffix.{is_word_byte, stop_end, suffix_size, suffix_words}
 use Rattle.lexical_forms.specs.declared.suffix.Suffixes.{Suffixes}
-use Rattle.lexical_forms.specs.Token.{IsBest, IsCandidate, IsChosen, NoCandidate, gives_back, is_shorter}
+use Rattle.lexical_forms.specs.Token.{HasFrontOfSyntax, IsBest, IsCandidate, IsChosen, NoCandidate, gives_back, is_shorter}
 use Rattle.lexical_forms.specs.declared.list.Tokens.{Tokens}
 use Rattle.lexical_literal.specs.declared.stop.Found.{Found}
 use Rattle.lexical_literal.specs.Notation.{Notation, notation_of}
@@ -99,14 +98,14 @@ AreNear back forms but text size =
     (i : ℕ) (form : Form) → i < length forms → (i ≡ but → ⊥) → IsNear back (notation_of (get_or forms i form).syntax) text size
 
 abbrev pub FrontsWithin : List ℕ → ℕ → Form → Type 0
-FrontsWithin text size form = (longest : ℕ) → HasFront text form longest → longest ≤ size
+FrontsWithin text size form = (longest : ℕ) → HasFrontOfSyntax text form longest → longest ≤ size
 
 -- `IsLeading list t text index form size` holds if `form`, with this index, is the first of the list whose longest front of `text`, without its point
 -- if that is given back, has `size` bytes, and if no literal of a form goes on behind them, or only with a point that is given back.
 pub record IsLeading (list : FormList) (t : Tokens) (text : List ℕ) (index : ℕ) (form : Form) (size : ℕ) : Type 0 where
   pub at : slice_get list.forms index ≡ Some form
   pub longest : ℕ
-  pub front : HasFront text form longest
+  pub front : HasFrontOfSyntax text form longest
   pub size_is : size ≡ (if gives_back t.gives_points_back (notation_of form.syntax) text longest then longest - 1 else longest)
   pub own : IsNear t.gives_points_back (notation_of form.syntax) text size
   pub plain : AreNear t.gives_points_back list.forms index text size

@@ -187,7 +187,7 @@ impl From<FormError> for ParseError {
 
 impl From<ReadError> for ParseError {
     fn from(error: ReadError) -> ParseError {
-        ParseError::Read(FormError { form: 0, name: "", error })
+        ParseError::Read(FormError::alone(error))
     }
 }
 

@@ -281,7 +281,7 @@ pub(crate) const LONGEST: usize = 4096;
 /// index of the form, the length of the text, and the style in which it is written. Forms of the number's radix are asked first,
 /// then decimal ones, and then the others, each in the order of the list, and all forms with floats write a float before those of
 /// integers alone. Where an exponent would make an integer another number, the wish for one is dropped. A float is rounded in the radix
-/// of the form that is asked first.
+/// of the form that is asked first. Forms with an opening are not asked yet.
 ///
 /// # Errors
 ///
@@ -299,7 +299,7 @@ pub fn choose<N: Writable + ?Sized>(
     for wanted in 0..if number.is_integer() { 3 } else { 6 } {
         for (index, form) in forms.as_slice().iter().enumerate() {
             let syntax = form.syntax();
-            if turn(number.radix(), number.is_integer(), &syntax) != wanted {
+            if turn(number.radix(), number.is_integer(), &syntax) != wanted || !form.opening().is_empty() {
                 continue;
             }
             // A number is rounded in one radix alone and, if there are forms with floats, by these alone.
@@ -399,6 +399,9 @@ fn write_by<N: Writable + ?Sized>(
     buffer: &mut [u8],
 ) -> Result<usize, WriteError> {
     let it = &forms.as_slice()[index];
+    if !it.opening().is_empty() {
+        return Err(WriteError::ReadBack);
+    }
     let syntax = it.syntax();
     let (size, float) = number.write(&syntax, style, buffer)?;
     // A text that is longer than a `usize` has the size `usize::MAX`.

@@ -1,5 +1,5 @@
 -- The front has the parts that were counted.
-use Rattle.lexical_forms.proofs.Common.{◌∙◌, sym, subst, Reads, notation_of, IsMeasured, ReadsForm}
+use Rattle.lexical_forms.proofs.Common.{◌∙◌, sym, subst, Reads, notation_of, IsMeasured, ReadsSyntax}
 use Rattle.lexical_literal.proofs.PieceLemmas.{measured_cut, whole_read}
 use Rattle.lexical_forms.proofs.token.made.Goals as goal
 
@@ -13,5 +13,5 @@ returns-clause-literal c =
     (subst (λ t. IsMeasured (notation_of c.args.it.now.syntax) t c.args.candidate.counts) (sym c.split_at.ensures.front) c.requires.measured)
     c.summed.result c.summed.ensures in
     let kinded = c.with_kind-literal in
-    subst (λ t. ReadsForm t kinded.result c.args.it.now) c.split_at.ensures.front
+    subst (λ t. ReadsSyntax t kinded.result c.args.it.now) c.split_at.ensures.front
     (kinded.ensures.format ∙ is.0, subst (λ l. Reads (notation_of c.args.it.now.syntax) l c.split_at.result.0.now) (sym kinded.ensures.literal) is.1)

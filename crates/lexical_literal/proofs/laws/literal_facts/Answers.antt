@@ -1,5 +1,6 @@
 -- What is true of every literal of a syntax.
-use Rattle.lexical_literal.proofs.Common.{notation_of}
+use Rattle.lexical_literal.proofs.Common.{[], first_group, notation_of, refl, start}
+use Rattle.lexical_literal.proofs.FitLemmas.{front_of}
 use Rattle.lexical_literal.proofs.StoppedLemmas.{one_sized_reading}
 use Rattle.lexical_literal.proofs.PartLemmas.{parts_have_roles}
 use Rattle.lexical_literal.proofs.RoleLemmas.{has_sizes_of, ready}
@@ -11,6 +12,11 @@ pub returns-clause-one_reading : goal.returns-clause-one_reading
 returns-clause-one_reading c g is l k text first second =
     one_sized_reading (notation_of g) (ready c.role_facts.ensures.disjoint c.role_facts.ensures.five c.role_facts.ensures.lawful g is)
     (has_sizes_of g is) text l k first second
+
+pub returns-clause-some : goal.returns-clause-some
+returns-clause-some c g is =
+    front_of (notation_of g) (ready c.role_facts.ensures.disjoint c.role_facts.ensures.five c.role_facts.ensures.lawful g is)
+    (has_sizes_of g is) [] start first_group refl refl
 
 pub returns-clause-same_literals : goal.returns-clause-same_literals
 returns-clause-same_literals c a b same options conditions l text reads =

@@ -1,6 +1,7 @@
 -- The only form of the list reads the text.
-use Rattle.lexical_writer.proofs.Common.{Form, Grammar, IfOk, IsNumber, IsSomeAnd, List, Reads, ReadsForm, [], ap, notation_of, slice_get, subst, suc, zero, ℕ}
+use Rattle.lexical_writer.proofs.Common.{Form, Grammar, IfOk, IsNumber, IsSomeAnd, List, Reads, ReadsForm, [], ap, length, notation_of, slice_get, subst, suc, zero, ℕ}
 use Rattle.lexical_writer.proofs.Common.{◌∙◌, ◌∷◌, ◌≡◌}
+use Rattle.lexical_forms.proofs.OpeningLemmas.{plain_of}
 use Rattle.lexical_forms.specs.FormList.{FormList}
 use Rattle.lexical_writer.proofs.choice.own_literal.Goals as goal
 
@@ -21,5 +22,6 @@ returns-in-Ok-Literal c =
     (subst (λ (forms : List Form). IsSomeAnd (slice_get forms index) (λ (form : Form). read.kind ≡ form.kind)) one both.1) in (
       kind ∙ c.new.ensures.kind,
       by.0 ∙ ap (λ (g : Grammar). g.word) c.new.ensures.syntax,
-      subst (λ (g : Grammar). Reads (notation_of g) read.literal c.args.text.now) c.new.ensures.syntax by.1,
+      subst (λ (g : Grammar). Reads (notation_of g) read.literal c.args.text.now) c.new.ensures.syntax
+          (plain_of c.args.text.now c.new.result (ap length c.new.ensures.opening) read.literal by.1),
     )

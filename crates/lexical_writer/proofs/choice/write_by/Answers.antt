@@ -4,18 +4,20 @@ use Rattle.lexical_writer.proofs.Common.{inl, inr, is_float, length, min, notati
 use Rattle.lexical_writer.proofs.Common.{◌≡◌, ◌≤◌}
 use Rattle.std.proofs.lemmas.Option.{slice_get_read}
 use Rattle.lexical_writer.specs.Buffer.{IsTaken}
+use Rattle.lexical_forms.proofs.OpeningLemmas.{plain_of}
 use Rattle.lexical_writer.proofs.ChoiceLemmas.{first_reads}
 use Rattle.lexical_writer.proofs.choice.write_by.Goals as goal
 
 -- A literal of a form is one of its syntax, and has its kind.
 same_form : (g : Grammar) (form : Form) (text : List ℕ) (read : Read) (found : Option Form) → found ≡ Some form → g ≡ form.syntax
+    → length form.opening.bytes.now ≡ 0
     → IsSomeAnd found (ReadsForm text read) → IsSomeAnd found (λ form. read.kind ≡ form.kind)
     → (read.kind ≡ form.kind) × (read.format ≡ g.word) × Reads (notation_of g) read.literal text
-same_form g form text read found here is reads kinds =
+same_form g form text read found here is none reads kinds =
     let by : ReadsForm text read form = subst (λ o. IsSomeAnd o (ReadsForm text read)) here reads in (
       subst (λ o. IsSomeAnd o (λ (form : Form). read.kind ≡ form.kind)) here kinds,
       by.0 ∙ sym (ap (λ (g : Grammar). g.word) is),
-      subst (λ (g : Grammar). Reads (notation_of g) read.literal text) (sym is) by.1,
+      subst (λ (g : Grammar). Reads (notation_of g) read.literal text) (sym is) (plain_of text form none read.literal by.1),
     )
 
 -- The buffer has the whole text.

@@ -1,13 +1,17 @@
 -- The first form that reads the text, or the form whose error is that of the list.
 use Rattle.lexical_forms.proofs.Common.{ℕ, ◌≡◌, ◌+◌, IfSome, IsSomeAnd, None, Option, length-take-le}
 use Rattle.lexical_forms.proofs.Common.{take, refl, sym, subst, arith, slice_get, All-more, notation_of}
-use Rattle.lexical_forms.proofs.Common.{FormList, Grammar, NoForm, NoLiteral, Stopped}
-use Rattle.lexical_forms.specs.Additions.Forms.{IsBehind, IsLed, IsRefusedAt}
+use Rattle.lexical_forms.proofs.Common.{FormList, Grammar, NoForm, NoLiteral, Stopped, get_or, length, ◌≤◌}
+use Rattle.lexical_forms.specs.Additions.Forms.{IsBehind, IsLed, IsLeftOut, IsRefusedAt}
 use Rattle.lexical_forms.specs.declared.list.Furthest.{Furthest}
 use Rattle.lexical_forms.proofs.FormLemmas.{all_tried, at_index, first_none, found_is, leads_all, leads_first, led_out}
 use Rattle.lexical_literal.proofs.PieceLemmas.{measured_cut, whole_read}
+use Rattle.lexical_literal.specs.Front.{NoneBy}
+use Rattle.lexical_forms.specs.Forms.{ReadsIn}
+use Rattle.lexical_forms.proofs.OpeningLemmas.{left_plain, none_before, none_plain, not_opened, read_behind, refused_behind}
 use Rattle.lexical_forms.proofs.list.Forms.find.Goals as goal
-use Rattle.lexical_forms.proofs.list.Forms.find.Goals.{in-Some, in_default, then-not-is_behind+else-is_whole+in-Err, else-not-is_behind}
+use Rattle.lexical_forms.proofs.list.Forms.find.Goals.{in-Some, in_default, then-opened-size}
+use Rattle.lexical_forms.proofs.list.Forms.find.Goals.{else-opened-size+then-opened-gt0+else-is_whole+in-Err, else-opened-size+else-opened-gt0+else-not-is_behind}
 
 pub loop-form-init : goal.loop-form-init
 loop-form-init c =
@@ -31,59 +35,76 @@ loop-form-init c =
       )
 
 pub literal-requires-clause-cut : goal.literal-requires-clause-cut
-literal-requires-clause-cut c = measured_cut _ c.args.text.now c.begin-begun.result.counts
+literal-requires-clause-cut c = measured_cut _ c.split_at.result.1.now c.begin-begun.result.counts
     (c.is_whole.ensures.measured c.if-is_whole.true)
 
 pub summed-requires : goal.summed-requires
-summed-requires c = measured_cut _ c.args.text.now c.in-Ok.counts c.in-Ok.ensures.some
+summed-requires c = measured_cut _ c.split_at.result.1.now c.in-Ok.counts c.in-Ok.ensures.some
 
 pub returns-then-is_whole : goal.returns-then-is_whole
-returns-then-is_whole c = rw (← c.self.view_is) (found_is c.self.inside.forms.now c.args.text.now c.loop-form.form c.index-self-form.result c.literal.result
-    c.loop-form-test.true (whole_read _ c.args.text.now c.begin-begun.result.counts (c.is_whole.ensures.measured c.if-is_whole.true) c.literal.result
-    c.literal.ensures) c.loop-form.invariant.0)
+returns-then-is_whole c =
+    let part = c.split_at.result.1.now in let g = get_or c.self.inside.forms.now c.loop-form.form c.index-self-form.result in
+    let is = whole_read _ part c.begin-begun.result.counts (c.is_whole.ensures.measured c.if-is_whole.true) c.literal.result c.literal.ensures in
+    let least : length g.opening.bytes.now ≤ c.opened-opened.result = omega (arith, c.if-opened-size.false, c.size.ensures) in
+    rw (← c.self.view_is) (found_is c.self.inside.forms.now c.args.text.now c.loop-form.form c.index-self-form.result c.literal.result
+    c.loop-form-test.true (
+      is.0,
+      read_behind c.args.text.now g c.opened-opened.result part c.opened-opened.ensures least c.split_at.ensures.back c.literal.result.literal is.1,
+    ) c.loop-form.invariant.0)
 
 pub returns-in-Ok : goal.returns-in-Ok
-returns-in-Ok c = rw (← c.self.view_is) (found_is c.self.inside.forms.now c.args.text.now c.loop-form.form c.index-self-form.result c.summed.result
-    c.loop-form-test.true (whole_read _ c.args.text.now c.in-Ok.counts c.in-Ok.ensures.some c.summed.result c.summed.ensures)
-    c.loop-form.invariant.0)
+returns-in-Ok c =
+    let part = c.split_at.result.1.now in let g = get_or c.self.inside.forms.now c.loop-form.form c.index-self-form.result in
+    let is = whole_read _ part c.in-Ok.counts c.in-Ok.ensures.some c.summed.result c.summed.ensures in
+    let least : length g.opening.bytes.now ≤ c.opened-opened.result = omega (arith, c.if-opened-size.false, c.size.ensures) in
+    rw (← c.self.view_is) (found_is c.self.inside.forms.now c.args.text.now c.loop-form.form c.index-self-form.result c.summed.result
+    c.loop-form-test.true (
+      is.0,
+      read_behind c.args.text.now g c.opened-opened.result part c.opened-opened.ensures least c.split_at.ensures.back c.summed.result.literal is.1,
+    ) c.loop-form.invariant.0)
 
-pub further_on-furthest-requires-clause-refused : goal.further_on-furthest-requires-clause-refused
-further_on-furthest-requires-clause-refused c =
-    let forms = c.self.inside.forms.now in
-    let text = c.args.text.now in
-    let i = c.loop-form.form in
-    subst (λ (l : FormList). IsSomeAnd (slice_get l.forms i) (IsRefusedAt text c.in-Err.stop)) c.self.view_is
-    (at_index (IsRefusedAt text c.in-Err.stop) forms forms c.index-self-form.result i refl c.loop-form-test.true
-    (c.in-Err.ensures.stop, c.in-Err.ensures.none refl))
+pub further_on-furthest-requires-in-Err-clause-refused : goal.further_on-furthest-requires-in-Err-clause-refused
+further_on-furthest-requires-in-Err-clause-refused c =
+    let forms = c.self.inside.forms.now in let text = c.args.text.now in let i = c.loop-form.form in
+    let g = get_or forms i c.index-self-form.result in
+    let least : length g.opening.bytes.now ≤ c.opened-opened.result = omega (arith, c.if-opened-size.false, c.size.ensures) in
+    subst (λ (l : FormList). IsSomeAnd (slice_get l.forms i) (IsRefusedAt text c.at-stop.result)) c.self.view_is
+    (at_index (IsRefusedAt text c.at-stop.result) forms forms c.index-self-form.result i refl c.loop-form-test.true
+    (refused_behind text g c.opened-opened.result c.split_at.result.1.now c.opened-opened.ensures least c.split_at.ensures.back c.in-Err.stop
+    c.at-stop.result c.in-Err.ensures.stop (c.in-Err.ensures.none refl) c.at-stop.ensures))
 
 pub loop-form-preserved : goal.loop-form-preserved
 loop-form-preserved c =
-    let forms = c.self.inside.forms.now in
-    let text = c.args.text.now in
-    let i = c.loop-form.form in
-    let d = c.index-self-form.result in
-    let inside = c.loop-form-test.true in
-    let furthest = c.loop-form.furthest in
-    elim c.if-not-is_behind.branch [
-      | then-not-is_behind+else-is_whole+in-Err w ↦ (
-        All-more (λ g. NoLiteral (notation_of g.syntax) text) forms i d inside c.loop-form.invariant.0 (w.in-Err.ensures.none refl),
+    let forms = c.self.inside.forms.now in let text = c.args.text.now in let i = c.loop-form.form in let d = c.index-self-form.result in
+    let g = get_or forms i d in let opened = c.opened-opened.result in let inside = c.loop-form-test.true in let furthest = c.loop-form.furthest in
+    elim c.if-opened-size.branch [
+      | then-opened-size w ↦ (
+        All-more (λ g. NoneBy (ReadsIn g) text) forms i d inside c.loop-form.invariant.0 (λ l reads. not_opened g.opening text opened
+            c.opened-opened.ensures (omega (arith, w.if-opened-size.true, c.size.ensures)) reads.opened),
         subst (IsLed forms text (i + 1)) (sym w.furthest-is)
             (subst (λ (l : FormList). IsLed l.forms text (i + 1) w.further_on-furthest.result) (sym c.self.view_is) w.further_on-furthest.ensures),
       )
-      | else-not-is_behind w ↦ (
-        All-more (λ g. NoLiteral (notation_of g.syntax) text) forms i d inside c.loop-form.invariant.0
-            (subst (λ (g : Grammar). NoLiteral (notation_of g) text) c.grammar.ensures.value (c.is_behind.ensures.none w.if-not-is_behind.false)),
-        subst (IsLed forms text (i + 1)) (sym w.furthest-is) (led_out forms text i furthest c.loop-form.invariant.1
-            (at_index (λ g. IsBehind (notation_of g.syntax) text furthest) forms forms d i refl inside
-            (subst (λ (g : Grammar). IsBehind (notation_of g) text furthest) c.grammar.ensures.value
-            (c.is_behind.ensures.near w.if-not-is_behind.false)))),
+      | else-opened-size+then-opened-gt0+else-is_whole+in-Err w ↦ (
+        All-more (λ g. NoneBy (ReadsIn g) text) forms i d inside c.loop-form.invariant.0 (none_before text g opened w.split_at.result.1.now
+            c.opened-opened.ensures (omega (arith, w.if-opened-size.false, c.size.ensures)) w.split_at.ensures.back (w.in-Err.ensures.none refl)),
+        subst (IsLed forms text (i + 1)) (sym w.furthest-is) (subst (λ (l : FormList). IsLed l.forms text (i + 1) w.further_on-furthest-in-Err.result)
+            (sym c.self.view_is) w.further_on-furthest-in-Err.ensures),
       )
+      | else-opened-size+else-opened-gt0+else-not-is_behind w ↦
+          let none : length g.opening.bytes.now ≡ 0 = omega (arith, w.if-opened-size.false, c.size.ensures, w.if-opened-gt0.false) in (
+            All-more (λ g. NoneBy (ReadsIn g) text) forms i d inside c.loop-form.invariant.0 (none_plain text g none
+                (subst (λ (g : Grammar). NoLiteral (notation_of g) text) w.grammar.ensures.value (w.is_behind.ensures.none w.if-not-is_behind.false))),
+            subst (IsLed forms text (i + 1)) (sym w.furthest-is) (led_out forms text i furthest c.loop-form.invariant.1
+                (at_index (IsLeftOut text furthest) forms forms d i refl inside (left_plain text g none furthest
+                (subst (λ (g : Grammar). IsBehind (notation_of g) text furthest) w.grammar.ensures.value
+                (w.is_behind.ensures.near w.if-not-is_behind.false))))),
+          )
     ]
 
 pub furthest-requires : goal.furthest-requires
 furthest-requires c = subst (λ (l : FormList). NoForm l.forms c.args.text.now) c.self.view_is
     (all_tried c.self.inside.forms.now c.args.text.now c.loop-form.form c.loop-form-test.false
-    (λ g. NoLiteral (notation_of g.syntax) c.args.text.now) c.loop-form.invariant.0)
+    (λ g. NoneBy (ReadsIn g) c.args.text.now) c.loop-form.invariant.0)
 
 pub returns-in-Some-furthest : goal.returns-in-Some-furthest
 returns-in-Some-furthest c =
@@ -92,7 +113,7 @@ returns-in-Some-furthest c =
     let i = c.loop-form.form in
     rw (← c.self.view_is) (record {
       found = tt;
-      none = λ _. all_tried forms text i c.loop-form-test.false (λ g. NoLiteral (notation_of g.syntax) text) c.loop-form.invariant.0;
+      none = λ _. all_tried forms text i c.loop-form-test.false (λ g. NoneBy (ReadsIn g) text) c.loop-form.invariant.0;
       furthest = leads_all forms text i c.loop-form-test.false _ (subst (IsLed forms text i) c.in-Some-furthest.is c.loop-form.invariant.1);
     })
 
@@ -101,6 +122,6 @@ returns-in-None c = record {
   found = tt;
   none = λ _. subst (λ (l : FormList). NoForm l.forms c.args.text.now) c.self.view_is
       (all_tried c.self.inside.forms.now c.args.text.now c.loop-form.form c.loop-form-test.false
-      (λ g. NoLiteral (notation_of g.syntax) c.args.text.now) c.loop-form.invariant.0);
+      (λ g. NoneBy (ReadsIn g) c.args.text.now) c.loop-form.invariant.0);
   furthest = c.furthest.ensures;
 }

@@ -1,8 +1,8 @@
 -- A form leads those that do not go beyond the first byte behind the sign.
-use Rattle.lexical_forms.proofs.Common.{◌+◌, None, arith, get_or, notation_of, sign_size, slice_get, subst}
-use Rattle.lexical_forms.specs.Additions.Forms.{IsBehind, IsLed, IsRefusedAt}
-use Rattle.lexical_forms.specs.Forms.{ReadsIn}
-use Rattle.lexical_forms.proofs.FormLemmas.{each, leads_first, led_out, one_size, reach_up_to}
+use Rattle.lexical_forms.proofs.Common.{◌+◌, None, arith, sign_size, slice_get, subst}
+use Rattle.lexical_forms.specs.Additions.Forms.{IsLed, IsLeftOut, IsRefusedAt}
+use Rattle.lexical_forms.proofs.FormLemmas.{each, leads_first, led_out}
+use Rattle.lexical_forms.proofs.OpeningLemmas.{reach_most}
 use Rattle.lexical_forms.proofs.list.Forms.further_on.Goals as goal
 
 pub returns-in-None : goal.returns-in-None
@@ -11,8 +11,7 @@ returns-in-None c =
     let text = c.args.text.now in
     let led = subst (IsLed forms text c.args.form) c.in-None.is c.requires.furthest in
     leads_first forms text c.args.form c.args.stop c.requires.refused (λ k d low below n reaches.
-    let most = reach_up_to text (get_or forms k d) (sign_size text + 1) (led k d below) n reaches in
-    omega (arith, most, c.if-stop-sign.true, c.requires.sign))
+    let most = led k d below n reaches in omega (arith, most, c.if-stop-sign.true, c.requires.sign))
 
 pub returns-in-None-2 : goal.returns-in-None-2
 returns-in-None-2 c =
@@ -20,6 +19,5 @@ returns-in-None-2 c =
     let text = c.args.text.now in
     let stop = c.args.stop in
     led_out forms text c.args.form None (subst (IsLed forms text c.args.form) c.in-None.is c.requires.furthest)
-    (each (IsRefusedAt text stop) (λ g. IsBehind (notation_of g.syntax) text None) (slice_get forms c.args.form)
-    (λ g is n goes. let most = one_size (ReadsIn g) text n stop.size goes is.0.valid in
-    omega (arith, most, c.if-stop-sign.false, c.requires.sign)) c.requires.refused)
+    (each (IsRefusedAt text stop) (IsLeftOut text None) (slice_get forms c.args.form)
+    (λ g is n reaches. let most = reach_most text g stop is n reaches in omega (arith, most, c.if-stop-sign.false, c.requires.sign)) c.requires.refused)

@@ -1,18 +1,25 @@
 -- The form whose error is that of the list, of those that have been asked.
-use Rattle.lexical_forms.proofs.Common.{◌+◌, arith, refl, sym, subst, slice_get, notation_of, FormList, Grammar, IsSomeAnd, NoForm}
-use Rattle.lexical_forms.specs.Additions.Forms.{IsNoBetter, IsRefusedAt, Leads}
+use Rattle.lexical_forms.proofs.Common.{◌+◌, arith, get_or, nat_tests, refl, sym, subst, slice_get, notation_of, FormList, Grammar, IsSomeAnd, NoForm}
+use Rattle.lexical_forms.specs.Additions.Forms.{IsLow, IsNoBetter, IsRefusedAt, Leads}
 use Rattle.lexical_forms.proofs.FormLemmas.{at_index, leads_all, leads_first, left_out}
+use Rattle.lexical_forms.proofs.OpeningLemmas.{low_plain}
 use Rattle.lexical_forms.proofs.list.Forms.furthest.Goals as goal
-use Rattle.lexical_forms.proofs.list.Forms.furthest.Goals.{then-not-is_settled, else-not-is_settled}
+use Rattle.lexical_forms.proofs.list.Forms.furthest.Goals.{then-not-is_empty, else-not-is_empty+else-not-is_settled}
 
 pub loop-form-init : goal.loop-form-init
 loop-form-init c =
     let forms = c.self.inside.forms.now in
     let text = c.args.text.now in
     let d = c.index-self-0.result in
-    let none = subst (λ (l : FormList). NoForm l.forms text) (sym c.self.view_is) c.requires in
     leads_first forms text 0 c.stop-first.result (at_index (IsRefusedAt text c.stop-first.result) forms forms d 0 refl c.self.invariant
-    (c.stop-first.ensures, none 0 d c.self.invariant)) (λ k d low below. absurd (omega (arith, below)))
+    c.stop-first.ensures) (λ k d low below. absurd (omega (arith, below)))
+
+pub stop-first-requires : goal.stop-first-requires
+stop-first-requires c = subst (λ (l : FormList). NoForm l.forms c.args.text.now) (sym c.self.view_is) c.requires 0 c.index-self-0.result c.self.invariant
+
+pub stop-stop-requires : goal.stop-stop-requires
+stop-stop-requires c = subst (λ (l : FormList). NoForm l.forms c.args.text.now) (sym c.self.view_is) c.requires c.loop-form.form
+    c.index-self-form.result c.loop-form-test.true
 
 pub further-furthest-requires-clause-refused : goal.further-furthest-requires-clause-refused
 further-furthest-requires-clause-refused c =
@@ -20,9 +27,8 @@ further-furthest-requires-clause-refused c =
     let text = c.args.text.now in
     let i = c.loop-form.form in
     let d = c.index-self-form.result in
-    let none = subst (λ (l : FormList). NoForm l.forms text) (sym c.self.view_is) c.requires in
     subst (λ (l : FormList). IsSomeAnd (slice_get l.forms i) (IsRefusedAt text c.stop-stop.result)) c.self.view_is
-    (at_index (IsRefusedAt text c.stop-stop.result) forms forms d i refl c.loop-form-test.true (c.stop-stop.ensures, none i d c.loop-form-test.true))
+    (at_index (IsRefusedAt text c.stop-stop.result) forms forms d i refl c.loop-form-test.true c.stop-stop.ensures)
 
 pub loop-form-preserved : goal.loop-form-preserved
 loop-form-preserved c =
@@ -30,13 +36,14 @@ loop-form-preserved c =
     let text = c.args.text.now in
     let i = c.loop-form.form in
     let best = c.loop-form.furthest in
-    elim c.if-not-is_settled.branch [
-      | then-not-is_settled w ↦ subst (Leads forms text (i + 1)) (sym w.furthest-is)
+    elim c.if-not-is_empty.branch [
+      | then-not-is_empty w ↦ subst (Leads forms text (i + 1)) (sym w.furthest-is)
           (subst (λ (l : FormList). Leads l.forms text (i + 1) w.further-furthest.result) (sym c.self.view_is) w.further-furthest.ensures)
-      | else-not-is_settled w ↦ subst (Leads forms text (i + 1)) (sym w.furthest-is) (left_out forms text i best c.loop-form.invariant
-          (at_index (λ g. IsNoBetter (notation_of g.syntax) text best.stop.size) forms forms c.index-self-form.result i refl c.loop-form-test.true
-          (subst (λ (g : Grammar). IsNoBetter (notation_of g) text best.stop.size) c.grammar.ensures.value
-          (c.is_settled.ensures.better w.if-not-is_settled.false))))
+      | else-not-is_empty+else-not-is_settled w ↦ subst (Leads forms text (i + 1)) (sym w.furthest-is) (left_out forms text i best c.loop-form.invariant
+          (at_index (IsLow text best.stop.size) forms forms c.index-self-form.result i refl c.loop-form-test.true
+          (low_plain text (get_or forms i c.index-self-form.result) (let empty = c.is_empty.ensures in grind (arith, nat_tests)) best.stop.size
+          (subst (λ (g : Grammar). IsNoBetter (notation_of g) text best.stop.size) w.grammar.ensures.value
+          (w.is_settled.ensures.better w.if-not-is_settled.false)))))
     ]
 
 pub returns : goal.returns

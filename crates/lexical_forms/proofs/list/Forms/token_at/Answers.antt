@@ -1,5 +1,5 @@
 -- The front has the parts and the sums that were counted, and is the literal of the token.
-use Rattle.lexical_forms.proofs.Common.{◌∙◌, ap, drop, take, refl, sym, subst, arith, Reads, notation_of, raw, IsMeasured, AreSums, cut, cuts_of, ReadsForm}
+use Rattle.lexical_forms.proofs.Common.{◌∙◌, ap, drop, take, refl, sym, subst, arith, Reads, notation_of, raw, IsMeasured, AreSums, cut, cuts_of, ReadsSyntax}
 use Rattle.std.proofs.lemmas.List.{drop-drop}
 use Rattle.lexical_forms.specs.Suffix.{suffix_size}
 use Rattle.lexical_forms.specs.Token.{IsToken}
@@ -29,7 +29,7 @@ returns c =
     (c.suffix_size-more.ensures.size ∙ (λ j. suffix_size it.suffixes (c.is_float.ensures j) (back j)))
     (let less = c.suffix_size-more.ensures.within in let long = c.split_at.ensures.back_len in omega (arith, less, long, within))
     (sym c.if-is_stopped.ensures) _ refl
-    (subst (λ t. ReadsForm t kinded.result it) front
+    (subst (λ t. ReadsSyntax t kinded.result it) front
     (kinded.ensures.format ∙ is.0, subst (λ l. Reads (notation_of it.syntax) l c.split_at.result.0.now) (sym kinded.ensures.literal) is.1))
     (kinded.ensures.kind ∙ c.kind_with-kind.ensures)
     (c.split_at-2.ensures.front ∙ ap (take more) back)
