@@ -78,6 +78,7 @@ const _: () = { const fn call(forms: &'static [Form], following: &'static [&'sta
 const _: () = { const fn call(integers: &'static [&'static [u8]], floats: &'static [&'static [u8]], stops: &'static [Stop]) -> Suffixes { <Suffixes>::new(integers, floats, stops) } };
 const _: () = { const fn call(integers: IntegerKind, floats: FloatKind) -> Option<Kind> { <Kind>::new(integers, floats) } };
 const _: () = { const fn call(it: &'static Affix) -> &'static [u8] { <Affix>::as_bytes(it) } };
+const _: () = { const fn call(it: &'static Affix) -> bool { <Affix>::is_empty(it) } };
 const _: () = { const fn call(it: &'static Cause) -> [Option<NamedByte>; 2] { <Cause>::bytes(it) } };
 const _: () = { const fn call(it: &'static ConditionsError) -> ShortText { <ConditionsError>::text(it) } };
 const _: () = { const fn call(it: &'static ConditionsError) -> u128 { <ConditionsError>::mask(it) } };

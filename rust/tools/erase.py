@@ -164,6 +164,10 @@ REPLACED += [
     ("token.rt", "self.find(word, None)", "self.find::<true>(word, None)"),
     ("token.rt", "it.syntax.begin(false, text, true)", "it.syntax.begin_small(text, true)"),
     ("token.rt", "it.syntax.begin(false, front, true)", "it.syntax.begin_small(front, true)"),
+    # The library for C and the page have no form with an opening.
+    ("lexical_forms/src/affix.rt", "        self.bytes.len()\n", "        if cfg!(peltzivar_small) { 0 } else { self.bytes.len() }\n"),
+    ("lexical_forms/src/affix.rt", "self.bytes.len() == 0", "self.size() == 0"),
+    ("lexical_forms/src/affix.rt", "size < self.bytes.len()", "size < self.size()"),
     # The library for C has one copy of these.
     ("reasons.rt", "#[inline(always)]\n#[tactic(auto, unfolding(lexical_flags::specs::Roles::Disjoint))]\nconst fn clash(", "#[cfg_attr(not(peltzivar_small), inline(always))]\nconst fn clash("),
     ("reasons.rt", "#[inline(always)]\nconst fn reason_for(", "#[cfg_attr(not(peltzivar_small), inline(always))]\nconst fn reason_for("),

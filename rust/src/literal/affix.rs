@@ -56,20 +56,24 @@ impl Affix {
     /// Returns whether there are no bytes.
     #[must_use]
     pub const fn is_empty(&self) -> bool {
-        self.bytes.len() == 0
+        self.size() == 0
     }
 
     // Returns the number of bytes.
     #[inline(always)]
     pub(crate) const fn size(&self) -> usize {
-        self.bytes.len()
+        if cfg!(peltzivar_small) {
+            0
+        } else {
+            self.bytes.len()
+        }
     }
 
     // Returns the number of its bytes that `text` begins with.
     #[inline(always)]
     pub(crate) const fn opened(&self, text: &[u8]) -> usize {
         let mut size = 0;
-        while size < self.bytes.len() && size < text.len() && self.spells(size, text[size]) {
+        while size < self.size() && size < text.len() && self.spells(size, text[size]) {
             size += 1;
         }
         size
