@@ -234,7 +234,7 @@ fn forms_write_what_they_read_as_the_same_number() {
         (Language::JAVA, "0xffffffff", Language::JSON, "-1"),
         (Language::C, "4294967295", Language::JAVA, "0xFFFFFFFFp0"),
         (Language::PYTHON, "0.1", Language::FORTRAN, "0.1d0"),
-        (Language::JAVA, "0x80000000", Language::FORTRAN, "-2147483648d0"),
+        (Language::JAVA, "0x80000000", Language::FORTRAN, "-2147483648"),
         (Language::FORTRAN, "0.1", Language::PYTHON, "0.10000000149011612"),
         (Language::LUA, "0x6f0621c5a5adf4f0e7dcF", Language::C, "2043045296116497871"),
         (Language::PYTHON, "1_000", Language::TOML, "1000"),
