@@ -199,7 +199,7 @@ class Literals(unittest.TestCase):
         rows = [
             (Language.TOML, "-9_223_372_036_854_775_809", -(2**63) - 1, "-9223372036854775809", -(2**63) - 1),
             (Language.JSON, "-0", 0, "-0", 0),
-            (Language.C, "1" + 14 * "'000", 10**42, str(10**42), 10**42),
+            (Language.PYTHON, "1" + 14 * "_000", 10**42, str(10**42), 10**42),
             *((Language.JSON, it, float(it), str(Decimal(it)), Fraction(it)) for it in (f"1.{10**500}e3", f"-{10**500}.5E-2")),
             (Language.JSON, "1.50e-1", 0.15, "0.150", Fraction(3, 20)),
             (Language.JSON, "1e400", math.inf, "1E+400", 10**400),
@@ -245,7 +245,7 @@ class Literals(unittest.TestCase):
         decimal, binary = Language.JSON, Language.C
         self.assertRaisesRegex(ValueError, "mantissa radix and the exponent base", float, Syntax(Format.of(radix=3)).read("12"))
         self.assertRaisesRegex(ValueError, r"\(4300", int, decimal.read("9" * 4301))
-        self.assertEqual(int(Language.RUST.read("0x" + "F" * 5000)), 16**5000 - 1)
+        self.assertEqual(int(Language.PYTHON.read("0x" + "F" * 5000)), 16**5000 - 1)
         self.assertEqual(len(decimal.read("9" * 10**6).decimal().as_tuple().digits), 10**6)
         self.assertEqual(decimal.read("1e999999").fraction(), 10**999999)
         self.assertEqual(binary.read("0x1p-1430676").decimal().adjusted(), -430677)
@@ -375,7 +375,7 @@ class Literals(unittest.TestCase):
             for it in (Language.C.read(text), Language.C.read_prefix(text + "z")[0]):
                 for literal in (it, pickle.loads(pickle.dumps(it))):
                     self.assertEqual((literal.form, repr(literal.value), literal.syntax), (form, repr(value), Language.C.forms[form]))
-                    self.assertEqual(Language.C.forms[form].read(text), literal)
+                    self.assertEqual(Language.C.forms[form].read(text).parts, literal.parts)
         for text, form, index in (("0b12", "binary", 3), ("10d", "decimal", 2), ("0b", "binary", 2), ("0b102z", "binary", 4)):
             with self.assertRaises(LiteralError) as caught:
                 Language.PYTHON.read(text)

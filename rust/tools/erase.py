@@ -181,7 +181,7 @@ REPLACED += [
     ("lexical_value/src/float.rt", "binary_size(F::DOUBLE, literal)", "binary_size(F::DOUBLE, &{ *literal })"),
     ("lexical_value/src/float.rt", "match nearest_single(literal)", "match nearest_single(&{ *literal })"),
     ("lexical_value/src/float.rt", "        whole_float(literal)\n", "        whole_float(&{ *literal })\n"),
-    ("lexical_value/src/float.rt", "\npub(crate) fn beyond(", "\npub(crate) const fn beyond("),
+    ("lexical_value/src/float.rt", "#[inline(always)]\npub(crate) fn beyond(", "#[cfg_attr(not(peltzivar_small), inline(always))]\npub(crate) const fn beyond("),
     ("lexical_value/src/float.rt", "\nfn has_digits", "\nconst fn has_digits"),
     ("lexical_value/src/scaled.rt", "long_scaled(literal, places", "long_scaled(&{ *literal }, places"),
     ("lexical_value/src/scaled.rt", "#[inline(always)]\nfn settled", "#[cfg_attr(not(peltzivar_small), inline(always))]\nfn settled"),

@@ -50,7 +50,7 @@ fn float_of_kind<F: Float>(kind: FloatKind, literal: &Literal) -> Result<F, Valu
 }
 
 // Returns why a literal has no float by these limits, if its nearest one is infinite or 0.
-#[inline(always)]
+#[cfg_attr(not(peltzivar_small), inline(always))]
 pub(crate) const fn beyond(
     limits: FloatLimits,
     infinite: bool,
