@@ -89,9 +89,15 @@ impl Form {
             return None;
         }
         let (_, found) = self.syntax.front(rest);
-        match found {
-            Some(found) if found.size > least => Some(Found { size: opened + found.size, counts: found.counts }),
-            _ => None,
+        let Some(found) = found else {
+            return None;
+        };
+        let Found { size, counts } = found;
+        if size > least {
+            let size = opened + size;
+            Some(Found { size, counts })
+        } else {
+            None
         }
     }
 }
@@ -132,10 +138,11 @@ impl Form {
     // Returns why `text` is not a literal of the form, which has the index `form`.
     #[inline(always)]
     const fn refuse(&self, text: &[u8], form: usize, stop: Stopped) -> FormError {
+        let syntax = self.syntax();
         let (opened, error) = match self.behind(text, stop) {
             None => (stop.size, Err(self.unopened(text, stop.size))),
             Some((rest, inside)) => {
-                let Err(error) = inside.refuse::<()>(&self.syntax, rest) else { unreachable!() };
+                let Err(error) = inside.refuse::<()>(&syntax, rest) else { unreachable!() };
                 (self.opening.size(), Ok(error))
             }
         };
@@ -365,7 +372,7 @@ impl<'a> Forms<'a> {
     #[inline(always)]
     const fn of_form<'t>(&self, form: usize, literal: Literal<'t>) -> Literal<'t> {
         let it = &self.as_slice()[form];
-        literal.with_kind(it.kind).behind(it.opening.size() as u8)
+        literal.with_kind(it.kind).behind(it.opening.size())
     }
 
     // Returns the special value that `text` is, if it is one.

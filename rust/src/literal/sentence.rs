@@ -21,7 +21,7 @@ impl ReadError {
     /// let syntax = Syntax::new_or_panic(peltzivar::Format::default(), b'e', b'.');
     /// assert!(["", "-", "1e", "1e+"].iter().all(|text| syntax.read(text).unwrap_err().is_incomplete()));
     /// assert!(!syntax.read("1x").unwrap_err().is_incomplete());
-    /// assert!(Language::C.read("08").unwrap_err().error.is_incomplete() && Language::C.read("08.5").is_ok());
+    /// assert!(Language::C.read("08").unwrap_err().is_incomplete() && Language::C.read("08.5").is_ok());
     /// ```
     #[must_use]
     pub const fn is_incomplete(&self) -> bool {
