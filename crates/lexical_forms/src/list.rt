@@ -599,7 +599,9 @@ impl<'a> Forms<'a> {
         let mut form = 1;
         while form < self.forms.len() {
             let it = &self.forms[form];
-            if !it.opening.is_empty() || !is_settled(it.syntax.grammar(), text, furthest.stop.size) {
+            if !it.opening.is_empty()
+                || !is_settled(it.syntax.grammar(), text, furthest.stop.size)
+            {
                 let stop = it.stop(text);
                 furthest = self.further(text, furthest, form, stop);
             }

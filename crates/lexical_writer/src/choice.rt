@@ -428,7 +428,9 @@ pub fn choose<N: Writable>(
     for wanted in 0..if number.is_integer() { 3 } else { 6 } {
         for (index, form) in forms.as_slice().iter().enumerate() {
             let syntax = form.syntax();
-            if turn(number.radix(), number.is_integer(), &syntax) != wanted || !form.opening().is_empty() {
+            if turn(number.radix(), number.is_integer(), &syntax) != wanted
+                || !form.opening().is_empty()
+            {
                 continue;
             }
             // A number is rounded in one radix alone and, if there are forms with floats, by these alone.
