@@ -23,7 +23,7 @@ same_form g form text read found here is none reads kinds =
 
 -- What is empty has no bytes.
 is_none : (n : ℕ) (empty : Bool) → empty ≡ (n == 0) → empty ≡ true → n ≡ 0
-is_none n empty is yes = grind (arith, nat_tests)
+is_none n empty is holds = grind (arith, nat_tests)
 
 -- The buffer has the whole text.
 taken : (text old bytes : List ℕ) (size : ℕ) → IsTaken text old bytes size → size ≤ length bytes → size < 2 ^ 64 - 1 → text ≡ take size bytes
