@@ -87,7 +87,7 @@ class Programs(unittest.TestCase):
         return program.stat().st_size
 
     def test_the_library_is_small_and_programs_have_at_most_the_sizes_of_the_page(self):
-        self.assertLessEqual(SHARED.stat().st_size, 331_000)
+        self.assertLessEqual(SHARED.stat().st_size, 342_000)
         calls = {
             "forms_read": 'peltzivar_literal it; return !peltzivar_forms_read(FORMS, "1.5", 3, &it, NULL);',
             "parse_f64": 'double it; return peltzivar_parse_f64(FORMS, "1.5", 3, &it, NULL) || it != 1.5;',
