@@ -55,7 +55,8 @@ fn list(random: &mut Random) -> Forms<'static> {
     list.with_specials(random.pick(&[Specials::default(), Language::TOML.forms().specials(), odd]))
 }
 
-/// Why a text is not a literal of a form: how many bytes are right, whether the cause is stray, the bytes to show, and the sentence.
+/// Why a text is not a literal of a form: how many bytes are right, whether the cause is stray, the bytes to show, and
+/// the sentence.
 type Why = (usize, bool, Range<usize>, [String; 2]);
 
 /// What the syntax of a form reads behind the opening, by `read`.
@@ -76,8 +77,8 @@ fn behind<T>(form: &Form, text: &[u8], read: fn(&Syntax, &[u8]) -> Result<T, Rea
     })
 }
 
-/// Returns the error of the form that goes furthest, with its index. Of several, it is the first whose cause is not a wrong byte and that does
-/// not lack an opening or a required prefix, or the first if there is none.
+/// Returns the error of the form that goes furthest, with its index. Of several, it is the first whose cause is not a
+/// wrong byte and that does not lack an opening or a required prefix, or the first if there is none.
 fn error_of(errors: &[Why]) -> (usize, Why) {
     let furthest = errors.iter().map(|it| it.0).max().unwrap();
     let goes = |it: &Why| it.0 == furthest;
@@ -85,8 +86,11 @@ fn error_of(errors: &[Why]) -> (usize, Why) {
     (first, errors[first].clone())
 }
 
-/// What a list reads: the text of the literal of a form with its kind, or else a special value, or else an error.
-fn read(forms: &Forms, text: &[u8]) -> Result<Result<(usize, String, Kind), Special>, (usize, Why)> {
+/// A literal of a form, whose index, text and kind it has, or a special value.
+type Found = Result<(usize, String, Kind), Special>;
+
+/// What a list reads: the literal of a form, or else a special value, or else an error.
+fn read(forms: &Forms, text: &[u8]) -> Result<Found, (usize, Why)> {
     let of_form = |form| behind(form, text, |syntax, text| syntax.read(text).map(|it| format!("{it:?}")));
     let results: Vec<Result<String, Why>> = forms.into_iter().map(of_form).collect();
     if let Some(form) = results.iter().position(Result::is_ok) {

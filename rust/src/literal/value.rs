@@ -527,7 +527,9 @@ impl Number<'_> {
     #[inline]
     pub fn value<T: FromLiteral>(self) -> Result<T, ValueError> {
         let (value, size, of) = match self {
-            Number::Literal { literal, .. } => (T::from_literal(literal), literal.size_in_text(), literal.integer_kind()),
+            Number::Literal { literal, .. } => {
+                (T::from_literal(literal), literal.size_in_text(), literal.integer_kind())
+            }
             Number::Special(special) => (T::from_special(special), 0, IntegerKind::Exact),
         };
         value.map_err(|kind| ValueError::of::<T>(kind, size, of))
