@@ -4,7 +4,7 @@ use alloc::vec::Vec;
 use core::mem::{discriminant, Discriminant};
 use core::num::NonZeroU8;
 
-use peltzivar::literal::{FormError, IntegerKind, Number, ReadError, ReadErrorKind, Spelling};
+use peltzivar::literal::{FloatLimits, FormError, IntegerKind, Number, ReadError, ReadErrorKind, Spelling};
 use peltzivar::{FormatView, Role};
 
 use crate::forms::{value_of, List, Value};
@@ -69,6 +69,9 @@ fn try_texts(forms: &List, others: &List, each: &mut dyn FnMut(Vec<u8>)) {
     for state in states() {
         parts.iter().filter_map(|&parts| text_of(state, parts)).for_each(&mut *each);
         states().for_each(|it| try_integers(state, it.kind.integers(), each));
+        if states().any(|it| it.kind.limits() != FloatLimits::None) {
+            try_far_floats(state, each);
+        }
     }
     try_specials(forms.states[0], each);
     try_specials(State { specials: others.states[0].specials, ..forms.states[0] }, each);
@@ -92,6 +95,17 @@ fn try_integers(state: State, kind: IntegerKind, each: &mut dyn FnMut(Vec<u8>)) 
         let end = |part| text_of(state, [part, "", "", "", "", ""]);
         if let (Some(before), Some(behind)) = (end(before), end(behind)) {
             each([&before[..], &digits, &behind].concat());
+        }
+    }
+}
+
+/// Calls `each` with floats that are too large or vanish, whatever the radix of the exponent is, also with the prefix or a fraction.
+fn try_far_floats(state: State, each: &mut dyn FnMut(Vec<u8>)) {
+    for (prefix, fraction) in [("", ""), ("0x", ""), ("", ".1"), ("0x", ".1")] {
+        for exponent in ["e1", "e-1"] {
+            if let Some(text) = text_of(state, ["", prefix, "1", fraction, exponent, ""]) {
+                each([&text[..], b"1111111111111"].concat());
+            }
         }
     }
 }
