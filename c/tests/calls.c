@@ -336,8 +336,8 @@ static void test_choice(void) {
     /* A list writes at most 4096 bytes. */
     static char digits[4097], room[5000];
     memset(digits, '1', sizeof digits);
-    for (size_t len = 4096; len <= sizeof digits; len++) CHECK(peltzivar_forms_read(c, digits, len, &literal, NULL)
-        && peltzivar_forms_format_literal(c, &literal, NULL, room, sizeof room, NULL) == (len > 4096 ? PELTZIVAR_WRITE_LONG : 0));
+    for (size_t len = 4096; len <= sizeof digits; len++) CHECK(peltzivar_forms_read(python, digits, len, &literal, NULL)
+        && peltzivar_forms_format_literal(python, &literal, NULL, room, sizeof room, NULL) == (len > 4096 ? PELTZIVAR_WRITE_LONG : 0));
     CHECK(peltzivar_forms_format_i64(NULL, 1, NULL, text, sizeof text, NULL) == PELTZIVAR_WRITE_ARGUMENT);
     memset(&literal, 0, sizeof literal);
     CHECK(peltzivar_forms_format_literal(c, &literal, NULL, text, sizeof text, NULL) == PELTZIVAR_WRITE_ARGUMENT);
@@ -405,7 +405,7 @@ static void test_languages(void) {
 
 /* Tokens by rules in constants, and by those of a language. */
 static void test_tokens(void) {
-    static const peltzivar_suffix_kind kinds[] = {{"u8", PELTZIVAR_INTEGERS_WRAP, 8, PELTZIVAR_FLOATS_NEAREST, {0}}};
+    static const peltzivar_suffix_kind kinds[] = {{"u8", PELTZIVAR_INTEGERS_WRAP, 8, PELTZIVAR_FLOATS_NEAREST, PELTZIVAR_LIMITS_NONE, {0}}};
     static const peltzivar_stop stops[] = {{"8", "-", NULL, {0}}};
     static const peltzivar_suffixes suffixes = {"u u8", NULL, "k", kinds, 1, stops, 1, true, {0}};
     static const peltzivar_tokens rules = {NULL, 0, "if in", true, {0}};
