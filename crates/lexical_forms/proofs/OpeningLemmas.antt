@@ -1,7 +1,8 @@
 -- Forms with an opening: what a syntax reads behind it, in the text before which it stands.
 use Rattle.lexical_forms.proofs.Common.{ℕ, ◌≡◌, ◌+◌, ◌-◌, ◌*◌, ◌<◌, ◌≤◌, ◌++◌, ◌∙◌, inl, inr, Bool, true, false, List, [], Option, Some, None, Form, Found}
 use Rattle.lexical_forms.proofs.Common.{Literal, NoLiteral, Notation, Reads, Refusal, Stopped, ap, arith, cases_lt, drop, false≢true, get_or, if◌then◌else◌}
-use Rattle.lexical_forms.proofs.Common.{IsCountedFront, IsFront, IsRefusal, IsStopped, IsValidUpTo, ReadsFront, append-nil, is_absent, is_present, is_stray, length, length-take-le}
+use Rattle.lexical_forms.proofs.Common.{IsCountedFront, IsFront, IsRefusal, IsStopped, IsValidUpTo, ReadsFront, append-nil, is_absent, is_present, is_stray}
+use Rattle.lexical_forms.proofs.Common.{length, length-take-le}
 use Rattle.std.proofs.Common.{not}
 use Rattle.lexical_forms.proofs.Common.{nat_tests, take_all, notation_of, reach, refl, subst, sym, take, ◌||◌, ◌∷◌}
 use Rattle.lexical_literal.specs.Front.{BeginsBy, IsValidBy, NoFrontBy, NoneBy, ReadsFrontBy}

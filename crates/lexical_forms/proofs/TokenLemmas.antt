@@ -2,7 +2,8 @@
 use Rattle.lexical_forms.proofs.Common.{ℕ, ◌≡◌, ◌&&◌, ◌||◌, Bool, true, false, ◌<◌, ◌≤◌, ◌+◌, ◌-◌, ◌⊎◌, inl, inr, List, Option, Some, None, All, IsNone}
 use Rattle.lexical_forms.proofs.Common.{IsSomeAnd, take, drop, get_or, refl, sym, subst, ap, ◌∙◌, arith, nat_tests, length-take-le, take_all, All-more}
 use Rattle.lexical_forms.proofs.Common.{slice_get-get_or, Literal, Reads, is_float, Notation, notation_of, ◌==◌, if◌then◌else◌, IsTrue, length, slice_get}
-use Rattle.lexical_forms.proofs.Common.{IsCountedFront, HasLengths, cuts_of, FormList, NoForm, ReadsForm, ReadsSyntax, IsValidUpTo, NoFront, Read, IsAhead, Form, Found}
+use Rattle.lexical_forms.proofs.Common.{IsCountedFront, HasLengths, cuts_of, FormList, NoForm, ReadsForm, ReadsSyntax, IsValidUpTo, NoFront, Read, IsAhead}
+use Rattle.lexical_forms.proofs.Common.{Form, Found}
 use Rattle.lexical_forms.proofs.Common.{Candidate}
 use Rattle.lexical_forms.specs.Forms.{IsFirst}
 use Rattle.lexical_forms.specs.Token.{AllShorter, IsChosen, IsFollowed, IsOver, IsCut, IsRefused, IsToken, IsTokenError, IsCandidate, NoCandidate, NoLonger}

@@ -4,7 +4,8 @@ ghost use Rattle.std.specs.Prelude.{ℕ, ◌≡◌, ◌<◌, ◌≤◌, ◌+◌,
 ghost use Rattle.std.specs.Prelude.{false, if◌then◌else◌, length, slice_get};
 ghost use Rattle.lexical_forms.specs.Additions.Forms.{IsBehind, IsFoundForm, IsFoundFrontForm, IsLed, IsLongestPast, IsRefusedAt};
 ghost use Rattle.lexical_forms.specs.Additions.Forms.{IsFrontIn, IsStoppedBefore, IsStoppedBehind, Leads, NonePast, sign_size};
-ghost use Rattle.lexical_forms.specs.Forms.{HasKind, IsErrorOfForm, IsFormError, IsFrontByForms, IsReadByForms, IsUnopened, NoForm, Reaches, ReadsIn, behind, have_openings, special_by};
+ghost use Rattle.lexical_forms.specs.Forms.{HasKind, IsErrorOfForm, IsFormError, IsFrontByForms, IsReadByForms, IsUnopened, NoForm, Reaches, ReadsIn, behind};
+ghost use Rattle.lexical_forms.specs.Forms.{have_openings, special_by};
 ghost use Rattle.lexical_literal.specs.Additions.Stop.{IsStopped};
 ghost use Rattle.lexical_literal.specs.Front.{NoLiteral, NoneBy};
 ghost use Rattle.lexical_literal.specs.Read.{exact};

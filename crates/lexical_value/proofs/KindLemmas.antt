@@ -1,6 +1,7 @@
 -- The lowest bits of a number, and what literals of the exact kind are worth.
 use Rattle.lexical_value.proofs.Common.{ℕ, ◌≡◌, ◌+◌, ◌-◌, ◌%◌, ◌^◌, ◌<◌, ◌≤◌, ◌||◌, ◌∙◌, Bool, true, false, not, if◌then◌else◌, Some, Ok, Err, arith, ap, refl}
-use Rattle.lexical_value.proofs.Common.{subst, sym, pow-le-pow_right, nat_tests, Record, limit, width, worth, wrapped, Kind, Literal, is_float, is_minus, mantissa, is_exact, integer_worth, within, format_by, round, is_binary, is_decimal, nearest}
+use Rattle.lexical_value.proofs.Common.{subst, sym, pow-le-pow_right, nat_tests, Record, limit, width, worth, wrapped, Kind, Literal, is_float, is_minus}
+use Rattle.lexical_value.proofs.Common.{mantissa, is_exact, integer_worth, within, format_by, round, is_binary, is_decimal, nearest}
 use Rattle.lexical_value.proofs.Common.{IsNoInteger, IsNotWorth, float_worth, ValueErrorKind}
 use Rattle.std.proofs.Common.{Result}
 use Rattle.std.proofs.Math.Nat.{mod-eq_of_lt}
@@ -117,7 +118,8 @@ pub limited_worth : (f : Format) (kind : Kind) (r : Record) (l : Literal) (resul
     → within kind.limits (is_minus l.sign) (mantissa r.byte l) (nearest (format_by kind.floats f) r.byte l) ≡ result → float_worth kind f r.byte l ≡ result
 limited_worth f kind r l result known plain same = (λ i. if not (known i) then Err kinds.UnsupportedRadix
     else (if plain i then within kind.limits (is_minus l.sign) (mantissa r.byte l) (nearest (format_by kind.floats f) r.byte l)
-    else ok_or (option_map (λ w. round f w.0 w.1 1) (integer_worth kind.integers r.byte l)) (if is_minus l.sign then kinds.TooSmall else kinds.TooLarge))) ∙ same
+    else ok_or (option_map (λ w. round f w.0 w.1 1) (integer_worth kind.integers r.byte l))
+    (if is_minus l.sign then kinds.TooSmall else kinds.TooLarge))) ∙ same
 
 -- Without the radixes of floats, there is none.
 pub no_worth : (f : Format) (kind : Kind) (r : Record) (l : Literal) → (is_decimal r.byte || is_binary r.byte) ≡ false

@@ -1,6 +1,7 @@
 -- What a list reads is the number that a form has written.
 use Rattle.lexical_writer.proofs.Common.{Bool, Err, Form, Grammar, HasValue, IsRounded, IsSomeAnd, IsWhole, Kind, List, Literal, None, Ok, Option, Read, Reads}
-use Rattle.lexical_writer.proofs.Common.{ReadsForm, Record, SameFraction, Some, Style, ap, arith, decimals_in, false, if◌then◌else◌, inl, inr, integer_worth, length}
+use Rattle.lexical_writer.proofs.Common.{ReadsForm, Record, SameFraction, Some, Style, ap, arith, decimals_in, false, if◌then◌else◌, inl, inr, integer_worth}
+use Rattle.lexical_writer.proofs.Common.{length}
 use Rattle.lexical_writer.proofs.Common.{is_binary, is_decimal, is_exact, is_float, is_minus, is_some, nearest, not, notation_of, ok_or, raw, refl, slice_get}
 use Rattle.lexical_writer.proofs.Common.{subst, suc, sym, take, true, with_sign, worth, zero, ℕ, ℤ, ◌&&◌, ◌||◌, ◌∙◌, ◌≡◌, ◌⊎◌}
 use Rattle.std.specs.Float.{Float, Format, binary64}
@@ -48,7 +49,8 @@ amount_is f x (Some n) g l read has worth = (g, l, has, worth)
 -- If a literal is written for a float, and worth the nearest one, it is this float in the style.
 pub plain_real : (f : Format) (x : Float) (decimals : Option ℕ) (g : Grammar) (read : Read) → read.format ≡ g.word
     → (is_decimal (raw g.word).byte || is_binary (raw g.word).byte) ≡ true → read.kind.floats ≡ floats.Nearest
-    → read.kind.limits ≡ limits.None → (is_exact read.kind.integers || is_float read.literal) ≡ true → IsWrittenReal f x decimals g read.literal → IsAmount f x decimals read
+    → read.kind.limits ≡ limits.None → (is_exact read.kind.integers || is_float read.literal) ≡ true
+    → IsWrittenReal f x decimals g read.literal → IsAmount f x decimals read
 plain_real f x decimals g read word known near free plain has = amount_is f x decimals g read.literal read has
     (inl (subst (λ w. float_worth read.kind f (raw w).byte read.literal ≡ Ok (nearest f (raw g.word).byte read.literal)) (sym word)
     (worth_nearest f read.kind (raw g.word) read.literal known near free plain)))

@@ -186,7 +186,8 @@ const ADA_STOPS: &[Stop] = &[
     Stop::new(b"", b".", &LETTERS),
 ];
 
-/// Kinds of Fortran, of so many bytes or by a name: `1_8`, `1.0_dp`. Those of 10 and 16 bytes have floats that an `f64` has not. `1._8`, whose point is not given back, is refused.
+/// Kinds of Fortran, of so many bytes or by a name: `1_8`, `1.0_dp`. Those of 10 and 16 bytes have floats that an `f64`
+/// has not. `1._8`, whose point is not given back, is refused.
 const FORTRAN_WORDS: Suffixes =
     Suffixes::new(&[], &[], &[Stop::new(b"", b".", b"_0123456789")]).any_word(b"_").with_kinds(&[
         (b"_1", whole(IntegerKind::AtMost(7))),

@@ -1,5 +1,6 @@
 -- The only form of the list reads the text.
-use Rattle.lexical_writer.proofs.Common.{Form, Grammar, IfOk, IsNumber, IsSomeAnd, List, Reads, ReadsForm, [], ap, length, notation_of, slice_get, subst, suc, zero, ℕ}
+use Rattle.lexical_writer.proofs.Common.{Form, Grammar, IfOk, IsNumber, IsSomeAnd, List, Reads, ReadsForm, [], ap, length, notation_of, slice_get, subst, suc}
+use Rattle.lexical_writer.proofs.Common.{zero, ℕ}
 use Rattle.lexical_writer.proofs.Common.{◌∙◌, ◌∷◌, ◌≡◌}
 use Rattle.lexical_forms.proofs.OpeningLemmas.{plain_of}
 use Rattle.lexical_forms.specs.FormList.{FormList}

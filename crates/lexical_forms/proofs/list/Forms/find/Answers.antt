@@ -11,7 +11,8 @@ use Rattle.lexical_forms.specs.Forms.{ReadsIn}
 use Rattle.lexical_forms.proofs.OpeningLemmas.{left_plain, none_before, none_plain, not_opened, read_behind, refused_behind}
 use Rattle.lexical_forms.proofs.list.Forms.find.Goals as goal
 use Rattle.lexical_forms.proofs.list.Forms.find.Goals.{in-Some, in_default, then-opened-size}
-use Rattle.lexical_forms.proofs.list.Forms.find.Goals.{else-opened-size+then-opened-gt0+else-is_whole+in-Err, else-opened-size+else-opened-gt0+else-not-is_behind}
+use Rattle.lexical_forms.proofs.list.Forms.find.Goals.{else-opened-size+then-opened-gt0+else-is_whole+in-Err}
+use Rattle.lexical_forms.proofs.list.Forms.find.Goals.{else-opened-size+else-opened-gt0+else-not-is_behind}
 
 pub loop-form-init : goal.loop-form-init
 loop-form-init c =

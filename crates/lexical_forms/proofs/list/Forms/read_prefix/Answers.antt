@@ -1,5 +1,6 @@
 -- The front has the parts that were counted.
-use Rattle.lexical_forms.proofs.Common.{Form, IsSomeAnd, ReadsFront, Some, ap, arith, drop, false≢true, length, notation_of, slice_get, subst, sym, take, ◌+◌, ◌-◌, ◌≡◌, ◌∙◌}
+use Rattle.lexical_forms.proofs.Common.{Form, IsSomeAnd, ReadsFront, Some, ap, arith, drop, false≢true, length, notation_of, slice_get, subst, sym, take, ◌+◌}
+use Rattle.lexical_forms.proofs.Common.{◌-◌, ◌≡◌, ◌∙◌}
 use Rattle.lexical_literal.specs.Front.{ReadsFrontBy}
 use Rattle.lexical_forms.specs.Additions.Forms.{IsFrontIn}
 use Rattle.lexical_forms.specs.Forms.{ReadsIn}
