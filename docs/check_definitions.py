@@ -2,7 +2,8 @@
 """Prints the definitions to be believed for headline calls, in reading order, and then the contracts of the calls.
 
     docs/check_definitions.py edit_word    prints what the contract of `edit_word` cites, directly or by definitions
-    docs/check_definitions.py              names the calls, each with the number of lines and the files that this prints
+    docs/check_definitions.py              names the calls, each with the number of lines that this prints, of those that
+                                           it does not print for `read`, and with the files
 
 A contract cites the definitions that the `use` lines of its file bring, and a definition also those of its own file. A
 definition is found by its name and that of its file. `Specials::read` is the call of this type, and `read` that of all
@@ -166,9 +167,11 @@ def main(calls):
     if unknown := set(calls) - set(CALLS):
         sys.exit(f"not a headline call: {', '.join(unknown)}; they are {', '.join(CALLS)}")
     texts = {call: text_of(call) for call in calls or CALLS}
+    known = set(text_of("read")[0])
     for call, (lines, _) in texts.items():
         files = [path.rpartition("/")[2][:-5] for path in lines if path.startswith("==== ") and path.endswith(".antt")]
-        print(*lines if calls else [f"{call}: {len(lines)} lines, with {' '.join(files)}"], sep="\n")
+        more = sum(line not in known for line in lines)
+        print(*lines if calls else [f"{call}: {len(lines)} lines, {more} more than read, with {' '.join(files)}"], sep="\n")
     sys.exit("\n".join(f"{call}: {why}" for call, (_, found) in texts.items() for why in found) or 0)
 
 
