@@ -22,7 +22,7 @@ ghost use Rattle.lexical_writer.specs.declared.layout.Style.{Style as Wishes};
 use crate::checked::is_integer;
 use crate::float::format_float;
 use crate::float_digits::FloatDigits;
-use crate::layout::{Amount, ExponentStyle, Layout, Style, WriteError};
+use crate::layout::{Amount, ExponentStyle, Layout, Style, WriteError, needs_exponent};
 use crate::literal::lay_out;
 use crate::near::format_near;
 use lexical_forms::list::{Form, Forms, Number};
@@ -83,6 +83,10 @@ pub trait Writable {
     fn is_read_as(&self, style: Style, own: &Literal, literal: &Literal) -> bool
         ensures { result ≡ true → own.now.kind ≡ exact → (g : Grammar) → own.now.format ≡ g.word
             → has self.now style g own.now.literal → is self.now style literal.now };
+
+    /// Returns whether a literal is worth the number, which is an integer.
+    fn is_worth(&self, literal: &Literal) -> bool
+        ensures { result ≡ true → (style : Wishes) → is self.now style literal.now };
 }
 
 /// The value of an integer type, by its sign and its size.
@@ -152,6 +156,10 @@ impl Writable for Whole {
     fn is_read_as(&self, _: Style, _: &Literal, literal: &Literal) -> bool {
         is_worth(literal, self.negative, self.size)
     }
+
+    fn is_worth(&self, literal: &Literal) -> bool {
+        is_worth(literal, self.negative, self.size)
+    }
 }
 
 /// The value of a float type.
@@ -203,6 +211,10 @@ impl<F: Float> Writable for Real<F> {
 
     fn is_read_as(&self, _: Style, own: &Literal, literal: &Literal) -> bool {
         is_same::<F>(own, literal)
+    }
+
+    fn is_worth(&self, _: &Literal) -> bool {
+        false
     }
 }
 
@@ -277,16 +289,23 @@ impl Writable for Literal<'_> {
     }
 
     fn is_read_as(&self, style: Style, own: &Literal, literal: &Literal) -> bool {
-        if let Some((negative, size)) = whole_worth(self) {
-            return is_worth(literal, negative, size);
-        }
-        if is_same_integer(self, literal) {
+        if self.is_worth(literal) {
             return true;
+        }
+        if whole_worth(self).is_some() {
+            return false;
         }
         if is_exact(self.kind()) && style.nearest && style.decimals.is_some() {
             return is_same::<f64>(own, literal);
         }
         (self.is_float() || style.nearest) && is_same::<f64>(self, literal)
+    }
+
+    fn is_worth(&self, literal: &Literal) -> bool {
+        match whole_worth(self) {
+            Some((negative, size)) => is_worth(literal, negative, size),
+            None => is_same_integer(self, literal),
+        }
     }
 }
 
@@ -405,10 +424,58 @@ const fn is_exact(kind: Kind) -> bool
 // The longest text that is read back.
 pub(crate) const LONGEST: usize = 4096;
 
+/// How a list writes a number.
+#[derive(Clone, Copy)]
+pub struct Chosen {
+    /// The index of the form.
+    pub form: usize,
+    /// The word behind the literal, if there is one.
+    pub word: Option<&'static &'static [u8]>,
+    /// The length of the text, with the word.
+    pub length: usize,
+    /// The style.
+    pub style: Style,
+}
+
+// The forms of a turn that are asked, one after the other.
+#[derive(Clone, Copy)]
+enum Way {
+    // All forms.
+    All,
+    // Those with literals that have no exponent.
+    Plain,
+    // The same, for literals with a word behind them.
+    Word,
+    // Those whose literals all have an exponent.
+    Exponent,
+}
+
+impl Way {
+    // Returns whether a form with a syntax is asked.
+    fn asks(self, syntax: &Syntax) -> bool {
+        match self {
+            Way::All => true,
+            Way::Plain | Way::Word => !needs_exponent(syntax),
+            Way::Exponent => needs_exponent(syntax),
+        }
+    }
+}
+
+// Returns the ways in which a turn asks for an integer, or another number.
+const fn ways(integer: bool, wish: ExponentStyle) -> &'static [Way] {
+    match (integer, wish) {
+        (false, _) => &[Way::All],
+        (true, ExponentStyle::Always) => &[Way::All, Way::Word],
+        (true, _) => &[Way::Plain, Way::Word, Way::Exponent],
+    }
+}
+
 /// Writes a number by the first form whose text the list reads as this number, to the beginning of a buffer, and returns the
 /// index of the form, the length of the text, and the style in which it is written. Forms of the number's radix are asked first,
 /// then decimal ones, and then the others, each in the order of the list, and all forms with floats write a float before those of
-/// integers alone. Where an exponent would make an integer another number, the wish for one is dropped. A float is rounded in the radix
+/// integers alone. Of each of these turns, an integer is written without a word, if no form does so with one of its
+/// [words][Suffixes::written], with which its token is the number, and else as a float that is this integer.
+/// Where an exponent would make an integer another number, the wish for one is dropped. A float is rounded in the radix
 /// of the form that is asked first. Forms with an opening are not asked yet.
 ///
 /// # Errors
@@ -421,37 +488,41 @@ pub fn choose<N: Writable>(
     number: &N,
     style: Style,
     buffer: &mut [u8],
-) -> Result<(usize, usize, Style), WriteError>
-    // The list reads the text as the number.
-    ensures value { IfOk result (λ it. IsReadBack forms.now (take it.1 buffer.new) (N.is number.now it.2)) }
-    ensures length { IfOk result (λ it. it.1 ≤ length buffer.new) }
-    ensures form { IfOk result (λ it. it.0 < length forms.now.forms) }
-    ensures style { IfOk result (λ it. IsStyleOf (N.integer number.now) style it.2) }
+) -> Result<Chosen, WriteError>
+    // The list reads the text as the number or, with a word, its token is the number.
+    ensures value { IfOk result (λ it. IsReadWith forms.now it.word (take it.length buffer.new) (N.is number.now it.style)) }
+    ensures length { IfOk result (λ it. it.length ≤ length buffer.new) }
+    ensures form { IfOk result (λ it. it.form < length forms.now.forms) }
+    ensures style { IfOk result (λ it. IsStyleOf (N.integer number.now) style it.style) }
 {
+    let integer = number.is_integer();
     let rounded = number.is_rounded(style);
     let (mut error, mut first, mut floats) = (None, None, false);
-    for wanted in 0..if number.is_integer() { 3 } else { 6 } {
-        for (index, form) in forms.as_slice().iter().enumerate() {
-            let syntax = form.syntax();
-            if turn(number.radix(), number.is_integer(), &syntax) != wanted
-                || !form.opening().is_empty()
-            {
-                continue;
-            }
-            // A number is rounded in one radix alone and, if there are forms with floats, by these alone.
-            if rounded {
-                let radix = syntax.format().view().mantissa_radix();
-                if first.unwrap_or(radix) != radix {
+    for wanted in 0..if integer { 3 } else { 6 } {
+        for way in ways(integer, style.exponent) {
+            for (index, form) in forms.as_slice().iter().enumerate() {
+                let syntax = form.syntax();
+                if turn(number.radix(), integer, &syntax) != wanted
+                    || !way.asks(&syntax)
+                    || !form.opening().is_empty()
+                {
                     continue;
                 }
-                first = Some(radix);
-                floats |= syntax.options().is_some();
-            }
-            let whole = floats && syntax.options().is_none();
-            match write_in(forms, index, whole, number, style, buffer) {
-                Ok((length, style)) => return Ok((index, length, style)),
-                Err(other) if is_short(other) => return Err(other),
-                Err(other) => error = first_reason(error, other),
+                // A number is rounded in one radix alone and, if there are forms with floats, by these alone.
+                if rounded {
+                    let radix = syntax.format().view().mantissa_radix();
+                    if first.unwrap_or(radix) != radix {
+                        continue;
+                    }
+                    first = Some(radix);
+                    floats |= syntax.options().is_some();
+                }
+                let whole = floats && syntax.options().is_none();
+                match write_in(forms, index, whole, *way, number, style, buffer) {
+                    Ok(chosen) => return Ok(chosen),
+                    Err(other) if is_short(other) => return Err(other),
+                    Err(other) => error = first_reason(error, other),
+                }
             }
         }
     }
@@ -509,35 +580,118 @@ const fn style_in(whole: bool, rounded: bool, style: Style) -> Style
     }
 }
 
-// Writes a number by one form, which does not round if `whole` is true, and returns the length of the text and the style in which it is
-// written, or why it is not used.
+// Writes a number by one form, which does not round if `whole` is true, or returns why it is not used.
 fn write_in<N: Writable>(
     forms: &Forms,
     index: usize,
     whole: bool,
+    way: Way,
     number: &N,
     style: Style,
     buffer: &mut [u8],
-) -> Result<(usize, Style), WriteError>
+) -> Result<Chosen, WriteError>
     requires { index < length forms.now.forms }
-    ensures value { IfOk result (λ it. IsReadBack forms.now (take it.0 buffer.new) (N.is number.now it.1)) }
-    ensures length { IfOk result (λ it. it.0 ≤ length buffer.new) }
-    ensures style { IfOk result (λ it. IsStyleOf (N.integer number.now) style it.1) }
+    ensures value { IfOk result (λ it. IsReadWith forms.now it.word (take it.length buffer.new) (N.is number.now it.style)) }
+    ensures length { IfOk result (λ it. it.length ≤ length buffer.new) }
+    ensures form { IfOk result (λ it. it.form ≡ index) }
+    ensures style { IfOk result (λ it. IsStyleOf (N.integer number.now) style it.style) }
 {
+    if number.is_integer() && matches!(way, Way::Word) {
+        return write_words(forms, index, number, style, buffer);
+    }
     let style = style_in(whole, number.is_rounded(style), style);
     let error = match write_by(forms, index, number, style, buffer) {
-        Ok(length) => return Ok((length, style)),
+        Ok(length) => return Ok(Chosen {
+            form: index,
+            word: None,
+            length,
+            style,
+        }),
         Err(error) => error,
     };
     if is_short(error) || !number.is_integer() || !matches!(style.exponent, ExponentStyle::Always) {
         return Err(error);
     }
-    let style = Style {
+    let style = without_wish(style);
+    let length = write_by(forms, index, number, style, buffer)?;
+    Ok(Chosen {
+        form: index,
+        word: None,
+        length,
+        style,
+    })
+}
+
+// Returns the style without a wish for an exponent.
+const fn without_wish(style: Style) -> Style
+    ensures { result ≡ record style { exponent = exponents.AsNumber } }
+{
+    Style {
         exponent: ExponentStyle::AsNumber,
         ..style
+    }
+}
+
+// Writes an integer by one form with the first of its words that makes its token this integer, or returns why there is none.
+#[cold]
+fn write_words<N: Writable>(
+    forms: &Forms,
+    index: usize,
+    number: &N,
+    style: Style,
+    buffer: &mut [u8],
+) -> Result<Chosen, WriteError>
+    requires { index < length forms.now.forms }
+    ensures value { IfOk result (λ it. IsReadWith forms.now it.word (take it.length buffer.new) (N.is number.now it.style)) }
+    ensures length { IfOk result (λ it. it.length ≤ length buffer.new) }
+    ensures form { IfOk result (λ it. it.form ≡ index) }
+    ensures style { IfOk result (λ it. IsStyleOf (N.integer number.now) style it.style) }
+{
+    let Some(suffixes) = forms.as_slice()[index].suffixes() else {
+        return Err(WriteError::ReadBack);
     };
-    let length = write_by(forms, index, number, style, buffer)?;
-    Ok((length, style))
+    let style = without_wish(style);
+    for word in suffixes.written() {
+        match write_with(forms, index, number, style, word, buffer) {
+            Ok(length) => return Ok(Chosen {
+                form: index,
+                word: Some(word),
+                length,
+                style,
+            }),
+            Err(error) if is_short(error) => return Err(error),
+            Err(_) => {}
+        }
+    }
+    Err(WriteError::ReadBack)
+}
+
+// Writes an integer by one form with a word behind it, and returns the length of the text, or why it is not used.
+fn write_with<N: Writable>(
+    forms: &Forms,
+    index: usize,
+    number: &N,
+    style: Style,
+    word: &[u8],
+    buffer: &mut [u8],
+) -> Result<usize, WriteError>
+    requires { index < length forms.now.forms }
+    ensures value { IfOk result (λ size. IsToken forms.now word.now (take size buffer.new) (N.is number.now style)) }
+    ensures length { IfOk result (λ size. size ≤ length buffer.new) }
+{
+    let (size, _) = number.write(&forms.as_slice()[index].syntax(), style, buffer)?;
+    // A text that is longer than a `usize` has the size `usize::MAX`.
+    let end = size.saturating_add(word.len());
+    if end == usize::MAX || end > buffer.len() {
+        return Err(WriteError::Buffer(end));
+    }
+    buffer[size..end].copy_from_slice(word);
+    match forms.token(&buffer[..end]) {
+        Ok(token)
+            if token.rest.is_empty() && token.suffix == word && number.is_worth(&token.literal) =>
+            Ok(end),
+        _ => Err(WriteError::ReadBack),
+    }
 }
 
 // Returns whether a text needs a longer buffer.

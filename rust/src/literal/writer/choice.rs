@@ -14,7 +14,7 @@ use crate::literal::value::number::numeral::Magnitude;
 use crate::literal::writer::checked::is_integer;
 use crate::literal::writer::float::format_float;
 use crate::literal::writer::float_digits::FloatDigits;
-use crate::literal::writer::layout::{Amount, ExponentStyle, Layout, Style, WriteError};
+use crate::literal::writer::layout::{needs_exponent, Amount, ExponentStyle, Layout, Style, WriteError};
 use crate::literal::writer::literal::lay_out;
 use crate::literal::writer::near::format_near;
 
@@ -43,6 +43,9 @@ pub trait Writable {
 
     /// Returns whether a literal is worth the number in a style, of which `own` is what its form alone reads.
     fn is_read_as(&self, style: Style, own: &Literal, literal: &Literal) -> bool;
+
+    /// Returns whether a literal is worth the number, which is an integer.
+    fn is_worth(&self, literal: &Literal) -> bool;
 }
 
 /// The value of an integer type, by its sign and its size.
@@ -94,6 +97,10 @@ impl Writable for Whole {
     fn is_read_as(&self, _: Style, _: &Literal, literal: &Literal) -> bool {
         is_worth(literal, self.negative, self.size)
     }
+
+    fn is_worth(&self, literal: &Literal) -> bool {
+        is_worth(literal, self.negative, self.size)
+    }
 }
 
 /// The value of a float type.
@@ -127,6 +134,10 @@ impl<F: Float> Writable for Real<F> {
 
     fn is_read_as(&self, _: Style, own: &Literal, literal: &Literal) -> bool {
         is_same::<F>(own, literal)
+    }
+
+    fn is_worth(&self, _: &Literal) -> bool {
+        false
     }
 }
 
@@ -175,16 +186,23 @@ impl Writable for Literal<'_> {
     }
 
     fn is_read_as(&self, style: Style, own: &Literal, literal: &Literal) -> bool {
-        if let Some((negative, size)) = whole_worth(self) {
-            return is_worth(literal, negative, size);
-        }
-        if is_same_integer(self, literal) {
+        if self.is_worth(literal) {
             return true;
+        }
+        if whole_worth(self).is_some() {
+            return false;
         }
         if is_exact(self.kind()) && style.nearest && style.decimals.is_some() {
             return is_same::<f64>(own, literal);
         }
         (self.is_float() || style.nearest) && is_same::<f64>(self, literal)
+    }
+
+    fn is_worth(&self, literal: &Literal) -> bool {
+        match whole_worth(self) {
+            Some((negative, size)) => is_worth(literal, negative, size),
+            None => is_same_integer(self, literal),
+        }
     }
 }
 
@@ -277,10 +295,58 @@ const fn is_exact(kind: Kind) -> bool {
 // The longest text that is read back.
 pub(crate) const LONGEST: usize = 4096;
 
+/// How a list writes a number.
+#[derive(Clone, Copy)]
+pub struct Chosen {
+    /// The index of the form.
+    pub form: usize,
+    /// The word behind the literal, if there is one.
+    pub word: Option<&'static &'static [u8]>,
+    /// The length of the text, with the word.
+    pub length: usize,
+    /// The style.
+    pub style: Style,
+}
+
+// The forms of a turn that are asked, one after the other.
+#[derive(Clone, Copy)]
+enum Way {
+    // All forms.
+    All,
+    // Those with literals that have no exponent.
+    Plain,
+    // The same, for literals with a word behind them.
+    Word,
+    // Those whose literals all have an exponent.
+    Exponent,
+}
+
+impl Way {
+    // Returns whether a form with a syntax is asked.
+    fn asks(self, syntax: &Syntax) -> bool {
+        match self {
+            Way::All => true,
+            Way::Plain | Way::Word => !needs_exponent(syntax),
+            Way::Exponent => needs_exponent(syntax),
+        }
+    }
+}
+
+// Returns the ways in which a turn asks for an integer, or another number.
+const fn ways(integer: bool, wish: ExponentStyle) -> &'static [Way] {
+    match (integer, wish) {
+        (false, _) => &[Way::All],
+        (true, ExponentStyle::Always) => &[Way::All, Way::Word],
+        (true, _) => &[Way::Plain, Way::Word, Way::Exponent],
+    }
+}
+
 /// Writes a number by the first form whose text the list reads as this number, to the beginning of a buffer, and returns the
 /// index of the form, the length of the text, and the style in which it is written. Forms of the number's radix are asked first,
 /// then decimal ones, and then the others, each in the order of the list, and all forms with floats write a float before those of
-/// integers alone. Where an exponent would make an integer another number, the wish for one is dropped. A float is rounded in the radix
+/// integers alone. Of each of these turns, an integer is written without a word, if no form does so with one of its
+/// [words][Suffixes::written], with which its token is the number, and else as a float that is this integer.
+/// Where an exponent would make an integer another number, the wish for one is dropped. A float is rounded in the radix
 /// of the form that is asked first. Forms with an opening are not asked yet.
 ///
 /// # Errors
@@ -293,29 +359,33 @@ pub fn choose<N: Writable + ?Sized>(
     number: &N,
     style: Style,
     buffer: &mut [u8],
-) -> Result<(usize, usize, Style), WriteError> {
+) -> Result<Chosen, WriteError> {
+    let integer = number.is_integer();
     let rounded = number.is_rounded(style);
     let (mut error, mut first, mut floats) = (None, None, false);
-    for wanted in 0..if number.is_integer() { 3 } else { 6 } {
-        for (index, form) in forms.as_slice().iter().enumerate() {
-            let syntax = form.syntax();
-            if turn(number.radix(), number.is_integer(), &syntax) != wanted || !form.opening().is_empty() {
-                continue;
-            }
-            // A number is rounded in one radix alone and, if there are forms with floats, by these alone.
-            if rounded {
-                let radix = syntax.format().view().mantissa_radix();
-                if first.unwrap_or(radix) != radix {
+    for wanted in 0..if integer { 3 } else { 6 } {
+        for way in ways(integer, style.exponent) {
+            for (index, form) in forms.as_slice().iter().enumerate() {
+                let syntax = form.syntax();
+                if turn(number.radix(), integer, &syntax) != wanted || !way.asks(&syntax) || !form.opening().is_empty()
+                {
                     continue;
                 }
-                first = Some(radix);
-                floats |= syntax.options().is_some();
-            }
-            let whole = floats && syntax.options().is_none();
-            match write_in(forms, index, whole, number, style, buffer) {
-                Ok((length, style)) => return Ok((index, length, style)),
-                Err(other) if is_short(other) => return Err(other),
-                Err(other) => error = first_reason(error, other),
+                // A number is rounded in one radix alone and, if there are forms with floats, by these alone.
+                if rounded {
+                    let radix = syntax.format().view().mantissa_radix();
+                    if first.unwrap_or(radix) != radix {
+                        continue;
+                    }
+                    first = Some(radix);
+                    floats |= syntax.options().is_some();
+                }
+                let whole = floats && syntax.options().is_none();
+                match write_in(forms, index, whole, *way, number, style, buffer) {
+                    Ok(chosen) => return Ok(chosen),
+                    Err(other) if is_short(other) => return Err(other),
+                    Err(other) => error = first_reason(error, other),
+                }
             }
         }
     }
@@ -362,27 +432,80 @@ const fn style_in(whole: bool, rounded: bool, style: Style) -> Style {
     }
 }
 
-// Writes a number by one form, which does not round if `whole` is true, and returns the length of the text and the style in which it is
-// written, or why it is not used.
+// Writes a number by one form, which does not round if `whole` is true, or returns why it is not used.
 fn write_in<N: Writable + ?Sized>(
     forms: &Forms,
     index: usize,
     whole: bool,
+    way: Way,
     number: &N,
     style: Style,
     buffer: &mut [u8],
-) -> Result<(usize, Style), WriteError> {
+) -> Result<Chosen, WriteError> {
+    if number.is_integer() && matches!(way, Way::Word) {
+        return write_words(forms, index, number, style, buffer);
+    }
     let style = style_in(whole, number.is_rounded(style), style);
     let error = match write_by(forms, index, number, style, buffer) {
-        Ok(length) => return Ok((length, style)),
+        Ok(length) => return Ok(Chosen { form: index, word: None, length, style }),
         Err(error) => error,
     };
     if is_short(error) || !number.is_integer() || !matches!(style.exponent, ExponentStyle::Always) {
         return Err(error);
     }
-    let style = Style { exponent: ExponentStyle::AsNumber, ..style };
+    let style = without_wish(style);
     let length = write_by(forms, index, number, style, buffer)?;
-    Ok((length, style))
+    Ok(Chosen { form: index, word: None, length, style })
+}
+
+// Returns the style without a wish for an exponent.
+const fn without_wish(style: Style) -> Style {
+    Style { exponent: ExponentStyle::AsNumber, ..style }
+}
+
+// Writes an integer by one form with the first of its words that makes its token this integer, or returns why there is none.
+#[cold]
+fn write_words<N: Writable + ?Sized>(
+    forms: &Forms,
+    index: usize,
+    number: &N,
+    style: Style,
+    buffer: &mut [u8],
+) -> Result<Chosen, WriteError> {
+    let Some(suffixes) = forms.as_slice()[index].suffixes() else {
+        return Err(WriteError::ReadBack);
+    };
+    let style = without_wish(style);
+    for word in suffixes.written() {
+        match write_with(forms, index, number, style, word, buffer) {
+            Ok(length) => return Ok(Chosen { form: index, word: Some(word), length, style }),
+            Err(error) if is_short(error) => return Err(error),
+            Err(_) => {}
+        }
+    }
+    Err(WriteError::ReadBack)
+}
+
+// Writes an integer by one form with a word behind it, and returns the length of the text, or why it is not used.
+fn write_with<N: Writable + ?Sized>(
+    forms: &Forms,
+    index: usize,
+    number: &N,
+    style: Style,
+    word: &[u8],
+    buffer: &mut [u8],
+) -> Result<usize, WriteError> {
+    let (size, _) = number.write(&forms.as_slice()[index].syntax(), style, buffer)?;
+    // A text that is longer than a `usize` has the size `usize::MAX`.
+    let end = size.saturating_add(word.len());
+    if end == usize::MAX || end > buffer.len() {
+        return Err(WriteError::Buffer(end));
+    }
+    buffer[size..end].copy_from_slice(word);
+    match forms.token(&buffer[..end]) {
+        Ok(token) if token.rest.is_empty() && token.suffix == word && number.is_worth(&token.literal) => Ok(end),
+        _ => Err(WriteError::ReadBack),
+    }
 }
 
 // Returns whether a text needs a longer buffer.

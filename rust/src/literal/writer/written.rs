@@ -15,6 +15,14 @@ use crate::literal::Syntax;
 #[derive(Clone, Copy)]
 pub struct Written<'a> {
     pub(super) text: Text<'a>,
+    /// A word behind the literal.
+    pub(super) word: Option<&'static &'static [u8]>,
+}
+
+impl<'a> From<Text<'a>> for Written<'a> {
+    fn from(text: Text<'a>) -> Self {
+        Written { text, word: None }
+    }
 }
 
 /// What is printed.
@@ -88,7 +96,7 @@ impl Text<'_> {
         }
     }
 
-    /// Returns the text of a value, if it is short.
+    /// Returns the text of a value, with the word, if it is short.
     fn short(&self) -> Option<&[u8]> {
         match self {
             Text::Value(ValueText { text, length, .. }) => text.get(..*length),
@@ -96,12 +104,8 @@ impl Text<'_> {
         }
     }
 
-    /// Writes the text to the beginning of a buffer, and returns its length.
-    pub(super) fn write(&self, buffer: &mut [u8]) -> usize {
-        if let Some(text) = self.short().filter(|text| text.len() <= buffer.len()) {
-            buffer[..text.len()].copy_from_slice(text);
-            return text.len();
-        }
+    /// Writes the text, without the word, to the beginning of a buffer, and returns its length.
+    fn write(&self, buffer: &mut [u8]) -> usize {
         match self {
             Text::Number(layout) => layout.write(buffer),
             Text::Value(_) => self.layout(&mut FloatDigits::new()).map_or(0, |layout| layout.write(buffer)),
@@ -116,6 +120,23 @@ impl Text<'_> {
 }
 
 impl Written<'_> {
+    /// Returns the word, which is empty if there is none.
+    fn word(&self) -> &'static [u8] {
+        self.word.copied().unwrap_or_default()
+    }
+
+    /// Writes the text to the beginning of a buffer, as far as it has room, and returns its length.
+    pub(super) fn write(&self, buffer: &mut [u8]) -> usize {
+        if let Some(text) = self.short().filter(|text| text.len() <= buffer.len()) {
+            buffer[..text.len()].copy_from_slice(text);
+            return text.len();
+        }
+        let length = self.text.write(buffer);
+        let mut window = Window { bytes: buffer, length };
+        window.put_all(self.word());
+        window.length
+    }
+
     /// Writes the text to the beginning of a buffer, and returns it.
     ///
     /// ```
@@ -133,7 +154,7 @@ impl Written<'_> {
     /// [`WriteError::Buffer`] with the length of the text if it does not fit. The content of the buffer is then
     /// unspecified.
     pub fn write_into<'b>(&self, buffer: &'b mut [u8]) -> Result<&'b str, WriteError> {
-        let length = self.text.write(buffer);
+        let length = self.write(buffer);
         let text = buffer.get(..length).and_then(|text| str::from_utf8(text).ok());
         text.ok_or(WriteError::Buffer(length))
     }
@@ -145,7 +166,7 @@ impl Written<'_> {
 impl fmt::Display for Written<'_> {
     fn fmt(&self, f: &mut fmt::Formatter<'_>) -> fmt::Result {
         let mut text = [0; 40];
-        let length = self.text.write(&mut text);
+        let length = self.write(&mut text);
         let text = text.get(..length).and_then(|text| str::from_utf8(text).ok());
         match text {
             Some(text) if f.width().is_none() && !f.sign_plus() => f.write_str(text),
@@ -177,6 +198,7 @@ impl Written<'_> {
         if let Some(layout) = self.text.layout(&mut FloatDigits::new()) {
             layout.put(&mut printer);
         }
+        printer.put_all(self.word());
         printer.result
     }
 
@@ -215,6 +237,7 @@ impl Written<'_> {
         if let Some(layout) = layout {
             let mut printer = Printer { f, skip: front, result: Ok(()) };
             layout.put(&mut printer);
+            printer.put_all(self.word());
             printer.result?;
         }
         (before + zeros..missing).try_for_each(|_| f.write_char(fill))
