@@ -16,7 +16,8 @@ ghost use Rattle.lexical_literal.specs.declared.kind.FloatKind.TheVariants as fl
 ghost use Rattle.lexical_literal.specs.declared.kind.FloatLimits.TheVariants as limits;
 ghost use Rattle.lexical_writer.specs.Buffer.{IsTaken};
 ghost use Rattle.lexical_writer.specs.Layout.{literal_of as written};
-ghost use Rattle.lexical_writer.specs.Choice.{IsReadBack, IsReal, IsStyleOf, IsWhole, first_reason, turn};
+ghost use Rattle.lexical_writer.specs.Choice.{IsReadBack, IsReadWith, IsReal, IsStyleOf, IsTokenOf, IsWhole, first_reason, turn};
+ghost use Rattle.lexical_writer.specs.declared.layout.ExponentStyle.TheVariants as exponents;
 ghost use Rattle.lexical_writer.specs.declared.layout.Style.{Style as Wishes};
 
 use crate::checked::is_integer;
@@ -676,7 +677,7 @@ fn write_with<N: Writable>(
     buffer: &mut [u8],
 ) -> Result<usize, WriteError>
     requires { index < length forms.now.forms }
-    ensures value { IfOk result (λ size. IsToken forms.now word.now (take size buffer.new) (N.is number.now style)) }
+    ensures value { IfOk result (λ size. IsTokenOf forms.now word.now (take size buffer.new) (N.is number.now style)) }
     ensures length { IfOk result (λ size. size ≤ length buffer.new) }
 {
     let (size, _) = number.write(&forms.as_slice()[index].syntax(), style, buffer)?;
