@@ -1,7 +1,7 @@
 //! A list of forms writes numbers: in the first form whose text the list reads as the number.
 
 ghost use Rattle.std.specs.Prelude.{◌≡◌, ◌≤◌, ◌<◌, ◌-◌, ◌^◌, ◌⊎◌, ◌||◌, if◌then◌else◌, not, Bool, true, false};
-ghost use Rattle.std.specs.Prelude.{IfOk, IfSome, IsFalse, None, Ok, Some, from_bits, length, take, ℤ};
+ghost use Rattle.std.specs.Prelude.{ℕ, IfOk, IfSome, IsFalse, None, Ok, Some, from_bits, length, take, ℤ};
 ghost use Rattle.std.specs.Float.{Float as Value};
 ghost use Rattle.lexical_util.specs.Record.{bytes_of};
 ghost use Rattle.lexical_literal.specs.Read.{exact, Read};
@@ -11,9 +11,8 @@ ghost use Rattle.lexical_number.specs.Float.{format_of};
 ghost use Rattle.lexical_literal.specs.declared.syntax.Grammar.{Grammar};
 ghost use Rattle.lexical_number.specs.Numeral.{magnitude_size, with_sign};
 ghost use Rattle.lexical_value.specs.Float.{is_binary, is_decimal};
-ghost use Rattle.lexical_value.specs.Kind.{float_worth, integer_worth, is_exact, width, worth};
+ghost use Rattle.lexical_value.specs.Kind.{float_worth, integer_worth, is_exact, width, within, worth};
 ghost use Rattle.lexical_literal.specs.declared.kind.FloatKind.TheVariants as floats;
-ghost use Rattle.lexical_literal.specs.declared.kind.FloatLimits.TheVariants as limits;
 ghost use Rattle.lexical_writer.specs.Buffer.{IsTaken};
 ghost use Rattle.lexical_writer.specs.Layout.{literal_of as written};
 ghost use Rattle.lexical_writer.specs.Choice.{IsReadBack, IsReadWith, IsReal, IsStyleOf, IsTokenOf, IsWhole, first_reason, turn};
@@ -24,7 +23,6 @@ use crate::checked::is_integer;
 use crate::float::format_float;
 use crate::float_digits::FloatDigits;
 use crate::layout::{Amount, ExponentStyle, Layout, Style, WriteError, needs_exponent};
-use crate::literal::lay_out;
 use crate::near::format_near;
 use lexical_forms::list::{Form, Forms, Number};
 use lexical_literal::kind::{FloatKind, FloatLimits, IntegerKind, Kind};
@@ -75,10 +73,9 @@ pub trait Writable {
             × has self.now style syntax.now l × IsTaken (text_of l) buffer.old buffer.new it.0 × (it.1 ≡ is_float l)) };
 
     /// Returns whether a literal of a syntax and a kind, with a decimal point or an exponent or without, is the number if it is
-    /// written for it.
-    fn is_plain(&self, syntax: &Syntax, kind: Kind, float: bool) -> bool
-        ensures { result ≡ true → (style : Wishes) → (read : Read) → read.kind ≡ kind → read.format ≡ syntax.now.word
-            → is_float read.literal ≡ float → has self.now style syntax.now read.literal → is self.now style read };
+    /// written for it in a style.
+    fn is_plain(&self, syntax: &Syntax, kind: Kind, style: Style, float: bool) -> bool
+        ensures { result ≡ true → (read : Read) → read.kind ≡ kind → read.format ≡ syntax.now.word → is_float read.literal ≡ float → has self.now style syntax.now read.literal → is self.now style read };
 
     /// Returns whether a literal is worth the number in a style, of which `own` is what its form alone reads.
     fn is_read_as(&self, style: Style, own: &Literal, literal: &Literal) -> bool
@@ -143,10 +140,10 @@ impl Writable for Whole {
             return Err(WriteError::Negative);
         }
         let amount = Amount::of_size(self.negative, self.size);
-        Ok(put(&lay_out(&amount, syntax, style)?, buffer))
+        Ok(put(&amount.lay_out(syntax, style)?, buffer))
     }
 
-    fn is_plain(&self, syntax: &Syntax, kind: Kind, float: bool) -> bool {
+    fn is_plain(&self, syntax: &Syntax, kind: Kind, _: Style, float: bool) -> bool {
         if float {
             is_exact(kind) && !has_floats(syntax)
         } else {
@@ -206,8 +203,10 @@ impl<F: Float> Writable for Real<F> {
         ))
     }
 
-    fn is_plain(&self, syntax: &Syntax, kind: Kind, float: bool) -> bool {
-        is_nearest(kind, float) && has_floats(syntax)
+    fn is_plain(&self, syntax: &Syntax, kind: Kind, style: Style, float: bool) -> bool {
+        is_nearest(kind, float)
+            && has_floats(syntax)
+            && is_within(self.value, style.decimals, kind.limits())
     }
 
     fn is_read_as(&self, _: Style, own: &Literal, literal: &Literal) -> bool {
@@ -285,7 +284,7 @@ impl Writable for Literal<'_> {
         ))
     }
 
-    fn is_plain(&self, syntax: &Syntax, kind: Kind, float: bool) -> bool {
+    fn is_plain(&self, syntax: &Syntax, kind: Kind, _: Style, float: bool) -> bool {
         is_exact(self.kind()) & is_exact(kind) & (self.is_float() | !(float & has_floats(syntax)))
     }
 
@@ -353,12 +352,24 @@ fn has_floats(syntax: &Syntax) -> bool
 const fn is_nearest(kind: Kind, float: bool) -> bool
     ensures near { result ≡ true → kind.floats ≡ floats.Nearest }
     ensures plain { result ≡ true → (is_exact kind.integers || float) ≡ true }
-    ensures free { result ≡ true → kind.limits ≡ limits.None }
 {
-    match (kind.floats(), kind.limits(), kind.integers()) {
-        (FloatKind::Nearest, FloatLimits::None, IntegerKind::Exact) => true,
-        (FloatKind::Nearest, FloatLimits::None, _) => float,
-        _ => false,
+    match (kind.floats(), kind.integers()) {
+        (FloatKind::Nearest, IntegerKind::Exact) => true,
+        (FloatKind::Nearest, _) => float,
+        (FloatKind::Single, _) => false,
+    }
+}
+
+// Returns whether the float that is nearest to what is written for a float is known to be within limits. Without a number of decimals, it is
+// the same float.
+fn is_within<F: Float>(value: F, decimals: Option<u8>, limits: FloatLimits) -> bool
+    ensures { result ≡ true → (negative : Bool) → (n : ℕ) → (near : Value) → (decimals ≡ None → F.value value ≡ near)
+        → within limits negative n near ≡ Ok near }
+{
+    match limits {
+        FloatLimits::None => true,
+        FloatLimits::Largest => decimals.is_none() && !value.is_infinite(),
+        FloatLimits::Both => decimals.is_none() && !value.is_infinite() && !value.is_zero(),
     }
 }
 
@@ -722,7 +733,7 @@ fn write_by<N: Writable>(
     if size == usize::MAX || size > buffer.len() {
         return Err(WriteError::Buffer(size));
     }
-    let plain = number.is_plain(&syntax, it.kind(), float);
+    let plain = number.is_plain(&syntax, it.kind(), style, float);
     // A list reads what the first form reads as this form does.
     if plain && index == 0 {
         return Ok(size);

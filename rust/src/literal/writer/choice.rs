@@ -15,7 +15,6 @@ use crate::literal::writer::checked::is_integer;
 use crate::literal::writer::float::format_float;
 use crate::literal::writer::float_digits::FloatDigits;
 use crate::literal::writer::layout::{needs_exponent, Amount, ExponentStyle, Layout, Style, WriteError};
-use crate::literal::writer::literal::lay_out;
 use crate::literal::writer::near::format_near;
 
 /// A number that a list of forms is asked to write.
@@ -38,8 +37,8 @@ pub trait Writable {
     fn write(&self, syntax: &Syntax, style: Style, buffer: &mut [u8]) -> Result<(usize, bool), WriteError>;
 
     /// Returns whether a literal of a syntax and a kind, with a decimal point or an exponent or without, is the number if it is
-    /// written for it.
-    fn is_plain(&self, syntax: &Syntax, kind: Kind, float: bool) -> bool;
+    /// written for it in a style.
+    fn is_plain(&self, syntax: &Syntax, kind: Kind, style: Style, float: bool) -> bool;
 
     /// Returns whether a literal is worth the number in a style, of which `own` is what its form alone reads.
     fn is_read_as(&self, style: Style, own: &Literal, literal: &Literal) -> bool;
@@ -83,10 +82,10 @@ impl Writable for Whole {
             return Err(WriteError::Negative);
         }
         let amount = Amount::of_size(self.negative, self.size);
-        Ok(put(&lay_out(&amount, syntax, style)?, buffer))
+        Ok(put(&amount.lay_out(syntax, style)?, buffer))
     }
 
-    fn is_plain(&self, syntax: &Syntax, kind: Kind, float: bool) -> bool {
+    fn is_plain(&self, syntax: &Syntax, kind: Kind, _: Style, float: bool) -> bool {
         if float {
             is_exact(kind) && !has_floats(syntax)
         } else {
@@ -128,8 +127,8 @@ impl<F: Float> Writable for Real<F> {
         Ok(put(&format_float(syntax, self.value, style, &mut digits)?, buffer))
     }
 
-    fn is_plain(&self, syntax: &Syntax, kind: Kind, float: bool) -> bool {
-        is_nearest(kind, float) && has_floats(syntax)
+    fn is_plain(&self, syntax: &Syntax, kind: Kind, style: Style, float: bool) -> bool {
+        is_nearest(kind, float) && has_floats(syntax) && is_within(self.value, style.decimals, kind.limits())
     }
 
     fn is_read_as(&self, _: Style, own: &Literal, literal: &Literal) -> bool {
@@ -181,7 +180,7 @@ impl Writable for Literal<'_> {
         Ok(put(&format_near::<f64>(self, syntax, style, &mut digits)?, buffer))
     }
 
-    fn is_plain(&self, syntax: &Syntax, kind: Kind, float: bool) -> bool {
+    fn is_plain(&self, syntax: &Syntax, kind: Kind, _: Style, float: bool) -> bool {
         is_exact(self.kind()) & is_exact(kind) & (self.is_float() | !(float & has_floats(syntax)))
     }
 
@@ -236,10 +235,20 @@ fn has_floats(syntax: &Syntax) -> bool {
 
 // Returns whether literals of a kind, with a decimal point or an exponent or without, are worth the nearest float.
 const fn is_nearest(kind: Kind, float: bool) -> bool {
-    match (kind.floats(), kind.limits(), kind.integers()) {
-        (FloatKind::Nearest, FloatLimits::None, IntegerKind::Exact) => true,
-        (FloatKind::Nearest, FloatLimits::None, _) => float,
-        _ => false,
+    match (kind.floats(), kind.integers()) {
+        (FloatKind::Nearest, IntegerKind::Exact) => true,
+        (FloatKind::Nearest, _) => float,
+        (FloatKind::Single, _) => false,
+    }
+}
+
+// Returns whether the float that is nearest to what is written for a float is known to be within limits. Without a number of decimals, it is
+// the same float.
+fn is_within<F: Float>(value: F, decimals: Option<u8>, limits: FloatLimits) -> bool {
+    match limits {
+        FloatLimits::None => true,
+        FloatLimits::Largest => decimals.is_none() && !value.is_infinite(),
+        FloatLimits::Both => decimals.is_none() && !value.is_infinite() && !value.is_zero(),
     }
 }
 
@@ -531,7 +540,7 @@ fn write_by<N: Writable + ?Sized>(
     if size == usize::MAX || size > buffer.len() {
         return Err(WriteError::Buffer(size));
     }
-    let plain = number.is_plain(&syntax, it.kind(), float);
+    let plain = number.is_plain(&syntax, it.kind(), style, float);
     // A list reads what the first form reads as this form does.
     if plain && index == 0 {
         return Ok(size);
