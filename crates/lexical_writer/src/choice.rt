@@ -295,33 +295,53 @@ impl Writable for Literal<'_> {
         ))
     }
 
-    fn is_plain(&self, syntax: &Syntax, kind: Kind, _: Style, float: bool) -> bool {
+    fn is_plain(&self, syntax: &Syntax, kind: Kind, _style: Style, float: bool) -> bool {
         is_exact(self.kind()) & is_exact(kind) & (self.is_float() | !(float & has_floats(syntax)))
     }
 
     fn is_read_as(&self, style: Style, own: &Literal, literal: &Literal) -> bool {
-        self.is_worth(style, literal)
-            || (is_rounded(self, style)
-                && whole_worth(self).is_none()
-                && is_same::<f64>(own, literal))
+        if self.is_worth(style, literal) {
+            return true;
+        }
+        is_rounded(self, style) && is_same::<f64>(own, literal)
     }
 
     fn is_worth(&self, style: Style, literal: &Literal) -> bool {
-        match whole_worth(self) {
-            Some((negative, size)) => is_worth(literal, negative, size),
-            None => is_same_integer(self, literal)
-                || (!is_rounded(self, style)
-                    && (self.is_float() || style.nearest)
-                    && is_same::<f64>(self, literal)),
+        if is_same_whole(self, literal) {
+            return true;
         }
+        is_near(self, style) && is_same::<f64>(self, literal)
     }
 }
 
-// Returns whether a literal is written by its nearest float, which is rounded.
+// Returns whether a literal that is no integer of at most 128 bits is written by its nearest float, which is rounded.
 fn is_rounded(literal: &Literal, style: Style) -> bool
     ensures { result ≡ true → (style.nearest ≡ true) × (is_some style.decimals ≡ true) }
 {
-    style.nearest && style.decimals.is_some() && is_exact(literal.kind())
+    style.nearest
+        && style.decimals.is_some()
+        && is_exact(literal.kind())
+        && whole_worth(literal).is_none()
+}
+
+// Returns whether a literal that is no integer of at most 128 bits may be written as its nearest float, which is not rounded.
+fn is_near(literal: &Literal, style: Style) -> bool
+    ensures { result ≡ true → (is_float literal.now.literal ≡ true) ⊎ (style.nearest ≡ true) }
+{
+    if is_rounded(literal, style) || whole_worth(literal).is_some() {
+        return false;
+    }
+    literal.is_float() || style.nearest
+}
+
+// Returns whether two literals are worth the same integer.
+fn is_same_whole(own: &Literal, literal: &Literal) -> bool
+    ensures { result ≡ true → (z : ℤ) × IsWhole z own.now × IsWhole z literal.now }
+{
+    match whole_worth(own) {
+        Some((negative, size)) => is_worth(literal, negative, size),
+        None => is_same_integer(own, literal),
+    }
 }
 
 // Returns whether two literals are worth the same integer, by the same digits.
@@ -701,7 +721,7 @@ fn write_around<N: Writable>(
     buffer: &mut [u8],
 ) -> Result<usize, WriteError>
     requires { index < length forms.now.forms }
-    ensures value { IfOk result (λ size. IsReadWith forms.now word (take size buffer.new) (N.is number.now style)) }
+    ensures value { IfOk result (λ size. IsReadWith forms.now word.entry (take size buffer.new) (N.is number.now style)) }
     ensures length { IfOk result (λ size. size ≤ length buffer.new) }
 {
     let it = &forms.as_slice()[index];
@@ -744,7 +764,7 @@ fn read_around<N: Writable>(
     word: Option<&'static &'static [u8]>,
     text: &[u8],
 ) -> Result<(), WriteError>
-    ensures { IfOk result (λ _. IsReadWith forms.now word text.now (N.is number.now style)) }
+    ensures { IfOk result (λ _. IsReadWith forms.now word.entry text.now (N.is number.now style)) }
 {
     let literal = match word {
         None => match forms.read(text) {

@@ -188,29 +188,44 @@ impl Writable for Literal<'_> {
         Ok(put(&format_near::<f64>(self, syntax, style, &mut digits)?, buffer))
     }
 
-    fn is_plain(&self, syntax: &Syntax, kind: Kind, _: Style, float: bool) -> bool {
+    fn is_plain(&self, syntax: &Syntax, kind: Kind, _style: Style, float: bool) -> bool {
         is_exact(self.kind()) & is_exact(kind) & (self.is_float() | !(float & has_floats(syntax)))
     }
 
     fn is_read_as(&self, style: Style, own: &Literal, literal: &Literal) -> bool {
-        self.is_worth(style, literal)
-            || (is_rounded(self, style) && whole_worth(self).is_none() && is_same::<f64>(own, literal))
+        if self.is_worth(style, literal) {
+            return true;
+        }
+        is_rounded(self, style) && is_same::<f64>(own, literal)
     }
 
     fn is_worth(&self, style: Style, literal: &Literal) -> bool {
-        match whole_worth(self) {
-            Some((negative, size)) => is_worth(literal, negative, size),
-            None => {
-                is_same_integer(self, literal)
-                    || (!is_rounded(self, style) && (self.is_float() || style.nearest) && is_same::<f64>(self, literal))
-            }
+        if is_same_whole(self, literal) {
+            return true;
         }
+        is_near(self, style) && is_same::<f64>(self, literal)
     }
 }
 
-// Returns whether a literal is written by its nearest float, which is rounded.
+// Returns whether a literal that is no integer of at most 128 bits is written by its nearest float, which is rounded.
 fn is_rounded(literal: &Literal, style: Style) -> bool {
-    style.nearest && style.decimals.is_some() && is_exact(literal.kind())
+    style.nearest && style.decimals.is_some() && is_exact(literal.kind()) && whole_worth(literal).is_none()
+}
+
+// Returns whether a literal that is no integer of at most 128 bits may be written as its nearest float, which is not rounded.
+fn is_near(literal: &Literal, style: Style) -> bool {
+    if is_rounded(literal, style) || whole_worth(literal).is_some() {
+        return false;
+    }
+    literal.is_float() || style.nearest
+}
+
+// Returns whether two literals are worth the same integer.
+fn is_same_whole(own: &Literal, literal: &Literal) -> bool {
+    match whole_worth(own) {
+        Some((negative, size)) => is_worth(literal, negative, size),
+        None => is_same_integer(own, literal),
+    }
 }
 
 // Returns whether two literals are worth the same integer, by the same digits.
