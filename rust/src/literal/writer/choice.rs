@@ -128,7 +128,10 @@ impl<F: Float> Writable for Real<F> {
     }
 
     fn is_plain(&self, syntax: &Syntax, kind: Kind, style: Style, float: bool) -> bool {
-        is_nearest(kind, float) && has_floats(syntax) && is_within(self.value, style.decimals, kind.limits())
+        if !has_floats(syntax) {
+            return false;
+        }
+        is_nearest(kind, float) && is_within(self.value, style.decimals, kind.limits())
     }
 
     fn is_read_as(&self, _: Style, own: &Literal, literal: &Literal) -> bool {
