@@ -1,7 +1,7 @@
 //! The judge of the library. Reads texts of a language on standard input, and prints `-` and the form of the error, with
 //! `large` for a number that is too large for the form; or `+`, the form, `i` or `f` for an integer or a float, the exact value or
 //! `none` if no type has it, and the bits of `f64` and `f32`. With the argument `tokens`, the length of the token that a text
-//! begins with is in the place of `+`.
+//! begins with is in the place of `+`; with `written`, a text that is refused is a number if its token has all of it.
 
 use peltzivar::literal::{Language, Number};
 use std::io::{self, BufRead, Write};
@@ -22,7 +22,8 @@ fn shown(mark: &str, number: Number<'_>) -> String {
 fn main() -> io::Result<()> {
     let arguments = Vec::from_iter(std::env::args().skip(1));
     let language = Language::from_name(&arguments[0]).expect("the name of a language");
-    let is_token = arguments.get(1).is_some_and(|it| it == "tokens");
+    let has = |word| arguments.get(1).is_some_and(|it| it == word);
+    let (is_token, is_written) = (has("tokens"), has("written"));
     let mut out = io::BufWriter::new(io::stdout().lock());
     for text in io::stdin().lock().split(b'\n') {
         let text = text?;
@@ -32,6 +33,8 @@ fn main() -> io::Result<()> {
                 shown(&(text.len() - it.rest.len()).to_string(), number)
             });
             token.unwrap_or("-".into())
+        } else if let Some(token) = language.token(&text).ok().filter(|it| is_written && !it.suffix.is_empty() && it.rest.is_empty()) {
+            shown("+", Number::Literal { literal: token.literal, form: token.form })
         } else {
             language.read(&text).map_or_else(|error| format!("- {}", error.form), |it| shown("+", it))
         };

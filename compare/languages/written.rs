@@ -73,7 +73,9 @@ fn main() -> io::Result<()> {
         };
         match written {
             Ok(written) => {
-                let read = forms.read(&written).ok().and_then(|it| it.literal()).expect(&line);
+                let read = forms.read(&written).ok().and_then(|it| it.literal());
+                let token = || forms.token(written.as_bytes()).ok().filter(|it| it.rest.is_empty()).map(|it| it.literal);
+                let read = read.or_else(token).expect(&line);
                 let mark = if given.is(&read) { '+' } else { '!' };
                 writeln!(out, "{mark} {written} {text} {}", given.integer().unwrap_or_default())?;
             }

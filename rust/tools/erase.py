@@ -199,6 +199,10 @@ REPLACED += [
     # Programs have one copy of these, for any kind of number.
     ("choice.rt", "fn choose<N: Writable>(", "fn choose<N: Writable + ?Sized>("),
     ("choice.rt", "fn write_in<N: Writable>(", "fn write_in<N: Writable + ?Sized>("),
+    ("choice.rt", "fn write_words<N: Writable>(", "fn write_words<N: Writable + ?Sized>("),
+    ("choice.rt", "fn write_around<N: Writable>(", "fn write_around<N: Writable + ?Sized>("),
+    ("choice.rt", "fn read_alone<N: Writable>(", "fn read_alone<N: Writable + ?Sized>("),
+    ("choice.rt", "fn read_token<N: Writable>(", "fn read_token<N: Writable + ?Sized>("),
     ("choice.rt", "fn write_by<N: Writable>(", "fn write_by<N: Writable + ?Sized>("),
     # `Debug` prints the answers.
     ("cause.rt", "#[derive(Debug, Clone, Copy, PartialEq, Eq, Hash)]\npub struct ReadError {", "#[derive(Clone, Copy, PartialEq, Eq, Hash)]\npub struct ReadError {"),

@@ -54,6 +54,7 @@ pub struct Suffixes {
     any: &'static [u8],
     stops: &'static [Stop],
     kinds: &'static [(&'static [u8], Kind)],
+    written: &'static [&'static [u8]],
 }
 
 impl Suffixes {
@@ -71,6 +72,7 @@ impl Suffixes {
         ensures any { result.any.now ≡ [] }
         ensures stops { result.stops ≡ stops.entry }
         ensures kinds { result.kinds.now ≡ [] }
+        ensures written { result.written.now ≡ [] }
     {
         Suffixes {
             integers,
@@ -79,6 +81,7 @@ impl Suffixes {
             any: &[],
             stops,
             kinds: &[],
+            written: &[],
         }
     }
 
@@ -102,6 +105,7 @@ impl Suffixes {
         ensures any { result.any ≡ begins.entry }
         ensures stops { result.stops ≡ self.stops }
         ensures kinds { result.kinds ≡ self.kinds }
+        ensures written { result.written ≡ self.written }
     {
         Suffixes {
             any: begins,
@@ -115,6 +119,15 @@ impl Suffixes {
         ensures { result ≡ record self { kinds = kinds.entry } }
     {
         Suffixes { kinds, ..self }
+    }
+
+    /// Sets the words with which a list writes an integer that it does not write without one, in the order in which they are tried. The
+    /// first is taken with which the token of the text is this integer, so the kinds decide.
+    #[must_use]
+    pub const fn with_written(self, written: &'static [&'static [u8]]) -> Suffixes
+        ensures { result ≡ record self { written = written.entry } }
+    {
+        Suffixes { written, ..self }
     }
 
     /// Returns the words that may be behind integers.
@@ -131,6 +144,14 @@ impl Suffixes {
         ensures { result ≡ self.now.floats }
     {
         self.floats
+    }
+
+    /// Returns the words with which lists write integers.
+    #[must_use]
+    pub const fn written(&self) -> &'static [&'static [u8]]
+        ensures { result ≡ self.now.written }
+    {
+        self.written
     }
 
     /// Returns whether the words may be in either case.

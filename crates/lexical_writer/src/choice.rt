@@ -1,7 +1,7 @@
 //! A list of forms writes numbers: in the first form whose text the list reads as the number.
 
 ghost use Rattle.std.specs.Prelude.{◌≡◌, ◌≤◌, ◌<◌, ◌-◌, ◌^◌, ◌⊎◌, ◌||◌, if◌then◌else◌, not, Bool, true, false};
-ghost use Rattle.std.specs.Prelude.{IfOk, IfSome, IsFalse, None, Ok, Some, from_bits, length, take, ℤ};
+ghost use Rattle.std.specs.Prelude.{ℕ, IfOk, IfSome, IsFalse, None, Ok, Some, from_bits, is_some, length, take, ℤ};
 ghost use Rattle.std.specs.Float.{Float as Value};
 ghost use Rattle.lexical_util.specs.Record.{bytes_of};
 ghost use Rattle.lexical_literal.specs.Read.{exact, Read};
@@ -11,19 +11,18 @@ ghost use Rattle.lexical_number.specs.Float.{format_of};
 ghost use Rattle.lexical_literal.specs.declared.syntax.Grammar.{Grammar};
 ghost use Rattle.lexical_number.specs.Numeral.{magnitude_size, with_sign};
 ghost use Rattle.lexical_value.specs.Float.{is_binary, is_decimal};
-ghost use Rattle.lexical_value.specs.Kind.{float_worth, integer_worth, is_exact, width, worth};
+ghost use Rattle.lexical_value.specs.Kind.{float_worth, integer_worth, is_exact, width, within, worth};
 ghost use Rattle.lexical_literal.specs.declared.kind.FloatKind.TheVariants as floats;
-ghost use Rattle.lexical_literal.specs.declared.kind.FloatLimits.TheVariants as limits;
 ghost use Rattle.lexical_writer.specs.Buffer.{IsTaken};
 ghost use Rattle.lexical_writer.specs.Layout.{literal_of as written};
-ghost use Rattle.lexical_writer.specs.Choice.{IsReadBack, IsReal, IsStyleOf, IsWhole, first_reason, turn};
+ghost use Rattle.lexical_writer.specs.Choice.{IsReadBack, IsReadWith, IsReal, IsStyleOf, IsTokenOf, IsWhole, first_reason, turn};
+ghost use Rattle.lexical_writer.specs.declared.layout.ExponentStyle.TheVariants as exponents;
 ghost use Rattle.lexical_writer.specs.declared.layout.Style.{Style as Wishes};
 
 use crate::checked::is_integer;
 use crate::float::format_float;
 use crate::float_digits::FloatDigits;
-use crate::layout::{Amount, ExponentStyle, Layout, Style, WriteError};
-use crate::literal::lay_out;
+use crate::layout::{Amount, ExponentStyle, Layout, Style, WriteError, needs_exponent};
 use crate::near::format_near;
 use lexical_forms::list::{Form, Forms, Number};
 use lexical_literal::kind::{FloatKind, FloatLimits, IntegerKind, Kind};
@@ -74,15 +73,18 @@ pub trait Writable {
             × has self.now style syntax.now l × IsTaken (text_of l) buffer.old buffer.new it.0 × (it.1 ≡ is_float l)) };
 
     /// Returns whether a literal of a syntax and a kind, with a decimal point or an exponent or without, is the number if it is
-    /// written for it.
-    fn is_plain(&self, syntax: &Syntax, kind: Kind, float: bool) -> bool
-        ensures { result ≡ true → (style : Wishes) → (read : Read) → read.kind ≡ kind → read.format ≡ syntax.now.word
-            → is_float read.literal ≡ float → has self.now style syntax.now read.literal → is self.now style read };
+    /// written for it in a style.
+    fn is_plain(&self, syntax: &Syntax, kind: Kind, style: Style, float: bool) -> bool
+        ensures { result ≡ true → (read : Read) → read.kind ≡ kind → read.format ≡ syntax.now.word → is_float read.literal ≡ float → has self.now style syntax.now read.literal → is self.now style read };
 
     /// Returns whether a literal is worth the number in a style, of which `own` is what its form alone reads.
     fn is_read_as(&self, style: Style, own: &Literal, literal: &Literal) -> bool
         ensures { result ≡ true → own.now.kind ≡ exact → (g : Grammar) → own.now.format ≡ g.word
             → has self.now style g own.now.literal → is self.now style literal.now };
+
+    /// Returns whether a literal is worth the number in a style, whatever is written for it. A number that is rounded is not.
+    fn is_worth(&self, style: Style, literal: &Literal) -> bool
+        ensures { result ≡ true → is self.now style literal.now };
 }
 
 /// The value of an integer type, by its sign and its size.
@@ -138,10 +140,10 @@ impl Writable for Whole {
             return Err(WriteError::Negative);
         }
         let amount = Amount::of_size(self.negative, self.size);
-        Ok(put(&lay_out(&amount, syntax, style)?, buffer))
+        Ok(put(&amount.lay_out(syntax, style)?, buffer))
     }
 
-    fn is_plain(&self, syntax: &Syntax, kind: Kind, float: bool) -> bool {
+    fn is_plain(&self, syntax: &Syntax, kind: Kind, _: Style, float: bool) -> bool {
         if float {
             is_exact(kind) && !has_floats(syntax)
         } else {
@@ -150,6 +152,10 @@ impl Writable for Whole {
     }
 
     fn is_read_as(&self, _: Style, _: &Literal, literal: &Literal) -> bool {
+        is_worth(literal, self.negative, self.size)
+    }
+
+    fn is_worth(&self, _: Style, literal: &Literal) -> bool {
         is_worth(literal, self.negative, self.size)
     }
 }
@@ -197,12 +203,19 @@ impl<F: Float> Writable for Real<F> {
         ))
     }
 
-    fn is_plain(&self, syntax: &Syntax, kind: Kind, float: bool) -> bool {
-        is_nearest(kind, float) && has_floats(syntax)
+    fn is_plain(&self, syntax: &Syntax, kind: Kind, style: Style, float: bool) -> bool {
+        if !has_floats(syntax) {
+            return false;
+        }
+        is_nearest(kind, float) && is_within(self.value, style.decimals, kind.limits())
     }
 
     fn is_read_as(&self, _: Style, own: &Literal, literal: &Literal) -> bool {
         is_same::<F>(own, literal)
+    }
+
+    fn is_worth(&self, style: Style, literal: &Literal) -> bool {
+        style.decimals.is_none() && is_float::<F>(literal, self.value)
     }
 }
 
@@ -224,6 +237,17 @@ fn bits_in<F: Float>(literal: &Literal) -> Option<u64>
         ≡ Ok (from_bits (format_of F.DOUBLE) bits)) }
 {
     float_of::<F>(literal)?.bits()
+}
+
+// Returns whether a literal is worth a float, with the same bits.
+fn is_float<F: Float>(literal: &Literal, value: F) -> bool
+    ensures { result ≡ true → float_worth literal.now.kind (format_of F.DOUBLE) (bytes_of literal.now.format) literal.now.literal
+        ≡ Ok (F.value value) }
+{
+    match (bits_in::<F>(literal), value.bits()) {
+        (Some(bits), Some(own)) => bits == own,
+        _ => false,
+    }
 }
 
 // Returns whether two literals are worth the same float.
@@ -272,21 +296,52 @@ impl Writable for Literal<'_> {
         ))
     }
 
-    fn is_plain(&self, syntax: &Syntax, kind: Kind, float: bool) -> bool {
+    fn is_plain(&self, syntax: &Syntax, kind: Kind, _style: Style, float: bool) -> bool {
         is_exact(self.kind()) & is_exact(kind) & (self.is_float() | !(float & has_floats(syntax)))
     }
 
     fn is_read_as(&self, style: Style, own: &Literal, literal: &Literal) -> bool {
-        if let Some((negative, size)) = whole_worth(self) {
-            return is_worth(literal, negative, size);
-        }
-        if is_same_integer(self, literal) {
+        if self.is_worth(style, literal) {
             return true;
         }
-        if is_exact(self.kind()) && style.nearest && style.decimals.is_some() {
-            return is_same::<f64>(own, literal);
+        is_rounded(self, style) && is_same::<f64>(own, literal)
+    }
+
+    fn is_worth(&self, style: Style, literal: &Literal) -> bool {
+        if is_same_whole(self, literal) {
+            return true;
         }
-        (self.is_float() || style.nearest) && is_same::<f64>(self, literal)
+        is_near(self, style) && is_same::<f64>(self, literal)
+    }
+}
+
+// Returns whether a literal that is no integer of at most 128 bits is written by its nearest float, which is rounded.
+fn is_rounded(literal: &Literal, style: Style) -> bool
+    ensures { result ≡ true → (style.nearest ≡ true) × (is_some style.decimals ≡ true) }
+{
+    style.nearest
+        && style.decimals.is_some()
+        && is_exact(literal.kind())
+        && whole_worth(literal).is_none()
+}
+
+// Returns whether a literal that is no integer of at most 128 bits may be written as its nearest float, which is not rounded.
+fn is_near(literal: &Literal, style: Style) -> bool
+    ensures { result ≡ true → (is_float literal.now.literal ≡ true) ⊎ (style.nearest ≡ true) }
+{
+    if is_rounded(literal, style) || whole_worth(literal).is_some() {
+        return false;
+    }
+    literal.is_float() || style.nearest
+}
+
+// Returns whether two literals are worth the same integer.
+fn is_same_whole(own: &Literal, literal: &Literal) -> bool
+    ensures { result ≡ true → (z : ℤ) × IsWhole z own.now × IsWhole z literal.now }
+{
+    match whole_worth(own) {
+        Some((negative, size)) => is_worth(literal, negative, size),
+        None => is_same_integer(own, literal),
     }
 }
 
@@ -333,12 +388,24 @@ fn has_floats(syntax: &Syntax) -> bool
 const fn is_nearest(kind: Kind, float: bool) -> bool
     ensures near { result ≡ true → kind.floats ≡ floats.Nearest }
     ensures plain { result ≡ true → (is_exact kind.integers || float) ≡ true }
-    ensures free { result ≡ true → kind.limits ≡ limits.None }
 {
-    match (kind.floats(), kind.limits(), kind.integers()) {
-        (FloatKind::Nearest, FloatLimits::None, IntegerKind::Exact) => true,
-        (FloatKind::Nearest, FloatLimits::None, _) => float,
-        _ => false,
+    match (kind.floats(), kind.integers()) {
+        (FloatKind::Nearest, IntegerKind::Exact) => true,
+        (FloatKind::Nearest, _) => float,
+        (FloatKind::Single, _) => false,
+    }
+}
+
+// Returns whether the float that is nearest to what is written for a float is known to be within limits. Without a number of decimals, it is
+// the same float.
+fn is_within<F: Float>(value: F, decimals: Option<u8>, limits: FloatLimits) -> bool
+    ensures { result ≡ true → (negative : Bool) → (n : ℕ) → (near : Value) → (decimals ≡ None → F.value value ≡ near)
+        → within limits negative n near ≡ Ok near }
+{
+    match limits {
+        FloatLimits::None => true,
+        FloatLimits::Largest => decimals.is_none() && !value.is_infinite(),
+        FloatLimits::Both => decimals.is_none() && !value.is_infinite() && !value.is_zero(),
     }
 }
 
@@ -405,11 +472,36 @@ const fn is_exact(kind: Kind) -> bool
 // The longest text that is read back.
 pub(crate) const LONGEST: usize = 4096;
 
+/// How a list writes a number.
+#[derive(Clone, Copy)]
+pub struct Chosen {
+    /// The index of the form.
+    pub form: usize,
+    /// The word behind the literal, if there is one.
+    pub word: Option<&'static &'static [u8]>,
+    /// The length of the text, with the word.
+    pub length: usize,
+    /// The style.
+    pub style: Style,
+}
+
+// Returns whether a form with a syntax is asked in a part of a turn: first each form or, unless `all` is true, each whose literals need no
+// exponent, then the latter with words, and then those that are left.
+fn is_asked(part: u8, all: bool, syntax: &Syntax) -> bool {
+    match part {
+        0 => all || !needs_exponent(syntax),
+        1 => !needs_exponent(syntax),
+        _ => !all && needs_exponent(syntax),
+    }
+}
+
 /// Writes a number by the first form whose text the list reads as this number, to the beginning of a buffer, and returns the
 /// index of the form, the length of the text, and the style in which it is written. Forms of the number's radix are asked first,
 /// then decimal ones, and then the others, each in the order of the list, and all forms with floats write a float before those of
-/// integers alone. Where an exponent would make an integer another number, the wish for one is dropped. A float is rounded in the radix
-/// of the form that is asked first. Forms with an opening are not asked yet.
+/// integers alone. Of each of these turns, an integer is written without a word, if no form does so with one of its
+/// [words][Suffixes::written], with which its token is the number, and else as a float that is this integer.
+/// Where an exponent would make an integer another number, the wish for one is dropped. A float is rounded in the radix
+/// of the form that is asked first.
 ///
 /// # Errors
 ///
@@ -421,37 +513,41 @@ pub fn choose<N: Writable>(
     number: &N,
     style: Style,
     buffer: &mut [u8],
-) -> Result<(usize, usize, Style), WriteError>
-    // The list reads the text as the number.
-    ensures value { IfOk result (λ it. IsReadBack forms.now (take it.1 buffer.new) (N.is number.now it.2)) }
-    ensures length { IfOk result (λ it. it.1 ≤ length buffer.new) }
-    ensures form { IfOk result (λ it. it.0 < length forms.now.forms) }
-    ensures style { IfOk result (λ it. IsStyleOf (N.integer number.now) style it.2) }
+) -> Result<Chosen, WriteError>
+    // The list reads the text as the number or, with a word, its token is the number.
+    ensures value { IfOk result (λ it. IsReadWith forms.now it.word (take it.length buffer.new) (N.is number.now it.style)) }
+    ensures length { IfOk result (λ it. it.length ≤ length buffer.new) }
+    ensures form { IfOk result (λ it. it.form < length forms.now.forms) }
+    ensures style { IfOk result (λ it. IsStyleOf (N.integer number.now) style it.style) }
 {
+    let integer = number.is_integer();
+    let all = !integer || matches!(style.exponent, ExponentStyle::Always);
     let rounded = number.is_rounded(style);
     let (mut error, mut first, mut floats) = (None, None, false);
-    for wanted in 0..if number.is_integer() { 3 } else { 6 } {
-        for (index, form) in forms.as_slice().iter().enumerate() {
-            let syntax = form.syntax();
-            if turn(number.radix(), number.is_integer(), &syntax) != wanted
-                || !form.opening().is_empty()
-            {
-                continue;
-            }
-            // A number is rounded in one radix alone and, if there are forms with floats, by these alone.
-            if rounded {
-                let radix = syntax.format().view().mantissa_radix();
-                if first.unwrap_or(radix) != radix {
+    for wanted in 0..if integer { 3 } else { 6 } {
+        for part in 0..if integer { 3 } else { 1 } {
+            for (index, form) in forms.as_slice().iter().enumerate() {
+                let syntax = form.syntax();
+                if turn(number.radix(), integer, &syntax) != wanted
+                    || !is_asked(part, all, &syntax)
+                {
                     continue;
                 }
-                first = Some(radix);
-                floats |= syntax.options().is_some();
-            }
-            let whole = floats && syntax.options().is_none();
-            match write_in(forms, index, whole, number, style, buffer) {
-                Ok((length, style)) => return Ok((index, length, style)),
-                Err(other) if is_short(other) => return Err(other),
-                Err(other) => error = first_reason(error, other),
+                // A number is rounded in one radix alone and, if there are forms with floats, by these alone.
+                if rounded {
+                    let radix = syntax.format().view().mantissa_radix();
+                    if first.unwrap_or(radix) != radix {
+                        continue;
+                    }
+                    first = Some(radix);
+                    floats |= syntax.options().is_some();
+                }
+                let whole = floats && syntax.options().is_none();
+                match write_in(forms, index, whole, part == 1, number, style, buffer) {
+                    Ok(chosen) => return Ok(chosen),
+                    Err(other) if is_short(other) => return Err(other),
+                    Err(other) => error = first_reason(error, other),
+                }
             }
         }
     }
@@ -509,35 +605,174 @@ const fn style_in(whole: bool, rounded: bool, style: Style) -> Style
     }
 }
 
-// Writes a number by one form, which does not round if `whole` is true, and returns the length of the text and the style in which it is
-// written, or why it is not used.
+// Writes a number by one form, which does not round if `whole` is true, or with a word if `with` is true, or returns why it is not used.
 fn write_in<N: Writable>(
     forms: &Forms,
     index: usize,
     whole: bool,
+    with: bool,
     number: &N,
     style: Style,
     buffer: &mut [u8],
-) -> Result<(usize, Style), WriteError>
+) -> Result<Chosen, WriteError>
     requires { index < length forms.now.forms }
-    ensures value { IfOk result (λ it. IsReadBack forms.now (take it.0 buffer.new) (N.is number.now it.1)) }
-    ensures length { IfOk result (λ it. it.0 ≤ length buffer.new) }
-    ensures style { IfOk result (λ it. IsStyleOf (N.integer number.now) style it.1) }
+    ensures value { IfOk result (λ it. IsReadWith forms.now it.word (take it.length buffer.new) (N.is number.now it.style)) }
+    ensures length { IfOk result (λ it. it.length ≤ length buffer.new) }
+    ensures form { IfOk result (λ it. it.form ≡ index) }
+    ensures style { IfOk result (λ it. IsStyleOf (N.integer number.now) style it.style) }
 {
+    if with && number.is_integer() {
+        return write_words(forms, index, number, style, buffer);
+    }
     let style = style_in(whole, number.is_rounded(style), style);
     let error = match write_by(forms, index, number, style, buffer) {
-        Ok(length) => return Ok((length, style)),
+        Ok(length) => return Ok(Chosen {
+            form: index,
+            word: None,
+            length,
+            style,
+        }),
         Err(error) => error,
     };
     if is_short(error) || !number.is_integer() || !matches!(style.exponent, ExponentStyle::Always) {
         return Err(error);
     }
-    let style = Style {
+    let style = without_wish(style);
+    let length = write_by(forms, index, number, style, buffer)?;
+    Ok(Chosen {
+        form: index,
+        word: None,
+        length,
+        style,
+    })
+}
+
+// Returns the style without a wish for an exponent.
+const fn without_wish(style: Style) -> Style
+    ensures { result ≡ record style { exponent = exponents.AsNumber } }
+{
+    Style {
         exponent: ExponentStyle::AsNumber,
         ..style
+    }
+}
+
+// Writes an integer by one form with the first of its words that makes its token this integer, or returns why there is none.
+#[cold]
+fn write_words<N: Writable>(
+    forms: &Forms,
+    index: usize,
+    number: &N,
+    style: Style,
+    buffer: &mut [u8],
+) -> Result<Chosen, WriteError>
+    requires index { index < length forms.now.forms }
+    requires integer { N.integer number.now ≡ true }
+    ensures value { IfOk result (λ it. IsReadWith forms.now it.word (take it.length buffer.new) (N.is number.now it.style)) }
+    ensures length { IfOk result (λ it. it.length ≤ length buffer.new) }
+    ensures form { IfOk result (λ it. it.form ≡ index) }
+    ensures style { IfOk result (λ it. IsStyleOf (N.integer number.now) style it.style) }
+{
+    let Some(suffixes) = forms.as_slice()[index].suffixes() else {
+        return Err(WriteError::ReadBack);
     };
-    let length = write_by(forms, index, number, style, buffer)?;
-    Ok((length, style))
+    let style = without_wish(style);
+    for word in suffixes.written() {
+        match write_around(forms, index, number, style, Some(word), buffer) {
+            Ok(length) => return Ok(Chosen {
+                form: index,
+                word: Some(word),
+                length,
+                style,
+            }),
+            Err(error) if is_short(error) => return Err(error),
+            Err(_) => {}
+        }
+    }
+    Err(WriteError::ReadBack)
+}
+
+// Writes a number by one form with its opening, and with a word behind it if there is one, and returns the length of the text, or why it
+// is not used.
+fn write_around<N: Writable>(
+    forms: &Forms,
+    index: usize,
+    number: &N,
+    style: Style,
+    word: Option<&'static &'static [u8]>,
+    buffer: &mut [u8],
+) -> Result<usize, WriteError>
+    requires { index < length forms.now.forms }
+    ensures value { IfOk result (λ size. IsReadWith forms.now word.entry (take size buffer.new) (N.is number.now style)) }
+    ensures length { IfOk result (λ size. size ≤ length buffer.new) }
+{
+    let it = &forms.as_slice()[index];
+    let opening = it.opening();
+    let start = put_at(buffer, 0, opening.as_bytes());
+    let least = start.min(buffer.len());
+    let (size, _) = number.write(&it.syntax(), style, &mut buffer[least..])?;
+    let end = match word {
+        Some(word) => put_at(buffer, start.saturating_add(size), word),
+        None => start.saturating_add(size),
+    };
+    // A text that is longer than a `usize` has the size `usize::MAX`.
+    if end == usize::MAX || end > buffer.len() {
+        return Err(WriteError::Buffer(end));
+    }
+    let text = &buffer[..end];
+    match word {
+        None => read_alone(forms, number, style, text)?,
+        Some(word) => read_token(forms, number, style, word, text)?,
+    }
+    Ok(end)
+}
+
+// Writes bytes to a buffer from an index on, as far as it has room, and returns the index behind them.
+fn put_at(buffer: &mut [u8], index: usize, bytes: &[u8]) -> usize
+    ensures { length buffer.new ≡ length buffer.old }
+{
+    let end = index.saturating_add(bytes.len());
+    if end <= buffer.len() {
+        buffer[index..end].copy_from_slice(bytes);
+    }
+    end
+}
+
+// Returns nothing if the list reads a text as the number, or why it is not used.
+fn read_alone<N: Writable>(
+    forms: &Forms,
+    number: &N,
+    style: Style,
+    text: &[u8],
+) -> Result<(), WriteError>
+    ensures { IfOk result (λ _. IsReadBack forms.now text.now (N.is number.now style)) }
+{
+    let Ok(Number::Literal { literal, .. }) = forms.read(text) else {
+        return Err(WriteError::ReadBack);
+    };
+    if number.is_worth(style, &literal) {
+        return Ok(());
+    }
+    Err(mismatch(&literal))
+}
+
+// Returns nothing if all of a text is a token with this suffix, which is the number, or why it is not used.
+fn read_token<N: Writable>(
+    forms: &Forms,
+    number: &N,
+    style: Style,
+    word: &[u8],
+    text: &[u8],
+) -> Result<(), WriteError>
+    ensures { IfOk result (λ _. IsTokenOf forms.now word.now text.now (N.is number.now style)) }
+{
+    let Ok(token) = forms.token(text) else {
+        return Err(WriteError::ReadBack);
+    };
+    if token.rest.is_empty() && token.suffix == word && number.is_worth(style, &token.literal) {
+        return Ok(());
+    }
+    Err(WriteError::ReadBack)
 }
 
 // Returns whether a text needs a longer buffer.
@@ -559,7 +794,7 @@ fn write_by<N: Writable>(
 {
     let it = &forms.as_slice()[index];
     if !it.opening().is_empty() {
-        return Err(WriteError::ReadBack);
+        return write_around(forms, index, number, style, None, buffer);
     }
     let syntax = it.syntax();
     let (size, float) = number.write(&syntax, style, buffer)?;
@@ -567,7 +802,7 @@ fn write_by<N: Writable>(
     if size == usize::MAX || size > buffer.len() {
         return Err(WriteError::Buffer(size));
     }
-    let plain = number.is_plain(&syntax, it.kind(), float);
+    let plain = number.is_plain(&syntax, it.kind(), style, float);
     // A list reads what the first form reads as this form does.
     if plain && index == 0 {
         return Ok(size);

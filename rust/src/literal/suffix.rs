@@ -45,6 +45,7 @@ pub struct Suffixes {
     pub(crate) any: &'static [u8],
     pub(crate) stops: &'static [Stop],
     pub(crate) kinds: &'static [(&'static [u8], Kind)],
+    written: &'static [&'static [u8]],
 }
 
 impl Suffixes {
@@ -56,7 +57,7 @@ impl Suffixes {
         floats: &'static [&'static [u8]],
         stops: &'static [Stop],
     ) -> Suffixes {
-        Suffixes { integers, floats, either_case: false, any: &[], stops, kinds: &[] }
+        Suffixes { integers, floats, either_case: false, any: &[], stops, kinds: &[], written: &[] }
     }
 
     /// Sets whether the words may be in either case.
@@ -77,6 +78,13 @@ impl Suffixes {
         Suffixes { kinds, ..self }
     }
 
+    /// Sets the words with which a list writes an integer that it does not write without one, in the order in which they are tried. The
+    /// first is taken with which the token of the text is this integer, so the kinds decide.
+    #[must_use]
+    pub const fn with_written(self, written: &'static [&'static [u8]]) -> Suffixes {
+        Suffixes { written, ..self }
+    }
+
     /// Returns the words that may be behind integers.
     #[must_use]
     pub const fn integers(&self) -> &'static [&'static [u8]] {
@@ -87,6 +95,12 @@ impl Suffixes {
     #[must_use]
     pub const fn floats(&self) -> &'static [&'static [u8]] {
         self.floats
+    }
+
+    /// Returns the words with which lists write integers.
+    #[must_use]
+    pub const fn written(&self) -> &'static [&'static [u8]] {
+        self.written
     }
 
     /// Returns whether the words may be in either case.

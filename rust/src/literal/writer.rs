@@ -44,7 +44,7 @@ mod written;
 
 pub use layout::{ExponentStyle, Grouping, Style, WriteError};
 
-use choice::{choose, LONGEST};
+use choice::{choose, Chosen, LONGEST};
 #[doc(hidden)]
 pub use choice::{Real, Whole, Writable};
 use float_digits::FloatDigits;
@@ -219,7 +219,7 @@ impl Syntax {
     /// has an exponent.
     #[inline(always)]
     pub fn format_integer<T: WriteInteger>(&self, value: T, style: Style) -> Result<Written<'static>, WriteError> {
-        integer::format_integer(self, value, style).map(|layout| Written { text: Text::Number(layout) })
+        integer::format_integer(self, value, style).map(|layout| Text::Number(layout).into())
     }
 
     /// Returns the value of a float as a literal of this syntax. [Parsing][Syntax::parse] the text returns the same value, also
@@ -248,7 +248,7 @@ impl Syntax {
         let (mut digits, mut text) = (FloatDigits::new(), [0; 40]);
         let length = float::format_float(self, value, style, &mut digits)?.write(&mut text);
         let value = Value::of_float(value);
-        Ok(Written { text: Text::Value(ValueText { value, syntax: *self, style, text, length }) })
+        Ok(Text::Value(ValueText { value, syntax: *self, style, text, length }).into())
     }
 
     /// Returns a literal, which may be of another syntax, as a literal of this syntax with the same value.
@@ -278,7 +278,7 @@ impl Syntax {
     pub fn format_literal<'a>(&self, literal: &Literal<'a>, style: Style) -> Result<Written<'a>, WriteError> {
         match literal.other_value() {
             None => match literal::format_literal(literal, self, style) {
-                Ok(layout) => Ok(Written { text: Text::Number(layout) }),
+                Ok(layout) => Ok(Text::Number(layout).into()),
                 Err(error) => self.format_float(float_instead::<f64>(literal, style, error)?, style),
             },
             Some(other) => self.format_other(other, style),
@@ -374,8 +374,9 @@ impl<'a> Forms<'a> {
     pub fn format_literal<'b>(&self, literal: &Literal<'b>, style: Style) -> Result<Written<'b>, WriteError> {
         match literal.other_value() {
             None => {
-                let (form, _, style) = self.choose_long(literal, style, |chosen, _| chosen)?;
-                self[form].syntax().format_literal(literal, style)
+                let Chosen { form, word, style, .. } = self.choose_long(literal, style, |chosen, _| chosen)?;
+                let form = &self[form];
+                Ok(Written { opening: form.opening(), word, ..form.syntax().format_literal(literal, style)? })
             }
             Some(Other::Integer(value)) => self.format_integer(value, style),
             Some(Other::Single(value)) => self.format_value(&Real { value }, Value::of_float(value), style),
@@ -395,7 +396,7 @@ impl<'a> Forms<'a> {
         for spellings in [Specials { infinity: None, ..specials }, Specials { inf: None, ..specials }] {
             let Ok(written) = spellings.format(&syntax, special) else { continue };
             let buffer = &mut [0; LONGEST];
-            let length = written.text.write(buffer);
+            let length = written.write(buffer);
             if buffer.get(..length).is_some_and(|text| matches!(self.read_bytes(text), Ok(Number::Special(_)))) {
                 return Ok(written);
             }
@@ -407,10 +408,7 @@ impl<'a> Forms<'a> {
     fn format_value(&self, number: &impl Writable, value: Value, style: Style) -> Result<Written<'static>, WriteError> {
         let mut text = [0; 40];
         match choose(self, number, style, &mut text) {
-            Ok((form, length, style)) => {
-                let syntax = self.as_slice()[form].syntax();
-                Ok(Written { text: Text::Value(ValueText { value, syntax, style, text, length }) })
-            }
+            Ok(chosen) => Ok(self.written_value(value, chosen, text)),
             Err(WriteError::Buffer(_)) => self.format_long(number, value, style),
             Err(error) => Err(error),
         }
@@ -420,26 +418,33 @@ impl<'a> Forms<'a> {
     #[cold]
     #[inline(never)]
     fn format_long(&self, number: &dyn Writable, value: Value, style: Style) -> Result<Written<'static>, WriteError> {
-        self.choose_long(number, style, |(form, length, style), long| {
+        self.choose_long(number, style, |chosen, long| {
             let mut text = [0; 40];
-            let size = length.min(text.len());
+            let size = chosen.length.min(text.len());
             text[..size].copy_from_slice(&long[..size]);
-            let syntax = self.as_slice()[form].syntax();
-            Written { text: Text::Value(ValueText { value, syntax, style, text, length }) }
+            self.written_value(value, chosen, text)
         })
     }
 
-    /// Passes the form of a number, the length of the text and the style, and the text, which may have any length that is read back.
+    /// Returns a value, with the text if it is short.
+    fn written_value(&self, value: Value, chosen: Chosen, text: [u8; 40]) -> Written<'static> {
+        let Chosen { form, word, length, style } = chosen;
+        let form = &self.as_slice()[form];
+        let (syntax, opening) = (form.syntax(), form.opening());
+        Written { text: Text::Value(ValueText { value, syntax, style, text, length }), opening, word }
+    }
+
+    /// Passes how a number is written, and the text, which may have any length that is read back.
     #[inline(never)]
     fn choose_long<R>(
         &self,
         number: &dyn Writable,
         style: Style,
-        then: impl FnOnce((usize, usize, Style), &[u8]) -> R,
+        then: impl FnOnce(Chosen, &[u8]) -> R,
     ) -> Result<R, WriteError> {
         let buffer = &mut [0; LONGEST];
         let chosen = choose(self, number, style, buffer)?;
-        Ok(then(chosen, &buffer[..chosen.1]))
+        Ok(then(chosen, &buffer[..chosen.length]))
     }
 
     /// Passes the text of a number in one of these forms, for programs with few bytes.
@@ -456,7 +461,7 @@ impl<'a> Forms<'a> {
     ) -> Result<R, WriteError> {
         let buffer = &mut [0; 40];
         match choose(self, number, style, buffer) {
-            Ok((_, length, _)) => Ok(then(&buffer[..length])),
+            Ok(Chosen { length, .. }) => Ok(then(&buffer[..length])),
             Err(WriteError::Buffer(_)) => self.choose_long(number, style, |_, text| then(text)),
             Err(error) => Err(error),
         }
@@ -507,7 +512,7 @@ impl<'a> Specials<'a> {
         let text = self.spell(syntax, special).ok_or(WriteError::Special)?;
         let word = str::from_utf8(text.word).map_err(|_| WriteError::Special)?;
         let sign = text.sign.map(|sign| if sign == Sign::Minus { b'-' } else { b'+' });
-        Ok(Written { text: Text::Special(sign, word) })
+        Ok(Text::Special(sign, word).into())
     }
 }
 

@@ -188,14 +188,16 @@ const ADA_STOPS: &[Stop] = &[
 
 /// Kinds of Fortran, of so many bytes or by a name: `1_8`, `1.0_dp`. Those of 10 and 16 bytes have floats that an `f64`
 /// has not. `1._8`, whose point is not given back, is refused.
-const FORTRAN_WORDS: Suffixes =
-    Suffixes::new(&[], &[], &[Stop::new(b"", b".", b"_0123456789")]).any_word(b"_").with_kinds(&[
+const FORTRAN_WORDS: Suffixes = Suffixes::new(&[], &[], &[Stop::new(b"", b".", b"_0123456789")])
+    .any_word(b"_")
+    .with_kinds(&[
         (b"_1", whole(IntegerKind::AtMost(7))),
         (b"_2", whole(IntegerKind::AtMost(15))),
         (b"_8", finite(AT_MOST_63)),
         (b"_10", Kind::EXACT),
         (b"_16", whole(IntegerKind::AtMost(127))),
-    ]);
+    ])
+    .with_written(&[b"_8"]);
 
 /// Words behind integers and floats, in this case.
 const fn words(integers: &'static [&'static [u8]], floats: &'static [&'static [u8]]) -> Suffixes {
@@ -218,7 +220,8 @@ const C_DECIMAL_FLOATS: &[&[u8]] = &[b"f", b"F", b"l", b"L", b"df", b"dd", b"dl"
 const C_STOPS: &[Stop] = &[Stop::new(b"", b".'$", b""), Stop::new(b"", b"\\", b"uU"), Stop::new(b"eEpP", b"+-", b"")];
 /// Those of decimal integers alone have kinds of their own, behind the first twelve.
 const C_WORDS: Suffixes = Suffixes::new(C_INTEGERS, C_FLOATS, C_STOPS).with_kinds(C_KINDS.split_at(12).0);
-const C_DECIMALS: Suffixes = Suffixes::new(C_INTEGERS, C_DECIMAL_FLOATS, C_STOPS).with_kinds(C_KINDS);
+const C_DECIMALS: Suffixes =
+    Suffixes::new(C_INTEGERS, C_DECIMAL_FLOATS, C_STOPS).with_kinds(C_KINDS).with_written(&[b"ULL"]);
 #[rustfmt::skip]
 const C_KINDS: &[(&[u8], Kind)] = &[
     (b"f", SINGLE), (b"F", SINGLE), (b"wb", Kind::EXACT), (b"WB", Kind::EXACT), (b"uwb", Kind::EXACT), (b"uWB", Kind::EXACT),
@@ -236,8 +239,10 @@ const C_PLUS_PLUS_INTEGERS: &[&[u8]] = &[
 ];
 const C_PLUS_PLUS_FLOATS: &[&[u8]] =
     &[b"f", b"F", b"l", b"L", b"h", b"min", b"s", b"ms", b"us", b"ns", b"i", b"il", b"if"];
-const C_PLUS_PLUS_WORDS: Suffixes =
-    Suffixes::new(C_PLUS_PLUS_INTEGERS, C_PLUS_PLUS_FLOATS, C_STOPS).any_word(b"_").with_kinds(C_PLUS_PLUS_KINDS);
+const C_PLUS_PLUS_WORDS: Suffixes = Suffixes::new(C_PLUS_PLUS_INTEGERS, C_PLUS_PLUS_FLOATS, C_STOPS)
+    .any_word(b"_")
+    .with_kinds(C_PLUS_PLUS_KINDS)
+    .with_written(&[b"ULL"]);
 #[rustfmt::skip]
 const C_PLUS_PLUS_KINDS: &[(&[u8], Kind)] = &[
     (b"f", SINGLE), (b"F", SINGLE), (b"u", AT_MOST_64), (b"U", AT_MOST_64), (b"ul", AT_MOST_64), (b"uL", AT_MOST_64),
@@ -283,7 +288,8 @@ const D_WORDS: Suffixes = words(
     &[b"L", b"u", b"U", b"Lu", b"LU", b"uL", b"UL", b"f", b"F", b"i", b"fi", b"Fi", b"Li"],
     &[b"f", b"F", b"L", b"i", b"fi", b"Fi", b"Li"],
 )
-.with_kinds(D_KINDS);
+.with_kinds(D_KINDS)
+.with_written(&[b"u"]);
 #[rustfmt::skip]
 const D_KINDS: &[(&[u8], Kind)] = &[
     (b"u", AT_MOST_64), (b"U", AT_MOST_64), (b"Lu", AT_MOST_64), (b"LU", AT_MOST_64), (b"uL", AT_MOST_64), (b"UL", AT_MOST_64),
@@ -296,14 +302,14 @@ const GO_WORDS: Suffixes = words(&[b"i"], &[b"i"]);
 const GO_POINTLESS: Suffixes = Suffixes::new(&[b"i"], &[], &[Stop::new(b"", b".", b"")]);
 
 /// Suffixes of Java and Scala, in either case.
-const JAVA_DECIMALS: Suffixes = words(&[b"l", b"f", b"d"], &[b"f", b"d"]).either_case(true).with_kinds(&[
-    (b"l", AT_MOST_63),
-    (b"f", within(SINGLE)),
-    (b"d", within(Kind::EXACT)),
-]);
+const JAVA_DECIMALS: Suffixes = words(&[b"l", b"f", b"d"], &[b"f", b"d"])
+    .either_case(true)
+    .with_kinds(&[(b"l", AT_MOST_63), (b"f", within(SINGLE)), (b"d", within(Kind::EXACT))])
+    .with_written(&[b"L"]);
 const SCALA_DECIMALS: Suffixes =
     JAVA_DECIMALS.with_kinds(&[(b"l", AT_MOST_63), (b"f", finite(SINGLE)), (b"d", finite(Kind::EXACT))]);
-const JAVA_INTEGERS: Suffixes = words(&[b"l"], &[]).either_case(true).with_kinds(&[(b"l", WRAPS_64)]);
+const JAVA_INTEGERS: Suffixes =
+    words(&[b"l"], &[]).either_case(true).with_kinds(&[(b"l", WRAPS_64)]).with_written(&[b"L"]);
 const JAVA_FLOATS: Suffixes = words(&[b"f", b"d"], &[b"f", b"d"])
     .either_case(true)
     .with_kinds(&[(b"f", within(SINGLE)), (b"d", within(Kind::EXACT))]);
@@ -320,8 +326,8 @@ const NASM_WORDS: Suffixes = JULIA_WORDS;
 /// Suffixes of Kotlin.
 const KOTLIN_INTEGERS: &[&[u8]] = &[b"u", b"U", b"L", b"uL", b"UL"];
 const KOTLIN_DECIMALS: Suffixes =
-    words(&[b"u", b"U", b"L", b"uL", b"UL", b"f", b"F"], &[b"f", b"F"]).with_kinds(KOTLIN_KINDS);
-const KOTLIN_WORDS: Suffixes = words(KOTLIN_INTEGERS, &[]).with_kinds(KOTLIN_KINDS);
+    words(&[b"u", b"U", b"L", b"uL", b"UL", b"f", b"F"], &[b"f", b"F"]).with_kinds(KOTLIN_KINDS).with_written(&[b"u"]);
+const KOTLIN_WORDS: Suffixes = words(KOTLIN_INTEGERS, &[]).with_kinds(KOTLIN_KINDS).with_written(&[b"u"]);
 #[rustfmt::skip]
 const KOTLIN_KINDS: &[(&[u8], Kind)] = &[
     (b"u", AT_MOST_64), (b"U", AT_MOST_64), (b"uL", AT_MOST_64), (b"UL", AT_MOST_64), (b"f", SINGLE), (b"F", SINGLE),
@@ -333,14 +339,16 @@ const NIM_STOPS: &[Stop] = &[Stop::new(b"", b"'", b""), Stop::new(b"", b".", b"0
 const NIM_INTEGERS: Suffixes =
     Suffixes::new(&[b"i8", b"i16", b"i32", b"i64", b"u", b"u8", b"u16", b"u32", b"u64"], &[], NIM_STOPS)
         .either_case(true)
-        .with_kinds(NIM_KINDS);
+        .with_kinds(NIM_KINDS)
+        .with_written(&[b"u64"]);
 const NIM_DECIMALS: Suffixes = Suffixes::new(
     &[b"i8", b"i16", b"i32", b"i64", b"u", b"u8", b"u16", b"u32", b"u64", b"f", b"f32", b"f64", b"d"],
     &[b"f", b"f32", b"f64", b"d"],
     NIM_STOPS,
 )
 .either_case(true)
-.with_kinds(NIM_DECIMAL_KINDS);
+.with_kinds(NIM_DECIMAL_KINDS)
+.with_written(&[b"u64"]);
 #[rustfmt::skip]
 const NIM_KINDS: &[(&[u8], Kind)] = &[
     (b"i8", whole(IntegerKind::Wraps(8))), (b"i16", whole(IntegerKind::Wraps(16))), (b"i32", WRAPS_32),

@@ -14,8 +14,7 @@ use crate::literal::value::number::numeral::Magnitude;
 use crate::literal::writer::checked::is_integer;
 use crate::literal::writer::float::format_float;
 use crate::literal::writer::float_digits::FloatDigits;
-use crate::literal::writer::layout::{Amount, ExponentStyle, Layout, Style, WriteError};
-use crate::literal::writer::literal::lay_out;
+use crate::literal::writer::layout::{needs_exponent, Amount, ExponentStyle, Layout, Style, WriteError};
 use crate::literal::writer::near::format_near;
 
 /// A number that a list of forms is asked to write.
@@ -38,11 +37,14 @@ pub trait Writable {
     fn write(&self, syntax: &Syntax, style: Style, buffer: &mut [u8]) -> Result<(usize, bool), WriteError>;
 
     /// Returns whether a literal of a syntax and a kind, with a decimal point or an exponent or without, is the number if it is
-    /// written for it.
-    fn is_plain(&self, syntax: &Syntax, kind: Kind, float: bool) -> bool;
+    /// written for it in a style.
+    fn is_plain(&self, syntax: &Syntax, kind: Kind, style: Style, float: bool) -> bool;
 
     /// Returns whether a literal is worth the number in a style, of which `own` is what its form alone reads.
     fn is_read_as(&self, style: Style, own: &Literal, literal: &Literal) -> bool;
+
+    /// Returns whether a literal is worth the number in a style, whatever is written for it. A number that is rounded is not.
+    fn is_worth(&self, style: Style, literal: &Literal) -> bool;
 }
 
 /// The value of an integer type, by its sign and its size.
@@ -80,10 +82,10 @@ impl Writable for Whole {
             return Err(WriteError::Negative);
         }
         let amount = Amount::of_size(self.negative, self.size);
-        Ok(put(&lay_out(&amount, syntax, style)?, buffer))
+        Ok(put(&amount.lay_out(syntax, style)?, buffer))
     }
 
-    fn is_plain(&self, syntax: &Syntax, kind: Kind, float: bool) -> bool {
+    fn is_plain(&self, syntax: &Syntax, kind: Kind, _: Style, float: bool) -> bool {
         if float {
             is_exact(kind) && !has_floats(syntax)
         } else {
@@ -92,6 +94,10 @@ impl Writable for Whole {
     }
 
     fn is_read_as(&self, _: Style, _: &Literal, literal: &Literal) -> bool {
+        is_worth(literal, self.negative, self.size)
+    }
+
+    fn is_worth(&self, _: Style, literal: &Literal) -> bool {
         is_worth(literal, self.negative, self.size)
     }
 }
@@ -121,12 +127,19 @@ impl<F: Float> Writable for Real<F> {
         Ok(put(&format_float(syntax, self.value, style, &mut digits)?, buffer))
     }
 
-    fn is_plain(&self, syntax: &Syntax, kind: Kind, float: bool) -> bool {
-        is_nearest(kind, float) && has_floats(syntax)
+    fn is_plain(&self, syntax: &Syntax, kind: Kind, style: Style, float: bool) -> bool {
+        if !has_floats(syntax) {
+            return false;
+        }
+        is_nearest(kind, float) && is_within(self.value, style.decimals, kind.limits())
     }
 
     fn is_read_as(&self, _: Style, own: &Literal, literal: &Literal) -> bool {
         is_same::<F>(own, literal)
+    }
+
+    fn is_worth(&self, style: Style, literal: &Literal) -> bool {
+        style.decimals.is_none() && is_float::<F>(literal, self.value)
     }
 }
 
@@ -142,6 +155,14 @@ fn float_of<F: Float>(literal: &Literal) -> Option<F> {
 // Returns the bits of what a literal is worth as a float, if it is one.
 fn bits_in<F: Float>(literal: &Literal) -> Option<u64> {
     float_of::<F>(literal)?.bits()
+}
+
+// Returns whether a literal is worth a float, with the same bits.
+fn is_float<F: Float>(literal: &Literal, value: F) -> bool {
+    match (bits_in::<F>(literal), value.bits()) {
+        (Some(bits), Some(own)) => bits == own,
+        _ => false,
+    }
 }
 
 // Returns whether two literals are worth the same float.
@@ -170,21 +191,43 @@ impl Writable for Literal<'_> {
         Ok(put(&format_near::<f64>(self, syntax, style, &mut digits)?, buffer))
     }
 
-    fn is_plain(&self, syntax: &Syntax, kind: Kind, float: bool) -> bool {
+    fn is_plain(&self, syntax: &Syntax, kind: Kind, _style: Style, float: bool) -> bool {
         is_exact(self.kind()) & is_exact(kind) & (self.is_float() | !(float & has_floats(syntax)))
     }
 
     fn is_read_as(&self, style: Style, own: &Literal, literal: &Literal) -> bool {
-        if let Some((negative, size)) = whole_worth(self) {
-            return is_worth(literal, negative, size);
-        }
-        if is_same_integer(self, literal) {
+        if self.is_worth(style, literal) {
             return true;
         }
-        if is_exact(self.kind()) && style.nearest && style.decimals.is_some() {
-            return is_same::<f64>(own, literal);
+        is_rounded(self, style) && is_same::<f64>(own, literal)
+    }
+
+    fn is_worth(&self, style: Style, literal: &Literal) -> bool {
+        if is_same_whole(self, literal) {
+            return true;
         }
-        (self.is_float() || style.nearest) && is_same::<f64>(self, literal)
+        is_near(self, style) && is_same::<f64>(self, literal)
+    }
+}
+
+// Returns whether a literal that is no integer of at most 128 bits is written by its nearest float, which is rounded.
+fn is_rounded(literal: &Literal, style: Style) -> bool {
+    style.nearest && style.decimals.is_some() && is_exact(literal.kind()) && whole_worth(literal).is_none()
+}
+
+// Returns whether a literal that is no integer of at most 128 bits may be written as its nearest float, which is not rounded.
+fn is_near(literal: &Literal, style: Style) -> bool {
+    if is_rounded(literal, style) || whole_worth(literal).is_some() {
+        return false;
+    }
+    literal.is_float() || style.nearest
+}
+
+// Returns whether two literals are worth the same integer.
+fn is_same_whole(own: &Literal, literal: &Literal) -> bool {
+    match whole_worth(own) {
+        Some((negative, size)) => is_worth(literal, negative, size),
+        None => is_same_integer(own, literal),
     }
 }
 
@@ -218,10 +261,20 @@ fn has_floats(syntax: &Syntax) -> bool {
 
 // Returns whether literals of a kind, with a decimal point or an exponent or without, are worth the nearest float.
 const fn is_nearest(kind: Kind, float: bool) -> bool {
-    match (kind.floats(), kind.limits(), kind.integers()) {
-        (FloatKind::Nearest, FloatLimits::None, IntegerKind::Exact) => true,
-        (FloatKind::Nearest, FloatLimits::None, _) => float,
-        _ => false,
+    match (kind.floats(), kind.integers()) {
+        (FloatKind::Nearest, IntegerKind::Exact) => true,
+        (FloatKind::Nearest, _) => float,
+        (FloatKind::Single, _) => false,
+    }
+}
+
+// Returns whether the float that is nearest to what is written for a float is known to be within limits. Without a number of decimals, it is
+// the same float.
+fn is_within<F: Float>(value: F, decimals: Option<u8>, limits: FloatLimits) -> bool {
+    match limits {
+        FloatLimits::None => true,
+        FloatLimits::Largest => decimals.is_none() && !value.is_infinite(),
+        FloatLimits::Both => decimals.is_none() && !value.is_infinite() && !value.is_zero(),
     }
 }
 
@@ -277,11 +330,36 @@ const fn is_exact(kind: Kind) -> bool {
 // The longest text that is read back.
 pub(crate) const LONGEST: usize = 4096;
 
+/// How a list writes a number.
+#[derive(Clone, Copy)]
+pub struct Chosen {
+    /// The index of the form.
+    pub form: usize,
+    /// The word behind the literal, if there is one.
+    pub word: Option<&'static &'static [u8]>,
+    /// The length of the text, with the word.
+    pub length: usize,
+    /// The style.
+    pub style: Style,
+}
+
+// Returns whether a form with a syntax is asked in a part of a turn: first each form or, unless `all` is true, each whose literals need no
+// exponent, then the latter with words, and then those that are left.
+fn is_asked(part: u8, all: bool, syntax: &Syntax) -> bool {
+    match part {
+        0 => all || !needs_exponent(syntax),
+        1 => !needs_exponent(syntax),
+        _ => !all && needs_exponent(syntax),
+    }
+}
+
 /// Writes a number by the first form whose text the list reads as this number, to the beginning of a buffer, and returns the
 /// index of the form, the length of the text, and the style in which it is written. Forms of the number's radix are asked first,
 /// then decimal ones, and then the others, each in the order of the list, and all forms with floats write a float before those of
-/// integers alone. Where an exponent would make an integer another number, the wish for one is dropped. A float is rounded in the radix
-/// of the form that is asked first. Forms with an opening are not asked yet.
+/// integers alone. Of each of these turns, an integer is written without a word, if no form does so with one of its
+/// [words][Suffixes::written], with which its token is the number, and else as a float that is this integer.
+/// Where an exponent would make an integer another number, the wish for one is dropped. A float is rounded in the radix
+/// of the form that is asked first.
 ///
 /// # Errors
 ///
@@ -293,29 +371,33 @@ pub fn choose<N: Writable + ?Sized>(
     number: &N,
     style: Style,
     buffer: &mut [u8],
-) -> Result<(usize, usize, Style), WriteError> {
+) -> Result<Chosen, WriteError> {
+    let integer = number.is_integer();
+    let all = !integer || matches!(style.exponent, ExponentStyle::Always);
     let rounded = number.is_rounded(style);
     let (mut error, mut first, mut floats) = (None, None, false);
-    for wanted in 0..if number.is_integer() { 3 } else { 6 } {
-        for (index, form) in forms.as_slice().iter().enumerate() {
-            let syntax = form.syntax();
-            if turn(number.radix(), number.is_integer(), &syntax) != wanted || !form.opening().is_empty() {
-                continue;
-            }
-            // A number is rounded in one radix alone and, if there are forms with floats, by these alone.
-            if rounded {
-                let radix = syntax.format().view().mantissa_radix();
-                if first.unwrap_or(radix) != radix {
+    for wanted in 0..if integer { 3 } else { 6 } {
+        for part in 0..if integer { 3 } else { 1 } {
+            for (index, form) in forms.as_slice().iter().enumerate() {
+                let syntax = form.syntax();
+                if turn(number.radix(), integer, &syntax) != wanted || !is_asked(part, all, &syntax) {
                     continue;
                 }
-                first = Some(radix);
-                floats |= syntax.options().is_some();
-            }
-            let whole = floats && syntax.options().is_none();
-            match write_in(forms, index, whole, number, style, buffer) {
-                Ok((length, style)) => return Ok((index, length, style)),
-                Err(other) if is_short(other) => return Err(other),
-                Err(other) => error = first_reason(error, other),
+                // A number is rounded in one radix alone and, if there are forms with floats, by these alone.
+                if rounded {
+                    let radix = syntax.format().view().mantissa_radix();
+                    if first.unwrap_or(radix) != radix {
+                        continue;
+                    }
+                    first = Some(radix);
+                    floats |= syntax.options().is_some();
+                }
+                let whole = floats && syntax.options().is_none();
+                match write_in(forms, index, whole, part == 1, number, style, buffer) {
+                    Ok(chosen) => return Ok(chosen),
+                    Err(other) if is_short(other) => return Err(other),
+                    Err(other) => error = first_reason(error, other),
+                }
             }
         }
     }
@@ -362,27 +444,126 @@ const fn style_in(whole: bool, rounded: bool, style: Style) -> Style {
     }
 }
 
-// Writes a number by one form, which does not round if `whole` is true, and returns the length of the text and the style in which it is
-// written, or why it is not used.
+// Writes a number by one form, which does not round if `whole` is true, or with a word if `with` is true, or returns why it is not used.
 fn write_in<N: Writable + ?Sized>(
     forms: &Forms,
     index: usize,
     whole: bool,
+    with: bool,
     number: &N,
     style: Style,
     buffer: &mut [u8],
-) -> Result<(usize, Style), WriteError> {
+) -> Result<Chosen, WriteError> {
+    if with && number.is_integer() {
+        return write_words(forms, index, number, style, buffer);
+    }
     let style = style_in(whole, number.is_rounded(style), style);
     let error = match write_by(forms, index, number, style, buffer) {
-        Ok(length) => return Ok((length, style)),
+        Ok(length) => return Ok(Chosen { form: index, word: None, length, style }),
         Err(error) => error,
     };
     if is_short(error) || !number.is_integer() || !matches!(style.exponent, ExponentStyle::Always) {
         return Err(error);
     }
-    let style = Style { exponent: ExponentStyle::AsNumber, ..style };
+    let style = without_wish(style);
     let length = write_by(forms, index, number, style, buffer)?;
-    Ok((length, style))
+    Ok(Chosen { form: index, word: None, length, style })
+}
+
+// Returns the style without a wish for an exponent.
+const fn without_wish(style: Style) -> Style {
+    Style { exponent: ExponentStyle::AsNumber, ..style }
+}
+
+// Writes an integer by one form with the first of its words that makes its token this integer, or returns why there is none.
+#[cold]
+fn write_words<N: Writable + ?Sized>(
+    forms: &Forms,
+    index: usize,
+    number: &N,
+    style: Style,
+    buffer: &mut [u8],
+) -> Result<Chosen, WriteError> {
+    let Some(suffixes) = forms.as_slice()[index].suffixes() else {
+        return Err(WriteError::ReadBack);
+    };
+    let style = without_wish(style);
+    for word in suffixes.written() {
+        match write_around(forms, index, number, style, Some(word), buffer) {
+            Ok(length) => return Ok(Chosen { form: index, word: Some(word), length, style }),
+            Err(error) if is_short(error) => return Err(error),
+            Err(_) => {}
+        }
+    }
+    Err(WriteError::ReadBack)
+}
+
+// Writes a number by one form with its opening, and with a word behind it if there is one, and returns the length of the text, or why it
+// is not used.
+fn write_around<N: Writable + ?Sized>(
+    forms: &Forms,
+    index: usize,
+    number: &N,
+    style: Style,
+    word: Option<&'static &'static [u8]>,
+    buffer: &mut [u8],
+) -> Result<usize, WriteError> {
+    let it = &forms.as_slice()[index];
+    let opening = it.opening();
+    let start = put_at(buffer, 0, opening.as_bytes());
+    let least = if start < buffer.len() { start } else { buffer.len() };
+    let (size, _) = number.write(&it.syntax(), style, &mut buffer[least..])?;
+    let end = match word {
+        Some(word) => put_at(buffer, start.saturating_add(size), word),
+        None => start.saturating_add(size),
+    };
+    // A text that is longer than a `usize` has the size `usize::MAX`.
+    if end == usize::MAX || end > buffer.len() {
+        return Err(WriteError::Buffer(end));
+    }
+    let text = &buffer[..end];
+    match word {
+        None => read_alone(forms, number, style, text)?,
+        Some(word) => read_token(forms, number, style, word, text)?,
+    }
+    Ok(end)
+}
+
+// Writes bytes to a buffer from an index on, as far as it has room, and returns the index behind them.
+fn put_at(buffer: &mut [u8], index: usize, bytes: &[u8]) -> usize {
+    let end = index.saturating_add(bytes.len());
+    if end <= buffer.len() {
+        buffer[index..end].copy_from_slice(bytes);
+    }
+    end
+}
+
+// Returns nothing if the list reads a text as the number, or why it is not used.
+fn read_alone<N: Writable + ?Sized>(forms: &Forms, number: &N, style: Style, text: &[u8]) -> Result<(), WriteError> {
+    let Ok(Number::Literal { literal, .. }) = forms.read(text) else {
+        return Err(WriteError::ReadBack);
+    };
+    if number.is_worth(style, &literal) {
+        return Ok(());
+    }
+    Err(mismatch(&literal))
+}
+
+// Returns nothing if all of a text is a token with this suffix, which is the number, or why it is not used.
+fn read_token<N: Writable + ?Sized>(
+    forms: &Forms,
+    number: &N,
+    style: Style,
+    word: &[u8],
+    text: &[u8],
+) -> Result<(), WriteError> {
+    let Ok(token) = forms.token(text) else {
+        return Err(WriteError::ReadBack);
+    };
+    if token.rest.is_empty() && token.suffix == word && number.is_worth(style, &token.literal) {
+        return Ok(());
+    }
+    Err(WriteError::ReadBack)
 }
 
 // Returns whether a text needs a longer buffer.
@@ -400,7 +581,7 @@ fn write_by<N: Writable + ?Sized>(
 ) -> Result<usize, WriteError> {
     let it = &forms.as_slice()[index];
     if !it.opening().is_empty() {
-        return Err(WriteError::ReadBack);
+        return write_around(forms, index, number, style, None, buffer);
     }
     let syntax = it.syntax();
     let (size, float) = number.write(&syntax, style, buffer)?;
@@ -408,7 +589,7 @@ fn write_by<N: Writable + ?Sized>(
     if size == usize::MAX || size > buffer.len() {
         return Err(WriteError::Buffer(size));
     }
-    let plain = number.is_plain(&syntax, it.kind(), float);
+    let plain = number.is_plain(&syntax, it.kind(), style, float);
     // A list reads what the first form reads as this form does.
     if plain && index == 0 {
         return Ok(size);

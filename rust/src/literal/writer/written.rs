@@ -9,12 +9,22 @@ use crate::literal::writer::float_digits::FloatDigits;
 use crate::literal::writer::layout::{Amount, Layout, Style, WriteError};
 use crate::literal::writer::sink::{Sink, Window};
 use crate::literal::writer::{float, literal};
-use crate::literal::Syntax;
+use crate::literal::{Affix, Syntax};
 
 /// A number as a literal of a syntax, or NaN or infinity, which prints the text. Nothing is allocated.
 #[derive(Clone, Copy)]
 pub struct Written<'a> {
     pub(super) text: Text<'a>,
+    /// The opening before the literal.
+    pub(super) opening: Affix,
+    /// A word behind it.
+    pub(super) word: Option<&'static &'static [u8]>,
+}
+
+impl<'a> From<Text<'a>> for Written<'a> {
+    fn from(text: Text<'a>) -> Self {
+        Written { text, opening: Affix::NONE, word: None }
+    }
 }
 
 /// What is printed.
@@ -88,7 +98,7 @@ impl Text<'_> {
         }
     }
 
-    /// Returns the text of a value, if it is short.
+    /// Returns the text of a value, with what stands around it, if it is short.
     fn short(&self) -> Option<&[u8]> {
         match self {
             Text::Value(ValueText { text, length, .. }) => text.get(..*length),
@@ -96,12 +106,8 @@ impl Text<'_> {
         }
     }
 
-    /// Writes the text to the beginning of a buffer, and returns its length.
-    pub(super) fn write(&self, buffer: &mut [u8]) -> usize {
-        if let Some(text) = self.short().filter(|text| text.len() <= buffer.len()) {
-            buffer[..text.len()].copy_from_slice(text);
-            return text.len();
-        }
+    /// Writes the text, without what stands around it, to the beginning of a buffer, and returns its length.
+    fn write(&self, buffer: &mut [u8]) -> usize {
         match self {
             Text::Number(layout) => layout.write(buffer),
             Text::Value(_) => self.layout(&mut FloatDigits::new()).map_or(0, |layout| layout.write(buffer)),
@@ -116,6 +122,25 @@ impl Text<'_> {
 }
 
 impl Written<'_> {
+    /// Returns the word, which is empty if there is none.
+    fn word(&self) -> &'static [u8] {
+        self.word.copied().unwrap_or_default()
+    }
+
+    /// Writes the text to the beginning of a buffer, as far as it has room, and returns its length.
+    pub(super) fn write(&self, buffer: &mut [u8]) -> usize {
+        if let Some(text) = self.short().filter(|text| text.len() <= buffer.len()) {
+            buffer[..text.len()].copy_from_slice(text);
+            return text.len();
+        }
+        let mut window = Window { bytes: buffer, length: 0 };
+        window.put_all(self.opening.as_bytes());
+        let start = window.length.min(window.bytes.len());
+        window.length = window.length.saturating_add(self.text.write(&mut window.bytes[start..]));
+        window.put_all(self.word());
+        window.length
+    }
+
     /// Writes the text to the beginning of a buffer, and returns it.
     ///
     /// ```
@@ -133,7 +158,7 @@ impl Written<'_> {
     /// [`WriteError::Buffer`] with the length of the text if it does not fit. The content of the buffer is then
     /// unspecified.
     pub fn write_into<'b>(&self, buffer: &'b mut [u8]) -> Result<&'b str, WriteError> {
-        let length = self.text.write(buffer);
+        let length = self.write(buffer);
         let text = buffer.get(..length).and_then(|text| str::from_utf8(text).ok());
         text.ok_or(WriteError::Buffer(length))
     }
@@ -145,7 +170,7 @@ impl Written<'_> {
 impl fmt::Display for Written<'_> {
     fn fmt(&self, f: &mut fmt::Formatter<'_>) -> fmt::Result {
         let mut text = [0; 40];
-        let length = self.text.write(&mut text);
+        let length = self.write(&mut text);
         let text = text.get(..length).and_then(|text| str::from_utf8(text).ok());
         match text {
             Some(text) if f.width().is_none() && !f.sign_plus() => f.write_str(text),
@@ -174,9 +199,11 @@ impl Written<'_> {
             return to.write_str(word);
         }
         let mut printer = Printer { f: to, skip: 0, result: Ok(()) };
+        printer.put_all(self.opening.as_bytes());
         if let Some(layout) = self.text.layout(&mut FloatDigits::new()) {
             layout.put(&mut printer);
         }
+        printer.put_all(self.word());
         printer.result
     }
 
@@ -206,8 +233,8 @@ impl Written<'_> {
         };
         let fill = f.fill();
         (0..before).try_for_each(|_| f.write_char(fill))?;
-        let bytes = [sign, prefix.map(|_| b'0'), prefix];
-        bytes.into_iter().flatten().try_for_each(|byte| f.write_char(byte.into()))?;
+        let bytes = [sign, prefix.map(|_| b'0'), prefix].into_iter().flatten();
+        self.opening.as_bytes().iter().copied().chain(bytes).try_for_each(|byte| f.write_char(byte.into()))?;
         (0..zeros).try_for_each(|_| f.write_char('0'))?;
         if let Text::Special(_, word) = self.text {
             f.write_str(word)?;
@@ -215,6 +242,7 @@ impl Written<'_> {
         if let Some(layout) = layout {
             let mut printer = Printer { f, skip: front, result: Ok(()) };
             layout.put(&mut printer);
+            printer.put_all(self.word());
             printer.result?;
         }
         (before + zeros..missing).try_for_each(|_| f.write_char(fill))
