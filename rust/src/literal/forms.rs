@@ -213,8 +213,10 @@ impl fmt::Display for Special {
 }
 
 impl FormError {
-    // Returns the error of a single syntax.
-    pub(crate) const fn alone(error: ReadError) -> FormError {
+    /// Returns the error of a single syntax.
+    #[doc(hidden)]
+    #[must_use]
+    pub const fn alone(error: ReadError) -> FormError {
         FormError { form: 0, name: "", opened: 0, error: Ok(error) }
     }
 

@@ -266,7 +266,7 @@ impl<'a> Forms<'a> {
 
     // Returns the same in a list of which a form may have an opening or a closing. If there is no literal, all forms are asked again.
     #[inline(never)]
-    const fn find_marked<'t>(&self, text: &'t [u8]) -> Result<(usize, Literal<'t>), Furthest> {
+    pub(crate) const fn find_marked<'t>(&self, text: &'t [u8]) -> Result<(usize, Literal<'t>), Furthest> {
         let mut form = 0;
         while form < self.forms.len() {
             if let Some(literal) = self.forms[form].literal(text) {
