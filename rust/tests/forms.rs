@@ -89,14 +89,31 @@ fn whole(forms: &Forms, text: &str) -> Option<String> {
     }
 }
 
-/// Returns what a list writes for a decimal integer: by the first form that has it. A wish that makes it another number is dropped.
+/// Returns what a list writes for a decimal integer by decimal forms, or else by others: an integer or, with a wish, a float, else an
+/// integer with a word, and else a float. A wish that makes it another number is dropped.
 fn integer_in(forms: &Forms, literal: &Literal, style: Style) -> Option<String> {
-    let is_other = |form: &&Form| form.syntax().format().mantissa_radix() != 10;
-    let by_turn = forms.into_iter().filter(|it| !is_other(it)).chain(forms.into_iter().filter(is_other));
-    let styles = [style, style.exponent(ExponentStyle::AsNumber)];
-    let texts = by_turn.flat_map(|form| styles.map(|style| form.syntax().format_literal(literal, style)));
-    let mut texts = texts.filter_map(|text| text.ok().map(|text| text.to_string()));
-    texts.find(|text| whole(forms, text).as_deref() == Some(literal.as_str()))
+    let text_of = |form: &Form, style| form.syntax().format_literal(literal, style).ok().map(|text| text.to_string());
+    let plain = style.exponent(ExponentStyle::AsNumber);
+    let is_float = |text: &str| forms.read(text).is_ok_and(|it| it.literal().is_some_and(|it| it.is_float()));
+    let is_late = |text: &str| style.exponent != ExponentStyle::Always && is_float(text);
+    let is_token =
+        |text: &str| forms.token(text).is_ok_and(|it| it.rest.is_empty() && it.literal.to_i128() == literal.to_i128());
+    [true, false].into_iter().find_map(|decimal| {
+        let asked = || forms.into_iter().filter(move |it| (it.syntax().format().mantissa_radix() == 10) == decimal);
+        let texts = || asked().flat_map(|form| [style, plain].map(|style| text_of(form, style))).flatten();
+        let without = |late| {
+            texts().find(|text| is_late(text) == late && whole(forms, text).as_deref() == Some(literal.as_str()))
+        };
+        let with = |form: &Form| {
+            let mut texts = form
+                .suffixes()?
+                .written()
+                .iter()
+                .filter_map(|word| Some(text_of(form, plain)? + str::from_utf8(word).ok()?));
+            texts.find(|text| is_token(text))
+        };
+        without(false).or_else(|| asked().find_map(with)).or_else(|| without(true))
+    })
 }
 
 #[test]

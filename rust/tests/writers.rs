@@ -5,8 +5,8 @@ mod random;
 
 use peltzivar::format::FLAG_MASK;
 use peltzivar::literal::{
-    Condition, Conditions, ExponentStyle, Form, Forms, Language, Literal, Sign, Special, Specials, Spelling, Style,
-    Syntax, WriteError,
+    Affix, Condition, Conditions, ExponentStyle, Form, Forms, Language, Literal, Sign, Special, Specials, Spelling,
+    Style, Syntax, WriteError,
 };
 use peltzivar::{Format, NumberFormatBuilder, Part, Settings};
 use random::Random;
@@ -224,15 +224,19 @@ fn forms_write_what_they_read_as_the_same_number() {
         (Language::C, "0x1.8p1", Language::JAVA, "0x1.8p1"),
         (Language::C, "0x1p-3", Language::JSON, "!Radix"),
         (Language::C, "0x1.8p0", Language::PYTHON, "!Radix"),
-        (Language::C, "9007199254740993", Language::JAVA, "!TooLarge"),
-        (Language::C, "9007199254740992", Language::JAVA, "0x20000000000000p0"),
+        (Language::C, "9007199254740993", Language::JAVA, "9007199254740993L"),
+        (Language::RUST, "9223372036854775808", Language::JAVA, "0x8000000000000000p0"),
+        (Language::RUST, "18446744073709551615", Language::C, "18446744073709551615ULL"),
+        (Language::C, "0xffffffff", Language::JAVA, "0xFFFFFFFFL"),
+        (Language::JAVA, "2147483647", Language::FORTRAN, "2147483647"),
+        (Language::C, "2147483648", Language::FORTRAN, "2147483648_8"),
         (Language::C, "017", Language::PYTHON, "0o17"),
         (Language::C, "017", Language::JSON, "15"),
         (Language::PYTHON, "0o17", Language::C, "017"),
         // What a literal is worth by its kind, and a form whose floats are single.
         (Language::JAVA, "0xffffffff", Language::PYTHON, "!Negative"),
         (Language::JAVA, "0xffffffff", Language::JSON, "-1"),
-        (Language::C, "4294967295", Language::JAVA, "0xFFFFFFFFp0"),
+        (Language::C, "4294967295", Language::JAVA, "4294967295L"),
         (Language::PYTHON, "0.1", Language::FORTRAN, "0.1d0"),
         (Language::JAVA, "0x80000000", Language::FORTRAN, "-2147483648"),
         (Language::FORTRAN, "0.1", Language::PYTHON, "0.10000000149011612"),
@@ -267,6 +271,40 @@ fn forms_write_what_they_read_as_the_same_number() {
     assert_eq!([f64::NAN, f64::INFINITY, f64::NEG_INFINITY].map(special), [".nan", ".inf", "-.inf"]);
 }
 
+/// What stands around a literal counts for the width, and zeros are inside.
+#[test]
+fn marks_stand_around_what_is_written() {
+    let opening = Affix::new(b"#x").unwrap();
+    let forms = [Form::new("", syntax_of("mantissa_radix=16 exponent_base=2 exponent_radix=10 exponent=94"))
+        .with_opening(opening)];
+    let forms = Forms::new_or_panic(&forms);
+    let long = Language::PYTHON.read("0xFFFFFFFFFFFFFFFFFFFFFFFFFFFFFFFFFFFFFFFFFFFFFFFFF").unwrap().literal().unwrap();
+    let written = [
+        forms.format_integer(255, Style::PLAIN),
+        forms.format_float(-1.5, Style::PLAIN),
+        forms.format_literal(&long, Style::PLAIN),
+        Language::JAVA.forms().format_integer(3_000_000_000_u32, Style::PLAIN),
+    ];
+    for (written, wanted) in written.map(Result::unwrap).iter().zip([
+        "#xFF",
+        "#x-1.8",
+        "#xFFFFFFFFFFFFFFFFFFFFFFFFFFFFFFFFFFFFFFFFFFFFFFFFF",
+        "3000000000L",
+    ]) {
+        let padded = format!("{written:<60}|{written:^+60}|{written:060}");
+        let zeros = "0".repeat(60 - wanted.len());
+        let (before, inside) = wanted.split_at(wanted.find(|it: char| it.is_ascii_digit() || it == 'F').unwrap());
+        let plus = if before.ends_with('-') { String::from(wanted) } else { [before, "+", inside].concat() };
+        assert_eq!(padded, format!("{wanted:<60}|{plus:^60}|{before}{zeros}{inside}"));
+        assert_eq!((written.to_string(), format!("{written:?}")), (wanted.into(), format!("{wanted:?}")));
+        assert_eq!(written.write_into(&mut [0; 60]), Ok(wanted));
+        assert_eq!(written.write_into(&mut [0; 3]), Err(WriteError::Buffer(wanted.len())));
+        let mut text = String::new();
+        written.write_to(&mut text).unwrap();
+        assert_eq!(text, wanted);
+    }
+}
+
 /// Returns whether a literal is worth an integer: of a float, its exact digits are those of the integer.
 fn is_worth_integer(literal: &Literal, integer: i128) -> bool {
     literal.to_i128() == Ok(integer)
@@ -293,7 +331,8 @@ fn languages_read_what_they_write() {
             match target.forms().format_literal(&literal, Style::PLAIN) {
                 Ok(written) => {
                     let written = written.to_string();
-                    let back = target.read(&written).unwrap().literal().unwrap();
+                    let token = || target.token(&written).ok().filter(|it| it.rest.is_empty()).map(|it| it.literal);
+                    let back = target.read(&written).ok().and_then(|it| it.literal()).or_else(token).unwrap();
                     assert!(is_same(back), "{language} {text:?} in {target}: {written:?}");
                 }
                 Err(error) => {

@@ -1,6 +1,6 @@
 -- What a list reads is the number that a form has written.
 use Rattle.lexical_writer.proofs.Common.{Bool, Err, Form, Grammar, HasValue, IsRounded, IsSomeAnd, IsWhole, Kind, List, Literal, None, Ok, Option, Read, Reads}
-use Rattle.lexical_writer.proofs.Common.{ReadsForm, Record, SameFraction, Some, Style, ap, arith, decimals_in, false, if◌then◌else◌, inl, inr, integer_worth}
+use Rattle.lexical_writer.proofs.Common.{ReadsForm, Record, SameFraction, Some, Style, ap, arith, decimals_in, false, false≢true, if◌then◌else◌, inl, inr, integer_worth}
 use Rattle.lexical_writer.proofs.Common.{length}
 use Rattle.lexical_writer.proofs.Common.{is_binary, is_decimal, is_exact, is_float, is_minus, is_some, nearest, not, notation_of, ok_or, raw, refl, slice_get}
 use Rattle.lexical_writer.proofs.Common.{subst, suc, sym, take, true, with_sign, worth, zero, ℕ, ℤ, ◌&&◌, ◌||◌, ◌∙◌, ◌≡◌, ◌⊎◌}
@@ -15,7 +15,6 @@ use Rattle.lexical_value.proofs.KindLemmas.{exact_float, limited_worth}
 use Rattle.lexical_value.specs.Integer.{integer_size}
 use Rattle.lexical_value.specs.Kind.{float_worth, format_by, within}
 use Rattle.lexical_literal.specs.declared.kind.FloatKind.TheVariants as floats
-use Rattle.lexical_literal.specs.declared.kind.FloatLimits.TheVariants as limits
 use Rattle.lexical_value.specs.declared.integer.ValueErrorKind.TheVariants as kinds
 use Rattle.lexical_writer.specs.Choice.{IsAmount, IsInStyle, IsReal, IsWrittenNumber, IsWrittenReal, IsWrittenWhole, has_float}
 
@@ -34,11 +33,18 @@ pub written_real : (f : Format) (x : Float) (decimals : Option ℕ) (g : Grammar
 written_real f x None g l near rounded = near refl
 written_real f x (Some n) g l near rounded = rounded n refl
 
--- Without limits, a float, or an integer of the exact kind, is worth the float that is nearest to it.
+-- Within the limits, a float, or an integer of the exact kind, is worth the float that is nearest to it.
 worth_nearest : (f : Format) (kind : Kind) (r : Record) (l : Literal) → (is_decimal r.byte || is_binary r.byte) ≡ true → kind.floats ≡ floats.Nearest
-    → kind.limits ≡ limits.None → (is_exact kind.integers || is_float l) ≡ true → float_worth kind f r.byte l ≡ Ok (nearest f r.byte l)
-worth_nearest f kind r l known near free plain = limited_worth f kind r l (Ok (nearest f r.byte l)) known plain
-    (λ i. within (free i) (is_minus l.sign) (mantissa r.byte l) (nearest (format_by (near i) f) r.byte l))
+    → within kind.limits (is_minus l.sign) (mantissa r.byte l) (nearest f r.byte l) ≡ Ok (nearest f r.byte l)
+    → (is_exact kind.integers || is_float l) ≡ true → float_worth kind f r.byte l ≡ Ok (nearest f r.byte l)
+worth_nearest f kind r l known near fits plain = limited_worth f kind r l (Ok (nearest f r.byte l)) known plain
+    ((λ i. within kind.limits (is_minus l.sign) (mantissa r.byte l) (nearest (format_by (near i) f) r.byte l)) ∙ fits)
+
+-- What is written for a float without a number of decimals has it as its nearest float.
+near_of : (f : Format) (x : Float) (decimals : Option ℕ) (g : Grammar) (l : Literal) → IsWrittenReal f x decimals g l → decimals ≡ None
+    → x ≡ nearest f (raw g.word).byte l
+near_of f x None g l has none = has
+near_of f x (Some n) g l has none = absurd (false≢true (ap is_some (sym none)))
 
 -- What is worth the float that is nearest to a literal that is written for a float is this float in the style.
 amount_is : (f : Format) (x : Float) (decimals : Option ℕ) (g : Grammar) (l : Literal) (read : Read) → IsWrittenReal f x decimals g l
@@ -49,11 +55,11 @@ amount_is f x (Some n) g l read has worth = (g, l, has, worth)
 -- If a literal is written for a float, and worth the nearest one, it is this float in the style.
 pub plain_real : (f : Format) (x : Float) (decimals : Option ℕ) (g : Grammar) (read : Read) → read.format ≡ g.word
     → (is_decimal (raw g.word).byte || is_binary (raw g.word).byte) ≡ true → read.kind.floats ≡ floats.Nearest
-    → read.kind.limits ≡ limits.None → (is_exact read.kind.integers || is_float read.literal) ≡ true
-    → IsWrittenReal f x decimals g read.literal → IsAmount f x decimals read
-plain_real f x decimals g read word known near free plain has = amount_is f x decimals g read.literal read has
+    → ((negative : Bool) → (n : ℕ) → (y : Float) → (decimals ≡ None → x ≡ y) → within read.kind.limits negative n y ≡ Ok y)
+    → (is_exact read.kind.integers || is_float read.literal) ≡ true → IsWrittenReal f x decimals g read.literal → IsAmount f x decimals read
+plain_real f x decimals g read word known near fits plain has = amount_is f x decimals g read.literal read has
     (inl (subst (λ w. float_worth read.kind f (raw w).byte read.literal ≡ Ok (nearest f (raw g.word).byte read.literal)) (sym word)
-    (worth_nearest f read.kind (raw g.word) read.literal known near free plain)))
+    (worth_nearest f read.kind (raw g.word) read.literal known near (fits _ _ _ (near_of f x decimals g read.literal has)) plain)))
 
 -- What is worth the same float as a literal of the exact kind that is written for a float is this float in the style.
 pub same_real : (f : Format) (x : Float) (decimals : Option ℕ) (g : Grammar) (own read : Read) → own.kind ≡ exact → own.format ≡ g.word

@@ -1,11 +1,14 @@
 -- Which form of a list writes a number, and how the text is read back.
-use Rattle.std.specs.Prelude.{ℕ, ◌≡◌, ◌+◌, ◌==◌, ◌&&◌, ◌||◌, ◌⊎◌, not, if◌then◌else◌, Bool, true, false, is_some, List, Ok, Option, Some, None, ℤ}
+use Rattle.std.specs.Prelude.{ℕ, ◌≡◌, ◌+◌, ◌==◌, ◌&&◌, ◌||◌, ◌⊎◌, not, if◌then◌else◌, Bool, true, false, is_some, List, [], Ok, Option, Some, None, ℤ}
+use Rattle.std.specs.Borrow.{Bor}
 use Rattle.std.specs.Float.{Float, Format, binary64}
 use lib.Ieee.Exact.{HasValue as HasFraction}
 use Rattle.lexical_util.specs.Layout as layout
 use Rattle.lexical_util.specs.Record.{Record, bytes_of, raw}
 use Rattle.lexical_forms.specs.FormList.{FormList}
 use Rattle.lexical_forms.specs.Forms.{HasKind, IsFirst}
+use Rattle.lexical_forms.specs.Token.{IsReadByTokens}
+use Rattle.lexical_forms.specs.declared.token.Token.{Token}
 use Rattle.lexical_literal.specs.Notation.{lacks_options}
 use Rattle.lexical_literal.specs.Read.{exact, Read}
 use Rattle.lexical_literal.specs.Literal.{Literal, is_float, is_minus}
@@ -108,3 +111,14 @@ IsStyleOf integer style it = (it ≡ style) ⊎ (((integer ≡ true) × (it ≡ 
 -- first such form, with the kind of this form.
 abbrev pub IsReadBack : FormList → List ℕ → (Read → Type 0) → Type 0
 IsReadBack list text P = (read : Read) × (form : ℕ) × IsFirst list.forms text form read × HasKind list.forms form read × P read
+
+-- `IsTokenOf list word text P` holds if all of `text` is a token of the list with the suffix `word`, and if `P` holds of its literal.
+abbrev pub IsTokenOf : FormList → List ℕ → List ℕ → (Read → Type 0) → Type 0
+IsTokenOf list word text P = (token : Token) × IsReadByTokens list list.tokens text (Ok token) × (token.suffix.now ≡ word)
+    × (token.rest.now ≡ []) × P token.literal
+
+-- `IsReadWith list word text P` holds if the list reads `text` as a literal or, with a `word`, as a token that has this suffix, and if `P` holds
+-- of the literal.
+abbrev pub IsReadWith : FormList → Option (Bor (Bor (List ℕ))) → List ℕ → (Read → Type 0) → Type 0
+IsReadWith list None text P = IsReadBack list text P
+IsReadWith list (Some word) text P = IsTokenOf list word.now.now text P

@@ -55,7 +55,7 @@ returns-then-index-eq0-clause-value g c =
       c.args.index,
       first.0,
       first.1,
-      c.is_plain-plain.ensures c.if-plain.true c.args.style _ (sym c.kind.ensures) (ap (λ (g : Grammar). g.word) (sym c.syntax-syntax.ensures))
+      c.is_plain-plain.ensures c.if-plain.true _ (sym c.kind.ensures) (ap (λ (g : Grammar). g.word) (sym c.syntax-syntax.ensures))
           (sym written.4) written.2,
     )
 
@@ -85,7 +85,7 @@ returns-then-form-index-clause-value g c =
       c.in-Ok-Literal.form,
       both.0,
       both.1,
-      c.is_plain-plain.ensures c.if-plain-2.true c.args.style literal (by.0 ∙ sym c.kind.ensures) by.1 (ap is_float (sym same) ∙ sym written.4)
+      c.is_plain-plain.ensures c.if-plain-2.true literal (by.0 ∙ sym c.kind.ensures) by.1 (ap is_float (sym same) ∙ sym written.4)
           (subst (g.N.Writable.has c.args.number.now c.args.style syntax) same written.2),
     )
 
