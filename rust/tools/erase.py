@@ -157,15 +157,6 @@ REPLACED += [
     # Programs have one copy of these.
     ("lexical_literal/src/stop.rt", "self.begin(false, text, false)", "self.begin_any(text, false)"),
     ("lexical_literal/src/stop.rt", "self.begin(false, text, true)", "self.begin_any(text, true)"),
-    # The error of a token has a copy of its own, which calls what others inline.
-    ("lexical_forms/src/list.rt", "const fn find<'t>(", "const fn find<'t, const RARE: bool>("),
-    ("lexical_forms/src/list.rt", "const fn find_plain<'t>(", "const fn find_plain<'t, const RARE: bool>("),
-    ("lexical_forms/src/list.rt", "self.find_plain(text, stop)", "self.find_plain::<RARE>(text, stop)"),
-    ("lexical_forms/src/list.rt", "syntax.begin(false, text, false)", "if RARE { syntax.begin_any(text, false) } else { syntax.begin(false, text, false) }"),
-    ("lexical_forms/src/list.rt", "self.find(text, stop)", "self.find::<false>(text, stop)"),
-    ("token.rt", "self.find(word, None)", "self.find::<true>(word, None)"),
-    ("marked.rt", "self.find(word, None)", "self.find_marked(word)"),
-    ("lexical_forms/src/list.rt", "    const fn find_marked<", "    pub(crate) const fn find_marked<"),
     ("token.rt", "it.syntax.begin(false, text, true)", "it.syntax.begin_small(text, true)"),
     ("token.rt", "it.syntax.begin(false, front, true)", "it.syntax.begin_small(front, true)"),
     # The library for C has one copy of these.
@@ -173,7 +164,8 @@ REPLACED += [
     ("reasons.rt", "#[inline(always)]\nconst fn reason_for(", "#[cfg_attr(not(peltzivar_small), inline(always))]\nconst fn reason_for("),
     ("marks.rt", "#[inline(always)]\n    pub(crate) const fn literal<", "#[cfg_attr(not(peltzivar_small), inline(always))]\n    pub(crate) const fn literal<"),
     ("marks.rt", "#[inline(always)]\n    pub(crate) const fn front_past(", "#[cfg_attr(not(peltzivar_small), inline(always))]\n    pub(crate) const fn front_past("),
-    ("marks.rt", "syntax.begin(false, inside, false)", "syntax.begin_small(inside, false)"),
+    ("marks.rt", "        let begun = syntax.begin(false, inside, false);", "        if cfg!(peltzivar_small) { return match syntax.read_generally(inside) { Ok(literal) => Some(literal), Err(_) => None }; } let begun = syntax.begin(false, inside, false);"),
+    ("lexical_literal/src/stop.rt", "#[inline(always)]\n    pub(crate) const fn front(", "#[cfg_attr(not(peltzivar_small), inline(always))]\n    pub(crate) const fn front("),
     ("exclude.rt", "#[inline(always)]\npub(crate) const fn lacks_longer(", "#[cfg_attr(not(peltzivar_small), inline(always))]\npub(crate) const fn lacks_longer("),
     ("lexical_literal/src/stop.rt", "stop.step(syntax, text, last)", "stop.step_any(syntax, text, last)"),
     ("lexical_literal/src/stop.rt", "at.step(self, text, last)", "at.step_any(self, text, last)"),

@@ -1,8 +1,8 @@
 -- A front that is a literal ends where reading stops, or before.
 use Rattle.lexical_forms.proofs.Common.{◌∙◌, sym, arith, nat_tests}
 use Rattle.lexical_forms.proofs.LeadingLemmas.{before_stop, stopped_within}
-use Rattle.lexical_forms.proofs.list.Form.bound.Goals as goal
-use Rattle.lexical_forms.proofs.list.Form.bound.Goals.{then-stop-eq0, else-stop-eq0}
+use Rattle.lexical_forms.proofs.form.Form.bound.Goals as goal
+use Rattle.lexical_forms.proofs.form.Form.bound.Goals.{then-stop-eq0, else-stop-eq0}
 
 pub returns-then-is_literal : goal.returns-then-is_literal
 returns-then-is_literal c = stopped_within c.args.text.now c.args.self.now c.args.stop.size c.requires.valid

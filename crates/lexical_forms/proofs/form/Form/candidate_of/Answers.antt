@@ -1,7 +1,7 @@
 -- The candidate with its suffix.
 use Rattle.lexical_forms.proofs.Common.{refl, sym, ◌∙◌}
 use Rattle.lexical_forms.proofs.TokenLemmas.{none_is, with_suffix, without_own, without_suffix}
-use Rattle.lexical_forms.proofs.list.Form.candidate_of.Goals as goal
+use Rattle.lexical_forms.proofs.form.Form.candidate_of.Goals as goal
 
 pub returns-in-None-clause-none : goal.returns-in-None-clause-none
 returns-in-None-clause-none c _ = without_own c.args.back c.args.needs c.args.text.now c.args.self.now c.args.found c.requires (c.in-None.ensures.none refl)

@@ -2,7 +2,7 @@
 use Rattle.lexical_forms.proofs.Common.{sym, ◌∙◌, notation_of}
 use Rattle.lexical_forms.specs.Additions.Token.{IsOwn}
 use Rattle.lexical_forms.proofs.TokenLemmas.{cut_none, cut_short, for_some, is_none, kept, none_is}
-use Rattle.lexical_forms.proofs.list.Form.own.Goals as goal
+use Rattle.lexical_forms.proofs.form.Form.own.Goals as goal
 
 pub returns-then-gives_back-clause-some : goal.returns-then-gives_back-clause-some
 returns-then-gives_back-clause-some c f some = cut_short c.args.back (notation_of c.args.self.now.syntax) c.args.text.now c.args.found c.requires

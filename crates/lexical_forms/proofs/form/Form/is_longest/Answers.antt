@@ -1,7 +1,7 @@
 -- No literal goes on where reading stops, or behind a byte that plays no role.
 use Rattle.lexical_forms.proofs.Common.{◌≡◌, subst, arith, nat_tests, notation_of, Grammar, IsWithin}
-use Rattle.lexical_forms.proofs.list.Form.is_longest.Goals as goal
-use Rattle.lexical_forms.proofs.list.Form.is_longest.Goals.{then-is_over, else-is_over}
+use Rattle.lexical_forms.proofs.form.Form.is_longest.Goals as goal
+use Rattle.lexical_forms.proofs.form.Form.is_longest.Goals.{then-is_over, else-is_over}
 
 pub returns-then-stop-size-clause-within : goal.returns-then-stop-size-clause-within
 returns-then-stop-size-clause-within c = λ kept. elim c.if-is_over.branch [
