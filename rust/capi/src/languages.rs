@@ -253,12 +253,13 @@ pub unsafe fn by<R>(forms: *const Forms, then: impl FnOnce(Given<'_>) -> R) -> R
 const REFUSED: &str = "the forms are null, not 1 to 64, or have an unknown kind, a wrong opening or closing, \
     reserved members or too many words";
 
-/// Returns what `then` returns for the forms with their suffixes and rules for tokens.
+/// Passes the forms with their suffixes and rules for tokens.
 ///
 /// # Safety
 ///
 /// `forms` must be null or forms that a C caller passes.
-pub unsafe fn with_tokens<R>(forms: *const Forms, then: impl FnOnce(Given<'_>) -> R) -> R {
+#[inline(never)]
+pub unsafe fn with_tokens(forms: *const Forms, then: &mut dyn FnMut(Given<'_>)) {
     let (mut list, mut behind) = ([const { MaybeUninit::uninit() }; MOST], [const { MaybeUninit::uninit() }; MOST]);
     let (mut memory, mut tokens) = (Memory::NEW, None);
     let mut reader = Reader::of(&mut memory);
@@ -281,7 +282,7 @@ pub unsafe fn with_tokens<R>(forms: *const Forms, then: impl FnOnce(Given<'_>) -
         Some(tokens) => found.map(|it| it.with_tokens(tokens)),
         None => found,
     };
-    then(found.as_ref().ok_or(REFUSED))
+    then(found.as_ref().ok_or(REFUSED));
 }
 
 /// Returns whether integers may be written with words behind them.

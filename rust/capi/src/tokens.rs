@@ -423,10 +423,11 @@ fn token<'a>(forms: Given<'_>, text: &'a [u8], print: &mut dyn FnMut(&TokenError
 /// Does the same by forms of C.
 #[inline(never)]
 unsafe fn found<'a>(forms: *const Forms, text: *const u8, len: usize, print: &mut dyn FnMut(&TokenError)) -> Read<'a> {
-    match input(text, len) {
-        Some(text) => with_tokens(forms, |forms| token(forms, text, print)),
-        None => Err((0, 0, Refusal::Argument(TOO_LONG))),
+    let mut read = Err((0, 0, Refusal::Argument(TOO_LONG)));
+    if let Some(text) = input(text, len) {
+        with_tokens(forms, &mut |forms| read = token(forms, text, print));
     }
+    read
 }
 
 calls! {

@@ -156,22 +156,24 @@ unsafe fn write_number(
     number: Result<&dyn Writable, literal::Literal>,
 ) -> WriteStatus {
     let is_integer = number.map_or_else(|literal| !literal.is_float(), Writable::is_integer);
-    let write: &dyn Fn(Given<'_>) -> WriteStatus = &|forms| match (forms, wishes(style)) {
-        (Ok(forms), Some(style)) if forms.as_slice().iter().all(|it| has_radixes(&it.syntax())) => {
+    let mut status = ARGUMENT;
+    let write: &mut dyn FnMut(Given<'_>) = &mut |forms| {
+        let (Ok(forms), Some(style)) = (forms, wishes(style)) else { return };
+        if forms.as_slice().iter().all(|it| has_radixes(&it.syntax())) {
             let print = |written: &[u8]| finish(to, |text| text.write_str(str::from_utf8_unchecked(written)));
             let written = match number {
                 Ok(number) => forms.written(number, style, print),
                 Err(literal) => forms.written_literal(&literal, style, print),
             };
-            written.unwrap_or_else(status_of)
+            status = written.unwrap_or_else(status_of);
         }
-        _ => ARGUMENT,
     };
     if is_integer && has_written(forms) {
-        with_tokens(forms, write)
+        with_tokens(forms, write);
     } else {
-        by(forms, write)
+        by(forms, write);
     }
+    status
 }
 
 /// Writes NaN or infinity by forms, and the size that is enough.
