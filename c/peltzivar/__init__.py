@@ -1589,8 +1589,8 @@ class Affixes(metaclass=_Class):
 
         >>> hexadecimal = {"hexadecimal": Syntax.of(radix=16, exponent=None, point=None)}
         >>> ada = Forms(hexadecimal, affixes={"hexadecimal": Affixes("16#", "#")})
-        >>> ada.read("16#FF#").value, ada.format_number(31)
-        (255, '16#1F#')
+        >>> ada.read("16#FF#").value
+        255
     """
 
     opening: str = ""

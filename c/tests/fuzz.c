@@ -235,7 +235,7 @@ static void test_affixes(peltzivar_forms forms, const char *from, size_t len, bo
     CHECK_LAWFUL(is_refused || is_read == (is_own && !is_other));
     if (is_read) CHECK_LAWFUL(literal.text == all + before && literal.size == len && !memcmp(&literal.sign, &own.sign, 9 * sizeof own.sign));
     if (!is_refused && !is_own && !is_other) CHECK_LAWFUL(error.valid_up_to >= before + why.valid_up_to);
-    if (!is_refused) test_list(&forms, all, before + len + behind, is_lawful);
+    if (!is_refused && !behind) test_list(&forms, all, before + len + behind, is_lawful);
     free(all);
 }
 
