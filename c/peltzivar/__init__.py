@@ -1666,9 +1666,8 @@ class Forms(_Keyed, _Several, Mapping[str, Syntax]):
         self.only_read: Tuple[str, ...] = (*self._by_form("", dict.fromkeys(only_read or (), ""), str),)
         self.tokens: Optional[Tokens] = None if tokens is None else _typed("tokens", tokens, Tokens)
         behind = self.tokens.forms if self.tokens is not None else None
-        given = self.kinds, self.suffixes, self.affixes
-        own = [(name, it, *(of.get(name) for of in given), name in self.only_read) for name, it in self.items()]
-        own = [(*it[:2], it[2] or Kind(), *it[3:]) for it in own]
+        given = [(self.kinds.get(it, Kind()), self.suffixes.get(it), self.affixes.get(it)) for it in self]
+        own = [(name, self[name], *of, name in self.only_read) for name, of in zip(self, given)]
         self._listed: Any = own + (behind._listed if behind is not None else [])
         made = tuple(
             (None, it._by, *kind._numbers(), more and more._members(), *(affixes or Affixes())._members(), int(is_read))
@@ -1717,7 +1716,7 @@ def _forms_of(listed: Any, more: Dict[str, Any]) -> Forms:
     named = {_shown(name): it for name, *it in listed}
     kinds = {name: kind for name, it in named.items() if (kind := Kind._of(*it[1:5])) != Kind()}
     suffixes = {name: Suffixes._of(*it[5]) for name, it in named.items() if it[5]}
-    of = {name: Affixes(*map(_shown, it[6:8]), *map(bool, it[8:10])) for name, it in named.items()}
+    of = {name: Affixes(_shown(it[6]), _shown(it[7]), bool(it[8]), bool(it[9])) for name, it in named.items()}
     affixes = {name: it for name, it in of.items() if it != Affixes()}
     forms = {name: Syntax._of_numbers(it[0]) for name, it in named.items()}
     only_read = [name for name, it in named.items() if it[10]]
