@@ -400,6 +400,7 @@ unsafe impl<T> Sync for Constant<T> {}
 type Read<'a> = Result<Token<'a>, (usize, usize, Refusal<FormError>)>;
 
 /// Returns the token that a text begins with. An error of a suffix has words of the caller, and is passed to `print`.
+#[allow(clippy::result_large_err, reason = "the library allocates nothing")]
 fn token<'a>(forms: Given<'_>, text: &'a [u8], print: &mut dyn FnMut(&TokenError)) -> Read<'a> {
     let forms = forms.map_err(|sentence| (0, 0, Refusal::Argument(sentence)))?;
     match forms.token_bytes(text) {
@@ -422,6 +423,7 @@ fn token<'a>(forms: Given<'_>, text: &'a [u8], print: &mut dyn FnMut(&TokenError
 
 /// Does the same by forms of C.
 #[inline(never)]
+#[allow(clippy::result_large_err, reason = "the library allocates nothing")]
 unsafe fn found<'a>(forms: *const Forms, text: *const u8, len: usize, print: &mut dyn FnMut(&TokenError)) -> Read<'a> {
     let mut read = Err((0, 0, Refusal::Argument(TOO_LONG)));
     if let Some(text) = input(text, len) {
