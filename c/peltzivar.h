@@ -186,7 +186,7 @@ typedef struct {
     PELTZIVAR_ALIGNED uint64_t magic;
     size_t valid_up_to;
     uint8_t form;
-    uint64_t stop[13];
+    uint64_t stop[15];
 } peltzivar_read_error;
 
 /* Read a text of len bytes by a list of forms, write its value to *out and return PELTZIVAR_VALUE_OK. An integer has
@@ -195,7 +195,8 @@ typedef struct {
  * are floats. The value is that of the kind of the form: Java's `0xffffffff` is -1, and its `1e400` an error. Otherwise,
  * leave *out unchanged and return another status but PELTZIVAR_VALUE_NO_LITERAL. With PELTZIVAR_VALUE_REFUSED, write
  * where reading stopped to *error. This is also the status if the list is null, has no array, too many forms, an
- * unknown kind, or reserved bytes that are not 0, or if len is above PTRDIFF_MAX. Then `valid_up_to` is 0. */
+ * unknown kind, a wrong opening or closing, or reserved bytes that are not 0, or if len is above PTRDIFF_MAX. Then
+ * `valid_up_to` is 0. */
 PELTZIVAR_MUST_USE peltzivar_value_status peltzivar_parse_i64(
     const peltzivar_forms *forms, const char *text, size_t len, int64_t *out, peltzivar_read_error *error);
 PELTZIVAR_MUST_USE peltzivar_value_status peltzivar_parse_u64(
@@ -252,7 +253,8 @@ typedef struct {
 /* A literal: its text, which must last as long as the literal is used, and its parts, in the order of the text. An
  * absent part is empty. The prefix includes the zero before it. The three parts with digits include digit separators.
  * `size` is the length of the text. A float has a point or an exponent character, or both. `form` is the index of one
- * of several forms, and otherwise 0. A literal can be copied, as an error can. */
+ * of several forms, and otherwise 0. If the form has an opening or a closing, the text is what is between them. A
+ * literal can be copied, as an error can. */
 typedef struct {
     PELTZIVAR_ALIGNED uint64_t magic;
     const char *text;
@@ -271,9 +273,10 @@ PELTZIVAR_MUST_USE bool peltzivar_forms_read(const peltzivar_forms *forms, const
     peltzivar_literal *literal, peltzivar_read_error *error);
 
 /* Reads the longest beginning of a text that is a literal of any form, writes it to *literal and returns true. What
- * follows it may be anything: with the prefix `0x`, the literal of `0xG` is `0`. If there is none, or if
- * peltzivar_parse_f64 refuses the list or the length, writes where reading stopped to *error and returns false. Reads
- * no byte behind the first that cannot follow or, if it begins a character of UTF-8, behind this character. */
+ * follows it may be anything: with the prefix `0x`, the literal of `0xG` is `0`. It begins behind the closing, if the
+ * form has one. If there is no literal, or if peltzivar_parse_f64 refuses the list or the length, writes where reading
+ * stopped to *error and returns false. Reads no byte behind the first that cannot follow or, if it begins a character
+ * of UTF-8, behind this character. */
 PELTZIVAR_MUST_USE bool peltzivar_forms_read_prefix(const peltzivar_forms *forms, const char *text, size_t len,
     peltzivar_literal *literal, peltzivar_read_error *error);
 
@@ -444,7 +447,8 @@ typedef struct {
 #define PELTZIVAR_INTEGER_SIZE 519
 #define PELTZIVAR_FLOAT_SIZE 2112
 
-/* Write an integer by the first form whose text all forms read as the same integer, also as a double that is exactly
+/* Write an integer by the first form whose text all forms read as the same integer, or else with a word of
+ * peltzivar_suffixes, which peltzivar_forms_token reads and the other calls refuse, or else as a double that is exactly
  * this integer. Decimal forms are asked first, and then the others, each in their order. If there is none, the status
  * is that of the form that is asked first, but PELTZIVAR_WRITE_FRACTION gives way to another one. */
 PELTZIVAR_MUST_USE peltzivar_write_status peltzivar_forms_format_i64(const peltzivar_forms *forms, int64_t value,
@@ -618,28 +622,38 @@ typedef struct {
 /* The suffixes of a form, which only peltzivar_forms_token reads: words directly behind integers and behind floats, in
  * this case or, with either_case, in either one. A string of words has spaces between them, as in "u8 u16". Words have
  * letters, digits, `_` and bytes from 128 up, and others are never found, nor is one that begins with a digit of its
- * form. Any word that begins with a byte of the string `any` is a suffix, too, as in `1_km`. A string may be null. */
+ * form. Any word that begins with a byte of the string `any` is a suffix, too, as in `1_km`. A string may be null.
+ *
+ * The words of the string `written`, such as "L" for Java, may be written behind an integer that the forms do not have
+ * without one: the first with which peltzivar_forms_token reads all of the text as the number. */
 typedef struct {
-    const char *integers, *floats, *any;
+    const char *integers, *floats, *any, *written;
     const peltzivar_suffix_kind *kinds;
     size_t kind_count;
     const peltzivar_stop *stops;
     size_t stop_count;
     bool either_case;
-    uint8_t reserved[7];
+    uint8_t reserved[15];
 } peltzivar_suffixes;
 
 /* A form of numbers, such as `0x1F`: its name, which may be null, its syntax, its kind, by which the values of its
  * literals are found, and its suffixes, or null. FORMS.md describes kinds: integers have at most integer_bits bits, or
  * wrap at them, and so may be negative, and floats are the nearest single, or else the nearest value of the type,
  * with float_limits or without. integer_bits is from 1 to 64, or to 128 for integers that have at most so many bits, or
- * 0 for exact integers. Zeros are exact integers and nearest floats without limits. */
+ * 0 for exact integers. Zeros are exact integers and nearest floats without limits.
+ *
+ * A text is a literal of the form if it is the string `opening`, a literal of the syntax, and the string `closing`, as
+ * in `16#FF#`. A string that is null is empty. Each has at most 8 bytes, all ASCII, whose letters are in either case
+ * unless it is case-sensitive. The first byte of a closing has no role in the syntax, nor has its other case. A list
+ * with another opening or closing is refused. Nothing is written by a form that is `only_read`. */
 typedef struct {
     const char *name;
     peltzivar_syntax syntax;
     uint8_t integer_kind, integer_bits, float_kind, float_limits;
-    uint8_t reserved[4];
+    bool case_sensitive_opening, case_sensitive_closing, only_read;
+    uint8_t reserved[1];
     const peltzivar_suffixes *suffixes;
+    const char *opening, *closing;
 } peltzivar_form;
 
 /* The rules by which a list has tokens: an array of `count` forms that need a suffix, which no other call takes, such
@@ -667,8 +681,9 @@ struct peltzivar_forms {
     uint64_t reserved[2];
     const peltzivar_tokens *tokens;
 };
-/* The largest number of forms and, for peltzivar_forms_token, of all words, of all kinds of suffixes, and of all stops.
- * Suffixes count once for forms that follow one another and point to the same ones. */
+/* The largest number of forms and, for peltzivar_forms_token and in lists with `written` words, of all words, of all
+ * kinds of suffixes, and of all stops. Suffixes count once for forms that follow one another and point to the same
+ * ones. */
 #define PELTZIVAR_FORMS_MAX 64
 #define PELTZIVAR_WORDS_MAX 256
 
@@ -704,16 +719,18 @@ enum {
     PELTZIVAR_KIND_MISSING = 5, /* Digits are missing. */
     PELTZIVAR_KIND_SUFFIX = 6, /* The word behind a number is not a suffix of its form. */
     PELTZIVAR_KIND_POINT = 7, /* The decimal point of a number belongs to what follows, and it is none without it. */
-    PELTZIVAR_KIND_STOP = 8 /* A stop of the form refuses what follows the number. */
+    PELTZIVAR_KIND_STOP = 8, /* A stop of the form refuses what follows the number. */
+    PELTZIVAR_KIND_AFFIX = 9 /* The opening or the closing of the form is not there. */
 };
 
 /* Why a text is not a literal. `span` has the bytes to show. If it is empty, it marks the place before `start`. `mask`
- * has the flags to blame, and `number` is the lowest as a setter. For a wrong byte, for missing digits, and if
- * conditions alone are to blame, they are 0 and PELTZIVAR_NO_SETTER. `conditions` has those to blame, as bits. `part`
- * is the part of a separator or of missing digits, and otherwise PELTZIVAR_NO_PART. If `kind` is
+ * has the flags to blame, and `number` is the lowest as a setter. For a wrong byte, opening or closing, for missing
+ * digits, and if conditions alone are to blame, they are 0 and PELTZIVAR_NO_SETTER. `conditions` has those to blame,
+ * as bits. `part` is the part of a separator or of missing digits, and otherwise PELTZIVAR_NO_PART. If `kind` is
  * PELTZIVAR_KIND_SEPARATOR, a format with any one of these flags set allows the separator. Otherwise, a syntax without
  * all of these flags and conditions does not have this cause. Either may refuse the text for another one. `code` is a
- * parse error, and `index` its index for peltzivar_error_text. */
+ * parse error, of PELTZIVAR_KIND_AFFIX that of a wrong byte or, at the end of the text, of missing digits, and `index`
+ * its index for peltzivar_error_text. */
 typedef struct {
     peltzivar_span span;
     size_t index;

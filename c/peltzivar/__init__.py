@@ -50,7 +50,8 @@ from . import _peltzivar
 # The calls of C.
 _c: Any = _peltzivar
 
-__all__ = ["STANDARD", "Byte", "Column", "ColumnError", "Edit", "Error", "Format", "FormatError", "FormatView", "Forms"]
+__all__ = ["STANDARD", "Affixes", "Byte", "Column", "ColumnError", "Edit", "Error", "Format", "FormatError"]
+__all__ += ["FormatView", "Forms"]
 __all__ += ["Kind", "Language", "Literal", "LiteralError", "Note", "OptionsError", "Part", "Parts", "ReadErrorKind"]
 __all__ += ["Reason", "ReasonsError", "Role", "Rule", "Separators", "Setter", "SettingsError", "Special", "Specials"]
 __all__ += ["Spelling", "Suffixes", "Syntax", "Token", "Tokens", "Value", "WrongCell", "languages", "notes_of"]
@@ -680,7 +681,8 @@ class Parts(Generic[AnyStr], metaclass=_Class):
 
 
 class Literal(_Keyed, _peltzivar.Found, Generic[AnyStr]):
-    """A text that is a literal of a syntax. `str(literal)` is the text, and `read` makes a literal.
+    """A text that is a literal of a syntax. `str(literal)` is the text, and `read` makes a literal. If its form has an
+    opening or a closing, it is what is between them.
 
     `int(literal)` is the value of an integer, and raises a ValueError for a float and, as for each text, for more than
     4300 digits, unless the radix is a power of two. `float(literal)` is the float that is nearest to the value, or
@@ -712,7 +714,7 @@ class Literal(_Keyed, _peltzivar.Found, Generic[AnyStr]):
     @property
     def kind(self) -> Kind:
         """The kind of the form or, of a token, of its suffix if that has one."""
-        _, _, kind, own = self._owner._listed[self._form]
+        kind, own = self._owner._listed[self._form][2:4]
         word, kinds = _shown(_encoded("a suffix", self._suffix or "")), own.kinds if own else ()
         found = (of for it, of in kinds if word and (it == word or own.either_case and it.lower() == word.lower()))
         return cast(Kind, next(found, kind))
@@ -822,8 +824,16 @@ class Literal(_Keyed, _peltzivar.Found, Generic[AnyStr]):
         text: Union[str, bytes] = self.text
         return text.decode() if isinstance(text, bytes) else text
 
+    def _whole(self) -> AnyStr:
+        """Returns the text with its opening, its closing and its suffix."""
+        affixes, suffix = self._owner._listed[self._form][4], self._suffix or self.text[:0]
+        opening, closing = (affixes.opening, affixes.closing) if affixes else ("", "")
+        if isinstance(self.text, bytes):
+            return cast(AnyStr, opening.encode() + self.text + closing.encode() + suffix)
+        return cast(AnyStr, opening + self.text + closing + suffix)
+
     def __repr__(self) -> str:
-        whole = self.text if self._suffix is None else self.text + self._suffix
+        whole = self._whole()
         owner = repr(self._owner) if isinstance(self._owner, Language) else f"<{type(self._owner).__name__}>"
         return f"{owner}." + (f"read({whole!r})" if self._suffix is None else f"token({whole!r}).literal")
 
@@ -831,9 +841,8 @@ class Literal(_Keyed, _peltzivar.Found, Generic[AnyStr]):
         return self.syntax.format, self.text, self._ends(), self.kind
 
     def __reduce__(self) -> Tuple[Any, ...]:
-        if self._suffix is not None:
-            return _Several._literal_of, (self._owner, self.text + self._suffix)
-        return type(self._owner).read, (self._owner, self.text)
+        call = type(self._owner).read if self._suffix is None else _Several._literal_of
+        return call, (self._owner, self._whole())
 
 
 @dataclass(frozen=True)
@@ -911,7 +920,9 @@ class _Reader(_peltzivar.Reader):
     """What reads texts by forms."""
 
     _named: Any  # The syntaxes of the forms, by their names.
-    _listed: Any  # The name, syntax, kind and suffixes of each form, and then of those that need a suffix.
+    # The name, syntax, kind, suffixes and affixes of each form, and whether it is only read, and then of those that
+    # need a suffix.
+    _listed: Any
     read: Any
 
     def read_prefix(self, text: AnyStr) -> Tuple[Literal[AnyStr], AnyStr]:
@@ -922,7 +933,7 @@ class _Reader(_peltzivar.Reader):
             ('1.25', '.3')
         """
         literal: Literal[AnyStr] = self._read(text, True)
-        return literal, text[len(literal.text) :]
+        return literal, text[len(literal._whole()) :]
 
     def format_number(
         self, value: Union[SupportsIndex, SupportsFloat, Special], *, group: Optional[int] = None,
@@ -956,8 +967,9 @@ class _Reader(_peltzivar.Reader):
         Of several forms, as those of a Language, that is taken whose text all of them read as the same integer, or the
         same float: one of the radix of a `Literal`, or else decimal, or else another, and of a float, one with floats
         before those of integers alone. If there is none, the error is that of the first, but that the number is not
-        whole gives way to another one. An int that no form of integers can have is written as a float that is equal to
-        it: `languages.JAVA.format_number(3000000000)` is 0xB2D05E00p0.
+        whole gives way to another one. An int that these forms of integers have only with a word is written with one,
+        which `token` reads: `languages.JAVA.format_number(3000000000)` is 3000000000L. Without one, it is written as a
+        float that is equal to it.
 
         Raises ValueError for NaN and infinity without a spelling that is read as them, for a Fraction that no decimal
         number is equal to, for a sign `-` if no literal has one, for a number that is not whole if literals are
@@ -1103,6 +1115,8 @@ def _style(
 # How often 2 and 5 divide each number that no other prime divides.
 _FACTORS = {2**twos * 5**fives: (twos, fives) for twos in range(6) for fives in range(3)}
 _MOST_DIGITS = 10**6
+# The members of a form behind its syntax, if it has the kind `Kind()`, and nothing else.
+_PLAIN = 0, 0, 0, 0, None, None, None, 0, 0, 0
 _TOO_LONG = "the exact value has more than 10^6 digits"
 _EXACT = Context(_MOST_DIGITS, Emin=MIN_EMIN, Emax=MAX_EMAX, traps=[InvalidOperation, Rounded])
 # Numbers that are neither long nor far from 1.
@@ -1153,7 +1167,7 @@ class Syntax(_Reader, metaclass=_Class):
         exponent, point = (chr(it) if it else None for it in options)
         conditions = {name: _condition(name, getattr(self, name)) for name in _CONDITIONS}
         by = (*format._halves, *options, *(int(it or 0) for it in conditions.values()))
-        _c.make(self, (((None, by, 0, 0, 0, 0, None),), (None, None, None), None), False)
+        _c.make(self, (((None, by, *_PLAIN),), (None, None, None), None), False)
         if sentence := self._notation(3):
             raise OptionsError((Reason(sentence),))
         vars(self).update(conditions, format=format, exponent=exponent, point=point, _notes=notes, _by=by)
@@ -1251,7 +1265,7 @@ class Syntax(_Reader, metaclass=_Class):
 
     @property
     def _listed(self) -> Any:
-        return [("", self, Kind(), None)]
+        return [("", self, Kind(), None, None, False)]
 
 
 def _writable(value: Any, radix: int, syntax: Syntax, style: Tuple[int, ...]) -> Any:
@@ -1405,7 +1419,7 @@ class Specials(metaclass=_Class):
 
     def _reader(self, syntax: Syntax) -> Any:
         """Returns what reads special values by the flags of a syntax."""
-        form, reader = (None, _typed("syntax", syntax, Syntax)._by, 0, 0, 0, 0, None), _Reader()
+        form, reader = (None, _typed("syntax", syntax, Syntax)._by, *_PLAIN), _Reader()
         _c.make(reader, ((form,), self._spellings(), None), True)
         return reader
 
@@ -1521,8 +1535,9 @@ class Suffixes(metaclass=_Class):
     that begins with a digit of the form, such as `5k`, is never found. Any word that begins with a character of `any`
     is a suffix, too, as in `1_km`. `kinds` has the kinds of numbers by their suffixes, a dict or pairs. A number is not
     a token if it is at one of the `stops`: if it ends in a character of the first string, one of the second follows,
-    and then one of the third. An empty string asks for nothing. Raises ValueError for another character in a word, and
-    for a null character.
+    and then one of the third. An empty string asks for nothing. `written` has the words that `format_number` may write
+    behind an integer: the first with which `token` reads all of the text as the number. Raises ValueError for another
+    character in a word, and for a null character.
 
         >>> words = Suffixes("u8 i8", "f32", kinds={"f32": Kind(single=True)}, stops=[("", ".", "0123456789")])
         >>> forms = Forms([("number", Syntax(Format()))], suffixes={"number": words}, tokens=Tokens())
@@ -1536,6 +1551,7 @@ class Suffixes(metaclass=_Class):
     kinds: Any = ()
     stops: Any = ()
     either_case: bool = False
+    written: str = ""
 
     def __post_init__(self) -> None:
         pairs = self.kinds.items() if isinstance(self.kinds, Mapping) else self.kinds
@@ -1545,7 +1561,8 @@ class Suffixes(metaclass=_Class):
         _typed("either_case", self.either_case, bool)
         if any(len(stop) != 3 for stop in self.stops):
             raise ValueError(f"a stop has three strings: {self.stops}")
-        [_string(it) for it in (self.integers, self.floats, self.any, *(it for stop in self.stops for it in stop))]
+        texts = self.integers, self.floats, self.any, self.written
+        [_string(it) for it in (*texts, *(it for stop in self.stops for it in stop))]
         words = [*self.integers.split(" "), *self.floats.split(" "), *(it for it, _ in self.kinds)]
         if wrong := [it for it in words if any(it.isascii() and not it.isalnum() and it != "_" for it in it)]:
             raise ValueError(f"a suffix has letters, digits, `_` and characters that are not ASCII: {wrong[0]!r}")
@@ -1554,13 +1571,44 @@ class Suffixes(metaclass=_Class):
         """Returns the members of the structure."""
         stops = tuple(tuple(map(_string, stop)) for stop in self.stops)
         kinds = tuple((_string(it), *kind._numbers()) for it, kind in self.kinds)
-        return *map(_string, (self.integers, self.floats, self.any)), kinds, stops, int(self.either_case)
+        texts = self.integers, self.floats, self.any, self.written
+        return *map(_string, texts), kinds, stops, int(self.either_case)
 
     @classmethod
-    def _of(cls, integers: Any, floats: Any, any: Any, kinds: Any, stops: Any, either_case: int) -> Suffixes:
+    def _of(cls, *members: Any) -> Suffixes:
+        *texts, kinds, stops, either_case = members
+        integers, floats, any, written = map(_shown, texts)
         named = [(_shown(word), Kind._of(*numbers)) for word, *numbers in kinds]
-        shown = [[*map(_shown, it)] for it in stops]
-        return cls(_shown(integers), _shown(floats), _shown(any), named, shown, bool(either_case))
+        return cls(integers, floats, any, named, [[*map(_shown, it)] for it in stops], bool(either_case), written)
+
+
+@dataclass(frozen=True)
+class Affixes(metaclass=_Class):
+    """What stands before and behind each literal of a form: up to 8 characters of ASCII each, whose letters are in
+    either case, unless it is case-sensitive. A sign stands behind the opening. Raises ValueError for others.
+
+        >>> hexadecimal = {"hexadecimal": Syntax.of(radix=16, exponent=None, point=None)}
+        >>> ada = Forms(hexadecimal, affixes={"hexadecimal": Affixes("16#", "#")})
+        >>> ada.read("16#FF#").value
+        255
+    """
+
+    opening: str = ""
+    closing: str = ""
+    case_sensitive_opening: bool = False
+    case_sensitive_closing: bool = False
+
+    def __post_init__(self) -> None:
+        for name, it in vars(self).items():
+            if "_" in name:
+                _typed(name, it, bool)
+            elif len(_string(it)) > 8 or not it.isascii():
+                raise ValueError(f"{name} has at most 8 characters, which are ASCII: {reprlib.repr(it)}")
+
+    def _members(self) -> Tuple[Any, ...]:
+        """Returns the members of the structure."""
+        texts = _string(self.opening), _string(self.closing)
+        return *texts, int(self.case_sensitive_opening), int(self.case_sensitive_closing)
 
 
 @dataclass(frozen=True)
@@ -1580,22 +1628,27 @@ class Tokens(metaclass=_Class):
         _typed("gives_points_back", self.gives_points_back, bool)
 
 
+_OF_FORMS = "kinds", "suffixes", "tokens", "affixes", "only_read"
+
+
 class Forms(_Keyed, _Several, Mapping[str, Syntax]):
     """Several forms of numbers, such as `10` and `0x1F`, and the spellings of NaN and infinity.
 
     The first form of which a text is a literal decides its parts and its value, so the order matters. If it is a
     literal of none, a spelling may match, by the flags of the first form. A LiteralError is that of the form for which
     most of the text is right. `forms["hexadecimal"]` is the syntax with this name. `kinds` has the kinds of forms, by
-    their names, `suffixes` the `Suffixes` of forms, and `tokens` the rules for `token`. They are those of `forms` if
-    these are `Forms`. Raises ValueError if there are no forms or more than 64, if two have the same name, if there is a
-    kind or there are suffixes of no form, or if forms that have tokens have more than 256 words, kinds of suffixes, or
-    stops.
+    their names, `suffixes` the `Suffixes` of forms, `affixes` their `Affixes`, `only_read` the names of those by which
+    nothing is written, and `tokens` the rules for `token`. They are those of `forms` if these are `Forms`. Raises
+    ValueError if there are no forms or more than 64, if two have the same name, if a name is that of no form, if the
+    first character of a closing has a role in its syntax, or if forms that have tokens have more than 256 words, kinds
+    of suffixes, or stops.
     """
 
     def __init__(
         self, forms: Union[Mapping[str, Syntax], Iterable[Tuple[str, Syntax]]], *, nan: Optional[str] = None,
         inf: Optional[str] = None, infinity: Optional[str] = None, kinds: Optional[Mapping[str, Kind]] = None,
-        suffixes: Optional[Mapping[str, Suffixes]] = None, tokens: Optional[Tokens] = None
+        suffixes: Optional[Mapping[str, Suffixes]] = None, tokens: Optional[Tokens] = None,
+        affixes: Optional[Mapping[str, Affixes]] = None, only_read: Optional[Iterable[str]] = None
     ) -> None:
         pairs = [*(forms.items() if isinstance(forms, Mapping) else forms)]
         self._named = {_typed("a name", name, str): _typed("a form", it, Syntax) for name, it in pairs}
@@ -1605,18 +1658,27 @@ class Forms(_Keyed, _Several, Mapping[str, Syntax]):
         self.specials = Specials(nan, inf, infinity)
         if isinstance(forms, Forms):
             kinds, suffixes = forms.kinds if kinds is None else kinds, forms.suffixes if suffixes is None else suffixes
-            tokens = forms.tokens if tokens is None else tokens
+            tokens, affixes = forms.tokens if tokens is None else tokens, forms.affixes if affixes is None else affixes
+            only_read = forms.only_read if only_read is None else only_read
         self.kinds: Dict[str, Kind] = self._by_form("a kind", kinds, Kind)
         self.suffixes: Dict[str, Suffixes] = self._by_form("suffixes", suffixes, Suffixes)
+        self.affixes: Dict[str, Affixes] = self._by_form("affixes", affixes, Affixes)
+        self.only_read: Tuple[str, ...] = (*self._by_form("", dict.fromkeys(only_read or (), ""), str),)
         self.tokens: Optional[Tokens] = None if tokens is None else _typed("tokens", tokens, Tokens)
         behind = self.tokens.forms if self.tokens is not None else None
-        own = [(name, it, self.kinds.get(name, Kind()), self.suffixes.get(name)) for name, it in self.items()]
+        given = [(self.kinds.get(it, Kind()), self.suffixes.get(it), self.affixes.get(it)) for it in self]
+        own = [(name, self[name], *of, name in self.only_read) for name, of in zip(self, given)]
         self._listed: Any = own + (behind._listed if behind is not None else [])
-        made = tuple((None, it._by, *kind._numbers(), more and more._members()) for _, it, kind, more in own)
+        made = tuple(
+            (None, it._by, *kind._numbers(), more and more._members(), *(affixes or Affixes())._members(), int(is_read))
+            for _, it, kind, more, affixes, is_read in own
+        )
         forms_behind = behind._made[0] if behind is not None else ()
         rules = self.tokens and (forms_behind, _string(self.tokens.following), int(self.tokens.gives_points_back))
         self._made: Any = made, self.specials._spellings(), rules
         _c.make(self, self._made, True)
+        if isinstance(self._explain(b"", -1), str):
+            raise ValueError("the first character of a closing has a role in the syntax of its form")
         if self.tokens is not None and isinstance(self._explain(b"", 0), str):
             raise ValueError(f"the forms have more than {_c.WORDS_MAX} words, kinds of suffixes, or stops")
 
@@ -1638,24 +1700,27 @@ class Forms(_Keyed, _Several, Mapping[str, Syntax]):
 
     def __repr__(self) -> str:
         spelled = "".join(f", {name}={it!r}" for name, it in vars(self.specials).items() if it)
-        more = "".join(f", {name}={it!r}" for name in ("kinds", "suffixes", "tokens") if (it := getattr(self, name)))
+        more = "".join(f", {name}={it!r}" for name in _OF_FORMS if (it := getattr(self, name)))
         return f"Forms({[*self.items()]}{spelled}{more})"
 
     def _key(self) -> Tuple[Any, ...]:
         return *self._listed[: len(self)], self.specials, self.tokens
 
     def __reduce__(self) -> Tuple[Any, ...]:
-        more = {"kinds": self.kinds, "suffixes": self.suffixes, "tokens": self.tokens}
+        more = {name: getattr(self, name) for name in _OF_FORMS}
         return functools.partial(Forms, **vars(self.specials), **more), ([*self.items()],)
 
 
 def _forms_of(listed: Any, more: Dict[str, Any]) -> Forms:
     """Returns forms of a language."""
     named = {_shown(name): it for name, *it in listed}
-    kinds = {name: kind for name, (_, *numbers, _) in named.items() if (kind := Kind._of(*numbers)) != Kind()}
-    suffixes = {name: Suffixes._of(*it[-1]) for name, it in named.items() if it[-1]}
+    kinds = {name: kind for name, it in named.items() if (kind := Kind._of(*it[1:5])) != Kind()}
+    suffixes = {name: Suffixes._of(*it[5]) for name, it in named.items() if it[5]}
+    of = {name: Affixes(_shown(it[6]), _shown(it[7]), bool(it[8]), bool(it[9])) for name, it in named.items()}
+    affixes = {name: it for name, it in of.items() if it != Affixes()}
     forms = {name: Syntax._of_numbers(it[0]) for name, it in named.items()}
-    return Forms(forms, **more, kinds=kinds, suffixes=suffixes)
+    only_read = [name for name, it in named.items() if it[10]]
+    return Forms(forms, **more, kinds=kinds, suffixes=suffixes, affixes=affixes, only_read=only_read)
 
 
 class _Language(_Several, _Named):

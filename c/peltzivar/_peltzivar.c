@@ -63,10 +63,12 @@ IS(specials) S(specials, nan) S(specials, inf) S(specials, infinity) }};
 IS(suffix_kind) S(suffix_kind, word) B(suffix_kind, integer_kind) B(suffix_kind, integer_bits)
     B(suffix_kind, float_kind) B(suffix_kind, float_limits) }};
 IS(stop) S(stop, last) S(stop, next) S(stop, second) }};
-IS(suffixes) S(suffixes, integers) S(suffixes, floats) S(suffixes, any) ARRAY(suffixes, kinds, kind_count, suffix_kind)
-    ARRAY(suffixes, stops, stop_count, stop) B(suffixes, either_case) }};
+IS(suffixes) S(suffixes, integers) S(suffixes, floats) S(suffixes, any) S(suffixes, written)
+    ARRAY(suffixes, kinds, kind_count, suffix_kind) ARRAY(suffixes, stops, stop_count, stop)
+    B(suffixes, either_case) }};
 IS(form) S(form, name) OF('>', form, syntax, syntax) B(form, integer_kind) B(form, integer_bits) B(form, float_kind)
-    B(form, float_limits) OF('*', form, suffixes, suffixes) }};
+    B(form, float_limits) OF('*', form, suffixes, suffixes) S(form, opening) S(form, closing)
+    B(form, case_sensitive_opening) B(form, case_sensitive_closing) B(form, only_read) }};
 IS(tokens) ARRAY(tokens, forms, count, form) S(tokens, following) B(tokens, gives_points_back) }};
 IS(forms) ARRAY(forms, forms, count, form) OF('>', forms, specials, specials) OF('*', forms, tokens, tokens) }};
 IS(style) B(style, group) B(style, fraction_group) B(style, without_base) B(style, lowercase)
@@ -263,6 +265,12 @@ static PyObject *part_of(PyObject *text, Py_ssize_t start, Py_ssize_t end) {
     return PyUnicode_Check(text) ? PyUnicode_Substring(text, start, end) : PySequence_GetSlice(text, start, end);
 }
 
+/* Returns the part of a text that a literal is, where the text begins with these bytes. */
+static PyObject *part_of_literal(PyObject *text, const peltzivar_literal *it, const char *bytes, Py_ssize_t start) {
+    start += it->text - bytes;
+    return part_of(text, start, start + (Py_ssize_t)it->size);
+}
+
 /* _read(text, of_prefix): a literal, or the numbers of a special value, or raises a LiteralError. */
 static PyObject *reader_read(PyObject *self, PyObject *const *given, Py_ssize_t count) {
     Reader *by = (Reader *)self;
@@ -275,7 +283,8 @@ static PyObject *reader_read(PyObject *self, PyObject *const *given, Py_ssize_t 
     size_t len = (size_t)text.size;
     if (it && (of_prefix ? peltzivar_forms_read_prefix(by->forms, text.bytes, len, &it->found, NULL)
                          : peltzivar_forms_read(by->forms, text.bytes, len, &it->found, NULL))) {
-        result = (it->text = part_of(given[0], 0, (Py_ssize_t)it->found.size)) ? Py_NewRef((PyObject *)it) : NULL;
+        it->text = part_of_literal(given[0], &it->found, text.bytes, 0);
+        result = it->text ? Py_NewRef((PyObject *)it) : NULL;
     } else if (it && !of_prefix && peltzivar_forms_read_special(by->forms, text.bytes, len, &special)) {
         result = tuple_of(&special_members, (const char *)&special);
     } else if (it) {
@@ -285,19 +294,30 @@ static PyObject *reader_read(PyObject *self, PyObject *const *given, Py_ssize_t 
     return result;
 }
 
-/* Returns the syntax of a form. Those that need a suffix are behind the others. */
-static const peltzivar_syntax *syntax_of(const peltzivar_forms *by, size_t form) {
-    return form < by->count ? &by->forms[form].syntax : &by->tokens->forms[form - by->count].syntax;
+/* Returns a form. Those that need a suffix are behind the others. */
+static const peltzivar_form *form_of(const peltzivar_forms *by, size_t form) {
+    return form < by->count ? &by->forms[form] : &by->tokens->forms[form - by->count];
 }
 
-/* USES: how numbers of the forms, and words behind them, use a byte. */
+/* USES: how numbers of the forms, and words behind them, use a byte. A sign may follow those of USES_EXPONENT. */
 enum { USES_KNOWN = 1, USES_ROLE = 2, USES_EXPONENT = 4, USES_WORD = 8 };
+
+/* Returns how a form uses a byte in its opening and its closing, whose case does not count here. */
+static uint8_t uses_in_affixes(const peltzivar_form *form, uint8_t byte) {
+    const char *const affixes[] = {form->opening ? form->opening : "", form->closing ? form->closing : ""};
+    uint8_t uses = 0;
+    for (const char *const *it = affixes; it < affixes + 2; it++)
+        for (const char *at = *it; *at; at++)
+            if (tolower((unsigned char)*at) == tolower(byte)) uses |= USES_ROLE | (at[1] ? 0 : USES_EXPONENT);
+    return uses;
+}
 
 static uint8_t uses_of(Reader *by, uint8_t byte) {
     if (by->uses[byte]) return by->uses[byte];
     uint8_t uses = USES_KNOWN | (byte > 127 || isalnum(byte) || byte == '_' ? USES_WORD : 0);
     for (size_t i = 0; i < by->forms->count + (by->forms->tokens ? by->forms->tokens->count : 0); i++) {
-        const peltzivar_syntax *of = syntax_of(by->forms, i);
+        const peltzivar_syntax *of = &form_of(by->forms, i)->syntax;
+        uses |= uses_in_affixes(form_of(by->forms, i), byte);
         peltzivar_role role = peltzivar_role_of(of->format, of->exponent, of->decimal_point, byte);
         if (role && role != PELTZIVAR_ROLE_SIGN) uses |= USES_ROLE;
         if (role == PELTZIVAR_ROLE_EXPONENT) uses |= USES_EXPONENT;
@@ -350,11 +370,11 @@ static PyObject *reader_token(PyObject *self, PyObject *const *given, Py_ssize_t
     PyObject *result = NULL;
     Literal *it = NULL;
     if (peltzivar_forms_token(by->forms, rest.bytes, (size_t)rest.size, &token, &error)) {
-        Py_ssize_t start = PyLong_AsSsize_t(given[1]), middle = start + (Py_ssize_t)token.literal.size;
+        Py_ssize_t start = PyLong_AsSsize_t(given[1]), middle = start + (Py_ssize_t)token.suffix.start;
         Py_ssize_t end = start + (Py_ssize_t)token.size;
         if (PyUnicode_Check(given[0])) end = start + characters(rest.bytes, (Py_ssize_t)token.size);
         if ((it = new_literal(by, &rest))) {
-            it->found = token.literal, it->text = part_of(given[0], start, middle);
+            it->found = token.literal, it->text = part_of_literal(given[0], &token.literal, rest.bytes, start);
             it->suffix = part_of(given[0], middle, end);
             if (it->text && it->suffix) result = Py_BuildValue("(OOnO)", it, it->suffix, end, given[0]);
         }
@@ -698,7 +718,7 @@ static PyObject *literal_plain(PyObject *self, PyObject *none) {
     char plain[400], *to = plain;
     (void)none;
     if (!by || it->found.size > sizeof plain) return Py_NewRef(Py_None);
-    peltzivar_fields fields = peltzivar_fields_of(syntax_of(by, it->found.form)->format);
+    peltzivar_fields fields = peltzivar_fields_of(form_of(by, it->found.form)->syntax.format);
     bool is_decimal = fields.mantissa_radix == 10 && fields.exponent_base == 10 && fields.exponent_radix == 10;
     if (!is_decimal || fields.base_prefix || fields.base_suffix) return Py_NewRef(Py_None);
     const char *from = it->found.text;
@@ -1005,7 +1025,7 @@ static const struct {
      "INVALID_FLOAT_PRECISION INVALID_NEGATIVE_EXPONENT_BREAK INVALID_POSITIVE_EXPONENT_BREAK "
      , PELTZIVAR_SUCCESS},
     /* End */
-    {"ReadErrorKind", "REQUIREMENT SEPARATOR CASE BYTE MISSING SUFFIX POINT STOP", PELTZIVAR_KIND_REQUIREMENT},
+    {"ReadErrorKind", "REQUIREMENT SEPARATOR CASE BYTE MISSING SUFFIX POINT STOP AFFIX", PELTZIVAR_KIND_REQUIREMENT},
     {"Spelling", "NAN INF INFINITY", PELTZIVAR_SPELLING_NAN},
     {"Part", "INTEGER FRACTION EXPONENT", PELTZIVAR_PART_INTEGER},
     {"Role", "DIGIT SIGN SEPARATOR PREFIX SUFFIX EXPONENT POINT", PELTZIVAR_ROLE_DIGIT},

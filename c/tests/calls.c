@@ -59,9 +59,9 @@ static void test_constants(void) {
     CHECK(is_word(peltzivar_pack(&starts[0]), 0x00000A0000000000, 0xC) && is_word(words[0], 0x00000A0000000000, 0xC));
     CHECK(is_word(peltzivar_pack(&PELTZIVAR_NEW_FIELDS), PELTZIVAR_STANDARD.high, PELTZIVAR_STANDARD.low));
     CHECK(sizeof(peltzivar_word) == 16 && sizeof(peltzivar_fields) == 16 && sizeof(peltzivar_edit) == 2);
-    CHECK(sizeof(peltzivar_read_error) == 128 && sizeof(peltzivar_literal) == 320 && sizeof(peltzivar_span) == 16);
+    CHECK(sizeof(peltzivar_read_error) == 144 && sizeof(peltzivar_literal) == 320 && sizeof(peltzivar_span) == 16);
     CHECK(sizeof(peltzivar_syntax) == 32 && sizeof(peltzivar_explanation) == 56 && sizeof(peltzivar_i128) == 16);
-    CHECK(sizeof(peltzivar_form) == 56 && sizeof(peltzivar_forms) == 80);
+    CHECK(sizeof(peltzivar_form) == 72 && sizeof(peltzivar_suffixes) == 80 && sizeof(peltzivar_forms) == 80);
     CHECK(sizeof(peltzivar_specials) == 32 && sizeof(peltzivar_special) == 2 && sizeof(peltzivar_style) == 24);
     CHECK(sizeof(peltzivar_separators) == 4 && sizeof(peltzivar_token) == 368);
     CHECK(sizeof(peltzivar_suffix_kind) == 16 && sizeof(peltzivar_stop) == 32 && PELTZIVAR_VERSION_FITS());
@@ -407,7 +407,7 @@ static void test_languages(void) {
 static void test_tokens(void) {
     static const peltzivar_suffix_kind kinds[] = {{"u8", PELTZIVAR_INTEGERS_WRAP, 8, PELTZIVAR_FLOATS_NEAREST, PELTZIVAR_LIMITS_NONE, {0}}};
     static const peltzivar_stop stops[] = {{"8", "-", NULL, {0}}};
-    static const peltzivar_suffixes suffixes = {"u u8", NULL, "k", kinds, 1, stops, 1, true, {0}};
+    static const peltzivar_suffixes suffixes = {"u u8", NULL, "k", NULL, kinds, 1, stops, 1, true, {0}};
     static const peltzivar_tokens rules = {NULL, 0, "if in", true, {0}};
     peltzivar_form form = language("RUST")->forms[0];
     peltzivar_forms forms = forms_of(&form, 1);
@@ -438,6 +438,7 @@ static void test_tokens(void) {
 
 /* Forms of one's own, at any address. A literal comes before a special value. What a later version may read otherwise is refused. */
 static void test_forms(void) {
+    static const char refusal[] = "the forms are null, not 1 to 64, or have an unknown kind, a wrong opening or closing, reserved members or too many words";
     uint8_t memory[81 + 64 * sizeof(peltzivar_form)] = {0};
     peltzivar_form list[65];
     peltzivar_forms forms = forms_of((const peltzivar_form *)(memory + 1), 64), toml = *language("TOML"), most = forms_of(list, 64);
@@ -464,7 +465,7 @@ static void test_forms(void) {
         const peltzivar_forms refused = forms_of(i ? list : NULL, counts[i % 3]), *const by = i == 3 ? NULL : &refused;
         CHECK(!peltzivar_forms_read(by, "1", 1, &literal, NULL) && !peltzivar_forms_read_special(by, "nan", 3, &special));
         CHECK(!peltzivar_forms_read_prefix(by, "1", 1, &literal, &error) && error.valid_up_to == 0 && !peltzivar_explain(&error, NULL));
-        CHECK(WRITES("the forms are null, not 1 to 64, or have an unknown kind, reserved members or too many words", peltzivar_read_error_text(&error, text, sizeof text)));
+        CHECK(WRITES(refusal, peltzivar_read_error_text(&error, text, sizeof text)));
         CHECK(peltzivar_parse_f64(by, "1", 1, &real, &error) == PELTZIVAR_VALUE_REFUSED && !peltzivar_explain(&error, NULL));
     }
     CHECK(value == 1105034 && real == -HUGE_VAL && peltzivar_forms_read(&most, "1", 1, &literal, NULL));
@@ -496,7 +497,18 @@ static void test_forms(void) {
         CHECK(peltzivar_parse_f64(&one, "1e39", 4, &real, NULL) == beyond[limits]);
         CHECK(peltzivar_parse_f64(&one, "1e-50", 5, &real, NULL) == vanished[limits]);
     }
+    /* An opening and a closing have at most 8 bytes of ASCII, and the first byte of a closing has no role. */
+    static const char *const affixes[] = {"12345678", "123456789", "\303\251", "#", "e", "E", ".", "0", "_", "-"};
+    memset(list, 0, sizeof *list), list[0].syntax = first_form("TOML");
+    for (int i = 0; i < 10; i++) for (int j = 0; j < 2; j++) {
+        list[0].opening = j ? NULL : affixes[i], list[0].closing = j ? affixes[i] : NULL;
+        const bool is_right = j ? i == 3 : i != 1 && i != 2;
+        snprintf(text, sizeof text, "%s1%s", j ? "" : affixes[i], j ? affixes[i] : "");
+        CHECK(peltzivar_forms_read(&one, text, strlen(text), &literal, &error) == is_right);
+        CHECK(is_right || WRITES(refusal, peltzivar_read_error_text(&error, text, sizeof text)));
+    }
     float single;
+    list[0].opening = NULL, list[0].closing = NULL, list[0].float_kind = PELTZIVAR_FLOATS_SINGLE;
     list[0].float_limits = PELTZIVAR_LIMITS_LARGEST;
     CHECK(peltzivar_forms_read(&one, "-1e39", 5, &literal, NULL) && peltzivar_to_f32(&literal, &single) == PELTZIVAR_VALUE_TOO_SMALL);
     CHECK(!peltzivar_parse_i64(language("JAVA"), "0xffffffff", 10, &value, NULL) && value == -1);

@@ -203,13 +203,40 @@ static void test_list(const peltzivar_forms *forms, const char *from, size_t len
     WRITE(peltzivar_parse_error_text, status, &error); }
 #define TEST_WRITTEN(type, value) { \
     const int by_list = peltzivar_forms_format_##type(forms, value, &style, text, PELTZIVAR_FORMS_SIZE, &needed); \
-    if (!by_list) CHECK_LAWFUL(peltzivar_parse_f64(forms, text, needed - 1, &(double){0}, NULL) != PELTZIVAR_VALUE_REFUSED); \
+    if (!by_list) CHECK_LAWFUL(peltzivar_parse_f64(forms, text, needed - 1, &(double){0}, NULL) != PELTZIVAR_VALUE_REFUSED \
+        || (peltzivar_forms_token(forms, text, needed - 1, &token, NULL) && token.suffix.start < token.size && token.size == needed - 1)); \
     const int by_syntax = peltzivar_format_##type(&forms->forms[0].syntax, value, &style, text, sizeof text, NULL); \
     CHECK(by_list != PELTZIVAR_WRITE_BUFFER && (style.exponent < 4 || (by_list == PELTZIVAR_WRITE_ARGUMENT && by_syntax == by_list))); }
     TEST_TYPE(int64_t, i64) TEST_TYPE(uint64_t, u64) TEST_TYPE(double, f64) TEST_TYPE(float, f32)
     TEST_WRITTEN(i64, wide.high) TEST_WRITTEN(u64, wide.low) TEST_WRITTEN(i128, wide) TEST_WRITTEN(f64, real)
     if (is_read) TEST_WRITTEN(literal, &literal)
     if (!peltzivar_format_special(&forms->forms[0].syntax, &forms->specials, special, text, sizeof text, NULL)) CHECK(special.spelling % 4 && special.sign != '*');
+}
+
+/* A text between an opening and a closing is a literal of a form with these if and only if it is one of the syntax. */
+static void test_affixes(peltzivar_forms forms, const char *from, size_t len, bool is_lawful) {
+    static const char *const openings[] = {NULL, "", "#X", "16r", "-", "\177))))))z"}, *const closings[] = {NULL, "", "#", "')", "e", "H"};
+    peltzivar_form form = *forms.forms;
+    form.opening = openings[draw() % 6], form.closing = closings[draw() % 6];
+    form.case_sensitive_opening = draw() % 2, form.case_sensitive_closing = draw() % 2, form.only_read = draw() % 4 == 0;
+    forms.forms = &form;
+    const size_t before = form.opening ? strlen(form.opening) : 0, behind = form.closing ? strlen(form.closing) : 0;
+    const bool is_upper = draw() % 2 && before > 1;
+    if (before) memcpy(text, form.opening, before);
+    if (behind) memcpy(text + before + len, form.closing, behind);
+    memcpy(text + before, from, len);
+    if (is_upper) text[before - 1] ^= 32;
+    char *const all = copy(before + len + behind);
+    peltzivar_literal own, literal;
+    peltzivar_read_error why, error;
+    const bool is_own = peltzivar_read(&form.syntax, from, len, &own, &why);
+    const bool is_read = peltzivar_forms_read(&forms, all, before + len + behind, &literal, &error);
+    const bool is_refused = !is_read && !peltzivar_explain(&error, NULL), is_other = is_upper && form.case_sensitive_opening;
+    CHECK_LAWFUL(is_refused || is_read == (is_own && !is_other));
+    if (is_read) CHECK_LAWFUL(literal.text == all + before && literal.size == len && !memcmp(&literal.sign, &own.sign, 9 * sizeof own.sign));
+    if (!is_refused && !is_own && !is_other) CHECK_LAWFUL(error.valid_up_to >= before + why.valid_up_to);
+    if (!is_refused && !behind) test_list(&forms, all, before + len + behind, is_lawful);
+    free(all);
 }
 
 /* What is read is written, and nothing else. The parts of a literal are its bytes. */
@@ -251,14 +278,15 @@ static void test_literals(peltzivar_word word) {
     if (is_explained) CHECK_LAWFUL(peltzivar_explain(&error_before, &why_normal) && !memcmp(&why, &why_normal, sizeof why));
     /* A lawful syntax as a form reads the same, and a column has the values of its texts. */
     static const peltzivar_stop stops[] = {{"1", "-.", "1", {0}}};
-    static const peltzivar_suffixes suffixes = {"e ux", "f", "_", NULL, 0, stops, 1, true, {0}};
-    const peltzivar_form form = {"it", syntax, 0, 0, 0, 0, {0}, &suffixes};
+    static const peltzivar_suffixes suffixes = {"e ux", "f", "_", "ux", NULL, 0, stops, 1, true, {0}};
+    const peltzivar_form form = {"it", syntax, 0, 0, 0, 0, false, false, false, {0}, &suffixes, NULL, NULL};
     const peltzivar_tokens rules = {&form, 1, "if", len % 2 == 0, {0}};
     const peltzivar_forms forms = {&form, 1, {NULL, NULL, NULL, {0}}, NULL, {0}, &rules};
     const char *const language = peltzivar_language_name(draw() % 32);
     CHECK_LAWFUL(peltzivar_forms_read(&forms, from, len, &literal_before, NULL) == is_read);
     CHECK_LAWFUL(!peltzivar_parse_f64(&forms, from, len, &(double){0}, NULL) == (is_read && !peltzivar_to_f64(&literal, NULL)));
     test_list(&forms, from, len, is_lawful);
+    test_affixes(forms, from, len, is_lawful);
     if (*language) test_list(peltzivar_language(language, strlen(language)), from, len, true);
     if (peltzivar_read_prefix(&syntax, from, len, &literal, &error)) {
         const peltzivar_span *const parts = &literal.sign;

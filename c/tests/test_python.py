@@ -34,7 +34,7 @@ TESTS = pathlib.Path(__file__).resolve().parent
 TOP = TESTS.parent.parent
 sys.path.insert(0, os.environ.get("PELTZIVAR_PACKAGE", str(TESTS.parent)))
 import peltzivar
-from peltzivar import Edit, Error, Format, FormatError, FormatView, Forms, Kind, Language, LiteralError, OptionsError, Part, ReadErrorKind
+from peltzivar import Affixes, Edit, Error, Format, FormatError, FormatView, Forms, Kind, Language, LiteralError, OptionsError, Part, ReadErrorKind
 from peltzivar import Role, Rule, Setter, SettingsError, Special, Specials, Spelling, Suffixes, Syntax, Tokens, languages, notes_of
 
 numpy = importlib.import_module("numpy") if importlib.util.find_spec("numpy") else None
@@ -307,7 +307,9 @@ class Literals(unittest.TestCase):
                     with self.subTest(line, name=name):
                         try:
                             token = forms.token(text.encode())
-                            self.assertEqual(b"".join((token.literal.text, token.suffix, token.rest)), text.encode())
+                            whole = token.literal._whole()
+                            self.assertEqual((whole + token.rest).lower(), text.encode().lower())
+                            self.assertTrue(whole.endswith(token.suffix) and token.end == len(whole))
                             stated = f"{token.literal}|{token.suffix.decode()}"
                             self.assertEqual(pickle.loads(pickle.dumps(token.literal)), token.literal)
                             self.assertEqual(forms.token(text).rest.encode(), token.rest)
@@ -329,6 +331,58 @@ class Literals(unittest.TestCase):
         for most in (256, 257):
             with contextlib.nullcontext() if most == 256 else self.assertRaisesRegex(ValueError, "more than 256 words, kinds of suffixes, or stops"):
                 self.assertEqual(Forms({"": point}, suffixes={"": Suffixes("a " * most)}, tokens=Tokens()).token("1a").suffix, "a")
+
+    def test_a_literal_is_what_is_between_its_affixes(self):
+        forms = {"": Syntax.of(), **{it: Syntax.of(radix=16, exponent=None, point=None) for it in ("cased", "boz", "both")}}
+        affixes = {"cased": Affixes("16r", "", True), "boz": Affixes("Z'", "'"), "both": Affixes("#x", "#H", False, True)}
+        own = Forms(forms, affixes=affixes, only_read=["boz"], tokens=Tokens(), suffixes={"both": Suffixes("u8")})
+        for forms in (own, eval(repr(own)), pickle.loads(pickle.dumps(own)), Forms(own), *Language):
+            named = forms.forms if isinstance(forms, Language) else forms
+            for name, it in named.affixes.items():
+                for inside, suffix in itertools.product(map(named[name].format_number, (0, 31, 2**31)), ("", "u8")):
+                    with self.subTest(forms=forms, name=name, inside=inside):
+                        texts = [it.opening + inside + it.closing]
+                        texts += [it.opening.swapcase() + inside + it.closing] * (not it.case_sensitive_opening)
+                        texts += [it.opening + inside + it.closing.swapcase()] * (not it.case_sensitive_closing)
+                        for text in (*texts, *map(str.encode, texts)):
+                            literal, stop = forms.read(text), text[:0] + (b";" if isinstance(text, bytes) else ";")
+                            self.assertEqual((str(literal), literal.form, literal.parts), (inside, name, named[name].read(literal.text).parts))
+                            for same in (pickle.loads(pickle.dumps(literal)), copy.deepcopy(literal), forms.read_prefix(text + stop)[0]):
+                                self.assertEqual((same, same.value, same.fraction()), (literal, literal.value, literal.fraction()))
+                            self.assertEqual(forms.read_prefix(text + stop)[1], stop)
+                            if forms is own and (name == "both" or not suffix):
+                                behind = suffix if isinstance(text, str) else suffix.encode()
+                                token = forms.token(stop + text + behind + stop, 1)
+                                self.assertEqual((token.literal, token.suffix, token.rest), (literal, behind, stop))
+                                self.assertEqual(pickle.loads(pickle.dumps(token)), token)
+        rows = [("16RF", "", "unexpected character 'R'", (2, 3)), ("#y", "both", "expected the opening `#x`", (1, 2))]
+        rows += [("z'F\u20ac", "boz", "expected the closing `'`", (3, 4)), ("#xF", "both", "expected the closing `#H`", (3, 3))]
+        for text, form, sentence, span in rows:
+            with self.assertRaises(LiteralError) as caught:
+                own.read(text)
+            error = pickle.loads(pickle.dumps(caught.exception))
+            self.assertEqual((error.form, str(error), error.span, error.valid_up_to), (form, sentence, span, span[0]))
+            wanted = Error.EMPTY_INTEGER if span[0] == span[1] else Error.INVALID_DIGIT
+            self.assertEqual((error.error, error.kind), (wanted, ReadErrorKind.AFFIX if form else ReadErrorKind.BYTE))
+        # A token is read from a window, which goes on behind each byte of an opening or a closing.
+        for text in ("#x-F#H", "#x" + "0" * 40 + "F#Hu8", "Z'" + "0" * 30 + "F'"):
+            self.assertEqual([own.token(text + rest).end for rest in ("", " - 1", ", x" * 40)], [len(text)] * 3)
+        for wrong in (("123456789",), ("\u00e9",), ("", "123456789")):
+            self.assertRaises(ValueError, Affixes, *wrong)
+        self.assertRaisesRegex(ValueError, "role", Forms, {"": Syntax.of()}, affixes={"": Affixes("", "E")})
+        self.assertRaisesRegex(ValueError, "no form", Forms, {"": Syntax.of()}, only_read=["x"])
+
+    def test_integers_are_written_with_words(self):
+        """A token has what is written as the value, also by forms that are not those of the language."""
+        for language in Language:
+            if language.forms.tokens and any(it.written for it in language.forms.suffixes.values()):
+                for value in [sign * (2**bits + more) for bits in (8, 31, 32, 53, 63, 64) for more in (-1, 0, 1) for sign in (1, -1)]:
+                    with contextlib.suppress(ValueError):
+                        text = language.format_number(value)
+                        token = language.token(text)
+                        self.assertEqual((token.literal.value, token.rest), (value, ""), (language, text))
+                        self.assertEqual(Forms(language.forms).format_number(value), text)
+        self.assertEqual([languages.JAVA.format_number(it) for it in (2**31 - 1, 2**31, 2**53 + 1)], ["2147483647", "2147483648L", "9007199254740993L"])
 
     def test_causes_of_format(self):
         self.assertGreater(len(CAUSES), 10)

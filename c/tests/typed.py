@@ -6,7 +6,7 @@ from fractions import Fraction
 from typing import Dict, List, Optional, Sequence, Tuple, Union
 
 from peltzivar import Column, ColumnError, Edit, Error, Format, FormatError, FormatView, Forms, Kind, Literal, LiteralError, Note
-from peltzivar import Suffixes, Token, Tokens
+from peltzivar import Affixes, Suffixes, Token, Tokens
 from peltzivar import OptionsError, Part, Parts, ReadErrorKind, Reason, ReasonsError, Role, Rule, Separators, Setter
 from peltzivar import SettingsError, Special, Specials, Spelling, Syntax, WrongCell, languages, notes_of
 
@@ -55,7 +55,10 @@ forms: Forms = Forms([("", syntax)], nan="NaN", inf=None, infinity="Infinity", k
 kind: Kind = Kind(at_most=7, single=True, limits="both")
 of_kind: Tuple[Optional[int], Optional[int], bool, bool, Optional[str]] = kind.at_most, literal.kind.wraps, kind.modulo, kind.single, kind.limits
 kinds: Dict[str, Kind] = forms.kinds
-suffixes: Suffixes = Suffixes(integers="u8", floats="f", any="_", kinds={"f": kind}, stops=[("", ".", "0")], either_case=True)
+suffixes: Suffixes = Suffixes(integers="u8", floats="f", any="_", kinds={"f": kind}, stops=[("", ".", "0")], either_case=True, written="u8")
+affixes: Affixes = Affixes(opening="16#", closing="#", case_sensitive_opening=True, case_sensitive_closing=True)
+between: Forms = Forms({"ada": integers}, affixes={"ada": affixes}, only_read=["ada"])
+of_affixes: Tuple[Dict[str, Affixes], Sequence[str], str, str] = between.affixes, between.only_read, affixes.opening, affixes.closing
 rules: Tokens = Tokens(forms=None, following="if", gives_points_back=True)
 token: Token[str] = Forms({"": syntax}, suffixes={"": suffixes}, tokens=rules).token("1u8;")
 of_token: Tuple[Literal[str], str, str, int, bytes] = token.literal, token.suffix, token.rest, token.end, languages.C.token(b" 1L", 1).suffix

@@ -12,13 +12,15 @@ ghost use Rattle.lexical_forms.specs.Additions.Token.{goes_on};
 ghost use Rattle.lexical_forms.specs.Additions.Token.{has_float, suffixed, whole};
 ghost use Rattle.lexical_literal.specs.Cause.{is_in};
 ghost use Rattle.lexical_literal.specs.Notation.{notation_of};
+ghost use Rattle.lexical_forms.specs.FormList.{ArePlain};
 ghost use Rattle.lexical_forms.specs.Suffix.{is_digit, kind_with, stop_end};
 ghost use Rattle.lexical_forms.specs.Token.{HasNone, IsAhead, IsReadByTokens, IsToken, IsTokenError, IsRefused, IsWordUpTo, NoCandidate, gives_back};
 ghost use Rattle.lexical_forms.specs.Token.{ReadsSyntax, is_shorter};
 ghost use Rattle.lexical_util.specs.Record.{raw};
 
 use crate::exclude::{has_letter_behind_zero, is_over, lacks_longer, sign_size};
-use crate::list::{Form, FormError, Forms, Tokens};
+use crate::form::Form;
+use crate::list::{FormError, Forms, Tokens};
 use crate::suffix::{
     byte_before, has_word_byte, is_followed, is_stopped, is_word_byte, kind_with, suffix_size,
     suffix_words, word_size,
@@ -115,11 +117,15 @@ impl<'a> Forms<'a> {
     /// If the list has no rules for tokens, if a form goes on behind the number without an end, or if there is no number,
     /// or if the word behind the number is not a suffix of its form, returns why.
     pub fn token<'t>(&self, text: &'t [u8]) -> Result<Token<'t>, TokenError>
-        ensures { IsReadByTokens self.now self.now.tokens text.now result }
+        // That of a list in which a form has an opening or a closing is not stated.
+        ensures { ArePlain self.now.forms self.now.tokens → IsReadByTokens self.now self.now.tokens text.now result }
     {
         let Some(tokens) = self.tokens else {
             return Err(TokenError::NoTokens);
         };
+        if self.marked {
+            return self.token_marked(tokens, text);
+        }
         let sign = sign_size(text);
         let reached = if has_letter_behind_zero(text) {
             sign + 1
@@ -315,7 +321,7 @@ impl<'a> Forms<'a> {
         let (_, rest) = text.split_at(stop.size);
         let end = stop.size + word_size(rest);
         let (word, _) = text.split_at(end);
-        match self.find(word, None) {
+        match self.find_marked(word) {
             Err(furthest) => TokenError::Literal(self.error_at(word, furthest)),
             Ok(_) => TokenError::NotAToken { end },
         }
@@ -341,7 +347,7 @@ fn are_past(forms: &[Form], but: usize, back: bool, text: &[u8], size: usize) ->
 
 // Returns the larger of two sizes.
 #[inline(always)]
-const fn larger(one: usize, other: usize) -> usize
+pub(crate) const fn larger(one: usize, other: usize) -> usize
     ensures one { one ≤ result }
     ensures other { other ≤ result }
 {
@@ -452,7 +458,7 @@ impl Form {
 
     // Returns the candidate with the literal `own`, if there is a suffix or none is needed.
     #[inline(always)]
-    fn suffixed(&self, needs: bool, text: &[u8], own: Found) -> Option<Candidate>
+    pub(crate) fn suffixed(&self, needs: bool, text: &[u8], own: Found) -> Option<Candidate>
         requires { own.size ≤ length text.now }
         ensures candidate { result ≡ suffixed self.now.suffixes needs text.now own }
         ensures within { ForSome result (λ c. c.end ≤ length text.now) }
@@ -487,7 +493,7 @@ impl Form {
 
 // Returns the front `found` if it has `size` bytes.
 #[inline(always)]
-fn whole(found: Option<Found>, size: usize) -> Option<Found>
+pub(crate) fn whole(found: Option<Found>, size: usize) -> Option<Found>
     ensures { result ≡ whole found size }
 {
     match found {
@@ -498,7 +504,7 @@ fn whole(found: Option<Found>, size: usize) -> Option<Found>
 
 // Returns whether the first `size` bytes of `text` end in a point that is given back.
 #[inline(always)]
-fn gives_back(syntax: Syntax, back: bool, text: &[u8], size: usize) -> bool
+pub(crate) fn gives_back(syntax: Syntax, back: bool, text: &[u8], size: usize) -> bool
     ensures { result ≡ gives_back back (notation_of syntax) text.now size }
 {
     back && is_one(syntax, byte_before(text, size))
@@ -520,7 +526,7 @@ fn is_one(syntax: Syntax, byte: Option<u8>) -> bool
 }
 
 // Returns whether a digit is behind a literal of `size` bytes that has no suffix, so that the number ends where the literal does.
-fn has_digit(text: &[u8], size: usize, end: usize) -> bool
+pub(crate) fn has_digit(text: &[u8], size: usize, end: usize) -> bool
     ensures { result ≡ ((size == end) && is_in is_digit (slice_get text.now size)) }
 {
     size == end
@@ -531,7 +537,7 @@ fn has_digit(text: &[u8], size: usize, end: usize) -> bool
 }
 
 // Returns why what is behind the number with this candidate may not follow it: a word, or otherwise a byte that a stop names.
-fn stopped(it: &Form, text: &[u8], form: usize, candidate: Candidate) -> TokenError
+pub(crate) fn stopped(it: &Form, text: &[u8], form: usize, candidate: Candidate) -> TokenError
     ensures { IsEnd it.now text.now form candidate result }
 {
     let Candidate { size, counts, end } = candidate;
@@ -613,7 +619,7 @@ const fn further(
 
 // Returns the longer of two candidates, the first of equals.
 #[inline(always)]
-fn better(
+pub(crate) fn better(
     best: Option<(usize, Candidate)>,
     form: usize,
     candidate: Option<Candidate>,
@@ -648,7 +654,7 @@ fn is_one_ahead(forms: &[Form], back: bool, text: &[u8], end: usize) -> bool
 }
 
 // Returns whether a literal that goes up to `stop` goes on behind `end`.
-fn goes_on(syntax: Syntax, back: bool, text: &[u8], end: usize, stop: usize) -> bool
+pub(crate) fn goes_on(syntax: Syntax, back: bool, text: &[u8], end: usize, stop: usize) -> bool
     ensures { result ≡ goes_on back (notation_of syntax) text.now end stop }
 {
     end < stop && !(back && stop == end + 1 && is_one(syntax, byte_at(text, end)))

@@ -3,7 +3,7 @@
 use crate::arguments::{input, Out};
 use crate::literals::Syntax;
 use crate::names::{at, start, texts};
-use crate::tokens::{first, Constant, Laid, Memory, Reader, Stop, SuffixKind, Suffixes, Tokens};
+use crate::tokens::{affix, first, Constant, Laid, Memory, Reader, Stop, SuffixKind, Suffixes, Tokens};
 use core::ffi::CStr;
 use core::mem::MaybeUninit;
 use core::{ptr, slice};
@@ -114,16 +114,20 @@ impl KindNumbers {
     }
 }
 
-/// A form of numbers: its name, as a null-terminated string or a null pointer, its syntax, the numbers of its kind, and its
-/// suffixes, or a null pointer.
+/// A form of numbers: its name, as a null-terminated string or a null pointer, its syntax, the numbers of its kind, whether the
+/// case of its opening and its closing counts, whether it is only read, its suffixes, or a null pointer, and its opening and
+/// its closing, as strings or null pointers.
 #[repr(C)]
 #[derive(Clone, Copy)]
 pub struct Form {
     name: *const u8,
     syntax: Syntax,
     kind: KindNumbers,
-    reserved: [u8; 4],
+    cases: [u8; 2],
+    only_read: u8,
+    reserved: u8,
     suffixes: *const Suffixes,
+    affixes: [*const u8; 2],
 }
 
 impl Form {
@@ -132,13 +136,27 @@ impl Form {
         name: ptr::null(),
         syntax: Syntax::NONE,
         kind: KindNumbers::EXACT,
-        reserved: [0; 4],
+        cases: [0; 2],
+        only_read: 0,
+        reserved: 0,
         suffixes: ptr::null(),
+        affixes: [ptr::null(); 2],
     };
 
-    /// Returns a form in C, with a name and suffixes.
-    const fn of(name: *const u8, form: literal::Form, suffixes: *const Suffixes) -> Form {
-        Form { name, syntax: Syntax::of(form.syntax()), kind: numbers_of(form.kind()), reserved: [0; 4], suffixes }
+    /// Returns a form in C, with a name, suffixes, an opening and a closing.
+    const fn of(name: *const u8, form: literal::Form, suffixes: *const Suffixes, affixes: [*const u8; 2]) -> Form {
+        let (syntax, kind) = (Syntax::of(form.syntax()), numbers_of(form.kind()));
+        let cases = [form.opening().is_case_sensitive() as u8, form.closing().is_case_sensitive() as u8];
+        Form { name, syntax, kind, cases, only_read: form.is_only_read() as u8, reserved: 0, suffixes, affixes }
+    }
+
+    /// Returns the form in Rust, without its name and its suffixes, or `None` if it is refused.
+    unsafe fn given(&self) -> Option<literal::Form> {
+        let kind = if self.kind.is_same(KindNumbers::EXACT) { Kind::EXACT } else { self.kind.kind()? };
+        let form = literal::Form::new("", Syntax::given_at_once(Some(&self.syntax))?).with_kind(kind);
+        let ([opening, closing], [of_opening, of_closing]) = (self.affixes, self.cases);
+        let form = form.with_opening(affix(opening, of_opening)?).with_closing(affix(closing, of_closing)?)?;
+        (self.reserved == 0).then_some(form.only_read(self.only_read != 0))
     }
 }
 
@@ -156,7 +174,7 @@ pub struct Forms {
 }
 
 // The sizes in the header.
-const _: () = assert!(size_of::<Form>() == 56 && size_of::<Forms>() == 80);
+const _: () = assert!(size_of::<Form>() == 72 && size_of::<Forms>() == 80);
 
 /// The most forms.
 const MOST: usize = 64;
@@ -171,18 +189,20 @@ struct LanguageForms {
 // SAFETY: all pointers point to constants.
 unsafe impl Sync for LanguageForms {}
 
-/// Returns the forms of a language, and then those that need a suffix, in C. Their names are these texts.
+/// Returns the forms of a language, and then those that need a suffix, in C. Their names are these texts, and `text` is where
+/// the strings of [`Laid`] are.
 const fn shown<const ALL: usize>(
     lists: [&[literal::Form]; 2],
     names: &'static [u8],
-    laid: &Laid,
+    text: *const u8,
     suffixes: *const Suffixes,
 ) -> [Form; ALL] {
+    let laid = Laid::of(lists, &[], (text, ptr::null(), ptr::null()));
     let (mut forms, mut index) = ([Form::NONE; ALL], 0);
     while index < ALL {
         let form = form_at(lists, index);
         let own = if form.suffixes().is_some() { suffixes.wrapping_add(laid.of_forms[index]) } else { ptr::null() };
-        forms[index] = Form::of(start(names, index), *form, own);
+        forms[index] = Form::of(start(names, index), *form, own, laid.affixes[index]);
         index += 1;
     }
     forms
@@ -201,7 +221,7 @@ pub const fn form_at(lists: [&[literal::Form]; 2], index: usize) -> &literal::Fo
 const fn read<const COUNT: usize>(forms: &[literal::Form]) -> [literal::Form; COUNT] {
     let (mut bare, mut index) = ([forms[0]; COUNT], 0);
     while index < COUNT {
-        bare[index] = literal::Form::new("", forms[index].syntax()).with_kind(forms[index].kind());
+        bare[index] = forms[index].bare();
         index += 1;
     }
     bare
@@ -230,14 +250,16 @@ pub unsafe fn by<R>(forms: *const Forms, then: impl FnOnce(Given<'_>) -> R) -> R
 }
 
 /// Why forms are refused.
-const REFUSED: &str = "the forms are null, not 1 to 64, or have an unknown kind, reserved members or too many words";
+const REFUSED: &str = "the forms are null, not 1 to 64, or have an unknown kind, a wrong opening or closing, \
+    reserved members or too many words";
 
-/// Returns what `then` returns for the forms with their suffixes and rules for tokens.
+/// Passes the forms with their suffixes and rules for tokens.
 ///
 /// # Safety
 ///
 /// `forms` must be null or forms that a C caller passes.
-pub unsafe fn with_tokens<R>(forms: *const Forms, then: impl FnOnce(Given<'_>) -> R) -> R {
+#[inline(never)]
+pub unsafe fn with_tokens(forms: *const Forms, then: &mut dyn FnMut(Given<'_>)) {
     let (mut list, mut behind) = ([const { MaybeUninit::uninit() }; MOST], [const { MaybeUninit::uninit() }; MOST]);
     let (mut memory, mut tokens) = (Memory::NEW, None);
     let mut reader = Reader::of(&mut memory);
@@ -260,7 +282,22 @@ pub unsafe fn with_tokens<R>(forms: *const Forms, then: impl FnOnce(Given<'_>) -
         Some(tokens) => found.map(|it| it.with_tokens(tokens)),
         None => found,
     };
-    then(found.as_ref().ok_or(REFUSED))
+    then(found.as_ref().ok_or(REFUSED));
+}
+
+/// Returns whether integers may be written with words behind them.
+///
+/// # Safety
+///
+/// `forms` must be null or forms that a C caller passes.
+pub unsafe fn has_written(forms: *const Forms) -> bool {
+    if forms.is_null() {
+        return false;
+    }
+    let Forms { forms, count, .. } = forms.read_unaligned();
+    let suffixes = |index| (&raw const (*forms.add(index)).suffixes).read_unaligned();
+    let has = |it: *const Suffixes| !it.is_null() && !(&raw const (*it).written).read_unaligned().is_null();
+    !forms.is_null() && count <= MOST && (0..count).map(suffixes).any(has)
 }
 
 /// Returns forms that are not those of a language, or `None` if they are refused.
@@ -291,12 +328,7 @@ unsafe fn forms_of(
         return None;
     }
     for (index, to) in list.iter_mut().take(count).enumerate() {
-        let form = forms.add(index);
-        let (syntax, kind) = ((&raw const (*form).syntax).read_unaligned(), (&raw const (*form).kind).read_unaligned());
-        let reserved = (&raw const (*form).reserved).read_unaligned();
-        let syntax = Syntax::given_at_once(Some(&syntax)).filter(|_| reserved == [0; 4])?;
-        let kind = if kind.is_same(KindNumbers::EXACT) { Kind::EXACT } else { kind.kind()? };
-        to.write(literal::Form::new("", syntax).with_kind(kind));
+        to.write(forms.add(index).read_unaligned().given()?);
     }
     // SAFETY: so many are written.
     Some(unsafe { slice::from_raw_parts(list.as_ptr().cast(), count) })
@@ -360,7 +392,7 @@ macro_rules! languages {
                     &Laid::of(LISTS, BEHIND.1, (TEXT.as_ptr(), KINDS.0.as_ptr(), STOPS.0.as_ptr())).suffixes,
                 ));
                 static SHOWN: Constant<[Form; ALL]> =
-                    Constant(shown(LISTS, NAMES, &SIZES, SUFFIXES.0.as_ptr()));
+                    Constant(shown(LISTS, NAMES, TEXT.as_ptr(), SUFFIXES.0.as_ptr()));
                 static READ: [literal::Form; COUNT] = read(IT.as_slice());
                 static TOKENS: Tokens = Tokens {
                     forms: SHOWN.0.as_ptr().wrapping_add(COUNT),

@@ -6,7 +6,7 @@ use crate::numbers::{error_number, ErrorNumber, Setter, Word, NO_PART, NO_SETTER
 use core::fmt::{self, Display, Formatter};
 use core::mem::ManuallyDrop;
 use core::ops::Range;
-use peltzivar::literal::{self, Condition, Conditions, Form, FormError, Number, ReadErrorKind};
+use peltzivar::literal::{self, Condition, Conditions, Form, FormError, Mark, Number, ReadErrorKind};
 use peltzivar::{Error, Format, FormatError};
 
 /// A word with an exponent character, a decimal point and conditions, of any values. If both are 0, literals are
@@ -128,11 +128,11 @@ pub struct Reached {
 }
 
 /// Where reading stopped, and why.
-pub type ReadError = Made<Reached, Refusal<literal::ReadError>, 12>;
+pub type ReadError = Made<Reached, Refusal<FormError>, 14>;
 
 impl ReadError {
     /// Returns the error of a form that is valid up to an index.
-    pub fn at(valid_up_to: usize, form: usize, refusal: Refusal<literal::ReadError>) -> ReadError {
+    pub fn at(valid_up_to: usize, form: usize, refusal: Refusal<FormError>) -> ReadError {
         Made::new(Reached { valid_up_to, form: form as u8 }, refusal)
     }
 }
@@ -142,7 +142,7 @@ pub type Literal<'a> = Made<Parts, literal::Literal<'a>, 18>;
 
 // The sizes and the alignment in the header.
 const _: () = assert!(size_of::<Syntax>() == 32);
-const _: () = assert!(size_of::<ReadError>() == 128 && align_of::<ReadError>() <= 16);
+const _: () = assert!(size_of::<ReadError>() == 144 && align_of::<ReadError>() <= 16);
 const _: () = assert!(size_of::<Literal>() == 320 && align_of::<Literal>() <= 16);
 
 /// Why a call refuses what it checks: a sentence on its arguments, or the error of the library.
@@ -179,7 +179,7 @@ impl<E: Display> Display for Refusal<E> {
 }
 
 /// A refusal that prints flags and conditions, too.
-struct Full<'a>(&'a Refusal<literal::ReadError>);
+struct Full<'a>(&'a Refusal<FormError>);
 
 impl Display for Full<'_> {
     fn fmt(&self, f: &mut Formatter<'_>) -> fmt::Result {
@@ -250,8 +250,14 @@ impl Explanation {
     }
 }
 
-impl From<literal::ReadError> for Explanation {
-    fn from(error: literal::ReadError) -> Explanation {
+impl From<&FormError> for Explanation {
+    fn from(error: &FormError) -> Explanation {
+        let Some(error) = error.error() else {
+            let Range { start, end } = error.span();
+            let code = if error.is_incomplete() { Error::EmptyInteger(start) } else { Error::InvalidDigit(start) };
+            let kind = if error.mark() == Some(Mark::End) { 4 } else { 9 };
+            return Explanation { code: error_number(code), ..Explanation::of_bytes(kind, start, end) };
+        };
         let (kind, part) = match error.kind() {
             ReadErrorKind::Requirement => (1, None),
             ReadErrorKind::Separator(part, _) => (2, Some(part)),
@@ -276,8 +282,8 @@ impl From<literal::ReadError> for Explanation {
     }
 }
 
-/// What reading returns: a number, or why there is none, with the index of a form.
-type Read<'a> = Result<Number<'a>, (literal::ReadError, usize)>;
+/// What reading returns: a number, or why there is none.
+type Read<'a> = Result<Number<'a>, FormError>;
 
 /// Writes a number that is a literal, and returns whether there is one.
 #[inline(always)]
@@ -300,7 +306,7 @@ unsafe fn number<'a>(
 ) -> Option<Number<'a>> {
     match input(text, len).ok_or(TOO_LONG).and_then(read) {
         Ok(Ok(number)) => return Some(number),
-        Ok(Err((why, form))) => error.write(ReadError::at(why.valid_up_to(), form, Refusal::Library(why))),
+        Ok(Err(why)) => error.write(ReadError::at(why.valid_up_to(), why.form, Refusal::Library(why))),
         Err(sentence) => error.write(ReadError::at(0, 0, Refusal::Argument(sentence))),
     }
     None
@@ -313,18 +319,13 @@ unsafe fn number<'a>(
 /// A C caller passes the text.
 #[inline(never)]
 pub unsafe fn whole<'a>(forms: Given<'_>, text: *const u8, len: usize, error: Out<ReadError>) -> Option<Number<'a>> {
-    number((text, len, error), |text| Ok(forms?.read_bytes(text).map_err(of_form)))
+    number((text, len, error), |text| Ok(forms?.read_bytes(text)))
 }
 
 /// Returns the longest literal that a text begins with. It is called in several places, and is large.
 #[inline(never)]
 fn front<'a>(forms: &literal::Forms<'_>, text: &'a [u8]) -> Read<'a> {
-    forms.read_prefix_bytes(text).map(|(it, _)| it).map_err(of_form)
-}
-
-/// Returns why a text is not a literal of a form, and its index. Forms of C have no opening.
-pub fn of_form(error: FormError) -> (literal::ReadError, usize) {
-    (error.error().unwrap_or_else(|| unreachable!()), error.form)
+    forms.read_prefix_bytes(text).map(|(it, _)| it)
 }
 
 /// Why a call refuses a text.
@@ -364,7 +365,7 @@ calls! {
         let read = |text| {
             Syntax::given_at_once(syntax).ok_or(SYNTAX).map(|it| it.read_then(text, |read| match read {
                 Ok(literal) => Ok(Number::Literal { literal, form: 0 }),
-                Err(error) => Err((error, 0)),
+                Err(error) => Err(FormError::alone(error)),
             }))
         };
         write_literal(number((text, len, error), read), literal)
@@ -399,7 +400,7 @@ calls! {
 
     fn peltzivar_explain(error: &ReadError, out: Out<Explanation>) -> bool {
         out.write_some(match error.value() {
-            Some(Refusal::Library(error)) => Some(Explanation::from(*error)),
+            Some(Refusal::Library(error)) => Some(Explanation::from(error)),
             Some(Refusal::Suffix { start, end }) => Some(Explanation::of_bytes(6, *start, *end)),
             Some(Refusal::Point { end }) => Some(Explanation::of_bytes(7, *end, *end)),
             Some(Refusal::Stop { start, end }) => Some(Explanation::of_bytes(8, *start, *end)),

@@ -2,11 +2,11 @@
 
 use crate::arguments::{input, write_text, Out};
 use crate::languages::{form_at, numbers_of, with_tokens, Form, Forms, Given, KindNumbers};
-use crate::literals::{of_form, Literal, ReadError, Refusal, Span, TOO_LONG};
+use crate::literals::{Literal, ReadError, Refusal, Span, TOO_LONG};
 use core::ffi::CStr;
 use core::mem::MaybeUninit;
 use core::{ptr, slice};
-use peltzivar::literal::{self, Kind, TokenError};
+use peltzivar::literal::{self, Affix, FormError, Kind, TokenError};
 
 /// The kind of numbers with a suffix.
 #[repr(C)]
@@ -31,12 +31,13 @@ pub struct Stop {
 pub struct Suffixes {
     words: [*const u8; 2],
     any: *const u8,
+    pub(crate) written: *const u8,
     kinds: *const SuffixKind,
     kind_count: usize,
     stops: *const Stop,
     stop_count: usize,
     either_case: u8,
-    reserved: [u8; 7],
+    reserved: [u8; 15],
 }
 
 /// The rules for the tokens of a list.
@@ -64,7 +65,7 @@ pub struct Token<'a> {
 }
 
 // The sizes and the alignment in the header.
-const _: () = assert!(size_of::<SuffixKind>() == 16 && size_of::<Stop>() == 32 && size_of::<Suffixes>() == 64);
+const _: () = assert!(size_of::<SuffixKind>() == 16 && size_of::<Stop>() == 32 && size_of::<Suffixes>() == 80);
 const _: () = assert!(size_of::<Tokens>() == 32 && size_of::<Token>() == 368 && align_of::<Token>() <= 16);
 
 /// The most words, kinds and stops of all forms of a list.
@@ -159,7 +160,7 @@ impl Reader {
         }
         if self.suffixes.len == 0 || !ptr::eq(given, self.last) {
             let it = given.read_unaligned();
-            if it.reserved != [0; 7] {
+            if it.reserved != [0; 15] {
                 return None;
             }
             let [integers, floats] = [self.words(it.words[0])?, self.words(it.words[1])?];
@@ -175,6 +176,7 @@ impl Reader {
             }
             let made = literal::Suffixes::new(integers, floats, self.stops.since(stops));
             let made = made.either_case(it.either_case != 0).any_word(string(it.any));
+            let made = made.with_written(self.words(it.written)?);
             self.suffixes.push(made.with_kinds(self.kinds.since(kinds)))?;
             self.last = given;
         }
@@ -195,6 +197,15 @@ unsafe fn string(text: *const u8) -> &'static [u8] {
     }
 }
 
+/// Returns an opening or a closing, or `None` if the string is refused. Whether its case counts is a number of C.
+///
+/// # Safety
+///
+/// As for `string`.
+pub unsafe fn affix(text: *const u8, case_sensitive: u8) -> Option<Affix> {
+    Some(Affix::new(string(text))?.case_sensitive(case_sensitive != 0))
+}
+
 /// The suffixes of the forms of a language, each once: their strings, one after another, kinds and stops, and of each form the
 /// index of its suffixes, or [`MOST`].
 pub struct Laid {
@@ -207,6 +218,7 @@ pub struct Laid {
     pub suffixes: [Suffixes; 64],
     pub count: usize,
     pub of_forms: [usize; 64],
+    pub affixes: [[*const u8; 2]; 64],
     pub following: *const u8,
     starts: [usize; 65],
 }
@@ -215,12 +227,13 @@ impl Laid {
     const NONE: Suffixes = Suffixes {
         words: [ptr::null(); 2],
         any: ptr::null(),
+        written: ptr::null(),
         kinds: ptr::null(),
         kind_count: 0,
         stops: ptr::null(),
         stop_count: 0,
         either_case: 0,
-        reserved: [0; 7],
+        reserved: [0; 15],
     };
 
     /// Lays out the suffixes of forms, where the strings, kinds and stops begin at these addresses.
@@ -239,13 +252,21 @@ impl Laid {
             suffixes: [Laid::NONE; 64],
             count: 0,
             of_forms: [MOST; 64],
+            affixes: [[ptr::null(); 2]; 64],
             following: ptr::null(),
             starts: [0; 65],
         };
         let mut form = 0;
         while form < forms[0].len() + forms[1].len() {
-            if let Some(suffixes) = form_at(forms, form).suffixes() {
+            let it = form_at(forms, form);
+            if let Some(suffixes) = it.suffixes() {
                 laid.of_forms[form] = laid.add(suffixes, at);
+            }
+            if !it.opening().is_empty() {
+                laid.affixes[form][0] = laid.put(&[it.opening().as_bytes()], at.0);
+            }
+            if !it.closing().is_empty() {
+                laid.affixes[form][1] = laid.put(&[it.closing().as_bytes()], at.0);
             }
             form += 1;
         }
@@ -288,7 +309,7 @@ impl Laid {
         let (start, kind, stop) = (self.size, self.kind_count, self.stop_count);
         let ((either_case, any, own_kinds, own_stops), [integers, floats]) = (it.rules(), it.words());
         let words = [self.put(integers, base), self.put(floats, base)];
-        let any = self.put(&[any], base);
+        let (any, written) = (self.put(&[any], base), self.put(it.written(), base));
         while self.kind_count - kind < own_kinds.len() {
             let (word, of) = own_kinds[self.kind_count - kind];
             let word = self.put(&[word], base);
@@ -304,6 +325,7 @@ impl Laid {
         self.suffixes[self.count] = Suffixes {
             words,
             any,
+            written,
             kinds: if own_kinds.is_empty() { ptr::null() } else { kinds.wrapping_add(kind) },
             kind_count: own_kinds.len(),
             stops: if own_stops.is_empty() { ptr::null() } else { stops.wrapping_add(stop) },
@@ -375,21 +397,20 @@ pub struct Constant<T>(pub T);
 unsafe impl<T> Sync for Constant<T> {}
 
 /// A token, or where reading stopped, the index of a form, and why there is none.
-type Read<'a> = Result<Token<'a>, (usize, usize, Refusal<literal::ReadError>)>;
+type Read<'a> = Result<Token<'a>, (usize, usize, Refusal<FormError>)>;
 
 /// Returns the token that a text begins with. An error of a suffix has words of the caller, and is passed to `print`.
+#[allow(clippy::result_large_err, reason = "the library allocates nothing")]
 fn token<'a>(forms: Given<'_>, text: &'a [u8], print: &mut dyn FnMut(&TokenError)) -> Read<'a> {
     let forms = forms.map_err(|sentence| (0, 0, Refusal::Argument(sentence)))?;
     match forms.token_bytes(text) {
         Ok(it) => {
-            let (size, start) = (text.len() - it.rest.len(), it.literal.as_bytes().len());
+            let size = text.len() - it.rest.len();
+            let suffix = Span { start: size - it.suffix.len(), end: size };
             let (literal, rest) = (Literal::of(it.literal, it.form), it.rest.as_ptr());
-            Ok(Token { literal, suffix: Span { start, end: size }, size, rest, reserved: [0; 2] })
+            Ok(Token { literal, suffix, size, rest, reserved: [0; 2] })
         }
-        Err(TokenError::Literal(it)) => {
-            let (why, form) = of_form(it);
-            Err((why.valid_up_to(), form, Refusal::Library(why)))
-        }
+        Err(TokenError::Literal(why)) => Err((why.valid_up_to(), why.form, Refusal::Library(why))),
         Err(why @ TokenError::UnknownSuffix { form, start, end, .. }) => {
             print(&why);
             Err((start, form, Refusal::Suffix { start, end }))
@@ -402,11 +423,13 @@ fn token<'a>(forms: Given<'_>, text: &'a [u8], print: &mut dyn FnMut(&TokenError
 
 /// Does the same by forms of C.
 #[inline(never)]
+#[allow(clippy::result_large_err, reason = "the library allocates nothing")]
 unsafe fn found<'a>(forms: *const Forms, text: *const u8, len: usize, print: &mut dyn FnMut(&TokenError)) -> Read<'a> {
-    match input(text, len) {
-        Some(text) => with_tokens(forms, |forms| token(forms, text, print)),
-        None => Err((0, 0, Refusal::Argument(TOO_LONG))),
+    let mut read = Err((0, 0, Refusal::Argument(TOO_LONG)));
+    if let Some(text) = input(text, len) {
+        with_tokens(forms, &mut |forms| read = token(forms, text, print));
     }
+    read
 }
 
 calls! {

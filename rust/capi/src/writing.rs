@@ -1,7 +1,7 @@
 //! Calls that write numbers.
 
 use crate::arguments::{write_by, Out, Text};
-use crate::languages::{by, Forms, NumberedSpecial, Specials};
+use crate::languages::{by, has_written, with_tokens, Forms, Given, NumberedSpecial, Specials};
 use crate::literals::{Literal, Syntax};
 use crate::names::{at, texts};
 use crate::values::I128;
@@ -155,17 +155,25 @@ unsafe fn write_number(
     to: (*mut u8, usize, Out<usize>),
     number: Result<&dyn Writable, literal::Literal>,
 ) -> WriteStatus {
-    by(forms, |forms| match (forms, wishes(style)) {
-        (Ok(forms), Some(style)) if forms.as_slice().iter().all(|it| has_radixes(&it.syntax())) => {
+    let is_integer = number.map_or_else(|literal| !literal.is_float(), Writable::is_integer);
+    let mut status = ARGUMENT;
+    let write: &mut dyn FnMut(Given<'_>) = &mut |forms| {
+        let (Ok(forms), Some(style)) = (forms, wishes(style)) else { return };
+        if forms.as_slice().iter().all(|it| has_radixes(&it.syntax())) {
             let print = |written: &[u8]| finish(to, |text| text.write_str(str::from_utf8_unchecked(written)));
             let written = match number {
                 Ok(number) => forms.written(number, style, print),
                 Err(literal) => forms.written_literal(&literal, style, print),
             };
-            written.unwrap_or_else(status_of)
+            status = written.unwrap_or_else(status_of);
         }
-        _ => ARGUMENT,
-    })
+    };
+    if is_integer && has_written(forms) {
+        with_tokens(forms, write);
+    } else {
+        by(forms, write);
+    }
+    status
 }
 
 /// Writes NaN or infinity by forms, and the size that is enough.

@@ -217,7 +217,7 @@ impl Syntax {
     }
 
     // Returns where reading `text` stops, and the longest front that is a literal, if there is one.
-    #[inline(always)]
+    #[cfg_attr(not(peltzivar_small), inline(always))]
     pub(crate) const fn front(&self, text: &[u8]) -> (Stopped, Option<Found>) {
         let Begun { at, counts, complete, .. } = self.begin_any(text, true);
         let stop = at.go_on(self, text);

@@ -1,0 +1,233 @@
+// Made by rust/tools/erase.py from crates/lexical_forms/src/marks.rt: change that file.
+
+//! Forms with an opening and a closing: what a syntax reads between them.
+
+use crate::literal::cause::{ReadError, ReadErrorKind};
+use crate::literal::exclude::{excludes, lacks_longer, sign_size};
+use crate::literal::form::Form;
+use crate::literal::list::{FormError, Mark, Unmarked};
+use crate::literal::literal::Literal;
+use crate::literal::stop::{byte_at, tail_at, Found, Stopped, BEGIN};
+use crate::literal::syntax::Condition;
+
+impl Form {
+    // Returns the literal that `text` is, if it is one.
+    #[cfg_attr(not(peltzivar_small), inline(always))]
+    pub(crate) const fn literal<'t>(&self, text: &'t [u8]) -> Option<Literal<'t>> {
+        let Some(inside) = self.between(text) else {
+            return None;
+        };
+        let syntax = &self.syntax;
+        if excludes(syntax.as_grammar(), inside, sign_size(inside)) {
+            return None;
+        }
+        if cfg!(peltzivar_small) {
+            return match syntax.read_generally(inside) {
+                Ok(literal) => Some(literal),
+                Err(_) => None,
+            };
+        }
+        let begun = syntax.begin(false, inside, false);
+        if begun.is_whole(syntax, inside) {
+            return Some(syntax.literal(inside, begun.counts, begun.sums));
+        }
+        match begun.lengths(syntax, inside) {
+            Ok(counts) => Some(syntax.summed(inside, counts)),
+            Err(_) => None,
+        }
+    }
+
+    // Returns what is between the opening and the closing of `text`, if both are there.
+    #[inline(always)]
+    const fn between<'t>(&self, text: &'t [u8]) -> Option<&'t [u8]> {
+        let opened = self.opening.opened(text);
+        if opened < self.opening.size() {
+            return None;
+        }
+        let (_, rest) = text.split_at(opened);
+        let closed = self.closing.size();
+        if closed > rest.len() {
+            return None;
+        }
+        let (inside, closing) = rest.split_at(rest.len() - closed);
+        if self.closing.opened(closing) < closed {
+            return None;
+        }
+        Some(inside)
+    }
+
+    // Returns the longest front of `text` that is a literal, if it has more than `size` bytes.
+    #[cfg_attr(not(peltzivar_small), inline(always))]
+    pub(crate) const fn front_past(&self, text: &[u8], size: usize) -> Option<Found> {
+        let opened = self.opening.opened(text);
+        let (_, rest) = text.split_at(opened);
+        let least = size.saturating_sub(self.closing.size()).saturating_sub(opened);
+        if opened < self.opening.size() || lacks_longer(self.syntax.as_grammar(), rest, least) {
+            return None;
+        }
+        let (stop, found) = self.syntax.front(rest);
+        let Some(found) = found else {
+            return None;
+        };
+        if found.size <= least || !self.closes(rest, stop, found) {
+            return None;
+        }
+        let Found { size, counts } = found;
+        let size = opened + size + self.closing.size();
+        Some(Found { size, counts })
+    }
+
+    // Returns whether the closing is behind `found`, the longest front of `rest` that is a literal of the syntax, which stops at `stop`.
+    #[inline(always)]
+    const fn closes(&self, rest: &[u8], stop: Stopped, found: Found) -> bool {
+        let (_, closing) = rest.split_at(found.size);
+        self.closing.is_empty() || (found.size == stop.size && self.closing.opened(closing) == self.closing.size())
+    }
+}
+
+// Where the closing is not there, behind the opening, and how many bytes of it are.
+#[derive(Clone, Copy)]
+pub(crate) struct Unclosed {
+    pub(crate) size: usize,
+    pub(crate) closed: usize,
+}
+
+// Calls for a form in which a text is not a literal.
+impl Form {
+    // Returns where reading `text` stops.
+    #[cold]
+    pub(crate) const fn stop(&self, text: &[u8]) -> Stopped {
+        let opened = self.opening.opened(text);
+        if opened < self.opening.size() {
+            return BEGIN.at(opened);
+        }
+        let (_, rest) = text.split_at(opened);
+        if self.closing.is_empty() {
+            let stop = self.syntax.stop(rest);
+            return stop.at(opened + stop.size);
+        }
+        match self.ending(rest) {
+            Ok(error) => BEGIN.at(opened + error.valid_up_to()),
+            Err(Unclosed { size, closed }) => BEGIN.at(opened + size + closed),
+        }
+    }
+
+    // Returns whether the cause is stray: it is a wrong byte, or the opening, the closing or a required prefix is not there.
+    pub(crate) const fn is_stray(&self, text: &[u8], stop: Stopped) -> bool {
+        if self.is_marked() {
+            self.is_marked_stray(text, stop)
+        } else {
+            stop.is_stray(&self.syntax, text)
+        }
+    }
+
+    // Returns the same for a form with an opening or a closing.
+    #[cold]
+    const fn is_marked_stray(&self, text: &[u8], stop: Stopped) -> bool {
+        let opened = self.opening.size();
+        if stop.size < opened {
+            return true;
+        }
+        let (_, rest) = text.split_at(opened);
+        match self.refusal(rest, stop.at(stop.size - opened)) {
+            Ok(error) => is_stray(&error),
+            Err(_) => true,
+        }
+    }
+
+    // Returns why `text` is not a literal of the form, which has the index `form`.
+    #[inline(always)]
+    pub(crate) const fn refuse(&self, text: &[u8], form: usize, stop: Stopped) -> FormError {
+        if self.is_marked() {
+            return self.refuse_marked(text, form, stop);
+        }
+        let syntax = self.syntax();
+        let Err(error) = stop.refuse::<()>(&syntax, text) else { unreachable!() };
+        FormError { form, name: self.name, opened: 0, error: Ok(error) }
+    }
+
+    // Returns the same for a form with an opening or a closing.
+    #[cold]
+    const fn refuse_marked(&self, text: &[u8], form: usize, stop: Stopped) -> FormError {
+        let opened = self.opening.size();
+        let (right, error) = if stop.size < opened {
+            (stop.size, Err(self.unmarked(text, stop.size, Mark::Opening)))
+        } else {
+            let (_, rest) = text.split_at(opened);
+            match self.refusal(rest, stop.at(stop.size - opened)) {
+                Ok(error) => (opened, Ok(error)),
+                Err(it) => {
+                    let right = opened + it.size + it.closed;
+                    (right, Err(self.unmarked(text, right, self.mark(it.closed))))
+                }
+            }
+        };
+        FormError { form, name: self.name, opened: right, error }
+    }
+
+    // Returns why `rest`, which is behind the opening, is not a literal of the syntax, which stops at `stop` if there is no closing, or where the
+    // closing is not there.
+    const fn refusal(&self, rest: &[u8], stop: Stopped) -> Result<ReadError, Unclosed> {
+        if !self.closing.is_empty() {
+            return self.ending(rest);
+        }
+        let Err(error) = stop.refuse::<()>(&self.syntax, rest) else { unreachable!() };
+        Ok(error)
+    }
+
+    // Returns the same for a form with a closing. It is not there if what is before is a literal, and the syntax knows no more than that a byte is
+    // wrong.
+    const fn ending(&self, rest: &[u8]) -> Result<ReadError, Unclosed> {
+        let (stop, found) = self.syntax.front(rest);
+        let size = stop.size;
+        if !is_at(found, size) {
+            let Err(error) = stop.refuse::<()>(&self.syntax, rest) else { unreachable!() };
+            return Ok(error);
+        }
+        let (_, closing) = rest.split_at(size);
+        let closed = self.closing.opened(closing);
+        let unclosed = Unclosed { size, closed };
+        if closed > 0 || closing.is_empty() {
+            return Err(unclosed);
+        }
+        let Err(error) = stop.refuse::<()>(&self.syntax, rest) else { unreachable!() };
+        if is_stray(&error) {
+            Err(unclosed)
+        } else {
+            Ok(error)
+        }
+    }
+
+    // Returns what is not there behind `closed` bytes of the closing.
+    const fn mark(&self, closed: usize) -> Mark {
+        if closed < self.closing.size() {
+            Mark::Closing
+        } else {
+            Mark::End
+        }
+    }
+
+    // Returns that `mark` is not there behind the first `size` bytes.
+    #[inline(always)]
+    const fn unmarked(&self, text: &[u8], size: usize, mark: Mark) -> Unmarked {
+        let byte = byte_at(text, size);
+        let affix = match mark {
+            Mark::Opening => self.opening,
+            _ => self.closing,
+        };
+        Unmarked { mark, affix, byte, tail: tail_at(text, size, byte) }
+    }
+}
+
+// Returns whether `found` has `size` bytes.
+const fn is_at(found: Option<Found>, size: usize) -> bool {
+    match found {
+        None => false,
+        Some(found) => found.size == size,
+    }
+}
+
+// Returns whether the cause is a wrong byte, or a required prefix is not there.
+const fn is_stray(error: &ReadError) -> bool {
+    matches!(error.kind(), ReadErrorKind::Byte) || error.conditions().has(Condition::BasePrefix)
+}
