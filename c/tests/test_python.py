@@ -298,7 +298,7 @@ class Literals(unittest.TestCase):
         rows = (TOP / "rust/tests/tokens.txt").read_text(encoding="utf-8")
         back = re.search("^# BACK = (.*)$", rows, re.M)[1]
         for line in rows.splitlines():
-            if not line or line.startswith("#"):
+            if not line or line.startswith("# "):
                 continue
             text, names, wanted = line.split(" ; ")
             for name in (back if names == "BACK" else names).split():

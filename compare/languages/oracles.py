@@ -3,6 +3,7 @@ import collections
 import fractions
 import math
 import re
+import struct
 import sys
 
 # A tool: its packages in Debian, the programs that it needs, commands that print its version and build its judge, and the
@@ -15,8 +16,13 @@ SCALA = "/usr/share/java/scala-compiler.jar:/usr/share/java/scala-library.jar:/u
 OCAMLC = "ocamlc -w -a -I +compiler-libs ocamlcommon.cma"
 TOOLS = {
     "ast": Tool("python3", [PYTHON], f"{PYTHON} --version", "", f"{PYTHON} libraries.py python"),
+    "bash": Tool("bash", ["bash"], "bash --version", "", "./bash.sh"),
     "calc": Tool("libreoffice-calc-nogui python3-xlrd", ["soffice", f"{PACKAGES}/xlrd"], "soffice --version", "", f"{DEBIAN} calc.py"),
+    "clojure": Tool("clojure", ["clojure"], "clojure -e '(print \"Clojure\" (clojure-version))'", "", "clojure clojure.clj"),
     "elixir": Tool("elixir", ["elixir"], "elixir --version | tail -1", "", "elixir elixir.exs"),
+    "erlang": Tool("erlang-base", ["escript"], "echo Erlang/OTP $(erl -noshell -eval 'io:put_chars(erlang:system_info(otp_release)),halt().')", "",
+                   "escript erlang.escript"),
+    "fpc": Tool("fp-compiler fp-units-math", ["fpc"], "echo Free Pascal $(fpc -iV)", "", f"{PYTHON} pascal.py"),
     "g++": Tool("g++", ["g++"], "g++ --version", "", f"{PYTHON} compilers.py g++"),
     "gcc": Tool("gcc", ["gcc"], "gcc --version", "", f"{PYTHON} compilers.py gcc"),
     "gfortran": Tool("gfortran", ["gfortran"], "gfortran --version", "", f"{PYTHON} compilers.py gfortran"),
@@ -24,6 +30,7 @@ TOOLS = {
     "ghc": Tool("ghc", ["ghc"], "ghc --version", "ghc -v0 -package ghc -outputdir {work} -o {work}/ghc haskell.hs", "{work}/ghc"),
     "gnat": Tool("gnat", ["gnatmake"], "gnatmake --version", "", f"{PYTHON} compilers.py gnat"),
     "go": Tool("golang-go", ["go"], "go version", "go build -o {work}/go scanner.go", "{work}/go"),
+    "guile": Tool("guile-3.0", ["guile"], "guile --version", "", "guile --no-auto-compile scheme.scm"),
     "javac": Tool("openjdk-17-jdk", ["javac"], "javac --version", f"javac {JAVAC} -d {{work}} Scanner.java", f"java {JAVAC} -cp {{work}} Scanner"),
     "json": Tool("nodejs", ["node"], "echo JSON.parse of node $(node --version)", "", "node node.js json"),
     "json5": Tool("nodejs node-json5", ["node", f"{NODE}/json5"], f"node -p '`json5 ${{require(\"{NODE}/json5/package.json\").version}}`'",
@@ -46,6 +53,7 @@ TOOLS = {
     "rustc": Tool("rustc", ["rustc"], "rustc --version", "", f"{PYTHON} compilers.py rustc"),
     "scala": Tool("scala openjdk-17-jdk", ["scalac", "java"], "scala -version 2>&1", f"scalac -d {{work}} -cp {SCALA} scanner.scala",
                   f"java -cp {{work}}:{SCALA} Scan"),
+    "sbcl": Tool("sbcl", ["sbcl"], "sbcl --version", "", "sbcl --script lisp.lisp"),
     "sqlite": Tool("python3", [PYTHON], f"{PYTHON} -c 'import sqlite3; print(\"SQLite\", sqlite3.sqlite_version)'", "",
                    f"{PYTHON} libraries.py sqlite"),
     "tcl": Tool("tcl", ["tclsh"], "echo 'puts Tcl\\ [info patchlevel]' | tclsh", "", "tclsh tcl.tcl"),
@@ -110,6 +118,14 @@ ZERO = Cause("=", r"-[0.,]+([eE].*)?", "a negative zero, which the tool does not
 ROUNDED = Cause("=", ".*", "a fault of the tool, which rounds to the next float", lambda ours, theirs: ours.double == nearest(ours.text)
                 and theirs in [math.nextafter(ours.double, to) for to in (-math.inf, math.inf)])
 
+def is_next(ours, theirs):
+    """Returns whether the float or the single of the library is nearer to a number of Lisp than that of the tool, which is the next one."""
+    exact = number(re.sub("[sfdl]", "e", ours.text.lower()))
+    own, other, shape = (ours.single, theirs.value, ">fi") if isinstance(theirs, tuple) else (ours.double, theirs, ">dq")
+    one, next = (struct.unpack(shape[0] + shape[2], struct.pack(shape[:2], it))[0] for it in (own, other))
+    return abs(one - next) == 1 and abs(fractions.Fraction(own) - exact) <= abs(fractions.Fraction(other) - exact)
+
+
 CELLS = [
     Cause("+", pattern, f"{what}, which no spreadsheet writes so")
     for pattern, what in (
@@ -131,8 +147,18 @@ LANGUAGES = [
     Language("ADA", "gnat", "019._eE+-#", "_", "16#FF# 2#1.1#e3 1E-3 16#F.8#E1", [
         Cause("+", r"[\d_]+#[\da-fA-F_.]+#([eE][+-]?[\d_]+)?", "a based literal"),
         Cause("-", r"[\d_]+[eE]-[\d_]+", "a negative exponent of an integer"), out_of_range(2**127), ROUNDED]),
+    Language("BASH", "bash", "0189#xaZ", "", "16#ff 16#FF 2#101 36#Zz 8#17 3#12 37#a 64#_ 16# 65#1 1#0 02#1", [
+        Cause("+", "0[xX]", "no digits behind a prefix"), Cause("+", r"(3[7-9]|[45]\d|6[0-4])#[\w@]+", "a radix above 36")]),
     Language("C", "gcc", "018.'exp-b", "'", "1u 1UL 1.0f 0x1p3L 10wb", [
         suffix("([uU]|ll?|LL?|wb|WB)+|[fFlL]|[dD][fFdDlL]"), Cause("+", r"[\d']+[fF]", "a float by its suffix alone")]),
+    Language("CLOJURE", "clojure", "018.rexN-", "", "16rFF -16rFF 2r101 36rZz 1N 1M 1.5M 08M 017N 0xFFN 1/2 3r12 1r0 37r1 02r1", [
+        suffix("[NM]"), Cause("+", r"[+-]?\d+M", "a decimal by its suffix alone"), Cause("+", r"[+-]\d+[rR]\w+", "a sign before a radix"),
+        Cause("+", r"[+-]?\d+/\d+", "a ratio")]),
+    Language("COMMON_LISP", "sbcl", "01.e-#xrd", "", "#xFF #x-FF #X+ff #o17 #b101 #16rFF #36RzZ #8r-17 1.e5 -1.d5 1d3 1.5d0 1f0 1s0 1l0 1.5d300 1/2 #x1/2 +.5", [
+        Cause("+", r"(#([xXoObB]|\d+[rR]))?[+-]?\w+/\w+", "a ratio"), Cause("+", r"(#[xX])?[+-]?[\d.]+[rR][+-]?\d+", "an exponent of a ratio"),
+        Cause("+", r"#\d+[xXoObB].+", "a radix that is ignored"), Cause("+", r"#([xXoObB]|\d+[rR])[+-]?\d+\.", "a point, by which digits are decimal"),
+        Cause("+", r"#0\d*[rR].+", "zeros in a radix"), Cause("+", "#.+#.+", "a number behind an opening"),
+        Cause("=", ".*", "a fault of the tool, which rounds to the next float", is_next)]),
     Language("CSS", "tinycss2", "0189.eE+-x", "_", "1e3px 10%", []),
     Language("CSV_DE", "calc 1031", "0125.,-e", ".", "1.234,50 1.234.567,25 12.34 0,50 1.2345,0", CELLS),
     Language("CSV_EN", "calc 1033", "0125.,-e", ",", "1,234.50 1,234,567.25 12,34 0.50 1,2345.0", CELLS),
@@ -150,6 +176,8 @@ LANGUAGES = [
         Cause("+", r"0[xX]_*(\.[\da-fA-F_]*)?[pP][+-]?[\d_]+[fFL]?i?", "no digits behind a prefix, beside the specification"),
         ROUNDED]),
     Language("ELIXIR", "elixir", "018._exo-+", "_", "1.0e10 1.5e-3", []),
+    Language("ERLANG", "erlang", "018._#eF-", "_", "16#FF 16#F_f 2#101 36#Zz 3#12 016#FF 1_6#F 37#1 1#0 16#F.8 16#_F $a 1.0e10 1.5e-3", [
+        Cause("+", r"(0[\d_]*|\d+_[\d_]*)#\w+", "zeros or separators in a radix")]),
     Language("FORTRAN", "gfortran", "019.edD-+_", "_", "1.0_8 1d3 1.5d300", [
         Cause("=", ".*", "a subnormal number, which the tool rounds to zero",
               lambda ours, theirs: theirs == (0.0,) and abs(ours.single) < 2**-126), ROUNDED]),
@@ -180,6 +208,8 @@ LANGUAGES = [
     Language("OCAML", "ocaml", "018._exp-+b", "_", "1l 1n 1L 1z", [
         suffix("[lLn]"), Cause("+", r"\w+\._+([eEpP][+-]?\d[\d_]*)?", "a fraction of separators alone"),
         Cause("+", r"[\d_]+", "the least integer without its sign", lambda _, theirs: theirs == -2**62)]),
+    Language("PASCAL", "fpc", "018.$%&e-", "", "$FF $ff $-F -$F %101 &17 $FFFFFFFFFFFFFFFF $10000000000000000 %2 &8 1.5e300", [
+        Cause("+", r"(\d+|\$[\da-fA-F]+|&[0-7]+|%[01]+)\.", "a point behind an integer, beside the guide"), doubles(2**64), ROUNDED]),
     Language("PERL", "perl", "018._exp-o", "_", "01.4p0 0o1.4p0 0b1.1p0 07_7 1.2.3", [
         Cause("-", "0_[0-7_]+(\\.[0-7_]*)?([pP][+-]?[\\d_]+)?", "a separator behind the first zero, of which the tool warns"),
         Cause("-", r"0(\.[0-7_]*)?[pP][+-]?[\d_]+", "an octal float with one digit before its point"),
@@ -197,6 +227,11 @@ LANGUAGES = [
     # Debian's compiler, 2.11, has no separators, so it gets none.
     Language("SCALA", "scala", "0189.exf-+", "", "1L 1f 08f 08.5 1d", [
         suffix("[lLfFdD]"), Cause("+", "[0-9]*[fFdD]", "a float by its suffix alone")]),
+    Language("SCHEME", "guile", "01.e-#xd/", "", "#xFF #x-FF #X+ff #o17 #b101 #d1.5 #D-.5e3 #e1.5 #i1 1# 1/2 #x1/2 1+2i 1@2 +i +inf.0 -nan.0 1d3 1s3", [
+        Cause("+", ".*/.*", "a ratio"), Cause("+", ".*[iI@].*", "a complex or an inexact number"), Cause("+", "#([eE].*|.#[eE].*)", "an exact number"),
+        Cause("+", r"(#[bBdDoOxX])?[\w.+-]+#.*", "a digit that is not known"), Cause("+", r"(#[dD])?[+-]?[\d.]+[sSfFdDlL][+-]?\d+", "the size of a float"),
+        Cause("+", "[+-](inf|nan).0", "a special value"),
+        Cause("-", r".*[eE][+-]?0*(309|3[1-9]\d|[4-9]\d\d|\d{4,})", "an exponent above 308, which the tool refuses")]),
     Language("SQL", "postgres", "019.eE+-x_", "_", "", [ZERO]),
     Language("SQL", "sqlite", "019.eE+-x_", "_", "", [Cause("+", r"[+-]?0[xX][\da-fA-F]+", "hexadecimal, beyond the standard"), ROUNDED, doubles(2**63)]),
     Language("TCL", "tcl", "018.exo-bI", "", "Inf inf Infinity -Inf 1eq1 017.5", []),
@@ -216,7 +251,7 @@ LANGUAGES = [
 TABLES = {"JULIA": "no tool", "SWIFT": "no tool", "C_SHARP": "separators have no tool", "SCALA": "separators have no tool"}
 
 # Languages without suffixes that begin with a letter, and suffixes that the tools or the library alone take.
-DATA = "ADA CSV_DE CSV_EN FORTRAN JSON JSON5 NASM SQL TOML XML_SCHEMA YAML YAML_1_1".split()
+DATA = "ADA BASH COMMON_LISP CSV_DE CSV_EN ERLANG FORTRAN JSON JSON5 NASM PASCAL SCHEME SQL TOML XML_SCHEMA YAML YAML_1_1".split()
 SUFFIXES = {
     "C": [Cause("-", ".*([uU]?(wb|WB)|(wb|WB)[uU])", "an integer of so many bits, of C23, which the tool lacks")],
     "C_PLUS_PLUS": [Cause("+", ".*([uU]?[zZ]|[zZ][uU])", "a size of C++23")],

@@ -59,7 +59,10 @@ fn suffixes(of: &Suffixes) -> String {
 fn print(language: &Language, form: &Form, needs: bool) {
     let syntax = form.syntax();
     let settings = Vec::from_iter(syntax.format().edits().map(|edit| edit.to_string()));
-    let (name, sentence, kind) = (form.name(), syntax.sentence(), words(form.kind()));
+    let (name, kind) = (form.name(), words(form.kind()));
+    let opening = String::from_utf8_lossy(form.opening().as_bytes()).into_owned();
+    let shown = if opening.is_empty() { String::new() } else { format!("; opening `{opening}`") };
+    let sentence = format!("{}{shown}", syntax.sentence());
     let words = form.suffixes().map(suffixes).unwrap_or_default() + if needs { ", required" } else { "" };
     println!("{language}\t{name}\t{sentence}\t{kind}\t{words}\t{syntax}\t{}", settings.join(" "));
 }

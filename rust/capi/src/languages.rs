@@ -392,7 +392,10 @@ macro_rules! languages {
 languages! {
     // Made by make_python.py: language_list
     ADA peltzivar_language_ada
+    BASH peltzivar_language_bash
     C peltzivar_language_c
+    CLOJURE peltzivar_language_clojure
+    COMMON_LISP peltzivar_language_common_lisp
     CSS peltzivar_language_css
     CSV_DE peltzivar_language_csv_de
     CSV_EN peltzivar_language_csv_en
@@ -400,6 +403,7 @@ languages! {
     C_SHARP peltzivar_language_c_sharp
     D peltzivar_language_d
     ELIXIR peltzivar_language_elixir
+    ERLANG peltzivar_language_erlang
     FORTRAN peltzivar_language_fortran
     GO peltzivar_language_go
     HASKELL peltzivar_language_haskell
@@ -414,6 +418,7 @@ languages! {
     NASM peltzivar_language_nasm
     NIM peltzivar_language_nim
     OCAML peltzivar_language_ocaml
+    PASCAL peltzivar_language_pascal
     PERL peltzivar_language_perl
     PHP peltzivar_language_php
     PYTHON peltzivar_language_python
@@ -421,6 +426,7 @@ languages! {
     RUBY peltzivar_language_ruby
     RUST peltzivar_language_rust
     SCALA peltzivar_language_scala
+    SCHEME peltzivar_language_scheme
     SQL peltzivar_language_sql
     SWIFT peltzivar_language_swift
     TCL peltzivar_language_tcl

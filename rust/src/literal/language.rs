@@ -243,11 +243,13 @@ impl fmt::Debug for Language {
     }
 }
 
-/// Defines the constants: the documentation, the name and the title of each, the name, the syntax, the suffixes and the kind of each form, the
-/// special values, if there are any, and rules for tokens, if the language has them.
+/// Defines the constants: the documentation, the name and the title of each, the name, the opening, the syntax, the suffixes and the kind of
+/// each form, those of forms that differ in their radix alone, which is between two texts in their openings, the special values, if there are
+/// any, and rules for tokens, if the language has them.
 macro_rules! languages {
-    ($($(#[$about:meta])+ $name:ident: $title:literal = { $($form:literal: $syntax:expr $(=> $suffixes:expr)? $(; $kind:expr)?),+ $(,)? } $(, $specials:expr)?
-        $(=> $tokens:expr)?;)+) => {
+    ($($(#[$about:meta])+ $name:ident: $title:literal = {
+        $($form:literal $(behind $opening:literal)?: $syntax:expr $(=> $suffixes:expr)? $(; $kind:expr)?),+ $(,)?
+    } $(radixes $before:literal $behind:literal { $binary:expr $(=> $words:expr)? $(; $values:expr)? })? $(, $specials:expr)? $(=> $tokens:expr)?;)+) => {
         impl Language {
             /// All languages, in alphabetical order.
             pub const ALL: &'static [Language] = &[$(Language::$name),+];
@@ -256,12 +258,21 @@ macro_rules! languages {
             pub const $name: Language = Language(&Definition {
                 name: stringify!($name),
                 title: $title,
-                forms: Forms::new_or_panic(&[$(Form::new($form, $syntax)$(.with_suffixes(&$suffixes))?$(.with_kind($kind))?),+])
+                forms: Forms::new_or_panic(languages!(
+                    @[$(Form::new($form, $syntax)$(.with_opening(opening($opening)))?$(.with_suffixes(&$suffixes))?$(.with_kind($kind))?),+]
+                    $(; $before $behind, Form::new("radix in front", $binary)$(.with_suffixes(&$words))?$(.with_kind($values))?)?
+                ))
                     $(.with_specials($specials))?
                     $(.with_tokens(&$tokens))?,
             });)+
         }
     };
+    (@$forms:expr) => { &$forms };
+    (@$forms:expr; $before:literal $behind:literal, $binary:expr) => {{
+        const FORMS: &[Form] = &$forms;
+        const ALL: [Form; FORMS.len() + RADIXES] = with_radixes(FORMS, $before, $behind, $binary);
+        &ALL
+    }};
 }
 
 mod tables;

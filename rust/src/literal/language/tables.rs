@@ -2,9 +2,9 @@
 
 use super::{Definition, Language};
 use crate::literal::{
-    Conditions, FloatKind, FloatLimits, Form, Forms, IntegerKind, Kind, Specials, Stop, Suffixes, Syntax, Tokens,
+    Affix, Conditions, FloatKind, FloatLimits, Form, Forms, IntegerKind, Kind, Specials, Stop, Suffixes, Syntax, Tokens,
 };
-use crate::NumberFormatBuilder;
+use crate::{Format, NumberFormatBuilder};
 use core::num::NonZeroU8;
 
 /// Numbers without signs, which are operators, and without NaN and infinity, which are names.
@@ -91,8 +91,45 @@ const fn signed(syntax: Syntax) -> Syntax {
     syntax.with_conditions_or_panic(syntax.conditions().no_negative_mantissa_sign(false))
 }
 
+/// Returns an opening.
+const fn opening(text: &'static str) -> Affix {
+    Affix::new(text.as_bytes()).unwrap()
+}
+
+/// The number of radixes, which are those from 2 to 36.
+const RADIXES: usize = 35;
+
+/// Returns `forms`, and `binary` in each radix, with an opening that has the radix between two texts. No form is checked again.
+const fn with_radixes<const N: usize>(forms: &[Form], before: &str, behind: &str, binary: Form) -> [Form; N] {
+    let (mut all, mut index) = ([binary; N], 0);
+    while index < N {
+        let radix = (index + 2).saturating_sub(forms.len()) as u8;
+        all[index] = if index < forms.len() { forms[index] } else { in_radix(binary, before, radix, behind) };
+        index += 1;
+    }
+    all
+}
+
+/// Returns the form of binary integers in another radix, of which the opening has the decimal digits between a byte, if there is one, and
+/// another.
+const fn in_radix(binary: Form, before: &str, radix: u8, behind: &str) -> Form {
+    let word = binary.syntax.format.word - NumberFormatBuilder::from_radix(2) + NumberFormatBuilder::from_radix(radix);
+    let syntax = Syntax { format: Format { word }, ..binary.syntax };
+    let (ten, one, behind) = (b'0' + radix / 10, b'0' + radix % 10, behind.as_bytes()[0]);
+    let bytes: &[u8] = match (before.as_bytes(), radix < 10) {
+        ([], true) => &[one, behind],
+        ([], false) => &[ten, one, behind],
+        ([before, ..], true) => &[*before, one, behind],
+        ([before, ..], false) => &[*before, ten, one, behind],
+    };
+    Form { syntax, ..binary }.with_opening(Affix::new(bytes).unwrap())
+}
+
 /// Digits of Ruby, which are separated by one `_`, after a sign.
 const RUBY: NumberFormatBuilder = separated(b'_').no_positive_mantissa_sign(false); // accepts `+1`
+
+/// Numbers of Lisps, with signs.
+const LISP: NumberFormatBuilder = NumberFormatBuilder::new().no_special(true); // accepts `+1`
 
 /// Digits of C and C++.
 const C: NumberFormatBuilder = separated(b'\''); // accepts `1'000`, not `1''0`
@@ -196,6 +233,21 @@ const FORTRAN_WORDS: Suffixes =
         (b"_10", Kind::EXACT),
         (b"_16", whole(IntegerKind::AtMost(127))),
     ]);
+
+/// What goes on a number of Bash, and on a decimal one of Erlang: `37#1`.
+const BASH_WORDS: Suffixes = Suffixes::new(&[], &[], &[Stop::new(b"", b"#@", b"")]);
+const ERLANG_WORDS: Suffixes = Suffixes::new(&[], &[], &[Stop::new(b"", b"#", b"")]);
+
+/// Suffixes of Clojure, and what else goes on a number: `1/2`.
+const CLOJURE_STOPS: &[Stop] = &[Stop::new(b"", b"!$&*+-./:<=>?|", b"")];
+const CLOJURE_DECIMALS: Suffixes = Suffixes::new(&[b"N", b"M"], &[b"M"], CLOJURE_STOPS);
+const CLOJURE_INTEGERS: Suffixes = Suffixes::new(&[b"N"], &[], CLOJURE_STOPS);
+const CLOJURE_BIG: Suffixes = Suffixes::new(&[b"M"], &[], CLOJURE_STOPS);
+const CLOJURE_WORDS: Suffixes = Suffixes::new(&[], &[], CLOJURE_STOPS);
+
+/// What makes a symbol of a number of Common Lisp, or goes on it, and what makes one of Scheme: `1+`, `1/2`.
+const LISP_WORDS: Suffixes = Suffixes::new(&[], &[], &[Stop::new(b"", b"!#$%&*+-./:<=>?@[\\]^{|}~", b"")]);
+const SCHEME_WORDS: Suffixes = Suffixes::new(&[], &[], &[Stop::new(b"", b"!#$%&'*+,-./:<=>?@[\\]^`{|}~", b"")]);
 
 /// Words behind integers and floats, in this case.
 const fn words(integers: &'static [&'static [u8]], floats: &'static [&'static [u8]]) -> Suffixes {
@@ -439,6 +491,15 @@ languages! {
         ) => ADA_WORDS,
     } => POINTS_BACK;
 
+    /// Bash's integers in arithmetic (Bash Reference Manual 5.2, 6.5 Shell Arithmetic). An integer keeps its last 64 bits:
+    /// `9223372036854775808` is -9223372036854775808. Radixes from 37 to 64, as in `64#_`, are refused here, and so is `0x`, which is 0 in
+    /// Bash.
+    BASH: "Bash" = {
+        "decimal": integers(10, TOKENS.no_integer_leading_zeros(true), UNSIGNED) => BASH_WORDS; LAST_64, // rejects `08`
+        "octal": octal(TOKENS) => BASH_WORDS; LAST_64,
+        "hexadecimal": prefixed(b'x', 16, TOKENS) => BASH_WORDS; LAST_64,
+    } radixes "" "#" { integers(2, TOKENS, UNSIGNED) => BASH_WORDS; LAST_64 } => Tokens::new(&[], &[]);
+
     /// C's integer and floating constants (C23, 6.4.4.1 and 6.4.4.2). A decimal integer has the type `long long`, which has 63 bits
     /// and a sign, unless its suffix has a `u`. The value of a decimal float has all
     /// its digits: that of `16777217.0df` is not rounded to seven.
@@ -449,6 +510,36 @@ languages! {
         "binary": prefixed(b'b', 2, C) => C_WORDS; AT_MOST_64,
         "hexadecimal float": binary_floats(b'x', 16, C.required_exponent_notation(true)) => C_WORDS, // rejects `0x1.8`
     } => Tokens::new(&[], &[]);
+
+    /// Clojure's integers and floats, with signs (The Clojure Reader 1.11, Literals, Numbers). The sign of `-16rFF` is before its radix: it is
+    /// refused here. So are ratios, such as `1/2`.
+    CLOJURE: "Clojure" = {
+        "decimal": numbers(b'e', b'.', LISP
+            .required_integer_digits(true) // rejects `.5`, not `1.`
+            .no_integer_leading_zeros(true) // rejects `08`, not `08.5`
+        ) => CLOJURE_DECIMALS,
+        "octal": signed(octal(LISP)) => CLOJURE_INTEGERS,
+        "hexadecimal": signed(prefixed(b'x', 16, LISP)) => CLOJURE_INTEGERS,
+    } radixes "" "r" { integers(2, TOKENS, UNSIGNED) => CLOJURE_WORDS } => Tokens::new(
+        &[Form::new("big decimal, leading zeros", integers(10, LISP, Conditions::NONE)).with_suffixes(&CLOJURE_BIG)],
+        &[],
+    );
+
+    /// Common Lisp's integers and floats, with signs (Common Lisp HyperSpec, 2.3.2.1 and 2.4.8.7 to 2.4.8.10). `1.` is an integer, and `0.1`,
+    /// but not `0.1d0`, is an `f32`. Ratios, such as `1/2`, are refused here.
+    COMMON_LISP: "Common Lisp" = {
+        "decimal": integers(10, LISP, Conditions::NONE) => LISP_WORDS,
+        "with a point at the end": integers(10, LISP.base_suffix(NonZeroU8::new(b'.')), Conditions::NONE.required_base_suffix(true)) => LISP_WORDS,
+        "float": numbers(b'e', b'.', LISP.required_fraction_digits(true)) => LISP_WORDS; finite(SINGLE), // rejects `1.` and `1.e5`, not `.5`
+        "float, no digits behind the point": numbers(b'e', b'.', LISP.required_exponent_notation(true)) => LISP_WORDS; finite(SINGLE), // accepts `1.e5`
+        "single": numbers(b'f', b'.', LISP.required_exponent_notation(true)) => LISP_WORDS; finite(SINGLE),
+        "short": numbers(b's', b'.', LISP.required_exponent_notation(true)) => LISP_WORDS; finite(SINGLE),
+        "double": numbers(b'd', b'.', LISP.required_exponent_notation(true)) => LISP_WORDS; finite(Kind::EXACT),
+        "long": numbers(b'l', b'.', LISP.required_exponent_notation(true)) => LISP_WORDS; finite(Kind::EXACT),
+        "hexadecimal" behind "#x": integers(16, LISP, Conditions::NONE) => LISP_WORDS,
+        "octal" behind "#o": integers(8, LISP, Conditions::NONE) => LISP_WORDS,
+        "binary" behind "#b": integers(2, LISP, Conditions::NONE) => LISP_WORDS,
+    } radixes "#" "r" { integers(2, LISP, Conditions::NONE) => LISP_WORDS } => Tokens::new(&[], &[]);
 
     /// CSS's numbers, with signs (CSS Syntax Module Level 3, 4.3.12). A token has a word as its unit. It ends before `%`, and
     /// before a `-` that follows a digit: of `1p2-x`, it is `1p2`.
@@ -515,6 +606,15 @@ languages! {
         "octal": prefixed(b'o', 8, separated(b'_').case_sensitive_base_prefix(true)), // rejects `0O17`
         "binary": prefixed(b'b', 2, separated(b'_').case_sensitive_base_prefix(true)), // rejects `0B1`
     } => POINTS_BACK;
+
+    /// Erlang's integers and floats (Reference Manual 14.0, Numbers). In `radix in front`, digits are of the radix, as in `36#ZZ`. Erlang
+    /// also accepts `016#FF` and `1_6#FF`.
+    ERLANG: "Erlang" = {
+        "decimal": decimal(separated(b'_')
+            .required_digits(true) // rejects `.5`, `1.`, `1e` and `.`
+            .no_exponent_without_fraction(true) // rejects `1e5`, not `1.0e5`
+        ) => ERLANG_WORDS; finite(Kind::EXACT),
+    } radixes "" "#" { integers(2, separated(b'_'), UNSIGNED) } => POINTS_BACK;
 
     /// Fortran's signed integers and reals (ISO/IEC 1539-1:2018, 7.4.3). A format cannot accept binary, octal and hexadecimal
     /// constants, such as `Z'FF'`. Integers have at most 31 bits, and `0.1`, but not `0.1d0`, is an `f32`. The suffix of a
@@ -684,6 +784,15 @@ languages! {
         "binary": prefixed(b'b', 2, RUST) => OCAML_WORDS; WRAPS_63,
     } => Tokens::new(&[], &[]);
 
+    /// Pascal's integers and reals (Free Pascal Reference Guide 3.2, 1.6 Numbers). A hexadecimal, octal or binary integer has 64 bits:
+    /// `$FFFFFFFFFFFFFFFF` is -1. A decimal integer from 2^64 on is a real there: take its value as an `f64`.
+    PASCAL: "Pascal" = {
+        "decimal": decimal(TOKENS.required_digits(true)), // rejects `.5`, `1.`, `1e` and `.`
+        "hexadecimal" behind "$": integers(16, TOKENS, UNSIGNED); WRAPS_64,
+        "octal" behind "&": integers(8, TOKENS, UNSIGNED); WRAPS_64,
+        "binary" behind "%": integers(2, TOKENS, UNSIGNED); WRAPS_64,
+    } => POINTS_BACK;
+
     /// Perl's numeric literals (perldata 5.36, Scalar value constructors). Where Perl warns of a misplaced `_`, as in `1__0`, they
     /// are refused. A format cannot accept `07_7` and `01.4p0` but reject `0_7` and `0.4p0`. In Perl, an integer from 2^64 on is a
     /// float: take its value as an `f64`. A token is refused before a point that may be an operator, as in `1.x` and `0x1F.8`.
@@ -777,6 +886,16 @@ languages! {
         &[Form::new("float, leading zeros", integers(10, JAVA, UNSIGNED)).with_suffixes(&SCALA_FLOATS)],
         &[],
     ).gives_points_back(true);
+
+    /// Scheme's integers and decimals, with signs (R7RS, 7.1.1 Lexical structure). Ratios, complex numbers, those with `#e` or `#i`, and
+    /// `+inf.0` are refused here.
+    SCHEME: "Scheme" = {
+        "decimal": numbers(b'e', b'.', LISP) => SCHEME_WORDS,
+        "decimal, #d" behind "#d": numbers(b'e', b'.', LISP) => SCHEME_WORDS,
+        "hexadecimal" behind "#x": integers(16, LISP, Conditions::NONE) => SCHEME_WORDS,
+        "octal" behind "#o": integers(8, LISP, Conditions::NONE) => SCHEME_WORDS,
+        "binary" behind "#b": integers(2, LISP, Conditions::NONE) => SCHEME_WORDS,
+    } => Tokens::new(&[], &[]);
 
     /// SQL's signed numeric literals (ISO/IEC 9075-2:2016, 5.3 `<literal>`). PostgreSQL reads `-0.0` as 0.
     SQL: "SQL" = { "decimal": numbers(b'e', b'.', NumberFormatBuilder::new().no_special(true)) => SQL_WORDS } => POINTS_BACK; // rejects `NaN` and `inf`
