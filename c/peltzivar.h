@@ -107,9 +107,9 @@ typedef struct peltzivar_syntax peltzivar_syntax;
  * whatever the case of ASCII letters is, or a null pointer if there is none. They last as long as the program.
  * LANGUAGES.md describes each, such as which C `C` is.
  *
- * Numbers have a sign in CLOJURE, COMMON_LISP, CSS, CSV_DE, CSV_EN, FORTRAN, JSON, JSON5, NIM, RUBY, SCHEME, SQL, SWIFT,
- * TOML, XML_SCHEMA, YAML and YAML_1_1. In the other languages, `-` is an operator: they refuse `-5`, so read what is behind
- * it. */
+ * Numbers have a sign in CLOJURE, COMMON_LISP, CSS, CSV_DE, CSV_EN, FORTRAN, JSON, JSON5, NIM, POSTSCRIPT, RUBY, SCHEME,
+ * SQL, SWIFT, TOML, XML_SCHEMA, YAML and YAML_1_1. In the other languages, `-` is an operator: they refuse `-5`, so read
+ * what is behind it. */
 const peltzivar_forms *peltzivar_language(const char *name, size_t len);
 
 /* Return the forms of a language. A program that calls these alone has only the forms of these languages in it. */
@@ -144,8 +144,11 @@ const peltzivar_forms *peltzivar_language_ocaml(void);
 const peltzivar_forms *peltzivar_language_pascal(void);
 const peltzivar_forms *peltzivar_language_perl(void);
 const peltzivar_forms *peltzivar_language_php(void);
+const peltzivar_forms *peltzivar_language_postscript(void);
+const peltzivar_forms *peltzivar_language_prolog(void);
 const peltzivar_forms *peltzivar_language_python(void);
 const peltzivar_forms *peltzivar_language_r(void);
+const peltzivar_forms *peltzivar_language_raku(void);
 const peltzivar_forms *peltzivar_language_ruby(void);
 const peltzivar_forms *peltzivar_language_rust(void);
 const peltzivar_forms *peltzivar_language_scala(void);
@@ -154,6 +157,8 @@ const peltzivar_forms *peltzivar_language_sql(void);
 const peltzivar_forms *peltzivar_language_swift(void);
 const peltzivar_forms *peltzivar_language_tcl(void);
 const peltzivar_forms *peltzivar_language_toml(void);
+const peltzivar_forms *peltzivar_language_verilog(void);
+const peltzivar_forms *peltzivar_language_vhdl(void);
 const peltzivar_forms *peltzivar_language_xml_schema(void);
 const peltzivar_forms *peltzivar_language_yaml(void);
 const peltzivar_forms *peltzivar_language_yaml_1_1(void);

@@ -421,8 +421,11 @@ languages! {
     PASCAL peltzivar_language_pascal
     PERL peltzivar_language_perl
     PHP peltzivar_language_php
+    POSTSCRIPT peltzivar_language_postscript
+    PROLOG peltzivar_language_prolog
     PYTHON peltzivar_language_python
     R peltzivar_language_r
+    RAKU peltzivar_language_raku
     RUBY peltzivar_language_ruby
     RUST peltzivar_language_rust
     SCALA peltzivar_language_scala
@@ -431,6 +434,8 @@ languages! {
     SWIFT peltzivar_language_swift
     TCL peltzivar_language_tcl
     TOML peltzivar_language_toml
+    VERILOG peltzivar_language_verilog
+    VHDL peltzivar_language_vhdl
     XML_SCHEMA peltzivar_language_xml_schema
     YAML peltzivar_language_yaml
     YAML_1_1 peltzivar_language_yaml_1_1

@@ -127,8 +127,8 @@ impl Language {
         self.forms().read_prefix_bytes(text)
     }
 
-    /// Returns the number that `text` begins with, with its suffix, and the rest, as [`Forms::token`] does. ADA, FORTRAN, NASM,
-    /// SQL and languages of data, such as JSON, have no tokens.
+    /// Returns the number that `text` begins with, with its suffix, and the rest, as [`Forms::token`] does. Languages of
+    /// data, such as JSON, have no tokens.
     ///
     /// ```
     /// use peltzivar::literal::Language;
@@ -248,8 +248,9 @@ impl fmt::Debug for Language {
 /// any, and rules for tokens, if the language has them.
 macro_rules! languages {
     ($($(#[$about:meta])+ $name:ident: $title:literal = {
-        $($form:literal $(behind $opening:literal)?: $syntax:expr $(=> $suffixes:expr)? $(; $kind:expr)?),+ $(,)?
-    } $(radixes $before:literal $behind:literal { $binary:expr $(=> $words:expr)? $(; $values:expr)? })? $(, $specials:expr)? $(=> $tokens:expr)?;)+) => {
+        $($form:literal $(behind $opening:literal)? $(before $closing:literal)? $(only_read $only:literal)?: $syntax:expr
+            $(=> $suffixes:expr)? $(; $kind:expr)?),+ $(,)?
+    } $(radixes $before:literal $behind:literal $(before $closed:literal)? $(to $most:literal)? { $binary:expr $(=> $words:expr)? $(; $values:expr)? })? $(, $specials:expr)? $(=> $tokens:expr)?;)+) => {
         impl Language {
             /// All languages, in alphabetical order.
             pub const ALL: &'static [Language] = &[$(Language::$name),+];
@@ -259,8 +260,10 @@ macro_rules! languages {
                 name: stringify!($name),
                 title: $title,
                 forms: Forms::new_or_panic(languages!(
-                    @[$(Form::new($form, $syntax)$(.with_opening(opening($opening)))?$(.with_suffixes(&$suffixes))?$(.with_kind($kind))?),+]
-                    $(; $before $behind, Form::new("radix in front", $binary)$(.with_suffixes(&$words))?$(.with_kind($values))?)?
+                    @[$(Form::new($form, $syntax)$(.with_opening(affix($opening)))?$(.with_closing(affix($closing)).unwrap())?
+                        $(.only_read($only))?$(.with_suffixes(&$suffixes))?$(.with_kind($kind))?),+]
+                    $(; RADIXES $(+ $most - 36)?, $before $behind, Form::new("radix in front", $binary)
+                        $(.with_closing(affix($closed)).unwrap())?$(.with_suffixes(&$words))?$(.with_kind($values))?)?
                 ))
                     $(.with_specials($specials))?
                     $(.with_tokens(&$tokens))?,
@@ -268,9 +271,9 @@ macro_rules! languages {
         }
     };
     (@$forms:expr) => { &$forms };
-    (@$forms:expr; $before:literal $behind:literal, $binary:expr) => {{
+    (@$forms:expr; $radixes:expr, $before:literal $behind:literal, $binary:expr) => {{
         const FORMS: &[Form] = &$forms;
-        const ALL: [Form; FORMS.len() + RADIXES] = with_radixes(FORMS, $before, $behind, $binary);
+        const ALL: [Form; FORMS.len() + $radixes] = with_radixes(FORMS, $before, $behind, $binary);
         &ALL
     }};
 }

@@ -91,8 +91,8 @@ const fn signed(syntax: Syntax) -> Syntax {
     syntax.with_conditions_or_panic(syntax.conditions().no_negative_mantissa_sign(false))
 }
 
-/// Returns an opening.
-const fn opening(text: &'static str) -> Affix {
+/// Returns an opening or a closing.
+const fn affix(text: &'static str) -> Affix {
     Affix::new(text.as_bytes()).unwrap()
 }
 
@@ -124,6 +124,15 @@ const fn in_radix(binary: Form, before: &str, radix: u8, behind: &str) -> Form {
     };
     Form { syntax, ..binary }.with_opening(Affix::new(bytes).unwrap())
 }
+
+/// Returns the syntax of binary integers and fractions without an exponent, for forms with a radix in their opening. No digit is `^`.
+const fn based(builder: NumberFormatBuilder) -> Syntax {
+    let builder = builder.mantissa_radix(2).no_exponent_notation(true).required_digits(true); // rejects `.8` and `F.`
+    numbers(b'^', b'.', builder).with_conditions_or_panic(UNSIGNED)
+}
+
+/// Digits of Raku behind a prefix.
+const RAKU_PREFIXED: NumberFormatBuilder = GO_PREFIXED.case_sensitive_base_prefix(true); // rejects `0X1F`
 
 /// Digits of Ruby, which are separated by one `_`, after a sign.
 const RUBY: NumberFormatBuilder = separated(b'_').no_positive_mantissa_sign(false); // accepts `+1`
@@ -207,6 +216,9 @@ const AT_MOST_128: Kind = whole(IntegerKind::AtMost(128));
 
 /// Integers of Lua, NASM and Nim, of which the last 64 bits count.
 const LAST_64: Kind = whole(IntegerKind::WrapsModulo(64));
+
+/// Numbers of PostScript.
+const SHORT_REALS: Kind = finite(Kind::new(IntegerKind::AtMost(63), FloatKind::Single).unwrap());
 
 /// Integers and reals of Fortran.
 const DEFAULT: Kind = finite(Kind::new(IntegerKind::AtMost(31), FloatKind::Single).unwrap());
@@ -421,6 +433,12 @@ const PERL_STOPS: &[Stop] = &[Stop::new(b"", b".", b"0123456789"), Stop::new(b""
 
 const SQL_WORDS: Suffixes = Suffixes::new(&[], &[], PERL_STOPS);
 
+/// What goes on a name of PostScript, of which letters and most punctuation may follow a digit.
+const POSTSCRIPT_WORDS: Suffixes = Suffixes::new(&[], &[], &[Stop::new(b"", b"!\"#$&'*+,-.:;=?@\\^`|~", b"")]);
+
+/// What goes on a number of Prolog: `0'a`.
+const PROLOG_WORDS: Suffixes = Suffixes::new(&[], &[], &[Stop::new(b"", b"'", b"")]);
+
 /// The suffix of imaginary numbers of Python, in either case.
 const PYTHON_WORDS: Suffixes = words(&[b"j"], &[b"j"]).either_case(true);
 
@@ -429,6 +447,9 @@ const PYTHON_KEYWORDS: &[&[u8]] = &[b"and", b"else", b"for", b"if", b"in", b"is"
 
 /// Suffixes of R, for integers and imaginary numbers.
 const R_WORDS: Suffixes = words(&[b"L", b"i"], &[b"L", b"i"]);
+
+/// The suffix of imaginary numbers of Raku.
+const RAKU_WORDS: Suffixes = words(&[b"i"], &[b"i"]);
 
 /// Suffixes of Ruby.
 const RUBY_INTEGERS: &[&[u8]] = &[b"r", b"i", b"ri"];
@@ -457,6 +478,9 @@ const RUST_KINDS: &[(&[u8], Kind)] = &[
     (b"isize", AT_MOST_63), (b"i128", whole(IntegerKind::AtMost(127))), (b"f32", finite(SINGLE)), (b"f64", finite(Kind::EXACT)),
 ];
 
+/// What goes on a number of Verilog: `8'hFF`, `1.x` and `1$`.
+const VERILOG_WORDS: Suffixes = Suffixes::new(&[], &[], &[Stop::new(b"", b"'.$", b"")]);
+
 /// A decimal point before a byte that is neither a second one nor begins a name.
 const POINT_AND_NO_NAME: &[Stop] = &[Stop::new(b"", b".", &NO_NAME)];
 const NO_NAME: [u8; 73] = no_name();
@@ -478,9 +502,10 @@ const fn no_name() -> [u8; 73] {
 const POINTS_BACK: Tokens = Tokens::new(&[], &[]).gives_points_back(true);
 
 languages! {
-    /// Ada's decimal literals (Reference Manual 2012, 2.4.1). A format cannot accept based literals, such as `16#FF#`, or
-    /// accept `1.0E-3` and `1E3` but reject `1E-3`. So `1E-3` is read here, but the first form never writes it. At the end of a
-    /// text, the token of `1.` is `1`.
+    /// Ada's decimal and based literals (Reference Manual 2012, 2.4.1 and 2.4.2). Digits of another base from 2 to 16 are as in `16#FF#`
+    /// and `16#F.8#`, but a fraction in a base such as 3 has no `f64`. A format cannot accept `16#FF#E2`, `016#FF#` and `16:FF:`, or accept
+    /// `1.0E-3` and `1E3` but reject `1E-3`. So `1E-3` is read here, but the first form never writes it. At the end of a text, the token of
+    /// `1.` is `1`.
     ADA: "Ada" = {
         "decimal": decimal(separated(b'_')
             .required_digits(true) // rejects `.5`, `1.`, `1e` and `.`
@@ -489,7 +514,7 @@ languages! {
         "integer with an exponent": decimal(separated(b'_')
             .required_digits(true) // rejects `.5`, `1.`, `1e` and `.`
         ) => ADA_WORDS,
-    } => POINTS_BACK;
+    } radixes "" "#" before "#" to 16 { based(separated(b'_')) } => POINTS_BACK;
 
     /// Bash's integers in arithmetic (Bash Reference Manual 5.2, 6.5 Shell Arithmetic). An integer keeps its last 64 bits:
     /// `9223372036854775808` is -9223372036854775808. Radixes from 37 to 64, as in `64#_`, are refused here, and so is `0x`, which is 0 in
@@ -616,16 +641,22 @@ languages! {
         ) => ERLANG_WORDS; finite(Kind::EXACT),
     } radixes "" "#" { integers(2, separated(b'_'), UNSIGNED) } => POINTS_BACK;
 
-    /// Fortran's signed integers and reals (ISO/IEC 1539-1:2018, 7.4.3). A format cannot accept binary, octal and hexadecimal
-    /// constants, such as `Z'FF'`. Integers have at most 31 bits, and `0.1`, but not `0.1d0`, is an `f32`. The suffix of a
-    /// token is its kind: `0.1_8` is no `f32`. Of a named kind, such as `_dp`, neither the name nor the value is known. Tokens
-    /// such as `1._8` and `1.eq.2` are refused.
+    /// Fortran's signed integers and reals (ISO/IEC 1539-1:2018, 7.4.3). Binary, octal and hexadecimal
+    /// constants, such as `Z'FF'`, have no type of their own: here, they have at most 128 bits, and are not written.
+    /// Integers have at most 31 bits, and `0.1`, but not `0.1d0`, is an `f32`. The suffix of a token is its
+    /// kind: `0.1_8` is no `f32`. Of a named kind, such as `_dp`, neither the name nor the value is known. Tokens such as `1._8` and `1.eq.2` are refused.
     FORTRAN: "Fortran" = {
         "decimal": numbers(b'e', b'.', NumberFormatBuilder::new().no_special(true)) => FORTRAN_WORDS; DEFAULT, // rejects `NaN` and `inf`
         "double precision": numbers(b'd', b'.', NumberFormatBuilder::new()
             .no_special(true)
             .required_exponent_notation(true) // rejects `1.0`, which the first form reads
         ); finite(Kind::EXACT),
+        "hexadecimal, '" behind "z'" before "'" only_read true: integers(16, TOKENS, UNSIGNED); AT_MOST_128,
+        "octal, '" behind "o'" before "'" only_read true: integers(8, TOKENS, UNSIGNED); AT_MOST_128,
+        "binary, '" behind "b'" before "'" only_read true: integers(2, TOKENS, UNSIGNED); AT_MOST_128,
+        "hexadecimal, \"" behind "z\"" before "\"" only_read true: integers(16, TOKENS, UNSIGNED); AT_MOST_128,
+        "octal, \"" behind "o\"" before "\"" only_read true: integers(8, TOKENS, UNSIGNED); AT_MOST_128,
+        "binary, \"" behind "b\"" before "\"" only_read true: integers(2, TOKENS, UNSIGNED); AT_MOST_128,
     } => POINTS_BACK;
 
     /// Go's integer and floating-point literals (Language Specification).
@@ -732,7 +763,7 @@ languages! {
         "hexadecimal": binary_floats(b'x', 16, TOKENS) => LUA_WORDS; LAST_64,
     } => Tokens::new(&[], &[]);
 
-    /// NASM's numeric constants (NASM manual, Numeric Constants and Floating-Point Constants). A format cannot accept `$0c8`,
+    /// NASM's numeric constants (NASM manual, Numeric Constants and Floating-Point Constants). A format cannot accept
     /// `0x_`, `0._` and `1e_`, which have separators alone, or `0h.` and `0op7`, which have no digit. NASM keeps the last 64 bits
     /// of an integer, with a sign: `0x10000000000000001` is 1, and `0xffffffffffffffff` -1.
     NASM: "NASM" = {
@@ -752,6 +783,7 @@ languages! {
         "decimal, 0t": prefixed_decimal(b't', NASM_PREFIXED.required_exponent_digits(false)) => NASM_WORDS; LAST_64, // accepts `0t1e`
         "hexadecimal, 0h": binary_floats(b'h', 16, NASM_PREFIXED) => NASM_WORDS; LAST_64,
         "hexadecimal, 0x": binary_floats(b'x', 16, NASM_PREFIXED) => NASM_WORDS; LAST_64,
+        "hexadecimal, $" behind "$": integers(16, NASM, UNSIGNED.decimal_first_digit(true)) => NASM_WORDS; LAST_64, // rejects `$ff`
         "octal, 0o": binary_floats(b'o', 8, NASM_PREFIXED) => NASM_WORDS; LAST_64,
         "octal, 0q": binary_floats(b'q', 8, NASM_PREFIXED) => NASM_WORDS; LAST_64,
         "binary, 0b": binary_floats(b'b', 2, NASM_PREFIXED) => NASM_WORDS; LAST_64,
@@ -818,6 +850,26 @@ languages! {
         "binary": prefixed(b'b', 2, separated(b'_')),
     } => Tokens::new(&[], &[]);
 
+    /// PostScript's numbers, with signs (PostScript Language Reference, third edition, 3.2.2), as in Ghostscript. Digits of another radix from
+    /// 2 to 36 are as in `36#ZZ`, without a sign. An integer has 64 bits: `16#FFFFFFFFFFFFFFFF` is -1. A decimal one from 2^63 on, of which
+    /// PostScript makes a real, is too large. A real is an `f32`. PostScript also accepts `016#FF` and `16#`.
+    POSTSCRIPT: "PostScript" = {
+        "decimal": numbers(b'e', b'.', NumberFormatBuilder::new()
+            .no_special(true) // rejects `NaN` and `inf`
+            .required_exponent_digits(true) // rejects `1e`
+        ) => POSTSCRIPT_WORDS; SHORT_REALS,
+    } radixes "" "#" { integers(2, TOKENS, UNSIGNED) => POSTSCRIPT_WORDS; WRAPS_64 } => Tokens::new(&[], &[]);
+
+    /// Prolog's integers and floats (SWI-Prolog 9 Reference Manual, 5.10 and 2.15.1.6). Digits of another radix from 2 to 36 are as in
+    /// `36'ZZ`. A format cannot accept characters, such as `0'a`, which is 97, the rationals `1r3`, and `1.0Inf` and `1.5NaN`.
+    PROLOG: "Prolog" = {
+        "decimal": decimal(TOKENS.required_digits(true)) => PROLOG_WORDS; finite(Kind::EXACT), // rejects `.5`, `1.`, `1e` and `.`
+        "decimal, with separators": integers(10, separated(b'_'), UNSIGNED) => PROLOG_WORDS, // accepts `1_000`
+        "hexadecimal": prefixed(b'x', 16, separated(b'_').case_sensitive_base_prefix(true)), // rejects `0X1F`
+        "octal": prefixed(b'o', 8, separated(b'_').case_sensitive_base_prefix(true)), // rejects `0O17`
+        "binary": prefixed(b'b', 2, separated(b'_').case_sensitive_base_prefix(true)), // rejects `0B1`
+    } radixes "" "'" { integers(2, separated(b'_'), UNSIGNED) } => POINTS_BACK;
+
     /// Python's integers and floats (Language Reference 3.12, 2.4.5 and 2.4.6). A format cannot accept `00` and reject `01`.
     /// CPython takes the `0o` of `0or x` for a prefix, and refuses it: its token here is `0`.
     PYTHON: "Python" = {
@@ -837,6 +889,17 @@ languages! {
         "hexadecimal": prefixed(b'x', 16, TOKENS) => R_WORDS,
         "hexadecimal float": binary_floats(b'x', 16, TOKENS.required_exponent_notation(true)) => R_WORDS, // rejects `0x1.8`
     } => Tokens::new(&[], &[]);
+
+    /// Raku's integers, rationals and floats (Raku Documentation 2022.12, Number literals). Digits of another radix from 2 to 36 are as in
+    /// `:36<ZZ>` and `:16<F.8>`, but a fraction in a radix such as 3 has no `f64`. A format cannot accept `:16<0xFF>` and
+    /// `:16<F.8*16**2>`.
+    RAKU: "Raku" = {
+        "decimal": decimal(separated(b'_').required_fraction_digits(true)) => RAKU_WORDS, // rejects `1.`, not `.5`
+        "hexadecimal": prefixed(b'x', 16, RAKU_PREFIXED) => RAKU_WORDS,
+        "octal": prefixed(b'o', 8, RAKU_PREFIXED) => RAKU_WORDS,
+        "binary": prefixed(b'b', 2, RAKU_PREFIXED) => RAKU_WORDS,
+        "decimal, 0d": prefixed(b'd', 10, RAKU_PREFIXED) => RAKU_WORDS,
+    } radixes ":" "<" before ">" { based(separated(b'_')) } => POINTS_BACK;
 
     /// Ruby's integers and floats (ISO/IEC 30170:2012, 8.7.6.2), with signs. Of `1iif`, which is `1` and a name to
     /// Ruby, the token is `1i`, since `if` is a keyword.
@@ -937,6 +1000,27 @@ languages! {
         "octal": prefixed(b'o', 8, separated(b'_').case_sensitive_base_prefix(true)), // rejects `0O17`
         "binary": prefixed(b'b', 2, separated(b'_').case_sensitive_base_prefix(true)), // rejects `0B1`
     }, Specials { nan: Some(b"nan"), inf: Some(b"inf"), infinity: None };
+
+    /// Verilog's integers without a size and reals (IEEE 1364-2005, 3.5). A format cannot accept a size, as in `8'hFF`, or the digits `x`,
+    /// `z` and `?`. With a sign, as in `'shFF`, the value depends on the size, so that such a text is refused, too.
+    VERILOG: "Verilog" = {
+        "decimal": decimal(RUST.required_digits(true)) => VERILOG_WORDS, // rejects `.5`, `1.`, `1e` and `.`
+        "hexadecimal" behind "'h": integers(16, RUST, UNSIGNED) => VERILOG_WORDS,
+        "decimal integer" behind "'d": integers(10, RUST, UNSIGNED) => VERILOG_WORDS,
+        "octal" behind "'o": integers(8, RUST, UNSIGNED) => VERILOG_WORDS,
+        "binary" behind "'b": integers(2, RUST, UNSIGNED) => VERILOG_WORDS,
+    } => Tokens::new(&[], &[]);
+
+    /// VHDL's abstract literals (IEEE 1076-2008, 15.5). Digits of another base from 2 to 16 are as in `16#FF#` and `16#F.8#`, but a fraction
+    /// in a base such as 3 has no `f64`. A format cannot accept `16#FF#E2`, `016#FF#` and `16:FF:`, or accept `1.0E-3` and `1E3` but reject
+    /// `1E-3`, which the first form never writes. Integers have at most 63 bits, as in GHDL.
+    VHDL: "VHDL" = {
+        "decimal": decimal(separated(b'_')
+            .required_digits(true) // rejects `.5`, `1.`, `1e` and `.`
+            .no_exponent_without_fraction(true) // rejects `1e3`, not `1.0e3`
+        ) => ADA_WORDS; finite(AT_MOST_63),
+        "integer with an exponent": decimal(separated(b'_').required_digits(true)) => ADA_WORDS; finite(AT_MOST_63),
+    } radixes "" "#" before "#" to 16 { based(separated(b'_')); finite(AT_MOST_63) } => Tokens::new(&[], &[]);
 
     /// The decimals of XML Schema, with signs (XML Schema 1.1, Part 2, 3.3.3).
     XML_SCHEMA: "XML Schema" = { "decimal": numbers(b'e', b'.', NumberFormatBuilder::new()
