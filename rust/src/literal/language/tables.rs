@@ -537,7 +537,7 @@ languages! {
     } => Tokens::new(&[], &[]);
 
     /// Clojure's integers and floats, with signs (The Clojure Reader 1.11, Literals, Numbers). The sign of `-16rFF` is before its radix: it is
-    /// refused here. So are ratios, such as `1/2`.
+    /// refused here. So are ratios.
     CLOJURE: "Clojure" = {
         "decimal": numbers(b'e', b'.', LISP
             .required_integer_digits(true) // rejects `.5`, not `1.`
@@ -551,7 +551,7 @@ languages! {
     );
 
     /// Common Lisp's integers and floats, with signs (Common Lisp HyperSpec, 2.3.2.1 and 2.4.8.7 to 2.4.8.10). `1.` is an integer, and `0.1`,
-    /// but not `0.1d0`, is an `f32`. Ratios, such as `1/2`, are refused here.
+    /// but not `0.1d0`, is an `f32`. Ratios are refused here.
     COMMON_LISP: "Common Lisp" = {
         "decimal": integers(10, LISP, Conditions::NONE) => LISP_WORDS,
         "with a point at the end": integers(10, LISP.base_suffix(NonZeroU8::new(b'.')), Conditions::NONE.required_base_suffix(true)) => LISP_WORDS,
