@@ -68,7 +68,8 @@ fn amount_in(language: Language, digits: &str) -> String {
 #[test]
 fn amounts_are_rounded_as_std_rounds_them() {
     let state = &mut Random::new(20_261_201);
-    let with_floats = Language::ALL.iter().filter(|it| it.forms().into_iter().any(|form| form.syntax().point().is_some()));
+    let with_floats =
+        Language::ALL.iter().filter(|it| it.forms().into_iter().any(|form| form.syntax().point().is_some()));
     for (language, index) in with_floats.flat_map(|language| (0..1000).map(move |index| (*language, index))) {
         let amount = state.below(10_000_000) as f64 / if index % 4 == 0 { -1000.0 } else { 1000.0 };
         for places in 0..=6 {

@@ -2,8 +2,8 @@
 
 use peltzivar::format::{CASE_SENSITIVE_SPECIAL, DIGIT_SEPARATOR_FLAG_MASK, NO_SPECIAL};
 use peltzivar::literal::{
-    Condition, Forms, Language, Literal, Number, ReadError, ReadErrorKind, Sign, Specials, Spelling, Syntax, ValueError,
-    ValueErrorKind,
+    Condition, Forms, Language, Literal, Number, ReadError, ReadErrorKind, Sign, Specials, Spelling, Syntax,
+    ValueError, ValueErrorKind,
 };
 use peltzivar::{Edit, FlagSetter, Format, FormatView, NumberFormatBuilder, Part, Rule, Settings};
 use std::collections::HashSet;

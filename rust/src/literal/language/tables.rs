@@ -512,7 +512,7 @@ languages! {
     } => Tokens::new(&[], &[]);
 
     /// Clojure's integers and floats, with signs (The Clojure Reader 1.11, Literals, Numbers). The sign of `-16rFF` is before its radix: it is
-    /// refused here. So are ratios, such as `1/2`.
+    /// refused here. So are ratios.
     CLOJURE: "Clojure" = {
         "decimal": numbers(b'e', b'.', LISP
             .required_integer_digits(true) // rejects `.5`, not `1.`
@@ -526,7 +526,7 @@ languages! {
     );
 
     /// Common Lisp's integers and floats, with signs (Common Lisp HyperSpec, 2.3.2.1 and 2.4.8.7 to 2.4.8.10). `1.` is an integer, and `0.1`,
-    /// but not `0.1d0`, is an `f32`. Ratios, such as `1/2`, are refused here.
+    /// but not `0.1d0`, is an `f32`. Ratios are refused here.
     COMMON_LISP: "Common Lisp" = {
         "decimal": integers(10, LISP, Conditions::NONE) => LISP_WORDS,
         "with a point at the end": integers(10, LISP.base_suffix(NonZeroU8::new(b'.')), Conditions::NONE.required_base_suffix(true)) => LISP_WORDS,
@@ -607,8 +607,8 @@ languages! {
         "binary": prefixed(b'b', 2, separated(b'_').case_sensitive_base_prefix(true)), // rejects `0B1`
     } => POINTS_BACK;
 
-    /// Erlang's integers and floats (Reference Manual 14.0, Numbers). In `radix in front`, digits are of the radix, as in `36#ZZ`. Erlang
-    /// also accepts `016#FF` and `1_6#FF`.
+    /// Erlang's integers and floats (Reference Manual 13.1 of OTP 25, 3.3 Numbers). Erlang also accepts `016#FF` and `1_6#FF`, which are
+    /// refused here.
     ERLANG: "Erlang" = {
         "decimal": decimal(separated(b'_')
             .required_digits(true) // rejects `.5`, `1.`, `1e` and `.`
@@ -785,7 +785,8 @@ languages! {
     } => Tokens::new(&[], &[]);
 
     /// Pascal's integers and reals (Free Pascal Reference Guide 3.2, 1.6 Numbers). A hexadecimal, octal or binary integer has 64 bits:
-    /// `$FFFFFFFFFFFFFFFF` is -1. A decimal integer from 2^64 on is a real there: take its value as an `f64`.
+    /// `$FFFFFFFFFFFFFFFF` is -1. A decimal integer from 2^64 on is a real there: take its value as an `f64`. The compiler also accepts `1.`
+    /// and `1.e5`, which the guide does not.
     PASCAL: "Pascal" = {
         "decimal": decimal(TOKENS.required_digits(true)), // rejects `.5`, `1.`, `1e` and `.`
         "hexadecimal" behind "$": integers(16, TOKENS, UNSIGNED); WRAPS_64,
@@ -888,7 +889,7 @@ languages! {
     ).gives_points_back(true);
 
     /// Scheme's integers and decimals, with signs (R7RS, 7.1.1 Lexical structure). Ratios, complex numbers, those with `#e` or `#i`, and
-    /// `+inf.0` are refused here.
+    /// `+inf.0` are refused here. Guile also accepts `1d3` and `1#`, and refuses exponents above 308.
     SCHEME: "Scheme" = {
         "decimal": numbers(b'e', b'.', LISP) => SCHEME_WORDS,
         "decimal, #d" behind "#d": numbers(b'e', b'.', LISP) => SCHEME_WORDS,
