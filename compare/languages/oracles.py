@@ -219,7 +219,7 @@ LANGUAGES = [
         suffix("[lLn]"), Cause("+", r"\w+\._+([eEpP][+-]?\d[\d_]*)?", "a fraction of separators alone"),
         Cause("+", r"[\d_]+", "the least integer without its sign", lambda _, theirs: theirs == -2**62)]),
     Language("PASCAL", "fpc", "018.$%&e-", "", "$FF $ff $-F -$F %101 &17 $FFFFFFFFFFFFFFFF $10000000000000000 %2 &8 1.5e300", [
-        Cause("+", r"(\d+|\$[\da-fA-F]+|&[0-7]+|%[01]+)\.", "a point behind an integer, beside the guide"), doubles(2**64), ROUNDED]),
+        Cause("+", r"(\d+|\$[\da-fA-F]+|&[0-7]+|%[01]+)\.(&?[eE][+-]?\d+)?", "no digits behind a point, beside the guide"), doubles(2**64), ROUNDED]),
     Language("PERL", "perl", "018._exp-o", "_", "01.4p0 0o1.4p0 0b1.1p0 07_7 1.2.3", [
         Cause("-", "0_[0-7_]+(\\.[0-7_]*)?([pP][+-]?[\\d_]+)?", "a separator behind the first zero, of which the tool warns"),
         Cause("-", r"0(\.[0-7_]*)?[pP][+-]?[\d_]+", "an octal float with one digit before its point"),
@@ -252,7 +252,8 @@ LANGUAGES = [
         Cause("+", ".*/.*", "a ratio"), Cause("+", ".*[iI@].*", "a complex or an inexact number"), Cause("+", "#([eE].*|.#[eE].*)", "an exact number"),
         Cause("+", r"(#[bBdDoOxX])?[\w.+-]+#.*", "a digit that is not known"), Cause("+", r"(#[dD])?[+-]?[\d.]+[sSfFdDlL][+-]?\d+", "the size of a float"),
         Cause("+", "[+-](inf|nan).0", "a special value"),
-        Cause("-", r".*[eE][+-]?0*(309|3[1-9]\d|[4-9]\d\d|\d{4,})", "an exponent above 308, which the tool refuses")]),
+        Cause("-", r".*[eE][+-]?0*(309|3[1-9]\d|[4-9]\d\d|\d{4,})", "an exponent above 308, which the tool refuses"),
+        Cause("=", r".*[eE]-\d{4,}", "a fault of the tool, which drops digits of an exponent", lambda ours, _: ours.double == 0)]),
     Language("SQL", "postgres", "019.eE+-x_", "_", "", [ZERO]),
     Language("SQL", "sqlite", "019.eE+-x_", "_", "", [Cause("+", r"[+-]?0[xX][\da-fA-F]+", "hexadecimal, beyond the standard"), ROUNDED, doubles(2**63)]),
     Language("TCL", "tcl", "018.exo-bI", "", "Inf inf Infinity -Inf 1eq1 017.5", []),

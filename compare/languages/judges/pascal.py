@@ -1,6 +1,7 @@
 """The judge of Pascal: fpc. Reads texts on standard input, and prints `-`, or `+` and the value of the constant. A syntax error ends the
 compiler, which then begins again behind it.
 """
+import concurrent.futures
 import pathlib
 import re
 import subprocess
@@ -25,35 +26,38 @@ def compile(folder, source, *options):
     return lines, bool(lines) and "errors compiling module" not in run.stdout
 
 
-def accepted(folder, texts):
-    """Returns the texts that are the value of a constant."""
+def accepted_of(texts):
+    """Returns the texts that are the value of a constant. An error may be found at the next token, `const`."""
     found, start, is_ended = set(), 0, True
-    while is_ended:
-        rest = texts[start:]
-        units = "".join(f"const number{i} =\n{text}\n;\n" for i, text in enumerate(rest))
-        lines, is_ended = compile(folder, f"{units}begin end.\n", "-s")
-        wrong = [min((line - 1) // 3, len(rest) - 1) for line in lines]
-        end = wrong[-1] + 1 if is_ended else len(rest)
-        found.update(rest[i] for i in {*range(end)}.difference(wrong))
-        start += end
+    with tempfile.TemporaryDirectory() as folder:
+        while is_ended:
+            rest = texts[start:]
+            units = "".join(f"const\nnumber{i} =\n{text}\n;\n" for i, text in enumerate(rest))
+            lines, is_ended = compile(pathlib.Path(folder), f"{units}begin end.\n", "-s")
+            wrong = [min((line - 2) // 4, len(rest) - 1) for line in lines]
+            end = wrong[-1] + 1 if is_ended else len(rest)
+            found.update(rest[i] for i in {*range(end)}.difference(wrong))
+            start += end
     return found
 
 
-def is_one(text, phrases):
-    """Returns whether no phrase with a blank behind a sign, which would be an operator, is a value."""
-    return phrases.isdisjoint(blanks(text))
+def accepted(texts):
+    """Returns the same, by four compilers at once."""
+    with concurrent.futures.ThreadPoolExecutor() as pool:
+        return set().union(*pool.map(accepted_of, (texts[it::4] for it in range(4))))
 
 
 def blanks(text):
+    """Returns the text with a blank behind one of its signs: if it is a value, the sign is an operator, and the text more than one token."""
     return {f"{text[: it.end()]} {text[it.end() :]}" for it in re.finditer("[+-]", text)}
 
 
 texts = sys.stdin.read().split("\n")[:-1]
+left = accepted(texts)
+phrases = accepted(sorted({it for text in left for it in blanks(text)}))
+left = [text for text in texts if text in left and phrases.isdisjoint(blanks(text))]
 with tempfile.TemporaryDirectory() as folder:
     folder = pathlib.Path(folder)
-    left = accepted(folder, texts)
-    phrases = accepted(folder, sorted({it for text in left for it in blanks(text)}))
-    left = [text for text in texts if text in left and is_one(text, phrases)]
     compile(folder, PRINTING + "".join(f"show(\n{text}\n);\n" for text in left) + "end.\n", "-oout")
     values = dict(zip(left, subprocess.run([folder / "out"], capture_output=True, text=True, check=True).stdout.splitlines(), strict=True))
 print("\n".join(f"+ {values[text]}" if text in values else "-" for text in texts))

@@ -632,8 +632,8 @@ languages! {
         "binary": prefixed(b'b', 2, separated(b'_').case_sensitive_base_prefix(true)), // rejects `0B1`
     } => POINTS_BACK;
 
-    /// Erlang's integers and floats (Reference Manual 14.0, Numbers). In `radix in front`, digits are of the radix, as in `36#ZZ`. Erlang
-    /// also accepts `016#FF` and `1_6#FF`.
+    /// Erlang's integers and floats (Reference Manual 13.1 of OTP 25, 3.3 Numbers). Erlang also accepts `016#FF` and `1_6#FF`, which are
+    /// refused here.
     ERLANG: "Erlang" = {
         "decimal": decimal(separated(b'_')
             .required_digits(true) // rejects `.5`, `1.`, `1e` and `.`
@@ -817,7 +817,8 @@ languages! {
     } => Tokens::new(&[], &[]);
 
     /// Pascal's integers and reals (Free Pascal Reference Guide 3.2, 1.6 Numbers). A hexadecimal, octal or binary integer has 64 bits:
-    /// `$FFFFFFFFFFFFFFFF` is -1. A decimal integer from 2^64 on is a real there: take its value as an `f64`.
+    /// `$FFFFFFFFFFFFFFFF` is -1. A decimal integer from 2^64 on is a real there: take its value as an `f64`. The compiler also accepts `1.`
+    /// and `1.e5`, which the guide does not.
     PASCAL: "Pascal" = {
         "decimal": decimal(TOKENS.required_digits(true)), // rejects `.5`, `1.`, `1e` and `.`
         "hexadecimal" behind "$": integers(16, TOKENS, UNSIGNED); WRAPS_64,
@@ -951,7 +952,7 @@ languages! {
     ).gives_points_back(true);
 
     /// Scheme's integers and decimals, with signs (R7RS, 7.1.1 Lexical structure). Ratios, complex numbers, those with `#e` or `#i`, and
-    /// `+inf.0` are refused here.
+    /// `+inf.0` are refused here. Guile also accepts `1d3` and `1#`, and refuses exponents above 308.
     SCHEME: "Scheme" = {
         "decimal": numbers(b'e', b'.', LISP) => SCHEME_WORDS,
         "decimal, #d" behind "#d": numbers(b'e', b'.', LISP) => SCHEME_WORDS,
