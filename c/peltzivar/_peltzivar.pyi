@@ -73,7 +73,7 @@ class Language(_Language):
     PERL = 'PERL'; PHP = 'PHP'; POSTSCRIPT = 'POSTSCRIPT'; PROLOG = 'PROLOG'; PYTHON = 'PYTHON'; R = 'R'
     RAKU = 'RAKU'; RUBY = 'RUBY'; RUST = 'RUST'; SCALA = 'SCALA'; SCHEME = 'SCHEME'; SQL = 'SQL'; SWIFT = 'SWIFT'
     TCL = 'TCL'; TOML = 'TOML'; VERILOG = 'VERILOG'; VHDL = 'VHDL'; XML_SCHEMA = 'XML_SCHEMA'; YAML = 'YAML'
-    YAML_1_1 = 'YAML_1_1'; fn = 'fn'; fn = 'fn'
+    YAML_1_1 = 'YAML_1_1'
 
 def fields(
     *settings: Union[Edit, str],
