@@ -107,14 +107,18 @@ typedef struct peltzivar_syntax peltzivar_syntax;
  * whatever the case of ASCII letters is, or a null pointer if there is none. They last as long as the program.
  * LANGUAGES.md describes each, such as which C `C` is.
  *
- * Numbers have a sign in CSS, CSV_DE, CSV_EN, FORTRAN, JSON, JSON5, NIM, RUBY, SQL, SWIFT, TOML, XML_SCHEMA, YAML and
- * YAML_1_1. In the other languages, `-` is an operator: they refuse `-5`, so read what is behind it. */
+ * Numbers have a sign in CLOJURE, COMMON_LISP, CSS, CSV_DE, CSV_EN, FORTRAN, JSON, JSON5, NIM, POSTSCRIPT, RUBY, SCHEME,
+ * SQL, SWIFT, TOML, XML_SCHEMA, YAML and YAML_1_1. In the other languages, `-` is an operator: they refuse `-5`, so read
+ * what is behind it. */
 const peltzivar_forms *peltzivar_language(const char *name, size_t len);
 
 /* Return the forms of a language. A program that calls these alone has only the forms of these languages in it. */
 /* Made by make_python.py: language_calls */
 const peltzivar_forms *peltzivar_language_ada(void);
+const peltzivar_forms *peltzivar_language_bash(void);
 const peltzivar_forms *peltzivar_language_c(void);
+const peltzivar_forms *peltzivar_language_clojure(void);
+const peltzivar_forms *peltzivar_language_common_lisp(void);
 const peltzivar_forms *peltzivar_language_css(void);
 const peltzivar_forms *peltzivar_language_csv_de(void);
 const peltzivar_forms *peltzivar_language_csv_en(void);
@@ -122,6 +126,7 @@ const peltzivar_forms *peltzivar_language_c_plus_plus(void);
 const peltzivar_forms *peltzivar_language_c_sharp(void);
 const peltzivar_forms *peltzivar_language_d(void);
 const peltzivar_forms *peltzivar_language_elixir(void);
+const peltzivar_forms *peltzivar_language_erlang(void);
 const peltzivar_forms *peltzivar_language_fortran(void);
 const peltzivar_forms *peltzivar_language_go(void);
 const peltzivar_forms *peltzivar_language_haskell(void);
@@ -136,17 +141,24 @@ const peltzivar_forms *peltzivar_language_lua(void);
 const peltzivar_forms *peltzivar_language_nasm(void);
 const peltzivar_forms *peltzivar_language_nim(void);
 const peltzivar_forms *peltzivar_language_ocaml(void);
+const peltzivar_forms *peltzivar_language_pascal(void);
 const peltzivar_forms *peltzivar_language_perl(void);
 const peltzivar_forms *peltzivar_language_php(void);
+const peltzivar_forms *peltzivar_language_postscript(void);
+const peltzivar_forms *peltzivar_language_prolog(void);
 const peltzivar_forms *peltzivar_language_python(void);
 const peltzivar_forms *peltzivar_language_r(void);
+const peltzivar_forms *peltzivar_language_raku(void);
 const peltzivar_forms *peltzivar_language_ruby(void);
 const peltzivar_forms *peltzivar_language_rust(void);
 const peltzivar_forms *peltzivar_language_scala(void);
+const peltzivar_forms *peltzivar_language_scheme(void);
 const peltzivar_forms *peltzivar_language_sql(void);
 const peltzivar_forms *peltzivar_language_swift(void);
 const peltzivar_forms *peltzivar_language_tcl(void);
 const peltzivar_forms *peltzivar_language_toml(void);
+const peltzivar_forms *peltzivar_language_verilog(void);
+const peltzivar_forms *peltzivar_language_vhdl(void);
 const peltzivar_forms *peltzivar_language_xml_schema(void);
 const peltzivar_forms *peltzivar_language_yaml(void);
 const peltzivar_forms *peltzivar_language_yaml_1_1(void);

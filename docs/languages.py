@@ -24,12 +24,14 @@ in [source text](FORMS.md#tokens), with its suffix, such as the `L` of `1L`, whi
 explorer have the same lists. `cargo run --example languages -- 0x1F` prints which languages read a text, and without a
 text the syntax of each form. What no format can express is in [FORMAT](FORMAT.md#what-a-format-cannot-express).
 
-Numbers have a sign in CSS, CSV_DE, CSV_EN, FORTRAN, JSON, JSON5, NIM, RUBY, SQL, SWIFT, TOML, XML_SCHEMA, YAML and
-YAML_1_1. In the other languages, `-` is an operator: they refuse `-5`, so read what is behind it.
+Numbers have a sign in CLOJURE, COMMON_LISP, CSS, CSV_DE, CSV_EN, FORTRAN, JSON, JSON5, NIM, POSTSCRIPT, RUBY, SCHEME,
+SQL, SWIFT, TOML, XML_SCHEMA, YAML and YAML_1_1. In the other languages, `-` is an operator: they refuse `-5`, so read what
+is behind it.
 
 A form reads an optional sign, `.5` and `1.` beside `1.5`, and exponents with `e` or `E`, unless its row says otherwise:
 *integers* have neither a point nor an exponent, and a prefix is required. Values are those of the numbers, unless a
-form has a [kind](FORMS.md#kinds).
+form has a [kind](FORMS.md#kinds). Digits of a *radix in front* are of the radix, which the [opening](FORMS.md#openings) says:
+`36#Z` is 35. Of a radix that is neither 10 nor a power of two, `parse` has integers, but no `f64`.
 
 [languages.py](languages.py) writes this page from the [constants](../rust/src/literal/language/tables.rs). Each language
 of which Debian has a tool is [compared with it](../compare/README.md#languages-and-their-tools).
@@ -48,6 +50,10 @@ def forms():
     rows, before = {}, ""
     for line in printed.stdout.splitlines():
         language, form, sentence, kind, words, *_ = line.split("\t")
+        if form == "radix in front":
+            if rows[language][-1].startswith(f"| {form} "):
+                rows[language].pop()
+            sentence = re.sub(r"^\S+ (.*opening )`([^`\d]*)(\d+)([^`]*)`", r"\1`\g<2>2\4` to `\2\3\4`", sentence)
         shown, before = "as above" if words == before and words.count(",") > 4 else words, words
         rows.setdefault(language, []).append(f"| {form} | {sentence.replace('|', chr(92) + '|')} | {kind} | {shown} |\n")
     return rows

@@ -3,6 +3,7 @@ import collections
 import fractions
 import math
 import re
+import struct
 import sys
 
 # A tool: its packages in Debian, the programs that it needs, commands that print its version and build its judge, and the
@@ -15,15 +16,24 @@ SCALA = "/usr/share/java/scala-compiler.jar:/usr/share/java/scala-library.jar:/u
 OCAMLC = "ocamlc -w -a -I +compiler-libs ocamlcommon.cma"
 TOOLS = {
     "ast": Tool("python3", [PYTHON], f"{PYTHON} --version", "", f"{PYTHON} libraries.py python"),
+    "bash": Tool("bash", ["bash"], "bash --version", "", "./bash.sh"),
     "calc": Tool("libreoffice-calc-nogui python3-xlrd", ["soffice", f"{PACKAGES}/xlrd"], "soffice --version", "", f"{DEBIAN} calc.py"),
+    "clojure": Tool("clojure", ["clojure"], "clojure -e '(print \"Clojure\" (clojure-version))'", "", "clojure clojure.clj"),
     "elixir": Tool("elixir", ["elixir"], "elixir --version | tail -1", "", "elixir elixir.exs"),
+    "erlang": Tool("erlang-base", ["escript"], "echo Erlang/OTP $(erl -noshell -eval 'io:put_chars(erlang:system_info(otp_release)),halt().')", "",
+                   "escript erlang.escript"),
+    "fpc": Tool("fp-compiler fp-units-math", ["fpc"], "echo Free Pascal $(fpc -iV)", "", f"{PYTHON} pascal.py"),
     "g++": Tool("g++", ["g++"], "g++ --version", "", f"{PYTHON} compilers.py g++"),
     "gcc": Tool("gcc", ["gcc"], "gcc --version", "", f"{PYTHON} compilers.py gcc"),
     "gfortran": Tool("gfortran", ["gfortran"], "gfortran --version", "", f"{PYTHON} compilers.py gfortran"),
     "gdc": Tool("gdc", ["gdc"], "gdc --version", "", f"{PYTHON} compilers.py gdc"),
     "ghc": Tool("ghc", ["ghc"], "ghc --version", "ghc -v0 -package ghc -outputdir {work} -o {work}/ghc haskell.hs", "{work}/ghc"),
+    "ghdl": Tool("ghdl", ["ghdl"], "ghdl --version", "", f"{PYTHON} compilers.py ghdl"),
+    "ghostscript": Tool("ghostscript", ["gs"], "echo Ghostscript $(gs --version)", "", "gs -q -dNODISPLAY -dBATCH -dNOPAUSE postscript.ps"),
     "gnat": Tool("gnat", ["gnatmake"], "gnatmake --version", "", f"{PYTHON} compilers.py gnat"),
     "go": Tool("golang-go", ["go"], "go version", "go build -o {work}/go scanner.go", "{work}/go"),
+    "guile": Tool("guile-3.0", ["guile"], "guile --version", "", "guile --no-auto-compile scheme.scm"),
+    "iverilog": Tool("iverilog", ["iverilog"], "iverilog -V", "", f"{PYTHON} compilers.py iverilog"),
     "javac": Tool("openjdk-17-jdk", ["javac"], "javac --version", f"javac {JAVAC} -d {{work}} Scanner.java", f"java {JAVAC} -cp {{work}} Scanner"),
     "json": Tool("nodejs", ["node"], "echo JSON.parse of node $(node --version)", "", "node node.js json"),
     "json5": Tool("nodejs node-json5", ["node", f"{NODE}/json5"], f"node -p '`json5 ${{require(\"{NODE}/json5/package.json\").version}}`'",
@@ -39,13 +49,16 @@ TOOLS = {
     "perl": Tool("perl", ["perl"], "perl -e 'print \"Perl $^V\"'", "", "perl perl.pl"),
     "php": Tool("php-cli", ["php"], "php --version", "", "php php.php"),
     "postgres": Tool("postgresql libpq-dev", ["pg_config"], "pg_config --version", "", "./postgres.sh"),
+    "prolog": Tool("swi-prolog-nox", ["swipl"], "swipl --version", "", "swipl -q prolog.pl"),
     "pyyaml": Tool("python3-yaml", [DEBIAN, f"{PACKAGES}/yaml"],
                    f"{DEBIAN} -c 'import yaml; print(\"PyYAML\", yaml.__version__)'", "", f"{DEBIAN} libraries.py yaml"),
     "r": Tool("r-base-core", ["Rscript"], "Rscript --version 2>&1", "", "Rscript --vanilla r.R"),
     "ruby": Tool("ruby", ["ruby"], "ruby --version", "", "ruby ruby.rb"),
+    "rakudo": Tool("rakudo", ["raku"], "raku --version", "", "raku raku.raku"),
     "rustc": Tool("rustc", ["rustc"], "rustc --version", "", f"{PYTHON} compilers.py rustc"),
     "scala": Tool("scala openjdk-17-jdk", ["scalac", "java"], "scala -version 2>&1", f"scalac -d {{work}} -cp {SCALA} scanner.scala",
                   f"java -cp {{work}}:{SCALA} Scan"),
+    "sbcl": Tool("sbcl", ["sbcl"], "sbcl --version", "", "sbcl --script lisp.lisp"),
     "sqlite": Tool("python3", [PYTHON], f"{PYTHON} -c 'import sqlite3; print(\"SQLite\", sqlite3.sqlite_version)'", "",
                    f"{PYTHON} libraries.py sqlite"),
     "tcl": Tool("tcl", ["tclsh"], "echo 'puts Tcl\\ [info patchlevel]' | tclsh", "", "tclsh tcl.tcl"),
@@ -110,6 +123,19 @@ ZERO = Cause("=", r"-[0.,]+([eE].*)?", "a negative zero, which the tool does not
 ROUNDED = Cause("=", ".*", "a fault of the tool, which rounds to the next float", lambda ours, theirs: ours.double == nearest(ours.text)
                 and theirs in [math.nextafter(ours.double, to) for to in (-math.inf, math.inf)])
 
+def is_next(ours, theirs):
+    """Returns whether the float or the single of the library is nearer to a number of Lisp than that of the tool, which is the next one."""
+    exact = number(re.sub("[sfdl]", "e", ours.text.lower()))
+    own, other, shape = (ours.single, theirs.value, ">fi") if isinstance(theirs, tuple) else (ours.double, theirs, ">dq")
+    one, next = (struct.unpack(shape[0] + shape[2], struct.pack(shape[:2], it))[0] for it in (own, other))
+    return abs(one - next) == 1 and abs(fractions.Fraction(own) - exact) <= abs(fractions.Fraction(other) - exact)
+
+
+RADIX = Cause("=", r".*\..*", "a fraction in a radix without floats", lambda ours, _: math.isnan(ours.double))
+BASED = [
+    Cause("+", r"[\d_]+#[\da-fA-F_.]+#[eE][+-]?[\d_]+", "an exponent behind a based literal"),
+    Cause("+", r"(0[\d_]*|\d_[\d_]*)[#:].*", "a zero or a separator in a base"), Cause("+", r"[\d_]+:.*", "a colon for a number sign"),
+    Cause("-", r"[\d_]+[eE]-[\d_]+", "a negative exponent of an integer"), RADIX]
 CELLS = [
     Cause("+", pattern, f"{what}, which no spreadsheet writes so")
     for pattern, what in (
@@ -128,11 +154,20 @@ CELLS = [
 Language = collections.namedtuple("Language", "name tool alphabet separator seeds announced")
 QUESTIONS = ["007", "0x1F", "1_000", "1'000", ".5e3", "0b12", "1.5e"]
 LANGUAGES = [
-    Language("ADA", "gnat", "019._eE+-#", "_", "16#FF# 2#1.1#e3 1E-3 16#F.8#E1", [
-        Cause("+", r"[\d_]+#[\da-fA-F_.]+#([eE][+-]?[\d_]+)?", "a based literal"),
-        Cause("-", r"[\d_]+[eE]-[\d_]+", "a negative exponent of an integer"), out_of_range(2**127), ROUNDED]),
+    Language("ADA", "gnat", "019._eEF+-#", "_", "16#FF# 2#1.1# 2#1.1#e3 1E-3 16#F.8#E1 16#F_F# 16:FF: 016#FF# 1_6#FF# 3#1.1# 17#1# 2#12# 16#F", [
+        *BASED, out_of_range(2**127), ROUNDED]),
+    Language("BASH", "bash", "0189#xaZ", "", "16#ff 16#FF 2#101 36#Zz 8#17 3#12 37#a 64#_ 16# 65#1 1#0 02#1", [
+        Cause("+", "0[xX]", "no digits behind a prefix"), Cause("+", r"(3[7-9]|[45]\d|6[0-4])#[\w@]+", "a radix above 36")]),
     Language("C", "gcc", "018.'exp-b", "'", "1u 1UL 1.0f 0x1p3L 10wb", [
         suffix("([uU]|ll?|LL?|wb|WB)+|[fFlL]|[dD][fFdDlL]"), Cause("+", r"[\d']+[fF]", "a float by its suffix alone")]),
+    Language("CLOJURE", "clojure", "018.rexN-", "", "16rFF -16rFF 2r101 36rZz 1N 1M 1.5M 08M 017N 0xFFN 1/2 3r12 1r0 37r1 02r1", [
+        suffix("[NM]"), Cause("+", r"[+-]?\d+M", "a decimal by its suffix alone"), Cause("+", r"[+-]\d+[rR]\w+", "a sign before a radix"),
+        Cause("+", r"[+-]?\d+/\d+", "a ratio")]),
+    Language("COMMON_LISP", "sbcl", "01.e-#xrd", "", "#xFF #x-FF #X+ff #o17 #b101 #16rFF #36RzZ #8r-17 1.e5 -1.d5 1d3 1.5d0 1f0 1s0 1l0 1.5d300 1/2 #x1/2 +.5", [
+        Cause("+", r"(#([xXoObB]|\d+[rR]))?[+-]?\w+/\w+", "a ratio"), Cause("+", r"(#[xX])?[+-]?[\d.]+[rR][+-]?\d+", "an exponent of a ratio"),
+        Cause("+", r"#\d+[xXoObB].+", "a radix that is ignored"), Cause("+", r"#([xXoObB]|\d+[rR])[+-]?\d+\.", "a point, by which digits are decimal"),
+        Cause("+", r"#0\d*[rR].+", "zeros in a radix"), Cause("+", "#.+#.+", "a number behind an opening"),
+        Cause("=", ".*", "a fault of the tool, which rounds to the next float", is_next)]),
     Language("CSS", "tinycss2", "0189.eE+-x", "_", "1e3px 10%", []),
     Language("CSV_DE", "calc 1031", "0125.,-e", ".", "1.234,50 1.234.567,25 12.34 0,50 1.2345,0", CELLS),
     Language("CSV_EN", "calc 1033", "0125.,-e", ",", "1,234.50 1,234,567.25 12,34 0.50 1,2345.0", CELLS),
@@ -150,7 +185,10 @@ LANGUAGES = [
         Cause("+", r"0[xX]_*(\.[\da-fA-F_]*)?[pP][+-]?[\d_]+[fFL]?i?", "no digits behind a prefix, beside the specification"),
         ROUNDED]),
     Language("ELIXIR", "elixir", "018._exo-+", "_", "1.0e10 1.5e-3", []),
-    Language("FORTRAN", "gfortran", "019.edD-+_", "_", "1.0_8 1d3 1.5d300", [
+    Language("ERLANG", "erlang", "018._#eF-", "_", "16#FF 16#F_f 2#101 36#Zz 3#12 016#FF 1_6#F 37#1 1#0 16#F.8 16#_F $a 1.0e10 1.5e-3", [
+        Cause("+", r"(0[\d_]*|\d+_[\d_]*)#\w+", "zeros or separators in a radix")]),
+    Language("FORTRAN", "gfortran", "019.edD-+_'Z", "_", "1.0_8 1d3 1.5d300 Z'FF' z\"fF\" O'17' b\"101\" B'12' Z'F Z'F\" Z'' Z'-1' z'FFFFFFFFFFFFFFFFFFFFFFFFFFFFFFFF'", [
+        Cause("+", r"[bBoOzZ](['\"])\w{33,}\1", "more than 128 bits, of which the tool takes the last"),
         Cause("=", ".*", "a subnormal number, which the tool rounds to zero",
               lambda ours, theirs: theirs == (0.0,) and abs(ours.single) < 2**-126), ROUNDED]),
     Language("GO", "go", "018._exp-+b", "_", "1i 0x1p3i", [
@@ -168,8 +206,8 @@ LANGUAGES = [
         suffix("[uU]?L|[uU]|[fF]"), Cause("+", r"\d[\d_]*[fF]", "a float by its suffix alone"),
         Cause("+", r"[\da-fA-FxXbB_]+_[uU]L?", "a separator before a suffix, beside the specification")]),
     Language("LUA", "lua", "018.aexp-+", "_", "0x.8 0x1.8 0x1p3", [doubles(2**63)]),
-    Language("NASM", "nasm", "01a._hxebd", "_", "0c8h 0c8x 17q 17o 10d 10t 101b 101y 0h1F 0y1 0q7 0t9 $0c8 1h. 1x. 7q. 7o. 9d. 9t. 1b. 1y.", [
-        Cause("+", r"\$[\w$.]*", "the prefix $, or an address"),
+    Language("NASM", "nasm", "01a._hxebd$", "_", "0c8h 0c8x 17q 17o 10d 10t 101b 101y 0h1F 0y1 0q7 0t9 $0c8 1h. 1x. 7q. 7o. 9d. 9t. 1b. 1y. $0FF $0f_f $9 $0 $0x1 $ff $0_", [
+        Cause("+", r"\$(\D[\w$.]*|\w+\..*)?", "the prefix $ twice, or an address"),
         Cause("+", r"0[a-zA-Z][_.]*([eEpP][+-]?[0-9_]*)?", "no digits behind a prefix"),
         Cause("+", r"0[a-zA-Z][\w.]*[pP][+-]_*", "a sign without an exponent"),
         Cause("+", r"[\w.]+(\._+([eEpP][+-]?[\d_]*)?|[eEpP][+-]?_+)|0[a-zA-Z]_+\.[\w.]*([pP][+-]?[\d_]*)?", "a part of separators alone"),
@@ -180,27 +218,53 @@ LANGUAGES = [
     Language("OCAML", "ocaml", "018._exp-+b", "_", "1l 1n 1L 1z", [
         suffix("[lLn]"), Cause("+", r"\w+\._+([eEpP][+-]?\d[\d_]*)?", "a fraction of separators alone"),
         Cause("+", r"[\d_]+", "the least integer without its sign", lambda _, theirs: theirs == -2**62)]),
+    Language("PASCAL", "fpc", "018.$%&e-", "", "$FF $ff $-F -$F %101 &17 $FFFFFFFFFFFFFFFF $10000000000000000 %2 &8 1.5e300", [
+        Cause("+", r"(\d+|\$[\da-fA-F]+|&[0-7]+|%[01]+)\.(&?[eE][+-]?\d+)?", "no digits behind a point, beside the guide"), doubles(2**64), ROUNDED]),
     Language("PERL", "perl", "018._exp-o", "_", "01.4p0 0o1.4p0 0b1.1p0 07_7 1.2.3", [
         Cause("-", "0_[0-7_]+(\\.[0-7_]*)?([pP][+-]?[\\d_]+)?", "a separator behind the first zero, of which the tool warns"),
         Cause("-", r"0(\.[0-7_]*)?[pP][+-]?[\d_]+", "an octal float with one digit before its point"),
         Cause("=", "0.*[pP].*", "a fraction of more than 52 bits, of which the tool drops the rest", lambda ours, theirs: theirs < ours.double),
         doubles(2**63)]),
     Language("PHP", "php", "018._exo-b", "_", "0o17 0O17 0b1", [doubles(2**63)]),
+    Language("POSTSCRIPT", "ghostscript", "0169.#eFz+-", "", "16#FFFFFFFFFFFFFFFF 16#FFFFFFFFFFFFFFFFF 36#zZ 2#101 2#12 37#1 016#FF 16# 16#-F 16#F.8 7#1e1 -.5", [
+        Cause("+", r"0*(3[0-6]|[12]\d|[1-9])#", "a radix without digits"), Cause("+", r"0\d+#[\da-zA-Z]+", "a zero before a radix"),
+        Cause("=", "-.*", "a negative zero, which the tool does not have", lambda _, theirs: theirs == (0,)), out_of_range(2**127),
+        Cause("+", r"[+-]?\d{19,}", "an integer from 2^63 on, which is a real to the tool"),
+        *(Cause(mark, r"\d+#\w{13,}", "an integer of more than 64 bits, of which the tool refuses some") for mark in "+-")]),
+    Language("PROLOG", "prolog", "0168._e'Fxz", "_", "16'FF 36'zZ 2'101 2'12 37'1 016'FF 16'F_F 16' 0'a 1r3 1.5Inf 1.5NaN 1_0.5 1_0e5 16'F.8 7'1e1", [
+        Cause("+", "0'.+", "a character"), Cause("+", r"0\d+'\w+", "a zero before a radix"), Cause("+", r"[\d_]+r[\d_]+", "a rational number"),
+        Cause("+", r"\d+\.\d+(Inf|NaN)", "a float without a value")]),
     Language("PYTHON", "ast", "018._exj-+b", "_", "1j 0j", [
         suffix("[jJ]"), Cause("+", "0[0_]*", "an integer of zeros alone"), Cause("+", "[0-9_]+[jJ]", "digits of an imaginary number")]),
     Language("R", "r", "018.aexp-L", "_", "1L 1i 0x1.8p3", [
         suffix("[Li]"), Cause("+", "NaN|Inf", "a name"), ROUNDED, Cause("+", r"0[xX]\.[pP][+-]?\d+[Li]?", "no digits behind a prefix"),
         doubles(2**53)]),
+    Language("RAKU", "rakudo", "018._ex:<F>", "_", ":16<FF> :16<F.8> :16<F_F> :36<zZ> :2<101> :2<12> :37<1> :016<F> :16<0xF> :16<F.8*16**2> :3<1.1> 1i :16<F", [
+        Cause("+", "Inf|NaN", "a name"), Cause("+", ":.*<0[a-z].*>", "a prefix behind a radix"), Cause("+", ":0.*", "a zero before a radix"),
+        Cause("+", r":.*\*.*", "a power of a radix"), RADIX, ROUNDED]),
     Language("RUBY", "ruby", "018._exr-+b", "_", "1r 1i 1ri 0d10", [suffix("ri?|i")]),
     Language("RUST", "rustc", "018._exo-u", "_", "1u8 1.5f32 1_i64 0x1z", [
         suffix("([ui](8|16|32|64|128|size)|f32|f64)")]),
     # Debian's compiler, 2.11, has no separators, so it gets none.
     Language("SCALA", "scala", "0189.exf-+", "", "1L 1f 08f 08.5 1d", [
         suffix("[lLfFdD]"), Cause("+", "[0-9]*[fFdD]", "a float by its suffix alone")]),
+    Language("SCHEME", "guile", "01.e-#xd/", "", "#xFF #x-FF #X+ff #o17 #b101 #d1.5 #D-.5e3 #e1.5 #i1 1# 1/2 #x1/2 1+2i 1@2 +i +inf.0 -nan.0 1d3 1s3", [
+        Cause("+", ".*/.*", "a ratio"), Cause("+", ".*[iI@].*", "a complex or an inexact number"), Cause("+", "#([eE].*|.#[eE].*)", "an exact number"),
+        Cause("+", r"(#[bBdDoOxX])?[\w.+-]+#.*", "a digit that is not known"), Cause("+", r"(#[dD])?[+-]?[\d.]+[sSfFdDlL][+-]?\d+", "the size of a float"),
+        Cause("+", "[+-](inf|nan).0", "a special value"),
+        Cause("-", r".*[eE][+-]?0*(309|3[1-9]\d|[4-9]\d\d|\d{4,})", "an exponent above 308, which the tool refuses"),
+        Cause("=", r".*[eE]-\d{4,}", "a fault of the tool, which drops digits of an exponent", lambda ours, _: ours.double == 0)]),
     Language("SQL", "postgres", "019.eE+-x_", "_", "", [ZERO]),
     Language("SQL", "sqlite", "019.eE+-x_", "_", "", [Cause("+", r"[+-]?0[xX][\da-fA-F]+", "hexadecimal, beyond the standard"), ROUNDED, doubles(2**63)]),
     Language("TCL", "tcl", "018.exo-bI", "", "Inf inf Infinity -Inf 1eq1 017.5", []),
     Language("TOML", "tomllib", "018._exo-+b", "_", "inf nan +inf", []),
+    Language("VERILOG", "iverilog", "0189._e'hF-", "_", "'hFF 'HfF 'd19 'o17 'o18 'B101 'b12 8'hFF 'shFF 'hxz 'dz 'hF_ 'h_F 'hF.8 'hFFFFFFFFFFFFFFFFFFFFFFFFFFFFFFFF", [
+        Cause("+", r"'[sS]?[hHoObBdD][\da-fA-FxXzZ?_]+", "a sign, or digits without a value"), Cause("+", "'[01xzXZ]", "all bits of a size")]),
+    Language("VHDL", "ghdl", "0169._eF#+-", "_", "16#FF# 2#1.1# 2#1.1#e3 1E-3 16#F.8#E1 16#F_F# 16:FF: 016#FF# 1_6#FF# 3#1.1# 17#1# 2#12# 16#F", [
+        *BASED, Cause("-", r"[\d_]+[eE]\+?[\d_]+", "an integer of more than 63 bits", lambda ours, _: not 0 < abs(ours.double) < 2**63),
+        Cause("-", r"21474836[0-4]\d+", "an integer near to 2^31, for which the tool has a fault"),
+        Cause("=", ".*", "a subnormal number, for which the tool has a fault", lambda ours, _: abs(ours.double) < 2**-1022),
+        out_of_range(2**63), ROUNDED]),
     Language("XML_SCHEMA", "xmllint", "0189.eE+-x", "_", "+1.5 -.5", [
         Cause("-", r"[+-]?[\d.]{25,}", "more than the 24 digits of the tool")]),
     Language("YAML", "yaml", "018.exo-+inf", "_", ".inf -.Inf .NaN .iNF -.nan", [
@@ -216,7 +280,8 @@ LANGUAGES = [
 TABLES = {"JULIA": "no tool", "SWIFT": "no tool", "C_SHARP": "separators have no tool", "SCALA": "separators have no tool"}
 
 # Languages without suffixes that begin with a letter, and suffixes that the tools or the library alone take.
-DATA = "ADA CSV_DE CSV_EN FORTRAN JSON JSON5 NASM SQL TOML XML_SCHEMA YAML YAML_1_1".split()
+DATA = """ADA BASH COMMON_LISP CSV_DE CSV_EN ERLANG FORTRAN JSON JSON5 NASM PASCAL POSTSCRIPT PROLOG RAKU SCHEME SQL TOML VERILOG VHDL
+XML_SCHEMA YAML YAML_1_1""".split()
 SUFFIXES = {
     "C": [Cause("-", ".*([uU]?(wb|WB)|(wb|WB)[uU])", "an integer of so many bits, of C23, which the tool lacks")],
     "C_PLUS_PLUS": [Cause("+", ".*([uU]?[zZ]|[zZ][uU])", "a size of C++23")],

@@ -1,15 +1,17 @@
 //! The judge of the library. Reads texts of a language on standard input, and prints `-` and the form of the error, with
 //! `large` for a number that is too large for the form; or `+`, the form, `i` or `f` for an integer or a float, the exact value or
-//! `none` if no type has it, and the bits of `f64` and `f32`. With the argument `tokens`, the length of the token that a text
-//! begins with is in the place of `+`; with `written`, a text that is refused is a number if its token has all of it.
+//! `none` if no type has it, and the bits of `f64` and `f32`, NaN where no float has the radix. With the argument `tokens`, the
+//! length of the token that a text begins with is in the place of `+`; with `written`, a text that is refused is a number if its
+//! token has all of it.
 
-use peltzivar::literal::{Language, Number};
+use peltzivar::literal::{Language, Number, ValueError, ValueErrorKind};
 use std::io::{self, BufRead, Write};
 
 /// Returns what is printed of a number.
 fn shown(mark: &str, number: Number<'_>) -> String {
     let form = number.form().unwrap_or(0);
-    if f64::try_from(number).is_err() {
+    let is_large = |it: ValueError| it.kind() != ValueErrorKind::UnsupportedRadix;
+    if f64::try_from(number).is_err_and(is_large) {
         return format!("{} {form} large", if mark == "+" { "-" } else { mark });
     }
     let kind = if number.literal().is_some_and(|it| !it.is_float()) { 'i' } else { 'f' };

@@ -40,7 +40,10 @@ impl Given<'_> {
         match self {
             Given::Float(value) => bits(literal) == Some(value.to_bits()),
             Given::Literal(own) if own.is_float() => bits(own).is_some() && bits(own) == bits(literal),
-            Given::Literal(own) => integer(own) == integer(literal) && bits(own) == bits(literal),
+            // No float may have the radix.
+            Given::Literal(own) => {
+                integer(own) == integer(literal) && bits(own).is_none_or(|it| bits(literal) == Some(it))
+            }
         }
     }
 

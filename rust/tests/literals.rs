@@ -2,10 +2,12 @@
 
 use peltzivar::format::{CASE_SENSITIVE_SPECIAL, DIGIT_SEPARATOR_FLAG_MASK, NO_SPECIAL};
 use peltzivar::literal::{
-    Condition, Form, Language, Literal, Number, ReadError, ReadErrorKind, Sign, Specials, Spelling, Syntax,
+    Condition, Forms, Language, Literal, Number, ReadError, ReadErrorKind, Sign, Specials, Spelling, Syntax,
+    ValueError, ValueErrorKind,
 };
 use peltzivar::{Edit, FlagSetter, Format, FormatView, NumberFormatBuilder, Part, Rule, Settings};
 use std::collections::HashSet;
+use std::slice;
 
 const FORMAT: &str = include_str!("../../docs/FORMAT.md");
 const EXPLANATIONS: &str = include_str!("../../docs/EXPLANATIONS.md");
@@ -275,8 +277,8 @@ fn has_value(number: Number<'_>, value: &str) -> bool {
     }
 }
 
-/// Each text of literals.txt, and of what the tools of languages answered, with its value by its kind if the tool printed one. Each form
-/// gives one of the numbers, and of one of the refused texts, it reads as much as any form, but not all.
+/// Each text of literals.txt, and of what the tools of languages answered, with its value by its kind if the tool printed one. Each form, or
+/// one of those that differ in their radix alone, gives one of the numbers, and of one of the refused texts, it reads as much as any form, but not all.
 #[test]
 fn languages_answer_as_their_grammars_and_tools_do() {
     assert!(Language::ALL.is_sorted_by_key(Language::name));
@@ -293,21 +295,23 @@ fn languages_answer_as_their_grammars_and_tools_do() {
         let text = cells[2];
         let result = language.read(text);
         // Tools refuse a number that is too large for its kind.
-        let is_number = result.is_ok_and(|it| f64::try_from(it).is_ok());
+        let is_large = |it: ValueError| it.kind() != ValueErrorKind::UnsupportedRadix;
+        let is_number = result.is_ok_and(|it| !f64::try_from(it).is_err_and(is_large));
         assert_eq!(is_number, is_accepted, "{row}: {result:?}");
-        for (form, syntax) in language.forms().as_slice().iter().map(Form::syntax).enumerate() {
+        for (index, form) in language.forms().as_slice().iter().enumerate() {
             let is_furthest = |size: usize| size > 1 && result.is_err_and(|it| it.valid_up_to() == size);
-            let is_refused = syntax.read(text).is_err_and(|it| is_furthest(it.valid_up_to()));
-            let is_given = result.is_ok_and(|it| it.form() == Some(form));
-            seen.extend((is_refused || is_given).then_some((language, form, is_given)));
+            let alone = Forms::new_or_panic(slice::from_ref(form));
+            let is_refused = alone.read(text).is_err_and(|it| is_furthest(it.valid_up_to()));
+            let is_given = result.is_ok_and(|it| it.form() == Some(index));
+            seen.extend((is_refused || is_given).then_some((language, form.name(), is_given)));
         }
         if let (Ok(number), "+", Some(value)) = (result, cells[1], cells.get(3)) {
             assert!(has_value(number, value), "{row}: not {number:?}");
         }
     }
-    let forms = Language::ALL.iter().flat_map(|it| (0..it.forms().as_slice().len()).map(move |form| (it, form)));
+    let forms = Language::ALL.iter().flat_map(|it| it.forms().into_iter().map(move |form| (it, form.name())));
     let wanted = forms.flat_map(|(it, form)| [(it, form, true), (it, form, false)]);
-    let missing = wanted.filter(|it| !seen.contains(it)).map(|it| (it.0, it.0.forms()[it.1].name(), it.2));
+    let missing = wanted.filter(|it| !seen.contains(it));
     assert_eq!(Vec::from_iter(missing), [], "forms without a row that is a number of theirs, or that is none");
 }
 

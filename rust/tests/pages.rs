@@ -53,7 +53,7 @@ fn examples_end_as_their_comments_state() {
         ("literal -- 0x000A10007800005F000000010000000C 101 46 1", 2, "WORD E P: the exponent character 'e' is a digit in "),
         ("literal -- 12 101 46 1", 2, "WORD E P: a format word begins with `0x`\n"),
         ("settings -- rust/examples/settings.txt", 0, "0x100A10007800005F000000010000000C 112 46\n"),
-        ("convert -- C", 2, "usage: convert SOURCE TARGET, two of [ADA, C, "),
+        ("convert -- C", 2, "usage: convert SOURCE TARGET, two of [ADA, BASH, C, "),
         ("grammar -- 0x00000A00780000000000000000000000 required_base_prefix=true", 0, "\n[+-]?[0][Xx][0-9]+\n"),
         ("grammar -- 12", 2, "LANGUAGE, or WORD E P CONDITIONS: a format word begins with `0x`\n"),
         ("settings", 1, "\"\": No such file or directory (os error 2)\n"),

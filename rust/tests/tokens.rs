@@ -9,7 +9,9 @@ use std::collections::BTreeSet;
 fn stated(forms: &Forms, text: &str) -> String {
     match forms.token(text) {
         Ok(token) => {
-            assert_eq!([token.literal.as_bytes(), token.suffix, token.rest].concat(), text.as_bytes(), "{text}");
+            let (opening, closing) = (forms[token.form].opening(), forms[token.form].closing());
+            let parts = [token.literal.as_bytes(), closing.as_bytes(), token.suffix, token.rest].concat();
+            assert_eq!(parts, text.as_bytes()[opening.as_bytes().len()..], "{text}");
             assert!(forms[token.form].syntax().read(token.literal.as_bytes()).is_ok(), "{text}");
             format!("{}|{}", token.literal, String::from_utf8_lossy(token.suffix))
         }
@@ -24,7 +26,7 @@ fn stated(forms: &Forms, text: &str) -> String {
 fn rows() -> impl Iterator<Item = (Language, &'static str, &'static str)> {
     let rows = include_str!("tokens.txt");
     let back = rows.lines().find_map(|it| it.strip_prefix("# BACK = ")).unwrap();
-    rows.lines().filter(|it| !it.is_empty() && !it.starts_with('#')).flat_map(move |row| {
+    rows.lines().filter(|it| !it.is_empty() && !it.starts_with("# ")).flat_map(move |row| {
         let &[text, names, wanted] = &*row.split(" ; ").collect::<Vec<_>>() else { panic!("{row}") };
         let names = if names == "BACK" { back } else { names }.split(' ');
         names.map(move |name| (Language::from_name(name).expect(name), text, wanted))
@@ -88,8 +90,9 @@ fn each_form_suffix_and_keyword_has_a_row() {
         let texts = texts.iter().filter(|it| it.0 == *language);
         let read: Vec<Token> = texts.filter_map(|it| language.token(&it.1).ok()).collect();
         let mut require = |is_read: bool, name: &str| missing.extend((!is_read).then(|| format!("{language} {name}")));
-        for (index, form) in language.forms().into_iter().chain(tokens.forms()).enumerate() {
-            require(read.iter().any(|it| it.form == index), form.name());
+        let forms = Vec::from_iter(language.forms().into_iter().chain(tokens.forms()));
+        for form in &forms {
+            require(read.iter().any(|it| forms[it.form].name() == form.name()), form.name());
             let Some(suffixes) = form.suffixes() else { continue };
             let upper = |it: &[u8]| if suffixes.is_either_case() { it.to_ascii_uppercase() } else { it.to_vec() };
             let words = [suffixes.integers(), suffixes.floats()].concat().into_iter();

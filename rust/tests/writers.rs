@@ -336,12 +336,13 @@ fn languages_read_what_they_write() {
                     assert!(is_same(back), "{language} {text:?} in {target}: {written:?}");
                 }
                 Err(error) => {
-                    let texts = target.forms().into_iter().map(|it| it.syntax().format_literal(&literal, Style::PLAIN));
+                    let forms = || target.forms().into_iter().filter(|it| it.opening().is_empty());
+                    let texts = forms().map(|it| it.syntax().format_literal(&literal, Style::PLAIN));
                     let mut texts = texts.filter_map(|text| text.ok().map(|it| it.to_string()));
                     let is_written = texts.any(|it| is_same(target.read(&it).unwrap().literal().unwrap()));
                     assert!(!is_written, "{language} {text:?} in {target}: {error}");
                     let no_floats = |form: &Form| literal.is_float() && form.syntax().point().is_none();
-                    let first = target.forms().into_iter().min_by_key(|form| (no_floats(form), turn(form))).unwrap();
+                    let first = forms().min_by_key(|form| (no_floats(form), turn(form))).unwrap();
                     let wanted = match first.syntax().format_literal(&literal, Style::PLAIN) {
                         Ok(text) if target.read(&text.to_string()).unwrap().to_f64().is_nan() => WriteError::TooLarge,
                         Ok(_) => WriteError::ReadBack,

@@ -12,8 +12,10 @@ import tempfile
 # A compiler: its command and source; the text before all units, the unit of a number, in three lines, and the text after all;
 # the same of a program that prints each number in a line, the type of numbers of an output without a program, or a command
 # that prints the values of constants. A sign belongs to the number if `signed` is true. A scanner prints how
-# long the token is that a text begins with.
-Compiler = collections.namedtuple("Compiler", "command source head unit tail printing signed scanner", defaults=[None, False, None])
+# long the token is that a text begins with; without one, a text is one token if it is none with a blank, or if it is not `several`,
+# a pattern. An error is a line with the source, the line, and `error`, a pattern. The program is run by `run`.
+Compiler = collections.namedtuple("Compiler", "command source head unit tail printing signed scanner several error run",
+                                  defaults=[None, False, None, None, "(?:fatal )?error", "./out"])
 GCC = "-pedantic-errors -fmax-errors=0 -fno-diagnostics-show-caret -fdiagnostics-column-unit=byte -o out"
 SCANNERS = "../scanners"
 C = "", '_Static_assert(sizeof(\n{text}\n), "");\n', "int main(void) {}\n"
@@ -57,6 +59,9 @@ void main() {
 FORTRAN = "implicit double precision (v)\n", "data value{i} / &\n{text} &\n/\n", "end\n"
 # The value, with the digits that its kind has, and the kind: 4 is that of integers and singles.
 PRINT_FORTRAN = "", "print '(G0, 1X, I0)', {text}, kind( &\n{text} &\n)\n", "end\n"
+# Constants without a type are the bits of an integer.
+BITS = "implicit integer(16) (v)\n", *FORTRAN[1:]
+PRINT_BITS = "", "print '(\"Z\", Z0)', int( &\n{text} &\n, 16)\n", "end\n"
 # The type of an integer is inferred, so its value may wrap here, and a float is to be finite.
 RUST = "#![allow(overflowing_literals)]\n", "const _: () = assert!((\n{text}\n) as f64 <= f64::MAX);\n", "fn main() {}\n"
 PRINT_RUST = """trait Show { fn show(it: Self); }
@@ -65,13 +70,31 @@ impl Show for f32 { fn show(it: f32) { println!("{it:?}f") } }
 impl Show for f64 { fn show(it: f64) { println!("d{:016x}", it.to_bits()) } }
 fn main() {
 """, "Show::show(\n{text}\n);\n", "}\n"
+VERILOG = "module numbers;\ninitial begin\n", "$display(\n{text}\n);\n", "end\nendmodule\n"
+# A real has a half, and bits.
+PRINT_VERILOG = VERILOG[0], "$display(\"%g %h %0d\", (({text}) * 0 + 3) / 2, $realtobits({text}),\n{text}\n);\n", VERILOG[2]
+# Integers of 64 bits are physical. Reals, which have a point, are in a second program.
+VHDL = """use std.textio.all;
+entity a is end;
+architecture b of a is
+begin process
+procedure show(it: time) is begin write(output, time'image(it) & LF); end;
+procedure show(it: real) is begin write(output, to_string(it, "%a") & LF); end;
+begin
+""", "show(\n{text}\nfs);\n", "wait; end process;\nend;\n"
+REALS = VHDL[0], SHOW, VHDL[2]
+SIGN = r"(?<![eE])[+-]"
 COMPILERS = {
     "gcc": [Compiler(f"gcc -std=c2x {GCC}", "a.c", *C, PRINT_C, scanner=[sys.executable, f"{SCANNERS}/gcc.py", "gcc -x c -std=c2x"])],
     "g++": [Compiler(f"g++ -std=c++20 -include chrono -include complex -D_Static_assert=static_assert {GCC}", "a.cc", *CC, PRINT_CC,
                      scanner=[sys.executable, f"{SCANNERS}/gcc.py", "g++ -x c++ -std=c++20"])],
     "gdc": [Compiler("gdc -fmax-errors=0 -fno-diagnostics-show-caret -o out", "a.d", *D, PRINT_D)],
     "gnat": [Compiler("gnatmake -f -q -o out -gnatf -gnatm999999 -gnatws", "a.adb", *ADA, PRINT_ADA)],
-    "gfortran": [Compiler(f"gfortran -std=f2018 {GCC}", "a.f90", *FORTRAN, PRINT_FORTRAN, signed=True)],
+    "gfortran": [Compiler(f"gfortran -std=f2018 {GCC}", "a.f90", *FORTRAN, PRINT_FORTRAN, signed=True),
+                 Compiler(f"gfortran -std=f2018 {GCC}", "a.f90", *BITS, PRINT_BITS, several="^[^bozBOZ]")],
+    "ghdl": [Compiler("ghdl -a --std=08 -Werror=runtime-error", "a.vhd", *it, it, several=rf"{SIGN}|^\D{other}",
+                      error="(?!warning|note)", run="ghdl -r --std=08 a") for it, other in ((VHDL, r"|\."), (REALS, ""))],
+    "iverilog": [Compiler("iverilog -g2005 -o out", "a.v", *VERILOG, PRINT_VERILOG, several=f"{SIGN}|'.*[+-]|.'")],
     "nasm": [Compiler("nasm -f bin -o out", "a.asm", "bits 64\n", "mov rax, {text}\n\n\n", "", "q"),
              Compiler("nasm -f bin -o out", "a.asm", "bits 64\n", "mov rax, __float64__({text})\n\n\n", "", "d")],
     "rustc": [Compiler("rustc --error-format=short -o out", "a.rs", *RUST, PRINT_RUST,
@@ -86,8 +109,8 @@ def compile(it, folder, source):
     (folder / it.source).write_text(source)
     command = [*it.command.split(), it.source]
     run = subprocess.run(command, cwd=folder, capture_output=True, text=True, errors="replace")
-    lines = re.findall(rf"^{it.source}:(\d+):(?:\d+:)? (?:fatal )?error", run.stderr, re.M | re.I)
-    assert (run.returncode == 0) == (not lines), run.stderr[-2000:]
+    lines = re.findall(rf"^{it.source}:(\d+):(?:\d+:)? {it.error}", run.stderr, re.M | re.I)
+    assert run.returncode == 0 or lines, run.stderr[-2000:]
     return [int(line) for line in lines]
 
 
@@ -114,9 +137,11 @@ def values(it, folder, texts):
         found = re.findall(r"number(\d+) = (\S+?)[dl]?;", lines)
     else:
         left = accepted(it, folder, texts, it.printing)
-        lines = subprocess.run([folder / "out"], capture_output=True, text=True).stdout.splitlines() if left else []
-        lines = [re.sub("16#(.*)#", lambda it: f"d{it[1]:>016}", line.strip()) for line in lines]  # of Ada
+        lines = subprocess.run(it.run.split(), cwd=folder, capture_output=True, text=True).stdout.splitlines() if left else []
+        lines = [re.sub("16#(.*)#", lambda it: f"d{it[1]:>016}", line.strip().removesuffix(" fs")) for line in lines]  # of Ada and VHDL
         lines = [re.sub(" [48]$", "", re.sub(r"(\..*) 4$", r"\1f", line)) for line in lines]  # of Fortran
+        lines = [re.sub("^Z(.*)", lambda it: str(int(it[1], 16)), line) for line in lines]
+        lines = [re.sub("^[01] [0-9a-f]+ (.*)|^.* ([0-9a-f]{16}) .*", lambda it: it[1] or f"d{it[2]}", line) for line in lines]  # of Verilog
         found = zip(left, lines, strict=True)
     found = {int(i): value for i, value in found}
     return [found.get(i, "") for i in range(len(texts))]
@@ -128,6 +153,9 @@ def tokens(it, folder, texts):
         given = "".join(f"{text}\n" for text in texts)
         sizes = subprocess.run(it.scanner, input=given, capture_output=True, text=True, check=True).stdout.split()
         left = [i for i, (text, size) in enumerate(zip(texts, sizes, strict=True)) if size == str(len(text))]
+        return [left[i] for i in accepted(it, folder, [texts[i] for i in left])]
+    if it.several:
+        left = [i for i, text in enumerate(texts) if not re.search(it.several, text)]
         return [left[i] for i in accepted(it, folder, [texts[i] for i in left])]
     left = accepted(it, folder, texts)
     first = {i: 2 if it.signed and texts[i][0] in "+-" else 1 for i in left}

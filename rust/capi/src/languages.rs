@@ -424,7 +424,10 @@ macro_rules! languages {
 languages! {
     // Made by make_python.py: language_list
     ADA peltzivar_language_ada
+    BASH peltzivar_language_bash
     C peltzivar_language_c
+    CLOJURE peltzivar_language_clojure
+    COMMON_LISP peltzivar_language_common_lisp
     CSS peltzivar_language_css
     CSV_DE peltzivar_language_csv_de
     CSV_EN peltzivar_language_csv_en
@@ -432,6 +435,7 @@ languages! {
     C_SHARP peltzivar_language_c_sharp
     D peltzivar_language_d
     ELIXIR peltzivar_language_elixir
+    ERLANG peltzivar_language_erlang
     FORTRAN peltzivar_language_fortran
     GO peltzivar_language_go
     HASKELL peltzivar_language_haskell
@@ -446,17 +450,24 @@ languages! {
     NASM peltzivar_language_nasm
     NIM peltzivar_language_nim
     OCAML peltzivar_language_ocaml
+    PASCAL peltzivar_language_pascal
     PERL peltzivar_language_perl
     PHP peltzivar_language_php
+    POSTSCRIPT peltzivar_language_postscript
+    PROLOG peltzivar_language_prolog
     PYTHON peltzivar_language_python
     R peltzivar_language_r
+    RAKU peltzivar_language_raku
     RUBY peltzivar_language_ruby
     RUST peltzivar_language_rust
     SCALA peltzivar_language_scala
+    SCHEME peltzivar_language_scheme
     SQL peltzivar_language_sql
     SWIFT peltzivar_language_swift
     TCL peltzivar_language_tcl
     TOML peltzivar_language_toml
+    VERILOG peltzivar_language_verilog
+    VHDL peltzivar_language_vhdl
     XML_SCHEMA peltzivar_language_xml_schema
     YAML peltzivar_language_yaml
     YAML_1_1 peltzivar_language_yaml_1_1

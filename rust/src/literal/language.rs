@@ -127,8 +127,8 @@ impl Language {
         self.forms().read_prefix_bytes(text)
     }
 
-    /// Returns the number that `text` begins with, with its suffix, and the rest, as [`Forms::token`] does. ADA, FORTRAN, NASM,
-    /// SQL and languages of data, such as JSON, have no tokens.
+    /// Returns the number that `text` begins with, with its suffix, and the rest, as [`Forms::token`] does. Languages of
+    /// data, such as JSON, have no tokens.
     ///
     /// ```
     /// use peltzivar::literal::Language;
@@ -243,11 +243,14 @@ impl fmt::Debug for Language {
     }
 }
 
-/// Defines the constants: the documentation, the name and the title of each, the name, the syntax, the suffixes and the kind of each form, the
-/// special values, if there are any, and rules for tokens, if the language has them.
+/// Defines the constants: the documentation, the name and the title of each, the name, the opening, the syntax, the suffixes and the kind of
+/// each form, those of forms that differ in their radix alone, which is between two texts in their openings, the special values, if there are
+/// any, and rules for tokens, if the language has them.
 macro_rules! languages {
-    ($($(#[$about:meta])+ $name:ident: $title:literal = { $($form:literal: $syntax:expr $(=> $suffixes:expr)? $(; $kind:expr)?),+ $(,)? } $(, $specials:expr)?
-        $(=> $tokens:expr)?;)+) => {
+    ($($(#[$about:meta])+ $name:ident: $title:literal = {
+        $($form:literal $(behind $opening:literal)? $(before $closing:literal)? $(only_read $only:literal)?: $syntax:expr
+            $(=> $suffixes:expr)? $(; $kind:expr)?),+ $(,)?
+    } $(radixes $before:literal $behind:literal $(before $closed:literal)? $(to $most:literal)? { $binary:expr $(=> $words:expr)? $(; $values:expr)? })? $(, $specials:expr)? $(=> $tokens:expr)?;)+) => {
         impl Language {
             /// All languages, in alphabetical order.
             pub const ALL: &'static [Language] = &[$(Language::$name),+];
@@ -256,12 +259,23 @@ macro_rules! languages {
             pub const $name: Language = Language(&Definition {
                 name: stringify!($name),
                 title: $title,
-                forms: Forms::new_or_panic(&[$(Form::new($form, $syntax)$(.with_suffixes(&$suffixes))?$(.with_kind($kind))?),+])
+                forms: Forms::new_or_panic(languages!(
+                    @[$(Form::new($form, $syntax)$(.with_opening(affix($opening)))?$(.with_closing(affix($closing)).unwrap())?
+                        $(.only_read($only))?$(.with_suffixes(&$suffixes))?$(.with_kind($kind))?),+]
+                    $(; RADIXES $(+ $most - 36)?, $before $behind, Form::new("radix in front", $binary)
+                        $(.with_closing(affix($closed)).unwrap())?$(.with_suffixes(&$words))?$(.with_kind($values))?)?
+                ))
                     $(.with_specials($specials))?
                     $(.with_tokens(&$tokens))?,
             });)+
         }
     };
+    (@$forms:expr) => { &$forms };
+    (@$forms:expr; $radixes:expr, $before:literal $behind:literal, $binary:expr) => {{
+        const FORMS: &[Form] = &$forms;
+        const ALL: [Form; FORMS.len() + $radixes] = with_radixes(FORMS, $before, $behind, $binary);
+        &ALL
+    }};
 }
 
 mod tables;

@@ -2,9 +2,9 @@
 
 use super::{Definition, Language};
 use crate::literal::{
-    Conditions, FloatKind, FloatLimits, Form, Forms, IntegerKind, Kind, Specials, Stop, Suffixes, Syntax, Tokens,
+    Affix, Conditions, FloatKind, FloatLimits, Form, Forms, IntegerKind, Kind, Specials, Stop, Suffixes, Syntax, Tokens,
 };
-use crate::NumberFormatBuilder;
+use crate::{Format, NumberFormatBuilder};
 use core::num::NonZeroU8;
 
 /// Numbers without signs, which are operators, and without NaN and infinity, which are names.
@@ -91,8 +91,54 @@ const fn signed(syntax: Syntax) -> Syntax {
     syntax.with_conditions_or_panic(syntax.conditions().no_negative_mantissa_sign(false))
 }
 
+/// Returns an opening or a closing.
+const fn affix(text: &'static str) -> Affix {
+    Affix::new(text.as_bytes()).unwrap()
+}
+
+/// The number of radixes, which are those from 2 to 36.
+const RADIXES: usize = 35;
+
+/// Returns `forms`, and `binary` in each radix, with an opening that has the radix between two texts. No form is checked again.
+const fn with_radixes<const N: usize>(forms: &[Form], before: &str, behind: &str, binary: Form) -> [Form; N] {
+    let (mut all, mut index) = ([binary; N], 0);
+    while index < N {
+        let radix = (index + 2).saturating_sub(forms.len()) as u8;
+        all[index] = if index < forms.len() { forms[index] } else { in_radix(binary, before, radix, behind) };
+        index += 1;
+    }
+    all
+}
+
+/// Returns the form of binary integers in another radix, of which the opening has the decimal digits between a byte, if there is one, and
+/// another.
+const fn in_radix(binary: Form, before: &str, radix: u8, behind: &str) -> Form {
+    let word = binary.syntax.format.word - NumberFormatBuilder::from_radix(2) + NumberFormatBuilder::from_radix(radix);
+    let syntax = Syntax { format: Format { word }, ..binary.syntax };
+    let (ten, one, behind) = (b'0' + radix / 10, b'0' + radix % 10, behind.as_bytes()[0]);
+    let bytes: &[u8] = match (before.as_bytes(), radix < 10) {
+        ([], true) => &[one, behind],
+        ([], false) => &[ten, one, behind],
+        ([before, ..], true) => &[*before, one, behind],
+        ([before, ..], false) => &[*before, ten, one, behind],
+    };
+    Form { syntax, ..binary }.with_opening(Affix::new(bytes).unwrap())
+}
+
+/// Returns the syntax of binary integers and fractions without an exponent, for forms with a radix in their opening. No digit is `^`.
+const fn based(builder: NumberFormatBuilder) -> Syntax {
+    let builder = builder.mantissa_radix(2).no_exponent_notation(true).required_digits(true); // rejects `.8` and `F.`
+    numbers(b'^', b'.', builder).with_conditions_or_panic(UNSIGNED)
+}
+
+/// Digits of Raku behind a prefix.
+const RAKU_PREFIXED: NumberFormatBuilder = GO_PREFIXED.case_sensitive_base_prefix(true); // rejects `0X1F`
+
 /// Digits of Ruby, which are separated by one `_`, after a sign.
 const RUBY: NumberFormatBuilder = separated(b'_').no_positive_mantissa_sign(false); // accepts `+1`
+
+/// Numbers of Lisps, with signs.
+const LISP: NumberFormatBuilder = NumberFormatBuilder::new().no_special(true); // accepts `+1`
 
 /// Digits of C and C++.
 const C: NumberFormatBuilder = separated(b'\''); // accepts `1'000`, not `1''0`
@@ -171,6 +217,9 @@ const AT_MOST_128: Kind = whole(IntegerKind::AtMost(128));
 /// Integers of Lua, NASM and Nim, of which the last 64 bits count.
 const LAST_64: Kind = whole(IntegerKind::WrapsModulo(64));
 
+/// Numbers of PostScript.
+const SHORT_REALS: Kind = finite(Kind::new(IntegerKind::AtMost(63), FloatKind::Single).unwrap());
+
 /// Integers and reals of Fortran.
 const DEFAULT: Kind = finite(Kind::new(IntegerKind::AtMost(31), FloatKind::Single).unwrap());
 
@@ -198,6 +247,21 @@ const FORTRAN_WORDS: Suffixes = Suffixes::new(&[], &[], &[Stop::new(b"", b".", b
         (b"_16", whole(IntegerKind::AtMost(127))),
     ])
     .with_written(&[b"_8"]);
+
+/// What goes on a number of Bash, and on a decimal one of Erlang: `37#1`.
+const BASH_WORDS: Suffixes = Suffixes::new(&[], &[], &[Stop::new(b"", b"#@", b"")]);
+const ERLANG_WORDS: Suffixes = Suffixes::new(&[], &[], &[Stop::new(b"", b"#", b"")]);
+
+/// Suffixes of Clojure, and what else goes on a number: `1/2`.
+const CLOJURE_STOPS: &[Stop] = &[Stop::new(b"", b"!$&*+-./:<=>?|", b"")];
+const CLOJURE_DECIMALS: Suffixes = Suffixes::new(&[b"N", b"M"], &[b"M"], CLOJURE_STOPS);
+const CLOJURE_INTEGERS: Suffixes = Suffixes::new(&[b"N"], &[], CLOJURE_STOPS);
+const CLOJURE_BIG: Suffixes = Suffixes::new(&[b"M"], &[], CLOJURE_STOPS);
+const CLOJURE_WORDS: Suffixes = Suffixes::new(&[], &[], CLOJURE_STOPS);
+
+/// What makes a symbol of a number of Common Lisp, or goes on it, and what makes one of Scheme: `1+`, `1/2`.
+const LISP_WORDS: Suffixes = Suffixes::new(&[], &[], &[Stop::new(b"", b"!#$%&*+-./:<=>?@[\\]^{|}~", b"")]);
+const SCHEME_WORDS: Suffixes = Suffixes::new(&[], &[], &[Stop::new(b"", b"!#$%&'*+,-./:<=>?@[\\]^`{|}~", b"")]);
 
 /// Words behind integers and floats, in this case.
 const fn words(integers: &'static [&'static [u8]], floats: &'static [&'static [u8]]) -> Suffixes {
@@ -377,6 +441,12 @@ const PERL_STOPS: &[Stop] = &[Stop::new(b"", b".", b"0123456789"), Stop::new(b""
 
 const SQL_WORDS: Suffixes = Suffixes::new(&[], &[], PERL_STOPS);
 
+/// What goes on a name of PostScript, of which letters and most punctuation may follow a digit.
+const POSTSCRIPT_WORDS: Suffixes = Suffixes::new(&[], &[], &[Stop::new(b"", b"!\"#$&'*+,-.:;=?@\\^`|~", b"")]);
+
+/// What goes on a number of Prolog: `0'a`.
+const PROLOG_WORDS: Suffixes = Suffixes::new(&[], &[], &[Stop::new(b"", b"'", b"")]);
+
 /// The suffix of imaginary numbers of Python, in either case.
 const PYTHON_WORDS: Suffixes = words(&[b"j"], &[b"j"]).either_case(true);
 
@@ -385,6 +455,9 @@ const PYTHON_KEYWORDS: &[&[u8]] = &[b"and", b"else", b"for", b"if", b"in", b"is"
 
 /// Suffixes of R, for integers and imaginary numbers.
 const R_WORDS: Suffixes = words(&[b"L", b"i"], &[b"L", b"i"]);
+
+/// The suffix of imaginary numbers of Raku.
+const RAKU_WORDS: Suffixes = words(&[b"i"], &[b"i"]);
 
 /// Suffixes of Ruby.
 const RUBY_INTEGERS: &[&[u8]] = &[b"r", b"i", b"ri"];
@@ -413,6 +486,9 @@ const RUST_KINDS: &[(&[u8], Kind)] = &[
     (b"isize", AT_MOST_63), (b"i128", whole(IntegerKind::AtMost(127))), (b"f32", finite(SINGLE)), (b"f64", finite(Kind::EXACT)),
 ];
 
+/// What goes on a number of Verilog: `8'hFF`, `1.x` and `1$`.
+const VERILOG_WORDS: Suffixes = Suffixes::new(&[], &[], &[Stop::new(b"", b"'.$", b"")]);
+
 /// A decimal point before a byte that is neither a second one nor begins a name.
 const POINT_AND_NO_NAME: &[Stop] = &[Stop::new(b"", b".", &NO_NAME)];
 const NO_NAME: [u8; 73] = no_name();
@@ -434,9 +510,10 @@ const fn no_name() -> [u8; 73] {
 const POINTS_BACK: Tokens = Tokens::new(&[], &[]).gives_points_back(true);
 
 languages! {
-    /// Ada's decimal literals (Reference Manual 2012, 2.4.1). A format cannot accept based literals, such as `16#FF#`, or
-    /// accept `1.0E-3` and `1E3` but reject `1E-3`. So `1E-3` is read here, but the first form never writes it. At the end of a
-    /// text, the token of `1.` is `1`.
+    /// Ada's decimal and based literals (Reference Manual 2012, 2.4.1 and 2.4.2). Digits of another base from 2 to 16 are as in `16#FF#`
+    /// and `16#F.8#`, but a fraction in a base such as 3 has no `f64`. A format cannot accept `16#FF#E2`, `016#FF#` and `16:FF:`, or accept
+    /// `1.0E-3` and `1E3` but reject `1E-3`. So `1E-3` is read here, but the first form never writes it. At the end of a text, the token of
+    /// `1.` is `1`.
     ADA: "Ada" = {
         "decimal": decimal(separated(b'_')
             .required_digits(true) // rejects `.5`, `1.`, `1e` and `.`
@@ -445,7 +522,16 @@ languages! {
         "integer with an exponent": decimal(separated(b'_')
             .required_digits(true) // rejects `.5`, `1.`, `1e` and `.`
         ) => ADA_WORDS,
-    } => POINTS_BACK;
+    } radixes "" "#" before "#" to 16 { based(separated(b'_')) } => POINTS_BACK;
+
+    /// Bash's integers in arithmetic (Bash Reference Manual 5.2, 6.5 Shell Arithmetic). An integer keeps its last 64 bits:
+    /// `9223372036854775808` is -9223372036854775808. Radixes from 37 to 64, as in `64#_`, are refused here, and so is `0x`, which is 0 in
+    /// Bash.
+    BASH: "Bash" = {
+        "decimal": integers(10, TOKENS.no_integer_leading_zeros(true), UNSIGNED) => BASH_WORDS; LAST_64, // rejects `08`
+        "octal": octal(TOKENS) => BASH_WORDS; LAST_64,
+        "hexadecimal": prefixed(b'x', 16, TOKENS) => BASH_WORDS; LAST_64,
+    } radixes "" "#" { integers(2, TOKENS, UNSIGNED) => BASH_WORDS; LAST_64 } => Tokens::new(&[], &[]);
 
     /// C's integer and floating constants (C23, 6.4.4.1 and 6.4.4.2). A decimal integer has the type `long long`, which has 63 bits
     /// and a sign, unless its suffix has a `u`. The value of a decimal float has all
@@ -457,6 +543,36 @@ languages! {
         "binary": prefixed(b'b', 2, C) => C_WORDS; AT_MOST_64,
         "hexadecimal float": binary_floats(b'x', 16, C.required_exponent_notation(true)) => C_WORDS, // rejects `0x1.8`
     } => Tokens::new(&[], &[]);
+
+    /// Clojure's integers and floats, with signs (The Clojure Reader 1.11, Literals, Numbers). The sign of `-16rFF` is before its radix: it is
+    /// refused here. So are ratios.
+    CLOJURE: "Clojure" = {
+        "decimal": numbers(b'e', b'.', LISP
+            .required_integer_digits(true) // rejects `.5`, not `1.`
+            .no_integer_leading_zeros(true) // rejects `08`, not `08.5`
+        ) => CLOJURE_DECIMALS,
+        "octal": signed(octal(LISP)) => CLOJURE_INTEGERS,
+        "hexadecimal": signed(prefixed(b'x', 16, LISP)) => CLOJURE_INTEGERS,
+    } radixes "" "r" { integers(2, TOKENS, UNSIGNED) => CLOJURE_WORDS } => Tokens::new(
+        &[Form::new("big decimal, leading zeros", integers(10, LISP, Conditions::NONE)).with_suffixes(&CLOJURE_BIG)],
+        &[],
+    );
+
+    /// Common Lisp's integers and floats, with signs (Common Lisp HyperSpec, 2.3.2.1 and 2.4.8.7 to 2.4.8.10). `1.` is an integer, and `0.1`,
+    /// but not `0.1d0`, is an `f32`. Ratios are refused here.
+    COMMON_LISP: "Common Lisp" = {
+        "decimal": integers(10, LISP, Conditions::NONE) => LISP_WORDS,
+        "with a point at the end": integers(10, LISP.base_suffix(NonZeroU8::new(b'.')), Conditions::NONE.required_base_suffix(true)) => LISP_WORDS,
+        "float": numbers(b'e', b'.', LISP.required_fraction_digits(true)) => LISP_WORDS; finite(SINGLE), // rejects `1.` and `1.e5`, not `.5`
+        "float, no digits behind the point": numbers(b'e', b'.', LISP.required_exponent_notation(true)) => LISP_WORDS; finite(SINGLE), // accepts `1.e5`
+        "single": numbers(b'f', b'.', LISP.required_exponent_notation(true)) => LISP_WORDS; finite(SINGLE),
+        "short": numbers(b's', b'.', LISP.required_exponent_notation(true)) => LISP_WORDS; finite(SINGLE),
+        "double": numbers(b'd', b'.', LISP.required_exponent_notation(true)) => LISP_WORDS; finite(Kind::EXACT),
+        "long": numbers(b'l', b'.', LISP.required_exponent_notation(true)) => LISP_WORDS; finite(Kind::EXACT),
+        "hexadecimal" behind "#x": integers(16, LISP, Conditions::NONE) => LISP_WORDS,
+        "octal" behind "#o": integers(8, LISP, Conditions::NONE) => LISP_WORDS,
+        "binary" behind "#b": integers(2, LISP, Conditions::NONE) => LISP_WORDS,
+    } radixes "#" "r" { integers(2, LISP, Conditions::NONE) => LISP_WORDS } => Tokens::new(&[], &[]);
 
     /// CSS's numbers, with signs (CSS Syntax Module Level 3, 4.3.12). A token has a word as its unit. It ends before `%`, and
     /// before a `-` that follows a digit: of `1p2-x`, it is `1p2`.
@@ -524,16 +640,31 @@ languages! {
         "binary": prefixed(b'b', 2, separated(b'_').case_sensitive_base_prefix(true)), // rejects `0B1`
     } => POINTS_BACK;
 
-    /// Fortran's signed integers and reals (ISO/IEC 1539-1:2018, 7.4.3). A format cannot accept binary, octal and hexadecimal
-    /// constants, such as `Z'FF'`. Integers have at most 31 bits, and `0.1`, but not `0.1d0`, is an `f32`. The suffix of a
-    /// token is its kind: `0.1_8` is no `f32`. Of a named kind, such as `_dp`, neither the name nor the value is known. Tokens
-    /// such as `1._8` and `1.eq.2` are refused.
+    /// Erlang's integers and floats (Reference Manual 13.1 of OTP 25, 3.3 Numbers). Erlang also accepts `016#FF` and `1_6#FF`, which are
+    /// refused here.
+    ERLANG: "Erlang" = {
+        "decimal": decimal(separated(b'_')
+            .required_digits(true) // rejects `.5`, `1.`, `1e` and `.`
+            .no_exponent_without_fraction(true) // rejects `1e5`, not `1.0e5`
+        ) => ERLANG_WORDS; finite(Kind::EXACT),
+    } radixes "" "#" { integers(2, separated(b'_'), UNSIGNED) } => POINTS_BACK;
+
+    /// Fortran's signed integers and reals (ISO/IEC 1539-1:2018, 7.4.3). Binary, octal and hexadecimal
+    /// constants, such as `Z'FF'`, have no type of their own: here, they have at most 128 bits, and are not written.
+    /// Integers have at most 31 bits, and `0.1`, but not `0.1d0`, is an `f32`. The suffix of a token is its
+    /// kind: `0.1_8` is no `f32`. Of a named kind, such as `_dp`, neither the name nor the value is known. Tokens such as `1._8` and `1.eq.2` are refused.
     FORTRAN: "Fortran" = {
         "decimal": numbers(b'e', b'.', NumberFormatBuilder::new().no_special(true)) => FORTRAN_WORDS; DEFAULT, // rejects `NaN` and `inf`
         "double precision": numbers(b'd', b'.', NumberFormatBuilder::new()
             .no_special(true)
             .required_exponent_notation(true) // rejects `1.0`, which the first form reads
         ); finite(Kind::EXACT),
+        "hexadecimal, '" behind "z'" before "'" only_read true: integers(16, TOKENS, UNSIGNED); AT_MOST_128,
+        "octal, '" behind "o'" before "'" only_read true: integers(8, TOKENS, UNSIGNED); AT_MOST_128,
+        "binary, '" behind "b'" before "'" only_read true: integers(2, TOKENS, UNSIGNED); AT_MOST_128,
+        "hexadecimal, \"" behind "z\"" before "\"" only_read true: integers(16, TOKENS, UNSIGNED); AT_MOST_128,
+        "octal, \"" behind "o\"" before "\"" only_read true: integers(8, TOKENS, UNSIGNED); AT_MOST_128,
+        "binary, \"" behind "b\"" before "\"" only_read true: integers(2, TOKENS, UNSIGNED); AT_MOST_128,
     } => POINTS_BACK;
 
     /// Go's integer and floating-point literals (Language Specification).
@@ -640,7 +771,7 @@ languages! {
         "hexadecimal": binary_floats(b'x', 16, TOKENS) => LUA_WORDS; LAST_64,
     } => Tokens::new(&[], &[]);
 
-    /// NASM's numeric constants (NASM manual, Numeric Constants and Floating-Point Constants). A format cannot accept `$0c8`,
+    /// NASM's numeric constants (NASM manual, Numeric Constants and Floating-Point Constants). A format cannot accept
     /// `0x_`, `0._` and `1e_`, which have separators alone, or `0h.` and `0op7`, which have no digit. NASM keeps the last 64 bits
     /// of an integer, with a sign: `0x10000000000000001` is 1, and `0xffffffffffffffff` -1.
     NASM: "NASM" = {
@@ -660,6 +791,7 @@ languages! {
         "decimal, 0t": prefixed_decimal(b't', NASM_PREFIXED.required_exponent_digits(false)) => NASM_WORDS; LAST_64, // accepts `0t1e`
         "hexadecimal, 0h": binary_floats(b'h', 16, NASM_PREFIXED) => NASM_WORDS; LAST_64,
         "hexadecimal, 0x": binary_floats(b'x', 16, NASM_PREFIXED) => NASM_WORDS; LAST_64,
+        "hexadecimal, $" behind "$": integers(16, NASM, UNSIGNED.decimal_first_digit(true)) => NASM_WORDS; LAST_64, // rejects `$ff`
         "octal, 0o": binary_floats(b'o', 8, NASM_PREFIXED) => NASM_WORDS; LAST_64,
         "octal, 0q": binary_floats(b'q', 8, NASM_PREFIXED) => NASM_WORDS; LAST_64,
         "binary, 0b": binary_floats(b'b', 2, NASM_PREFIXED) => NASM_WORDS; LAST_64,
@@ -692,6 +824,16 @@ languages! {
         "binary": prefixed(b'b', 2, RUST) => OCAML_WORDS; WRAPS_63,
     } => Tokens::new(&[], &[]);
 
+    /// Pascal's integers and reals (Free Pascal Reference Guide 3.2, 1.6 Numbers). A hexadecimal, octal or binary integer has 64 bits:
+    /// `$FFFFFFFFFFFFFFFF` is -1. A decimal integer from 2^64 on is a real there: take its value as an `f64`. The compiler also accepts `1.`
+    /// and `1.e5`, which the guide does not.
+    PASCAL: "Pascal" = {
+        "decimal": decimal(TOKENS.required_digits(true)), // rejects `.5`, `1.`, `1e` and `.`
+        "hexadecimal" behind "$": integers(16, TOKENS, UNSIGNED); WRAPS_64,
+        "octal" behind "&": integers(8, TOKENS, UNSIGNED); WRAPS_64,
+        "binary" behind "%": integers(2, TOKENS, UNSIGNED); WRAPS_64,
+    } => POINTS_BACK;
+
     /// Perl's numeric literals (perldata 5.36, Scalar value constructors). Where Perl warns of a misplaced `_`, as in `1__0`, they
     /// are refused. A format cannot accept `07_7` and `01.4p0` but reject `0_7` and `0.4p0`. In Perl, an integer from 2^64 on is a
     /// float: take its value as an `f64`. A token is refused before a point that may be an operator, as in `1.x` and `0x1F.8`.
@@ -717,6 +859,26 @@ languages! {
         "binary": prefixed(b'b', 2, separated(b'_')),
     } => Tokens::new(&[], &[]);
 
+    /// PostScript's numbers, with signs (PostScript Language Reference, third edition, 3.2.2), as in Ghostscript. Digits of another radix from
+    /// 2 to 36 are as in `36#ZZ`, without a sign. An integer has 64 bits: `16#FFFFFFFFFFFFFFFF` is -1. A decimal one from 2^63 on, of which
+    /// PostScript makes a real, is too large. A real is an `f32`. PostScript also accepts `016#FF` and `16#`.
+    POSTSCRIPT: "PostScript" = {
+        "decimal": numbers(b'e', b'.', NumberFormatBuilder::new()
+            .no_special(true) // rejects `NaN` and `inf`
+            .required_exponent_digits(true) // rejects `1e`
+        ) => POSTSCRIPT_WORDS; SHORT_REALS,
+    } radixes "" "#" { integers(2, TOKENS, UNSIGNED) => POSTSCRIPT_WORDS; WRAPS_64 } => Tokens::new(&[], &[]);
+
+    /// Prolog's integers and floats (SWI-Prolog 9 Reference Manual, 5.10 and 2.15.1.6). Digits of another radix from 2 to 36 are as in
+    /// `36'ZZ`. A format cannot accept characters, such as `0'a`, which is 97, the rationals `1r3`, and `1.0Inf` and `1.5NaN`.
+    PROLOG: "Prolog" = {
+        "decimal": decimal(TOKENS.required_digits(true)) => PROLOG_WORDS; finite(Kind::EXACT), // rejects `.5`, `1.`, `1e` and `.`
+        "decimal, with separators": integers(10, separated(b'_'), UNSIGNED) => PROLOG_WORDS, // accepts `1_000`
+        "hexadecimal": prefixed(b'x', 16, separated(b'_').case_sensitive_base_prefix(true)), // rejects `0X1F`
+        "octal": prefixed(b'o', 8, separated(b'_').case_sensitive_base_prefix(true)), // rejects `0O17`
+        "binary": prefixed(b'b', 2, separated(b'_').case_sensitive_base_prefix(true)), // rejects `0B1`
+    } radixes "" "'" { integers(2, separated(b'_'), UNSIGNED) } => POINTS_BACK;
+
     /// Python's integers and floats (Language Reference 3.12, 2.4.5 and 2.4.6). A format cannot accept `00` and reject `01`.
     /// CPython takes the `0o` of `0or x` for a prefix, and refuses it: its token here is `0`.
     PYTHON: "Python" = {
@@ -736,6 +898,17 @@ languages! {
         "hexadecimal": prefixed(b'x', 16, TOKENS) => R_WORDS,
         "hexadecimal float": binary_floats(b'x', 16, TOKENS.required_exponent_notation(true)) => R_WORDS, // rejects `0x1.8`
     } => Tokens::new(&[], &[]);
+
+    /// Raku's integers, rationals and floats (Raku Documentation 2022.12, Number literals). Digits of another radix from 2 to 36 are as in
+    /// `:36<ZZ>` and `:16<F.8>`, but a fraction in a radix such as 3 has no `f64`. A format cannot accept `:16<0xFF>` and
+    /// `:16<F.8*16**2>`.
+    RAKU: "Raku" = {
+        "decimal": decimal(separated(b'_').required_fraction_digits(true)) => RAKU_WORDS, // rejects `1.`, not `.5`
+        "hexadecimal": prefixed(b'x', 16, RAKU_PREFIXED) => RAKU_WORDS,
+        "octal": prefixed(b'o', 8, RAKU_PREFIXED) => RAKU_WORDS,
+        "binary": prefixed(b'b', 2, RAKU_PREFIXED) => RAKU_WORDS,
+        "decimal, 0d": prefixed(b'd', 10, RAKU_PREFIXED) => RAKU_WORDS,
+    } radixes ":" "<" before ">" { based(separated(b'_')) } => POINTS_BACK;
 
     /// Ruby's integers and floats (ISO/IEC 30170:2012, 8.7.6.2), with signs. Of `1iif`, which is `1` and a name to
     /// Ruby, the token is `1i`, since `if` is a keyword.
@@ -786,6 +959,16 @@ languages! {
         &[],
     ).gives_points_back(true);
 
+    /// Scheme's integers and decimals, with signs (R7RS, 7.1.1 Lexical structure). Ratios, complex numbers, those with `#e` or `#i`, and
+    /// `+inf.0` are refused here. Guile also accepts `1d3` and `1#`, and refuses exponents above 308.
+    SCHEME: "Scheme" = {
+        "decimal": numbers(b'e', b'.', LISP) => SCHEME_WORDS,
+        "decimal, #d" behind "#d": numbers(b'e', b'.', LISP) => SCHEME_WORDS,
+        "hexadecimal" behind "#x": integers(16, LISP, Conditions::NONE) => SCHEME_WORDS,
+        "octal" behind "#o": integers(8, LISP, Conditions::NONE) => SCHEME_WORDS,
+        "binary" behind "#b": integers(2, LISP, Conditions::NONE) => SCHEME_WORDS,
+    } => Tokens::new(&[], &[]);
+
     /// SQL's signed numeric literals (ISO/IEC 9075-2:2016, 5.3 `<literal>`). PostgreSQL reads `-0.0` as 0.
     SQL: "SQL" = { "decimal": numbers(b'e', b'.', NumberFormatBuilder::new().no_special(true)) => SQL_WORDS } => POINTS_BACK; // rejects `NaN` and `inf`
 
@@ -826,6 +1009,27 @@ languages! {
         "octal": prefixed(b'o', 8, separated(b'_').case_sensitive_base_prefix(true)), // rejects `0O17`
         "binary": prefixed(b'b', 2, separated(b'_').case_sensitive_base_prefix(true)), // rejects `0B1`
     }, Specials { nan: Some(b"nan"), inf: Some(b"inf"), infinity: None };
+
+    /// Verilog's integers without a size and reals (IEEE 1364-2005, 3.5). A format cannot accept a size, as in `8'hFF`, or the digits `x`,
+    /// `z` and `?`. With a sign, as in `'shFF`, the value depends on the size, so that such a text is refused, too.
+    VERILOG: "Verilog" = {
+        "decimal": decimal(RUST.required_digits(true)) => VERILOG_WORDS, // rejects `.5`, `1.`, `1e` and `.`
+        "hexadecimal" behind "'h": integers(16, RUST, UNSIGNED) => VERILOG_WORDS,
+        "decimal integer" behind "'d": integers(10, RUST, UNSIGNED) => VERILOG_WORDS,
+        "octal" behind "'o": integers(8, RUST, UNSIGNED) => VERILOG_WORDS,
+        "binary" behind "'b": integers(2, RUST, UNSIGNED) => VERILOG_WORDS,
+    } => Tokens::new(&[], &[]);
+
+    /// VHDL's abstract literals (IEEE 1076-2008, 15.5). Digits of another base from 2 to 16 are as in `16#FF#` and `16#F.8#`, but a fraction
+    /// in a base such as 3 has no `f64`. A format cannot accept `16#FF#E2`, `016#FF#` and `16:FF:`, or accept `1.0E-3` and `1E3` but reject
+    /// `1E-3`, which the first form never writes. Integers have at most 63 bits, as in GHDL.
+    VHDL: "VHDL" = {
+        "decimal": decimal(separated(b'_')
+            .required_digits(true) // rejects `.5`, `1.`, `1e` and `.`
+            .no_exponent_without_fraction(true) // rejects `1e3`, not `1.0e3`
+        ) => ADA_WORDS; finite(AT_MOST_63),
+        "integer with an exponent": decimal(separated(b'_').required_digits(true)) => ADA_WORDS; finite(AT_MOST_63),
+    } radixes "" "#" before "#" to 16 { based(separated(b'_')); finite(AT_MOST_63) } => Tokens::new(&[], &[]);
 
     /// The decimals of XML Schema, with signs (XML Schema 1.1, Part 2, 3.3.3).
     XML_SCHEMA: "XML Schema" = { "decimal": numbers(b'e', b'.', NumberFormatBuilder::new()
