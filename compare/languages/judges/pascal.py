@@ -32,7 +32,7 @@ def accepted_of(texts):
     with tempfile.TemporaryDirectory() as folder:
         while is_ended:
             rest = texts[start:]
-            units = "".join(f"const\nnumber{i} =\n{text}\n;\n" for i, text in enumerate(rest))
+            units = "".join(f"const\nx{i} =\n{text}\n;\n" for i, text in enumerate(rest))
             lines, is_ended = compile(pathlib.Path(folder), f"{units}begin end.\n", "-s")
             wrong = [min((line - 2) // 4, len(rest) - 1) for line in lines]
             end = wrong[-1] + 1 if is_ended else len(rest)
