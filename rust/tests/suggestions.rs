@@ -6,7 +6,7 @@ extern crate alloc;
 mod suggest;
 
 use peltzivar::format::DIGIT_SEPARATOR_FLAG_MASK;
-use peltzivar::literal::{Conditions, Kind, Language, Specials};
+use peltzivar::literal::{Affix, Conditions, Kind, Language, Specials};
 use peltzivar::{Edit, NumberFormatBuilder};
 use suggest::{lines_of, offers, Line, State};
 
@@ -22,7 +22,8 @@ fn state(settings: &str, exponent: u8, point: u8) -> State {
     let edits = edits.split(" groups=").next().unwrap_or_default();
     let builder: Result<NumberFormatBuilder, _> = edits.split_whitespace().map(str::parse::<Edit>).collect();
     let word = builder.expect(settings).build_unchecked();
-    State { word, exponent, point, conditions, kind: Kind::EXACT, specials: SPECIALS }
+    let none = Affix::NONE;
+    State { word, exponent, point, conditions, kind: Kind::EXACT, opening: none, closing: none, specials: SPECIALS }
 }
 
 /// Returns what is offered for the first of the lines.
