@@ -93,7 +93,7 @@ fn numbers_of_many_forms_lead_to_their_formats() {
         let wanted = state(&bytes.collect::<Vec<_>>().join(" "), exponent, point);
         assert_eq!(offered(state("", b'e', b'.'), &swapped(lines)).first(), Some(&wanted), "{lines}");
     }
-    for text in ["16#FF#", "#FF", "0xFF_u8", "0x", "1.2.3", "1,2,3", "1e5.5"] {
+    for text in ["16#FF#E2", "-$FF", "0xFF_u8", "0x", "1.2.3", "1,2,3", "1e5.5"] {
         assert_eq!(offered(state("", b'e', b'.'), text), [], "{text}");
     }
     assert_eq!(offered(state("hexadecimal base_prefix='x'", b'p', b'.'), "0x1.8p3f"), []);
