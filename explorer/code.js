@@ -76,8 +76,8 @@ class Code {
     }
 
     regex(forms) {
-        const either = (it) => (/[a-z]/i.test(it) ? `[${it.toUpperCase()}${it.toLowerCase()}]` : `\\x${it.charCodeAt().toString(16)}`);
-        const ofAffix = (text) => text.replace(/\W|_|[a-z]/gi, either);
+        const either = (it) => `[${it.toUpperCase()}${it.toLowerCase()}]`;
+        const ofAffix = (text) => text.replace(/[^a-z]/gi, "\\$&").replace(/[a-z]/gi, either).replace(/\\(?=\d)/g, "");
         const all = forms.map(({ regex, opening, closing }) => ofAffix(opening) + regex + ofAffix(closing));
         return all.length > 1 ? `(?:${all.join("|")})` : all[0];
     }
@@ -96,7 +96,8 @@ pub fn read(text: &str) -> Result<Number<'_>, FormError> {
 pub static FORMS: Forms<'static> = Forms::new_or_panic(&[
 ${forms.map((form) => this.rustForm(form)).join("")}])${spelled};
 ${this.rustTest(tests)}`;
-        const used = (names) => names.split(" ").filter((it) => new RegExp(`\\b${it}(::|<|>| \\{)`).test(code)).join(", ");
+        const isUsed = (it) => new RegExp(`\\b${it}(::|<|>| \\{)`).test(code);
+        const used = (names) => names.split(" ").filter(isUsed).join(", ");
         const number = used("NonZeroU8") && "use core::num::NonZeroU8;\n";
         return `${number}use peltzivar::literal::{${used(LITERAL)}};\nuse peltzivar::NumberFormatBuilder;\n${code}`;
     }
@@ -120,9 +121,10 @@ ${this.rustTest(tests)}`;
         const kinds = `IntegerKind::${integers}${bits && `(${bits})`}, FloatKind::${single ? "Single" : "Nearest"}`;
         const limited = limits && `.with_limits(FloatLimits::${limits === "both" ? "Both" : "Largest"})`;
         const kind = bits || single || limits ? `\n        .with_kind(Kind::new(${kinds}).unwrap()${limited})` : "";
-        const affix = (name, end) => form[name] && `\n        .with_${name}(Affix::new(b${rustText(form[name])}).unwrap())${end}`;
-        const affixes = affix("opening", "") + affix("closing", ".unwrap()");
-        return `    // ${wordText(form.word)}\n    Form::new(${rustText(name)}, Syntax::${syntax})${set})${kind}${affixes},\n`;
+        const affix = (it) => form[it] && `\n        .with_${it}(Affix::new(b${rustText(form[it])}).unwrap())`;
+        const affixes = affix("opening") + affix("closing") + (form.closing && ".unwrap()");
+        const whole = `Form::new(${rustText(name)}, Syntax::${syntax})${set})${kind}${affixes}`;
+        return `    // ${wordText(form.word)}\n    ${whole},\n`;
     }
 
     rustTest(tests) {
@@ -209,7 +211,8 @@ bool test_numbers(void) {
         const lines = (texts, body) => texts && `    for text in [${texts}]:\n        ${body}\n`;
         const raises = "try:\n            read(text)\n        except LiteralError:\n            continue\n        raise AssertionError(text)";
         const test = `\n\ndef test_numbers():\n${lines(accepted, "read(text)")}${lines(refused, raises)}`;
-        return `from peltzivar import ${affixes && "Affixes, "}Forms, ${kinds && "Kind, "}${refused && "LiteralError, "}Syntax
+        const names = [affixes && "Affixes", "Forms", kinds && "Kind", refused && "LiteralError", "Syntax"];
+        return `from peltzivar import ${names.filter(Boolean).join(", ")}
 
 
 def read(text):

@@ -89,7 +89,7 @@ class Controls {
         let before;
         /* While a text is refused, the byte is the one before the text was typed. */
         const input = () => {
-            const { value, error = "" } = isText ? this.affix(title, box.value) : this.parsed(name, title, isNumber, box.value);
+            const { value, error = "" } = this.parsed({ name, title, isNumber, isText }, box.value);
             tell(box, error);
             this.page.edit(name, value ?? before, name);
         };
@@ -103,12 +103,10 @@ class Controls {
         return this.row({ ...field, title }, box, [problem, other]);
     }
 
-    affix(title, text) {
-        return AFFIX.test(text) ? { value: text } : { error: `the ${title} has up to 8 visible characters of ASCII` };
-    }
-
     /* Returns {value} of a typed text: a number, a character, the name of one, or an empty text; or {error}. */
-    parsed(name, title, isNumber, text) {
+    parsed({ name, title, isNumber, isText }, text) {
+        const long = `the ${title} has up to 8 visible characters of ASCII`;
+        if (isText) return AFFIX.test(text) ? { value: text } : { error: long };
         const setter = this.library.named.get(name).holder ? name : "digit_separator";
         const known = Object.keys(NAMES).find((byte) => NAMES[byte] === text.toUpperCase());
         const first = this.library.parse(setter, (!isNumber && known) || text || "none");

@@ -28,13 +28,14 @@ function changeWords(library, form, changes) {
         return places.length ? [`${verb} \`${character("digit_separator")}\` ${places.join(", ")}`] : [];
     });
     const [prefix, suffix, opening] = ["base_prefix", "base_suffix", "opening"].map(changed);
+    const closing = form.closing && ` .. \`${form.closing}\``;
     const hasRadix = changed("mantissa_radix");
     const [verb, asRadix] = hasRadix ? ["read", ` as ${radix}`] : ["allow", ""];
     const words = {
         digit_separator: ({ value }) => (separators.length ? "" : value ? `\`${byteText(value)}\` separates digits` : "no separator"),
         base_prefix: ({ value }) => (value ? `read \`0${byteText(value)}\` as ${radix}` : "no prefix"),
         base_suffix: ({ value }) => (value ? `${verb} \`${byteText(value)}\` at the end${asRadix}` : "no suffix"),
-        opening: ({ value }) => (value ? `read \`${value}\`${form.closing && ` .. \`${form.closing}\``} as ${radix}` : "no opening"),
+        opening: ({ value }) => (value ? `read \`${value}\`${closing} as ${radix}` : "no opening"),
         closing: ({ value }) => (opening?.value ? "" : value ? `\`${value}\` at the end` : "no closing"),
         mantissa_radix: () => ([prefix, suffix, opening].some((it) => it?.value) ? "" : `read ${radix} digits`),
         exponent_base: ({ value }) => (hasRadix ? "" : `exponents of ${value || "the radix"}`),

@@ -74,11 +74,13 @@ function wordless() {
     });
 }
 
-/* Returns what has more than it shows and cannot be scrolled, but for texts that end in dots, and what stays in view and is higher than the screen. */
+/* Returns what has more than it shows and cannot be scrolled, but for texts that end in dots on a wide screen, and what stays in view
+ * and is higher than the screen. */
 function cutOff() {
     return [...document.querySelectorAll("body *")].filter((it) => it.checkVisibility() && !it.closest("input, select")).filter((it) => {
         const { overflowX, overflowY, textOverflow, contain, position } = getComputedStyle(it);
-        const hides = (overflow) => textOverflow !== "ellipsis" && (["hidden", "clip"].includes(overflow) || contain.includes("paint"));
+        const isShortened = textOverflow === "ellipsis" && innerWidth > 560;
+        const hides = (overflow) => !isShortened && (["hidden", "clip"].includes(overflow) || contain.includes("paint"));
         const stays = ["sticky", "fixed"].includes(position) && it.getBoundingClientRect().height > innerHeight;
         return stays || (hides(overflowX) && it.scrollWidth > it.clientWidth + 1) || (hides(overflowY) && it.scrollHeight > it.clientHeight + 1);
     });
