@@ -60,9 +60,10 @@ class Code {
 
     sentence(forms) {
         const named = (name) => (forms[1] ? ` of the form ${name}` : "");
-        const placed = (text, place) => text && `, ${place} \`${text}\``;
+        const placed = (place, text) => text && `, ${place} \`${text}\``;
         return forms.map(({ name, sentence, opening, closing }) => {
-            return `Numbers${named(name)} are ${sentence}${placed(opening, "behind")}${placed(closing, "before")}.`;
+            const places = placed("behind", opening) + placed("before", closing);
+            return `Numbers${named(name)}${places && `${places},`} are ${sentence}.`;
         }).join("\n\n");
     }
 
@@ -77,7 +78,8 @@ class Code {
 
     regex(forms) {
         const either = (it) => `[${it.toUpperCase()}${it.toLowerCase()}]`;
-        const ofAffix = (text) => text.replace(/[^a-z]/gi, "\\$&").replace(/[a-z]/gi, either).replace(/\\(?=\d)/g, "");
+        const escaped = (it) => (/[a-z]/i.test(it) ? either(it) : `\\x${it.charCodeAt().toString(16)}`);
+        const ofAffix = (text) => text.replace(/\D/g, escaped);
         const all = forms.map(({ regex, opening, closing }) => ofAffix(opening) + regex + ofAffix(closing));
         return all.length > 1 ? `(?:${all.join("|")})` : all[0];
     }

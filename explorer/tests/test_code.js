@@ -13,7 +13,8 @@ function test_the_sentence_the_grammar_and_the_expression_are_those_of_all_forms
         const isShown = (form, at) => {
             const told = library.explain(form);
             const [opening, closing] = [["behind", form.opening], ["before", form.closing]].map(([place, it]) => it && `, ${place} ${it}`);
-            const sentence = `Numbers${count > 1 ? ` of the form ${form.name}` : ""} are ${told.sentence.replaceAll("`", "")}${opening}${closing}.`;
+            const head = `Numbers${count > 1 ? ` of the form ${form.name}` : ""}${opening}${closing}${opening + closing && ","}`;
+            const sentence = `${head} are ${told.sentence.replaceAll("`", "")}.`;
             return grammar.includes(told.grammar) && (count < 2 || grammar.includes(`/* ${form.name} */\n`)) && sentences[at] === sentence;
         };
         const hasSpecials = library.call("numbers", { forms, specials }, specials.join("\n")).some((it) => it.is === "special value");
