@@ -11,7 +11,7 @@ const OPTIONS = [
     { name: "exponent", part: "exponent", isByte: true, title: "exponent character", meaning: "an option of the parser, such as the `e` in `1e5`" },
     { name: "point", part: "option", isByte: true, title: "decimal point", meaning: "an option of the parser, such as the `.` in `1.5`" },
 ];
-const STANDARD_OPTIONS = { exponent: 101, point: 46, conditions: 0n, opening: "", closing: "" };
+const STANDARD_OPTIONS = { exponent: 101, point: 46, opening: "", closing: "", conditions: 0n };
 /* What stands before and behind the literals of a form, up to 8 visible characters. */
 const AFFIXES = [["opening", "before", "`16#`"], ["closing", "behind", "last `#`"]].map(([name, place, example]) => {
     const meaning = `up to 8 characters ${place} each literal, such as the ${example} in \`16#FF#\``;
@@ -203,8 +203,8 @@ function passed({ forms, specials = SPECIALS }) {
     return [forms.map(numbers).join(" "), ...specials].join("\t");
 }
 
-const stateOf = ({ word, exponent, point, conditions, opening, closing }) => {
-    return { word, exponent, point, conditions, opening, closing };
+const stateOf = ({ word, exponent, point, opening, closing, conditions }) => {
+    return { word, exponent, point, opening, closing, conditions };
 };
 
 /* Returns whether two lists have the same forms with the same names. */
