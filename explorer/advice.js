@@ -9,7 +9,6 @@ const IMPOSSIBLE = [
     [/^[+-]?[\d.]+\s*(?:\^|\*\*?|x\s*10\^|[\u00d7\u00b7+-])\s*[\d.]+/i,
         "is not one number, and no format has its operator: read each number, and compute the value."],
 ];
-/* What reads suffixes. */
 const TOKEN = "the library's call `token` reads the number before it";
 /* What a text must lose before it is read: a pattern, what is told of it, and the text that takes its place. */
 const UNREADABLE = [
@@ -26,15 +25,15 @@ const UNREADABLE = [
 
 /* Returns the digit of ASCII for one of another script, of which ten follow each other. */
 function digitOf(digit) {
-    const ascii = digit.normalize("NFKC");
-    if (/[0-9]/.test(ascii)) return ascii;
     const isDigit = (it) => /\p{Decimal_Number}/u.test(String.fromCodePoint(it));
     return String([...Array(10).keys()].find((it) => !isDigit(digit.codePointAt() - it - 1)));
 }
 
-/* Returns in words what a text must lose, with the text then, or what no format can express, with its row in FORMAT. */
-function adviceFor(text) {
-    const [, row] = IMPOSSIBLE.find(([pattern]) => pattern.test(text.normalize("NFKC"))) ?? [];
+/* Returns in words what a text must lose, with the text then, or what no format can express, with its row in FORMAT. An
+ * opening that is offered is neither. */
+function adviceFor(text, isOffered) {
+    const [pattern, row] = IMPOSSIBLE.find(([pattern]) => pattern.test(text.normalize("NFKC"))) ?? [];
+    if (pattern === PREFIXED && isOffered) return [];
     if (typeof row === "string") return [{ words: `\`${text}\` ${row}` }];
     if (row !== undefined) {
         const [cannot, , instead] = [...find("limits").querySelectorAll("td")].slice(3 * row).map((it) => it.textContent);

@@ -1,6 +1,5 @@
 /* The code of a list, with numbers as a test, and the list in words. If nothing can be read, they say why. */
 
-/* Returns a byte as a character of Rust or C. */
 const character = (byte, prefix) => quoted(byte, prefix).replace(/'(['\\])'/, "'\\$1'");
 
 /* Comments, and the reader of all forms of a language. */
@@ -10,6 +9,9 @@ const READERS = {
     c: (name) => `peltzivar_forms_read with peltzivar_language_${name.toLowerCase()}()`,
     python: (name) => `peltzivar.languages.${name}`,
 };
+
+/* What the code in Rust can use of the module `literal`. */
+const LITERAL = "Affix Conditions FloatKind FloatLimits Form FormError Forms IntegerKind Kind Number Specials Syntax";
 
 /* Returns what writes a text between double quotes, with an escape for each character that is special. */
 const quoting = (special, escape) => (text) => `"${text.toWellFormed().replace(special, escape)}"`;
@@ -26,9 +28,6 @@ function tested(tests, quote) {
 }
 
 class Code {
-    grammar = (forms) => forms.map(({ name, grammar }) => (name && `/* ${name.replaceAll("*/", "")} */\n`) + grammar).join("\n\n");
-    regex = (forms) => (forms.length > 1 ? `(?:${forms.map(({ regex }) => regex).join("|")})` : forms[0].regex);
-
     constructor(library) {
         this.library = library;
     }
@@ -61,28 +60,48 @@ class Code {
 
     sentence(forms) {
         const named = (name) => (forms[1] ? ` of the form ${name}` : "");
-        return forms.map(({ name, sentence }) => `Numbers${named(name)} are ${sentence}.`).join("\n\n");
+        const placed = (place, text) => text && `, ${place} \`${text}\``;
+        return forms.map(({ name, sentence, opening, closing }) => {
+            const places = placed("behind", opening) + placed("before", closing);
+            return `Numbers${named(name)}${places && `${places},`} are ${sentence}.`;
+        }).join("\n\n");
+    }
+
+    grammar(forms) {
+        const texts = (text) => text && JSON.stringify(text);
+        return forms.map(({ name, grammar, opening, closing }) => {
+            const all = ["Number   ::=", texts(opening), "Literal", texts(closing)].filter(Boolean).join(" ");
+            const whole = opening + closing && `${all}\n`;
+            return (name && `/* ${name.replaceAll("*/", "")} */\n`) + whole + grammar;
+        }).join("\n\n");
+    }
+
+    regex(forms) {
+        const either = (it) => `[${it.toUpperCase()}${it.toLowerCase()}]`;
+        const escaped = (it) => (/[a-z]/i.test(it) ? either(it) : `\\x${it.charCodeAt().toString(16)}`);
+        const ofAffix = (text) => text.replace(/\D/g, escaped);
+        const all = forms.map(({ regex, opening, closing }) => ofAffix(opening) + regex + ofAffix(closing));
+        return all.length > 1 ? `(?:${all.join("|")})` : all[0];
     }
 
     rust(forms, specials, tests) {
         const [nan, inf, infinity] = specials.map((it) => (it === '""' ? "None" : `Some(b${it})`));
         const spelled = nan ? `\n.with_specials(Specials { nan: ${nan}, inf: ${inf}, infinity: ${infinity} })` : "";
-        const all = forms.map((form) => this.rustForm(form)).join("");
-        const used = (name) => (all.includes(`${name}::`) ? `${name}, ` : "");
-        const [float, kind] = [used("FloatKind"), used("IntegerKind") && "IntegerKind, Kind, "];
-        const names = `${used("Conditions")}${float}${used("FloatLimits")}Form, FormError, Forms, ${kind}Number, ${nan ? "Specials, " : ""}Syntax`;
-        const ofFloat = forms.some(({ exponent, point }) => exponent || point) ? "`f64::try_from(number)` or, of an integer, " : "";
-        return `${used("NonZeroU8") && "use core::num::NonZeroU8;\n"}use peltzivar::literal::{${names}};
-use peltzivar::NumberFormatBuilder;
-
+        const ofFloat = forms.some(({ exponent, point }) => exponent || point)
+            ? "`f64::try_from(number)` or, of an integer, " : "";
+        const code = `
 /// Returns a number, whose value is ${ofFloat}\`i128::try_from(number)\`.
 pub fn read(text: &str) -> Result<Number<'_>, FormError> {
     FORMS.read(text)
 }
 
 pub static FORMS: Forms<'static> = Forms::new_or_panic(&[
-${all}])${spelled};
+${forms.map((form) => this.rustForm(form)).join("")}])${spelled};
 ${this.rustTest(tests)}`;
+        const isUsed = (it) => new RegExp(`\\b${it}(::|<|>| \\{)`).test(code);
+        const used = (names) => names.split(" ").filter(isUsed).join(", ");
+        const number = used("NonZeroU8") && "use core::num::NonZeroU8;\n";
+        return `${number}use peltzivar::literal::{${used(LITERAL)}};\nuse peltzivar::NumberFormatBuilder;\n${code}`;
     }
 
     rustForm(form) {
@@ -96,7 +115,7 @@ ${this.rustTest(tests)}`;
         const format = ["NumberFormatBuilder::new()", ...calls, ".build_format_or_panic()"].join("\n            ");
         const options = [exponent, point].map((it) => `, ${character(it, "b")}`).join("");
         const syntax = exponent || point ? `new_or_panic(\n        ${format}${options}` : `integers(\n        ${format}`;
-        const conditions = changes.filter(({ holder, isKind }) => holder === "conditions" && !isKind).map(({ name, isNumber, value }) => {
+        const conditions = changes.filter(({ holder, isOfForm }) => holder === "conditions" && !isOfForm).map(({ name, isNumber, value }) => {
             return `\n            .${name}(${isNumber ? `Some(${value})` : "true"})`;
         });
         const set = conditions.length ? `\n        .with_conditions_or_panic(Conditions::NONE${conditions.join("")})` : "";
@@ -104,7 +123,10 @@ ${this.rustTest(tests)}`;
         const kinds = `IntegerKind::${integers}${bits && `(${bits})`}, FloatKind::${single ? "Single" : "Nearest"}`;
         const limited = limits && `.with_limits(FloatLimits::${limits === "both" ? "Both" : "Largest"})`;
         const kind = bits || single || limits ? `\n        .with_kind(Kind::new(${kinds}).unwrap()${limited})` : "";
-        return `    // ${wordText(form.word)}\n    Form::new(${rustText(name)}, Syntax::${syntax})${set})${kind},\n`;
+        const affix = (it) => form[it] && `\n        .with_${it}(Affix::new(b${rustText(form[it])}).unwrap())`;
+        const affixes = affix("opening") + affix("closing") + (form.closing && ".unwrap()");
+        const whole = `Form::new(${rustText(name)}, Syntax::${syntax})${set})${kind}${affixes}`;
+        return `    // ${wordText(form.word)}\n    ${whole},\n`;
     }
 
     rustTest(tests) {
@@ -123,7 +145,8 @@ ${this.rustTest(tests)}`;
             const ofFloats = single ? ", .float_kind = PELTZIVAR_FLOATS_SINGLE" : "";
             return ofIntegers + ofFloats + (limits && `, .float_limits = PELTZIVAR_LIMITS_${limits.toUpperCase()}`);
         };
-        const names = forms.map((form) => `\n    {.name = ${cText(form.name)}${kind(form)}},`).join("");
+        const affixes = (form) => AFFIXES.map(({ name }) => form[name] && `, .${name} = ${cText(form[name])}`).join("");
+        const names = forms.map((form) => `\n    {.name = ${cText(form.name)}${kind(form)}${affixes(form)}},`).join("");
         const spelled = specials.length ? `, .specials = {${specials.join(", ")}}` : "";
         return `#include "peltzivar.h"
 #include <string.h>
@@ -181,13 +204,17 @@ bool test_numbers(void) {
             const all = [bits && `${integers}=${bits}`, single && "single=True", limits && `limits="${limits}"`].filter(Boolean).join(", ");
             return all && `${pythonText(form.name)}: Kind(${all})`;
         };
-        const kinds = forms.map(ofKind).filter(Boolean).join(", ");
+        const ofAffixes = ({ name, opening, closing }) => {
+            return opening + closing && `${pythonText(name)}: Affixes(${pythonText(opening)}, ${pythonText(closing)})`;
+        };
+        const [kinds, affixes] = [ofKind, ofAffixes].map((of) => forms.map(of).filter(Boolean).join(", "));
         const spelled = specials.map((it, index) => (it === '""' ? "" : `, ${["nan", "inf", "infinity"][index]}=${it}`)).join("");
         const [accepted, refused] = tested(tests, pythonText);
         const lines = (texts, body) => texts && `    for text in [${texts}]:\n        ${body}\n`;
         const raises = "try:\n            read(text)\n        except LiteralError:\n            continue\n        raise AssertionError(text)";
         const test = `\n\ndef test_numbers():\n${lines(accepted, "read(text)")}${lines(refused, raises)}`;
-        return `from peltzivar import Forms, ${kinds && "Kind, "}${refused && "LiteralError, "}Syntax
+        const names = [affixes && "Affixes", "Forms", kinds && "Kind", refused && "LiteralError", "Syntax"];
+        return `from peltzivar import ${names.filter(Boolean).join(", ")}
 
 
 def read(text):
@@ -196,7 +223,7 @@ def read(text):
 
 
 forms = Forms([
-${forms.map(one).join("")}]${kinds && `, kinds={${kinds}}`}${spelled})
+${forms.map(one).join("")}]${kinds && `, kinds={${kinds}}`}${affixes && `, affixes={${affixes}}`}${spelled})
 ${tests.length ? test : ""}`;
     }
 
@@ -209,7 +236,7 @@ ${tests.length ? test : ""}`;
 
     /* Returns the settings of the syntax of a form that are not the usual ones. */
     lines(form) {
-        return this.library.differences(form).filter(({ isKind }) => !isKind).map(({ text }) => text);
+        return this.library.differences(form).filter(({ isOfForm }) => !isOfForm).map(({ text }) => text);
     }
 
     settings(form) {

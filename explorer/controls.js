@@ -10,8 +10,8 @@ function examples({ accepts = [], refuses = [], part }) {
 class Controls {
     constructor(library, page) {
         Object.assign(this, { library, page, inputs: new Map() });
-        find("bytes").append(...[...library.bytes, ...OPTIONS].map((field) => this.byteRow(field)));
-        for (const it of library.conditions) find(it.isKind ? "kinds" : "conditions").append(this.row(it));
+        find("bytes").append(...[...library.bytes, ...OPTIONS, ...AFFIXES].map((field) => this.byteRow(field)));
+        for (const it of library.conditions) find(it.isOfForm ? "kinds" : "conditions").append(this.row(it));
         this.makeFlags();
         this.makeSeparators();
     }
@@ -22,7 +22,7 @@ class Controls {
             const bits = this.shown[field.holder] & field.mask;
             const isPart = !field.isNumber && bits && bits !== field.mask;
             this.page.edit(name, Number(field.isNumber ? target.value : target.checked));
-            if (isPart) setText(find("told"), "Some of these were set, and none is now. Undo brings them back.");
+            if (isPart) find("told").append(" Some of these were set, and none is now. Undo brings them back.");
         };
         const label = `${[meaning, examples(field)].filter(Boolean).join(": ")} (${name})`.replaceAll("`", "");
         const attributes = { id: name, change, "aria-label": label };
@@ -85,11 +85,11 @@ class Controls {
     }
 
     byteRow(field) {
-        const { name, title = name.replace("_", " "), isNumber = false } = field;
+        const { name, title = name.replace("_", " "), isNumber = false, isText } = field;
         let before;
         /* While a text is refused, the byte is the one before the text was typed. */
         const input = () => {
-            const { value, error = "" } = this.parsed(name, title, isNumber, box.value);
+            const { value, error = "" } = this.parsed({ name, title, isNumber, isText }, box.value);
             tell(box, error);
             this.page.edit(name, value ?? before, name);
         };
@@ -98,13 +98,15 @@ class Controls {
         const told = { "aria-describedby": `${name}-meaning`, "aria-errormessage": `${name}-problem` };
         const box = element("input", { id: name, ...listeners, ...told, autocomplete: "off", spellcheck: "false", placeholder: "none" });
         const other = element("span", { class: "other" });
-        this.inputs.set(name, { box, other, isNumber });
+        this.inputs.set(name, { box, other, isNumber, isText });
         const problem = element("span", { class: "problem", id: `${name}-problem`, role: "status" });
         return this.row({ ...field, title }, box, [problem, other]);
     }
 
     /* Returns {value} of a typed text: a number, a character, the name of one, or an empty text; or {error}. */
-    parsed(name, title, isNumber, text) {
+    parsed({ name, title, isNumber, isText }, text) {
+        const long = `the ${title} has up to 8 visible characters of ASCII`;
+        if (isText) return AFFIX.test(text) ? { value: text } : { error: long };
         const setter = this.library.named.get(name).holder ? name : "digit_separator";
         const known = Object.keys(NAMES).find((byte) => NAMES[byte] === text.toUpperCase());
         const first = this.library.parse(setter, (!isNumber && known) || text || "none");
@@ -129,16 +131,15 @@ class Controls {
     /* Shows a byte, its name and numbers, or what an absent one means. A refused text stays until its byte changes. */
     showByte(name, byte, effective) {
         const input = this.inputs.get(name);
-        const { box, other, isNumber } = input;
+        const { box, other, isNumber, isText } = input;
         const isKept = document.activeElement === box || (isRefused(box) && input.byte === byte);
         const isAbsent = byte === 0 && name !== "mantissa_radix";
         setText(other, byte !== effective ? `means ${effective}` : "");
-        const asNumber = isNumber || (byte >= 48 && byte < 58);
-        Object.assign(input, { byte, text: isAbsent ? "" : asNumber ? String(byte) : byteText(byte) });
+        const isWritten = isText || isNumber || (byte >= 48 && byte < 58);
+        Object.assign(input, { byte, text: isAbsent ? "" : isWritten ? String(byte) : byteText(byte) });
         if (!isKept) this.fill(name);
     }
 
-    /* Writes a byte into its box, in place of a typed text. */
     fill(name) {
         const { box, text } = this.inputs.get(name);
         box.value = text;

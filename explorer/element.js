@@ -14,7 +14,6 @@ function element(tag, attributes = {}, ...children) {
     return made;
 }
 
-/* Returns a button of a class with a text. */
 const button = (kind, text, click, attributes = {}) => element("button", { type: "button", class: kind, click, ...attributes }, text);
 
 /* Returns the nodes of a text in which code is between two `. */
@@ -58,7 +57,6 @@ function named(names) {
 /* Returns a text in which characters that cannot be seen have their numbers. */
 const visible = (text) => text.replace(/[\p{Cf}\p{Cc}\p{Zl}\p{Zp}]|(?! )\p{Zs}/gu, numberOf);
 
-/* Returns the number of a character as Unicode writes it. */
 const numberOf = (character) => `U+${character.codePointAt().toString(16).toUpperCase().padStart(4, "0")}`;
 
 /* Of the buttons of a group and of tabs, one is a tab stop. Arrows lead to the others, and open tabs. */

@@ -4,11 +4,10 @@ use alloc::vec::Vec;
 use core::mem::{discriminant, Discriminant};
 use core::num::NonZeroU8;
 
-use peltzivar::literal::{FloatLimits, FormError, IntegerKind, Number, ReadError, ReadErrorKind, Spelling};
+use peltzivar::literal::{FloatLimits, FormError, IntegerKind, Number, ReadErrorKind, Spelling};
 use peltzivar::{FormatView, Role};
 
 use crate::forms::{value_of, List, Value};
-use crate::read_error;
 use crate::suggest::State;
 
 /// The parts of the texts that are tried, the usual one first. `_`, `x`, `e`, `.`, `h` and `F` stand for the separator, the
@@ -67,6 +66,7 @@ fn try_texts(forms: &List, others: &List, each: &mut dyn FnMut(Vec<u8>)) {
     let states = || forms.states.iter().chain(&others.states).copied();
     let parts = parts();
     for state in states() {
+        let each = &mut |text: Vec<u8>| each([state.opening.as_bytes(), &text, state.closing.as_bytes()].concat());
         parts.iter().filter_map(|&parts| text_of(state, parts)).for_each(&mut *each);
         states().for_each(|it| try_integers(state, it.kind.integers(), each));
         if states().any(|it| it.kind.limits() != FloatLimits::None) {
@@ -127,7 +127,7 @@ fn try_specials(state: State, each: &mut dyn FnMut(Vec<u8>)) {
 /// A text that tells two lists apart: the error of the one that refuses it, or both values.
 pub struct Example {
     pub text: Vec<u8>,
-    pub told: Result<[Value; 2], ReadError>,
+    pub told: Result<[Value; 2], FormError>,
     cause: Cause,
 }
 
@@ -136,7 +136,7 @@ pub struct Example {
 #[derive(PartialEq)]
 enum Cause {
     Special(Spelling),
-    Refused(ReadErrorKind, u128, Option<Role>),
+    Refused(Option<ReadErrorKind>, u128, Option<Role>),
     Values([Option<usize>; 2], [Discriminant<Value>; 2]),
 }
 
@@ -162,11 +162,10 @@ fn told_apart(
     forms: &List,
     number: Number<'_>,
     other: Result<Number<'_>, FormError>,
-) -> Option<(Cause, Result<[Value; 2], ReadError>)> {
+) -> Option<(Cause, Result<[Value; 2], FormError>)> {
     match (number, other) {
-        (Number::Special(special), Err(it)) => Some((Cause::Special(special.spelling), Err(read_error(it)))),
-        (Number::Literal { form, .. }, Err(it)) => {
-            let error = read_error(it);
+        (Number::Special(special), Err(error)) => Some((Cause::Special(special.spelling), Err(error))),
+        (Number::Literal { form, .. }, Err(error)) => {
             let syntax = forms.forms()[form].syntax();
             let role = error.byte().and_then(|byte| syntax.role_of(byte));
             Some((Cause::Refused(error.kind(), error.mask(), role), Err(error)))

@@ -4,7 +4,8 @@ use alloc::vec::Vec;
 use core::str::FromStr;
 
 use peltzivar::literal::{
-    Condition, Conditions, FloatKind, FloatLimits, Form, Forms, IntegerKind, Kind, Number, Specials, ValueError, ValueErrorKind,
+    Affix, Condition, Conditions, FloatKind, FloatLimits, Form, Forms, IntegerKind, Kind, Number, Specials, ValueError,
+    ValueErrorKind,
 };
 
 use crate::suggest::{lines_of, Line, State};
@@ -22,8 +23,7 @@ impl List {
     }
 
     fn of(states: Vec<State>) -> Option<Self> {
-        let form = |it: &State| Some(Form::new("", it.syntax()?).with_kind(it.kind));
-        let forms: Vec<_> = states.iter().map(form).collect::<Option<_>>()?;
+        let forms: Vec<_> = states.iter().map(|it| it.form()).collect::<Option<_>>()?;
         Forms::new(&forms)?;
         Some(Self { states, forms })
     }
@@ -47,29 +47,39 @@ impl List {
     }
 }
 
-/// Reads the states of a line. Each is its word and, behind a colon, a number of bytes, from the lowest: the exponent
-/// character, the decimal point, the number of each condition, and those of the kind. The first one has the spellings of
-/// special values, which are behind tabs.
+/// Reads the states of a line. Each is numbers between colons: its word, then bytes, from the lowest the exponent character,
+/// the decimal point, the number of each condition, and those of the kind, and then the bytes of the opening and the closing.
+/// The first one has the spellings of special values, which are behind tabs.
 pub fn states_of(line: &'static str) -> impl Iterator<Item = State> {
     let mut parts = line.split('\t');
     let states = parts.next().unwrap_or("").split(' ');
     let [nan, inf, infinity] = [(); 3].map(|()| parts.next().map(str::as_bytes));
     states.enumerate().map(move |(form, state)| {
-        let (word, options) = state.split_once(':').unwrap_or((state, ""));
-        let [exponent, point, numbers @ ..] = u128::from_str(options).unwrap_or(0).to_le_bytes();
+        let mut parts = state.split(':').map(|it| u128::from_str(it).unwrap_or(0));
+        let [word, options, opening, closing] = [(); 4].map(|()| parts.next().unwrap_or(0));
+        let [exponent, point, numbers @ ..] = options.to_le_bytes();
         let (numbers, kind) = numbers.split_at(Condition::ALL.len());
         let conditions =
             Condition::ALL.iter().zip(numbers).fold(Conditions::NONE, |all, (&it, &number)| all.with(it, number));
         let specials = if form == 0 { Specials { nan, inf, infinity } } else { Specials::default() };
-        State { word: u128::from_str(word).unwrap_or(0), exponent, point, conditions, kind: kind_of(kind), specials }
+        let [opening, closing] = [opening, closing].map(affix_of);
+        State { word, exponent, point, conditions, kind: kind_of(kind), opening, closing, specials }
     })
+}
+
+/// Returns the affix with the bytes of a number, from the lowest.
+fn affix_of(number: u128) -> Affix {
+    let bytes = number.to_le_bytes();
+    let size = bytes.iter().position(|&byte| byte == 0).unwrap_or(bytes.len());
+    Affix::new(&bytes[..size]).unwrap_or(Affix::NONE)
 }
 
 pub fn state_of(form: &Form) -> State {
     let (syntax, kind) = (form.syntax(), form.kind());
     let [exponent, point] = [syntax.exponent(), syntax.point()].map(Option::unwrap_or_default);
     let (word, conditions) = (syntax.format().word(), syntax.conditions());
-    State { word, exponent, point, conditions, kind, specials: Specials::default() }
+    let (opening, closing, specials) = (form.opening(), form.closing(), Specials::default());
+    State { word, exponent, point, conditions, kind, opening, closing, specials }
 }
 
 /// The kinds of integers, each with its bits.

@@ -5,14 +5,19 @@
 
 /* How many bytes a text may have, and how many characters the texts of kept answers. */
 const [MOST_TEXT, MOST_ANSWERED] = [60000, 500000];
-/* The members of answers that are large numbers. */
 const WORDS = ["word", "normal", "conditions", "mask"];
 /* The options of a parser, which are not in the word. If both are 0, numbers are integers alone. */
 const OPTIONS = [
     { name: "exponent", part: "exponent", isByte: true, title: "exponent character", meaning: "an option of the parser, such as the `e` in `1e5`" },
     { name: "point", part: "option", isByte: true, title: "decimal point", meaning: "an option of the parser, such as the `.` in `1.5`" },
 ];
-const STANDARD_OPTIONS = { exponent: 101, point: 46, conditions: 0n };
+const STANDARD_OPTIONS = { exponent: 101, point: 46, opening: "", closing: "", conditions: 0n };
+/* What stands before and behind the literals of a form, up to 8 visible characters. */
+const AFFIXES = [["opening", "before", "`16#`"], ["closing", "behind", "last `#`"]].map(([name, place, example]) => {
+    const meaning = `up to 8 characters ${place} each literal, such as the ${example} in \`16#FF#\``;
+    return { name, title: name, part: "base", isText: true, isOfForm: true, meaning };
+});
+const AFFIX = /^[ -~]{0,8}$/;
 /* The kind of a form, as numbers behind those of the conditions. Of those of integers, one is set. */
 const KINDS = [
     { name: "at_most", meaning: "Bits that an integer has at most", limits: [1, 128] },
@@ -36,7 +41,7 @@ class Library {
         this.bytes = bytes.map((it) => ({ ...it, holder: "word", isByte: true, ...byteAt(it.bit) }));
         /* The conditions are the bytes of a number. Those of integers of a kind exclude each other. */
         const limited = conditions.map((it, index) => (it.isNumber ? { ...it, limits: facts.limits[index] } : it));
-        const kinds = KINDS.map((it) => ({ ...it, isKind: true, isNumber: Boolean(it.limits) }));
+        const kinds = KINDS.map((it) => ({ ...it, isOfForm: true, isNumber: Boolean(it.limits) }));
         const ofIntegers = 0xffffffn << BigInt(8 * conditions.length);
         this.conditions = [...limited, ...kinds].map((it, index) => {
             const byte = byteAt(8 * index);
@@ -44,7 +49,7 @@ class Library {
         });
         /* The fields in the order of their bits, all that differs in states, and all that can be set by its name. */
         this.fields = [...this.flags, ...this.bytes];
-        this.differing = [...this.fields, ...OPTIONS, ...this.conditions];
+        this.differing = [...this.fields, ...AFFIXES, ...OPTIONS, ...this.conditions];
         this.named = new Map([...this.differing, ...this.groups].map((field) => [field.name, field]));
         const [word, numbers] = [this.fields, this.conditions].map((all) => all.reduce((known, { mask }) => known | mask, 0n));
         this.known = { word, conditions: numbers };
@@ -89,7 +94,6 @@ class Library {
         return { ...answer, problems, notes: told };
     }
 
-    /* Returns the list of a language, or else the standard format. */
     listOf(language) {
         return this.languages.find(({ name }) => name === language) ?? { forms: [this.usual], numbers: "" };
     }
@@ -131,11 +135,12 @@ class Library {
 
     /* Returns the byte, or the mantissa radix in place of an absent exponent byte. */
     effective(state, name) {
-        return this.value(state, name) || (/^exponent_/.test(name) ? this.value(state, "mantissa_radix") : 0);
+        return this.value(state, name) || this.value(state, /^exponent_/.test(name) ? "mantissa_radix" : name);
     }
 
-    /* Returns the number of an option or a condition in a setting: of an option, a byte or its character. */
-    number({ isByte, limits: [least, most] = [1, 1] }, value) {
+    /* Returns the value of an option, an affix or a condition in a setting: of an option, a byte or its character. */
+    number({ isByte, isText, limits: [least, most] = [1, 1] }, value) {
+        if (isText) return AFFIX.exec(value.replace(/^'(.*)'$/, "$1"))?.[0];
         const byteOf = (text) => this.parse("digit_separator", text).value;
         const ofWord = () => ({ true: 1, false: 0, none: 0 })[value] ?? Number(value || NaN);
         const number = isByte ? byteOf(value) ?? byteOf(`'${value}'`) : ofWord();
@@ -161,7 +166,8 @@ class Library {
     }
 
     /* Returns a field, an option or a condition and its value as a setting. */
-    setting({ name, isByte, isNumber }, value) {
+    setting({ name, isByte, isNumber, isText }, value) {
+        if (isText) return `${name}='${value}'`;
         if (!isByte && !isNumber) return `${name}=${Boolean(value)}`;
         if (value === 0 && name !== "mantissa_radix") return `${name}=none`;
         return `${name}=${isNumber ? value : quoted(value, "")}`;
@@ -171,7 +177,7 @@ class Library {
      * without what is behind a #. */
     read(text, form = this.usual) {
         const [others, settings] = [[], []];
-        const rest = text.replace(/\b(\w+)\s*=\s*('.'|[^\s,;#]*)|#.*/g, (setting, name, value) => {
+        const rest = text.replace(/\b(\w+)\s*=\s*('.{0,8}?'(?![^\s,;])|[^\s,;#]*)|#.*/g, (setting, name, value) => {
             const field = this.named.get(name);
             if (field && field.holder !== "word") others.push([name, this.number(field, value), setting]);
             else if (name) settings.push(`${name}=${value}`);
@@ -192,10 +198,14 @@ class Library {
 /* Returns the line by which a list is passed to the library. */
 function passed({ forms, specials = SPECIALS }) {
     const options = ({ exponent, point, conditions }) => BigInt(exponent | (point << 8)) | (conditions << 16n);
-    return [forms.map((form) => `${form.word}:${options(form)}`).join(" "), ...specials].join("\t");
+    const bytes = (text) => [...text].reduceRight((all, it) => (all << 8n) | BigInt(it.charCodeAt()), 0n);
+    const numbers = (form) => [form.word, options(form), bytes(form.opening), bytes(form.closing)].join(":");
+    return [forms.map(numbers).join(" "), ...specials].join("\t");
 }
 
-const stateOf = ({ word, exponent, point, conditions }) => ({ word, exponent, point, conditions });
+const stateOf = ({ word, exponent, point, opening, closing, conditions }) => {
+    return { word, exponent, point, opening, closing, conditions };
+};
 
 /* Returns whether two lists have the same forms with the same names. */
 function isSame(forms, others) {
@@ -210,7 +220,6 @@ function valueText({ integer, float, unknown, refused }) {
     return Object.is(value, -0) ? "-0" : String(value);
 }
 
-/* Returns whether two values are the same number, as texts. */
 const isSameValue = (one, other) => one === other || Number(one) === Number(other);
 
 const wordText = (word) => `0x${word.toString(16).toUpperCase().padStart(32, "0")}`;

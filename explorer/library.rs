@@ -13,8 +13,8 @@ use examples::{examples, Example};
 use forms::{numbers_of, state_of, states_of, value_of, List, Value};
 use peltzivar::edits::{apply, is_built, normal_form};
 use peltzivar::literal::{
-    Condition, Conditions, ConditionsError, ConditionsErrorKind, FormError, Forms, Language, Number, ReadError,
-    Special, Specials, Syntax,
+    Condition, Conditions, ConditionsError, ConditionsErrorKind, FormError, Forms, Language, Number, Special, Specials,
+    Syntax,
 };
 use peltzivar::{Byte, Cause, Edit, Format, FormatView, NamedByte, NumberFormatBuilder, Reason};
 use suggest::{lines_of, offers, State};
@@ -136,6 +136,8 @@ fn explain(state: &'static str) -> String {
     let reason = |it: Reason| put(&it, it.mask(), &options_of(it.cause()));
     let lawful = Format::new(state.word).ok().into_iter();
     let misfits = lawful.flat_map(|it| Syntax::integers(it).contradictions(state.conditions));
+    let has_role = state.syntax().is_some() && state.form().is_none();
+    let role = has_role.then(|| put(&"the first character of the closing has a role in the syntax", 0, "closing"));
     let options = view.options_reasons(state.exponent, state.point).filter(|_| !state.is_integers());
     format!(
         r#"{{"normal":{},"isBuilt":{},"fits":{},"reasons":{},"options":{},"misfits":{},"notes":{}{notation}}}"#,
@@ -144,7 +146,7 @@ fn explain(state: &'static str) -> String {
         State { conditions: Conditions::NONE, ..state }.syntax().is_some(),
         list(view.reasons().map(reason)),
         list(options.map(reason)),
-        list(misfits.map(misfit)),
+        list(misfits.map(misfit).chain(role)),
         list(view.notes().map(|it| put(&it, it.mask(), ""))),
     )
 }
@@ -159,9 +161,9 @@ fn options_of(cause: Cause) -> String {
     cause.bytes().into_iter().flatten().map(name).collect()
 }
 
-/// Returns why a text is not a literal of a form. Those of the page have no opening.
-pub(crate) fn read_error(error: FormError) -> ReadError {
-    error.error().unwrap_or_else(|| unreachable!())
+/// Returns why a text is not a literal of a form.
+fn reason_of(error: FormError) -> String {
+    error.error().map_or_else(|| quoted(error), |it| quoted(it.full_text().as_str()))
 }
 
 /// Returns for each line and each language the form of a literal, and the value, or why the line is no number, and its
@@ -174,7 +176,7 @@ fn readers(lines: &[u8]) -> String {
         }
         Err(it) => {
             let suffix = quoted(suffix_of(language, line).unwrap_or_default());
-            format!(r#"{{"error":{},"suffix":{suffix}}}"#, quoted(read_error(it).full_text().as_str()))
+            format!(r#"{{"error":{},"suffix":{suffix}}}"#, reason_of(it))
         }
     };
     list(lines_of(lines).map(|line| list(Language::ALL.iter().map(|language| reader(line.text, language)))))
@@ -190,11 +192,13 @@ fn suffix_of<'a>(language: &Language, text: &'a [u8]) -> Option<&'a str> {
 }
 
 /// Returns the parts of an object with a state.
-fn parts_of(State { word: format, exponent, point, conditions, kind, .. }: State) -> String {
+fn parts_of(State { word: format, exponent, point, conditions, kind, opening, closing, .. }: State) -> String {
     let kind = u128::from(u64::from_le_bytes(numbers_of(kind)));
     let numbers = Condition::ALL.iter().rev().fold(kind, |all, &it| all << 8 | u128::from(conditions.number(it)));
     let (format, conditions) = (word(format), word(numbers));
-    format!(r#""word":{format},"exponent":{exponent},"point":{point},"conditions":{conditions}"#)
+    let [opening, closing] = [opening, closing].map(|it| quoted(utf8(it.as_bytes())));
+    let options = format!(r#""exponent":{exponent},"point":{point},"opening":{opening},"closing":{closing}"#);
+    format!(r#""word":{format},{options},"conditions":{conditions}"#)
 }
 
 /// Returns an object for each line, as `reading` does. If a word is not lawful, returns an empty array.
@@ -209,7 +213,7 @@ fn numbers(states: &'static str, lines: &[u8]) -> String {
 fn offered(states: &'static str, lines: &[u8]) -> String {
     let (Some(all), Some(line)) = (List::new(states), lines_of(lines).next()) else { return "[]".to_string() };
     let lines = &lines[line.text.len() + usize::from(line.is_refused)..];
-    let form = all.forms().read(line.text).map_or_else(|error| error.form, |number| number.form().unwrap_or(0));
+    let form = all.forms().read(line.text).map_or_else(|error| error.form(), |number| number.form().unwrap_or(0));
     let offers = offers(all.states[form], &all.lines(form, lines), line);
     list(offers.into_iter().map(|state| format!("{{{}}}", parts_of(state))))
 }
@@ -225,8 +229,14 @@ fn reading(forms: Forms<'_>, text: &[u8]) -> String {
             list([("sign", sign), ("special", rest)].into_iter().filter(|it| !it.1.is_empty()).map(part))
         }
         _ => {
-            let front = forms.read_prefix(text).ok().and_then(|(number, _)| number.literal());
-            list(front.iter().flat_map(|it| it.parts()).map(part))
+            let front = forms.read_prefix(text).ok().and_then(|(number, rest)| {
+                let (form, literal) = (&forms[number.form()?], number.literal()?);
+                let whole = &text[..text.len() - rest.len()];
+                let opening = ("opening", &whole[..form.opening().as_bytes().len()]);
+                let closing = ("closing", &whole[whole.len() - form.closing().as_bytes().len()..]);
+                Some([opening].into_iter().chain(literal.parts()).chain([closing]).filter(|it| !it.1.is_empty()))
+            });
+            list(front.into_iter().flatten().map(part))
         }
     };
     let told = match read {
@@ -236,10 +246,8 @@ fn reading(forms: Forms<'_>, text: &[u8]) -> String {
             format!(r#""is":"{is}",{},"form":{}"#, value(value_of(number)), number.form().unwrap_or(0))
         }
         Err(it) => {
-            let (form, error) = (it.form, read_error(it));
-            let (mask, Range { start, end }) = (word(error.mask()), error.span());
-            let (end, error) =
-                (start + utf8(&text[start..end]).encode_utf16().count(), quoted(error.full_text().as_str()));
+            let (form, mask, Range { start, end }) = (it.form(), word(it.mask()), it.span());
+            let (end, error) = (start + utf8(&text[start..end]).encode_utf16().count(), reason_of(it));
             format!(r#""form":{form},"error":{error},"mask":{mask},"start":{start},"end":{end}"#)
         }
     };
@@ -253,7 +261,7 @@ fn differ(first: &'static str, second: &'static str) -> String {
     let line = |Example { text, told, .. }: &Example| {
         let text = quoted(utf8(text));
         match told.map(|values| values.map(value)) {
-            Err(error) => format!(r#"{{"text":{text},"error":{}}}"#, quoted(error.full_text().as_str())),
+            Err(error) => format!(r#"{{"text":{text},"error":{}}}"#, reason_of(error)),
             Ok([here, there]) => format!(r#"{{"text":{text},"here":{{{here}}},"there":{{{there}}}}}"#),
         }
     };

@@ -1,7 +1,6 @@
 /* The numbers, one a line, and what they are in words. Those with details show their parts in colours and words, wrong bytes
  * and, if they are not as expected, states in which they are. A number behind a `!` is refused. */
 
-/* The parts of a number that are digits. */
 const DIGITS = ["integer", "fraction", "exponent"];
 /* How many lines are read, how many have details, how many texts languages read, and how many characters each of them has. */
 const [MOST_LINES, MOST_OPEN, MOST_READ, MOST_CHARACTERS] = [100, 4, 20, 1000];
@@ -72,7 +71,8 @@ class Trial {
      * refused, or as a form of its own, whose prefix is required. This is the first way if others change what is read of a number. */
     worded(answer, offer) {
         const [{ forms }, { library, answers }, at] = [this.state, this, answer.form];
-        const differences = (it) => library.differences(it, forms[at]).sort((a, b) => Number(!a.isByte) - Number(!b.isByte));
+        const isFlag = ({ isByte, isText }) => Number(!isByte && !isText);
+        const differences = (it) => library.differences(it, forms[at]).sort((a, b) => isFlag(a) - isFlag(b));
         const changes = differences(offer);
         const affixes = changes.filter(({ name, value }) => value && name.startsWith("base_"));
         const own = affixes.reduce((all, { name }) => library.with(all, `required_${name}`, 1), stateOf(offer));
@@ -114,7 +114,8 @@ class Trial {
         const limits = () => (this.page.open("words"), (find("limits").open = true), find("limits").firstElementChild.focus());
         const numbers = this.state.numbers.split("\n");
         const replace = (other) => this.page.change({ numbers: numbers.with(place, other).join("\n") });
-        const all = (suffix ? [{ words, text: text.slice(0, -suffix.length) }] : adviceFor(text)).map((it) => {
+        const told = suffix ? [{ words, text: text.slice(0, -suffix.length) }] : adviceFor(text, offers.length > 0);
+        const all = told.map((it) => {
             if (it.row !== undefined) return { ...it, kind: "link", label: "What a format cannot express", act: limits };
             return it.text === undefined ? it : { ...it, label: `try ${it.text}`, act: () => replace(it.text) };
         });

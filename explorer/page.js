@@ -17,8 +17,6 @@ const OF_FILE = "Copied: pasted into the numbers of any copy of this page, it op
 const MOST_LINKED = 4000;
 /* The names of forms without one, by their radix. */
 const RADIXES = { 2: "binary", 8: "octal", 10: "decimal", 16: "hexadecimal" };
-/* How many steps are kept for a page that is loaded again, and how long the numbers of each may be. */
-const [MOST_STEPS, MOST_KEPT] = [100, 2000];
 
 class Page {
     constructor(library, data) {
@@ -89,8 +87,7 @@ class Page {
 
     /* Shows why the shown form, or else the first with a problem, is not valid. */
     goToProblem() {
-        const isBad = ({ problems }) => problems.length;
-        if (!isBad(this.shown)) this.change({ at: this.list.forms.findIndex(isBad) });
+        if (!this.shown.problems.length) this.change({ at: this.list.forms.findIndex(({ problems }) => problems.length) });
         this.open("edit");
         find("report-title").focus();
     }
@@ -127,10 +124,11 @@ class Page {
     }
 
     makeTabs() {
-        const groups = [["panes", PANES, (name) => `pane-${name}`], ...Object.values(INNER).map(({ group, tabs, text }) => [group, tabs, () => text])];
-        for (const [id, tabs, controls] of groups) {
-            const attributes = (name) => ({ id: `tab-${name}`, role: "tab", "aria-controls": controls(name) });
-            find(id).append(...Object.keys(tabs).map((name) => button("", tabs[name], () => this.open(name), attributes(name))));
+        for (const { group, tabs, text } of [{ group: "panes", tabs: PANES }, ...Object.values(INNER)]) {
+            find(group).append(...Object.entries(tabs).map(([name, title]) => {
+                const attributes = { id: `tab-${name}`, role: "tab", "aria-controls": text ?? `pane-${name}` };
+                return button("", title, () => this.open(name), attributes);
+            }));
         }
         for (const { tabs } of Object.values(INNER)) this.chooseTab(Object.keys(tabs)[0]);
     }
@@ -181,7 +179,6 @@ class Page {
         return { forms: all, specials: this.languageOf({ language, forms }, true)?.specials };
     }
 
-    /* Shows the forms by their names, and the tools for the shown one. */
     showForms() {
         const { forms, at } = this.state;
         find("forms").hidden = find("tools").hidden = forms.length === 1;
@@ -249,12 +246,11 @@ class Page {
         else this.showAnew();
     }
 
-    /* Changes the state, from which the browser goes back to the present one. Redo leads to it from there, too. */
+    /* Changes the state, from which the browser goes back to the present one. */
     enter(part) {
-        this.save([{ ...this.state, ...part }]);
+        this.save();
         this.change(part);
         if (location.hash !== this.fragment()) history.pushState(null, "", this.fragment());
-        this.save();
     }
 
     showAnew() {
@@ -279,12 +275,10 @@ class Page {
         return numbers.length <= MOST_LINKED ? numbers : numbers.slice(0, numbers.lastIndexOf("\n", MOST_LINKED) + 1).trimEnd();
     }
 
-    /* Writes the fragment, with the steps that can be undone and done again. */
-    save(future = this.future) {
+    save() {
         clearTimeout(this.timer);
         this.saved = Date.now();
-        const kept = [this.past, future].map((all) => all.slice(-MOST_STEPS).filter((it) => it.numbers.length < MOST_KEPT));
-        history.replaceState(kept, "", this.fragment());
+        history.replaceState(null, "", this.fragment());
     }
 
     /* Reads the state from the fragment. A part that is missing has its default. If one is invalid, the page says so. */
@@ -306,8 +300,7 @@ class Page {
         find("compare").value = parts.compare ?? "";
         part("compare", find("compare").value);
         const usualTab = parts.compare ? "compare" : parts.language ? "rust" : "languages";
-        const isKept = history.state?.flat().every((it) => it.forms);
-        [this.past, this.future] = isKept ? history.state : [this.state ? [...this.past, this.state] : [], []];
+        [this.past, this.future] = [this.state ? [...this.past, this.state] : [], []];
         const at = Number(part("at", Number(parts.at) in forms, 0));
         this.state = { forms, at, language: part("language", language, ""), numbers: numbers.replace(/\r\n?/g, "\n") };
         this.key = "";

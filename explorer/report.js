@@ -7,7 +7,7 @@ function showReport({ problems, notes }) {
     find("report").hidden = !problems.length && !notes.length;
     const link = (name) => {
         if (name === "reserved") return element("code", { "data-field": name }, "reserved bits");
-        const title = OPTIONS.find((option) => option.name === name)?.title ?? name;
+        const title = [...OPTIONS, ...AFFIXES].find((it) => it.name === name)?.title ?? name;
         return button("link", title, () => find(name)?.focus(), { "data-field": name });
     };
     for (const [id, kind, all] of [["reasons", "reason", problems], ["notes", "note", notes]]) {
@@ -36,7 +36,6 @@ function compare(library, list) {
     setText(find("same"), value && !lists.flat().length ? none : "");
 }
 
-/* Returns choices of a select: some of its own, and the languages. */
 function choices(own, languages) {
     return [...own, ...languages.map(({ name, title }) => [name, title])].map(([value, title]) => element("option", { value }, title));
 }

@@ -4,7 +4,7 @@ use alloc::vec::Vec;
 use core::cmp::Reverse;
 
 use peltzivar::format::*;
-use peltzivar::literal::{Condition, Conditions, Kind, ReadError, ReadErrorKind, Specials, Syntax};
+use peltzivar::literal::{Affix, Condition, Conditions, Form, FormError, Forms, Kind, ReadErrorKind, Specials, Syntax};
 use peltzivar::{Format, FormatView, Rule};
 
 /// How many states are offered for a number.
@@ -30,8 +30,8 @@ const RESERVED: u128 = Rule::ReservedBitsAreZero.mask();
 /// The usual size of groups of digits.
 const USUAL_SIZE: u8 = 3;
 
-/// A form of numbers: a format word, the options of a parser, the conditions, the kind, and the spellings of special values,
-/// which the first form of a list has. If both options are 0, numbers are integers alone.
+/// A form of numbers: a format word, the options of a parser, the conditions, the kind, the opening, the closing, and the
+/// spellings of special values, which the first form of a list has. If both options are 0, numbers are integers alone.
 #[derive(Clone, Copy, Debug, PartialEq, Eq)]
 pub struct State {
     pub word: u128,
@@ -39,6 +39,8 @@ pub struct State {
     pub point: u8,
     pub conditions: Conditions,
     pub kind: Kind,
+    pub opening: Affix,
+    pub closing: Affix,
     pub specials: Specials<'static>,
 }
 
@@ -54,6 +56,11 @@ impl State {
         let syntax =
             options.map_or(Ok(Syntax::integers(format)), |(exponent, point)| Syntax::new(format, exponent, point));
         syntax.ok()?.with_conditions(self.conditions).ok()
+    }
+
+    /// Returns the form, without a name, if the syntax has no role for the first byte of the closing.
+    pub fn form(self) -> Option<Form> {
+        Form::new("", self.syntax()?).with_kind(self.kind).with_opening(self.opening).with_closing(self.closing)
     }
 
     fn with_condition(self, condition: Condition, number: u8) -> Self {
@@ -100,13 +107,11 @@ impl State {
         lines.iter().filter(|line| (line.is_read || self.read(line.text).is_ok()) != line.is_refused).count()
     }
 
-    /// Returns why a text is neither a number nor a special value, or no error if this is not a syntax.
-    pub fn read(self, text: &[u8]) -> Result<(), Option<ReadError>> {
-        let syntax = self.syntax().ok_or(None)?;
-        match syntax.read(text) {
-            Err(error) if self.specials.read(&syntax, text).is_none() => Err(Some(error)),
-            _ => Ok(()),
-        }
+    /// Returns why a text is neither a number nor a special value, or no error if this is not a form.
+    pub fn read(self, text: &[u8]) -> Result<(), Option<FormError>> {
+        let forms = [self.form().ok_or(None)?];
+        let read = Forms::new_or_panic(&forms).with_specials(self.specials).read(text).map(|_| ());
+        read.map_err(Some)
     }
 
     fn refuses(self, text: &[u8]) -> bool {
@@ -270,13 +275,13 @@ fn settled(before: State, line: Line<'_>) -> Result<State, usize> {
         state.word |= SEPARATORS;
     }
     while let Err(error) = state.read(text) {
-        match error {
+        match error.and_then(|it| it.error()) {
             Some(error) if matches!(error.kind(), ReadErrorKind::Requirement | ReadErrorKind::Case) => {
                 state.word &= !error.mask();
                 let unmet = Condition::ALL.iter().filter(|&&it| error.conditions().has(it));
                 state.conditions = unmet.fold(state.conditions, |all, &it| all.with(it, 0));
             }
-            error => return Err(error.map_or(text.len(), |it| it.valid_up_to())),
+            _ => return Err(error.map_or(text.len(), |it| it.valid_up_to())),
         }
     }
     Ok(without_needless(state, before, line))
@@ -291,8 +296,8 @@ fn has_other_letters(text: &[u8]) -> bool {
 }
 
 /// Returns the states in which the byte at an index, or the last one, gets a role, the likeliest first.
-fn candidates(state: State, text: &[u8], at: usize) -> [Option<State>; 11] {
-    let Some((&byte, rest)) = text.get(at..).and_then(<[u8]>::split_first) else { return [None; 11] };
+fn candidates(state: State, text: &[u8], at: usize) -> [Option<State>; 13] {
+    let Some((&byte, rest)) = text.get(at..).and_then(<[u8]>::split_first) else { return [None; 13] };
     let before = &text[..at];
     let [shown, same, needed] = suffixes(state, text, at);
     // A letter that is the last of a fraction is a suffix, and letters in front show a large radix.
@@ -305,7 +310,10 @@ fn candidates(state: State, text: &[u8], at: usize) -> [Option<State>; 11] {
     let is_group =
         rest.len() == usize::from(USUAL_SIZE) && rest.iter().all(u8::is_ascii_digit) && unsigned(before).len() <= 3;
     let mark = separator(state, text, byte);
+    let usual = State { word: STANDARD, exponent: b'e', point: b'.', conditions: Conditions::NONE, ..state };
     [
+        opened(state, text),
+        (!state.opening.is_empty()).then_some(State { opening: Affix::NONE, closing: Affix::NONE, ..usual }),
         prefix(state, before, byte, rest),
         exponent(state, before, byte, rest),
         mark.filter(|_| byte == b',' && is_group && !matches!(unsigned(before), b"" | b"0")),
@@ -334,6 +342,35 @@ fn shown_radix(letter: u8) -> Option<u8> {
         b'b' | b'y' => Some(2),
         _ => None,
     }
+}
+
+/// Returns the radix of literals behind an opening: a mark, such as `$`, a letter of the radix beside a mark, as in `#x`, `8'h`
+/// and `X'`, or the radix as a number, as in `16#`, `16r` and `:16<`.
+fn opened_radix(opening: &[u8]) -> Option<u8> {
+    let number = match *opening {
+        [b'%'] => return Some(2),
+        [b'$' | b'#'] | [b'Z' | b'z', b'\'' | b'"'] => return Some(16),
+        [b'#' | b'&', letter] | [letter, b'\'' | b'"'] => return shown_radix(letter),
+        [ref size @ .., b'\'', letter] if size.iter().all(u8::is_ascii_digit) => return shown_radix(letter),
+        [b':', ref number @ .., b'<'] | [ref number @ .., b'#' | b'r' | b'R'] => number,
+        _ => return None,
+    };
+    core::str::from_utf8(number).ok()?.parse().ok().filter(|radix| (2..=36).contains(radix))
+}
+
+/// The longest front that can be an opening is one before digits of its radix, also of a letter behind `$` and `#`, and a mark at the
+/// end is the closing then.
+fn opened(state: State, text: &[u8]) -> Option<State> {
+    let is_mark = text.last().is_some_and(|it| matches!(it, b'#' | b'\'' | b'"' | b'>'));
+    let (text, closing) = text.split_at(text.len() - usize::from(is_mark));
+    (1..text.len()).rev().find_map(|size| {
+        let (opening, digits) = text.split_at(size);
+        let radix = opened_radix(opening)?;
+        let has_letter = digits.iter().any(u8::is_ascii_alphabetic) || !matches!(opening, [b'$' | b'#']);
+        let is_digit = |&byte: &u8| !byte.is_ascii_alphanumeric() || value(byte) < Some(radix);
+        let found = State { opening: Affix::new(opening)?, closing: Affix::new(closing)?, ..state.with_radix(radix) };
+        (has_letter && digits.iter().all(is_digit)).then_some(found)
+    })
 }
 
 /// A letter behind the first zero is the base prefix, and shows the radix. A digit of this radix is never before a sign,

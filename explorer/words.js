@@ -27,14 +27,17 @@ function changeWords(library, form, changes) {
         const places = placesOf(changes.filter((it) => isSeparator(it) && it.value === value));
         return places.length ? [`${verb} \`${character("digit_separator")}\` ${places.join(", ")}`] : [];
     });
-    const [prefix, suffix] = ["base_prefix", "base_suffix"].map(changed);
+    const [prefix, suffix, opening] = ["base_prefix", "base_suffix", "opening"].map(changed);
+    const closing = form.closing && ` .. \`${form.closing}\``;
     const hasRadix = changed("mantissa_radix");
     const [verb, asRadix] = hasRadix ? ["read", ` as ${radix}`] : ["allow", ""];
     const words = {
         digit_separator: ({ value }) => (separators.length ? "" : value ? `\`${byteText(value)}\` separates digits` : "no separator"),
         base_prefix: ({ value }) => (value ? `read \`0${byteText(value)}\` as ${radix}` : "no prefix"),
         base_suffix: ({ value }) => (value ? `${verb} \`${byteText(value)}\` at the end${asRadix}` : "no suffix"),
-        mantissa_radix: () => (prefix?.value || suffix?.value ? "" : `read ${radix} digits`),
+        opening: ({ value }) => (value ? `read \`${value}\`${closing} as ${radix}` : "no opening"),
+        closing: ({ value }) => (opening?.value ? "" : value ? `\`${value}\` at the end` : "no closing"),
+        mantissa_radix: () => ([prefix, suffix, opening].some((it) => it?.value) ? "" : `read ${radix} digits`),
         exponent_base: ({ value }) => (hasRadix ? "" : `exponents of ${value || "the radix"}`),
         exponent_radix: ({ value }) => (hasRadix ? "" : `${radixWord(value || library.value(form, "mantissa_radix"))} exponents`),
         exponent: ({ value }) => (!value ? "integers alone" : `an exponent behind \`${byteText(value)}\``),
@@ -52,7 +55,10 @@ function changeWords(library, form, changes) {
 }
 
 /* The words for parts of numbers, before their texts. */
-const PART_WORDS = { sign: "a sign", prefix: "the prefix", digits: "", point: "the point", exponent_character: "an exponent behind", suffix: "the suffix" };
+const PART_WORDS = {
+    opening: "the opening", sign: "a sign", prefix: "the prefix", digits: "", point: "the point",
+    exponent_character: "an exponent behind", suffix: "the suffix", closing: "the closing",
+};
 
 /* Returns in words what numbers of a form are, by the parts that they have. A part is that of the first number with it. */
 function numberWords(library, form, answers) {

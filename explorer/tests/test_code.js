@@ -12,8 +12,10 @@ function test_the_sentence_the_grammar_and_the_expression_are_those_of_all_forms
         const count = forms.length;
         const isShown = (form, at) => {
             const told = library.explain(form);
-            const sentence = `Numbers${count > 1 ? ` of the form ${form.name}` : ""} are ${told.sentence.replaceAll("`", "")}.`;
-            return grammar.includes(count > 1 ? `/* ${form.name} */\n${told.grammar}` : told.grammar) && sentences[at] === sentence;
+            const [opening, closing] = [["behind", form.opening], ["before", form.closing]].map(([place, it]) => it && `, ${place} ${it}`);
+            const head = `Numbers${count > 1 ? ` of the form ${form.name}` : ""}${opening}${closing}${opening + closing && ","}`;
+            const sentence = `${head} are ${told.sentence.replaceAll("`", "")}.`;
+            return grammar.includes(told.grammar) && (count < 2 || grammar.includes(`/* ${form.name} */\n`)) && sentences[at] === sentence;
         };
         const hasSpecials = library.call("numbers", { forms, specials }, specials.join("\n")).some((it) => it.is === "special value");
         const apart = find("apart").textContent;
@@ -30,7 +32,8 @@ function test_settings_are_those_of_the_forms(_, shown) {
     const states = shown.map(stateOfWord);
     const each = library.conditions.flatMap((it) => (it.limits ?? [1]).map((value) => library.with(states.at(-1), it.name, value)));
     const other = { ...states.at(-1), conditions: formOf("integer_group_size=3 required_base_prefix=true wraps=8 single=true").conditions };
-    const lists = [library.usual, ...states, ...each].map((form) => [form]);
+    const marked = { ...library.usual, opening: "X'", closing: "'" };
+    const lists = [library.usual, marked, ...states, ...each].map((form) => [form]);
     return [...lists, ...languages.map(({ forms }) => forms)].flatMap((forms) => [[library.usual, "\n"], [other, "\r\n"]].flatMap(([before, end]) => {
         show(forms);
         const settings = codeOf("settings");

@@ -74,19 +74,24 @@ function wordless() {
     });
 }
 
-/* Returns what has more than it shows and cannot be scrolled, but for texts that end in dots, and what stays in view and is higher than the screen. */
+/* Returns what has more than it shows and cannot be scrolled, but for texts that end in dots on a wide screen, and what stays in view
+ * and is higher than the screen. */
 function cutOff() {
     return [...document.querySelectorAll("body *")].filter((it) => it.checkVisibility() && !it.closest("input, select")).filter((it) => {
         const { overflowX, overflowY, textOverflow, contain, position } = getComputedStyle(it);
-        const hides = (overflow) => textOverflow !== "ellipsis" && (["hidden", "clip"].includes(overflow) || contain.includes("paint"));
+        const isShortened = textOverflow === "ellipsis" && isWide();
+        const hides = (overflow) => !isShortened && (["hidden", "clip"].includes(overflow) || contain.includes("paint"));
         const stays = ["sticky", "fixed"].includes(position) && it.getBoundingClientRect().height > innerHeight;
         return stays || (hides(overflowX) && it.scrollWidth > it.clientWidth + 1) || (hides(overflowY) && it.scrollHeight > it.clientHeight + 1);
     });
 }
 
+/* Returns whether texts of numbers without details are shortened, which have no room on a phone. */
+const isWide = () => innerWidth > 560;
+
 /* Returns what is beyond an edge of its panel. */
 function beyond() {
-    return [...document.querySelectorAll(`:is(${PARTS_OF_PAGE}) *`)].filter((it) => {
+    return [...document.querySelectorAll(`:is(${PARTS_OF_PAGE}) *`)].filter((it) => !isWide() || !it.closest(".row")).filter((it) => {
         const [panel, box] = [it.closest(PARTS_OF_PAGE), it].map((it) => it.getBoundingClientRect());
         return box.width && panel.width && (box.left < panel.left - 1 || box.right > panel.right + 1);
     });

@@ -27,7 +27,8 @@ function test_separators_are_those_of_the_form_that_reads() {
 /* A clause for each form has the parts that its numbers have, no others, and the languages that read all of them. */
 function test_the_sentence_tells_what_the_numbers_are() {
     const { library, data: { languages } } = page;
-    const names = { float: " float", prefix: "the prefix", exponent_character: "an exponent behind", suffix: "the suffix", sign: "a sign", runs: " digits" };
+    const names = { float: " float", prefix: "the prefix", exponent_character: "an exponent behind", suffix: "the suffix", sign: "a sign", runs: " digits",
+        opening: "the opening", closing: "the closing" };
     return languages.flatMap(({ name, forms, numbers }) => {
         show(forms, numbers.replace(/^!.*$/gm, ""), name);
         const answers = page.trial.answers.map((it) => ({ ...it, readers: readersOf(it.text) }));
@@ -82,4 +83,19 @@ function test_an_unlawful_form_is_told_wherever_it_is() {
         const [bad, pressed] = [".bad", "[aria-pressed=true]"].map((it) => textsOf(`#forms ${it}`).join());
         return [...told, bad, pressed, document.activeElement.id].join() !== `Nothing c,Nothing i,Not valid,${"ab"[at]},${"ab"[at]},report-title`;
     }));
+}
+
+/* Rows that are kept from another state are those that would be made anew. */
+function test_rows_are_those_of_the_state() {
+    const numbers = "1\n0x1F\n!1\n1.5e\n7\n8";
+    return page.data.languages.filter(({ name, forms }) => {
+        const renamed = forms.map((it) => ({ ...it, name: `other ${it.name}` }));
+        return [[forms, name], [renamed, name], [[forms[0]], ""]].some(([all, language]) => {
+            show(all, numbers, language);
+            const kept = find("read").textContent;
+            page.trial.rows.clear();
+            page.change({});
+            return find("read").textContent !== kept;
+        });
+    }).map(({ name }) => name);
 }

@@ -36,7 +36,7 @@ function test_sizes_of_groups_are_offered() {
         show([form(settings)], numbers.join("\n"));
         return textsOf("#read .name");
     };
-    return library.conditions.filter((it) => it.isNumber && !it.isKind).flatMap(({ name, limits: [least, most] }) => {
+    return library.conditions.filter((it) => it.isNumber && !it.isOfForm).flatMap(({ name, limits: [least, most] }) => {
         const [kind, text] = Object.entries(texts).find(([it]) => name.startsWith(it));
         const [others, last] = kind === "higher" ? ["integer_group_size=3", 3] : ["", 0];
         const sizes = range(least, most).filter((it) => it !== last);
@@ -49,7 +49,7 @@ function test_sizes_of_groups_are_offered() {
 /* The words of a change tell whether it refuses or allows texts: for each flag and condition, set and not set. */
 function test_words_of_a_change_tell_its_direction() {
     const { library, library: { usual, flags, conditions } } = page;
-    return [...flags, ...conditions].filter(({ isNumber, isKind }) => !isNumber && !isKind).filter(({ name, part }) => {
+    return [...flags, ...conditions].filter(({ isNumber, isOfForm }) => !isNumber && !isOfForm).filter(({ name, part }) => {
         const states = [0, 1].map((it) => library.with(usual, name, it));
         const words = states.map((it, index) => changeWords(library, it, library.differences(it, states[1 - index])));
         const [without, set] = part === "separator" ? words.toReversed() : words;

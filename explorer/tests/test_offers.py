@@ -9,8 +9,10 @@ SAMPLES = {
     "1 234,56": 1234.56, "17q": 15, "FFh": 255, "1D5": 100000, "0x1.8p3": 12, "1F": 31, "ZZ": 1295, "0h1F": 31, "0d10": 10, "0y101": 5,
     "1.2.3": "several numbers", "1.1.1.1": "several numbers", "2^10": "not one number", "3+4i": "not one number",
     "1.5x10^5": "not one number", ".inf": "YAML and YAML 1.1 read it", "1:30": "a ratio", "1/2": "a ratio",
+    "$FF": 255, "&HFF": 255, "16#FF#": 255, "16#FF": 255, "16rFF": 255, "#xFF": 255, "#b101": 5, "X'FF'": 255, "8'hFF": 255, "'hFF": 255,
+    "#FF00AA": 16711850, "#FF": 255, ":16<FF>": 255, "%101": 5, "36rZZ": 1295, "16#FF#E2": "a closing", "-$FF": "an opening",
     "1,234": 1234, "1.234.567": 1234567, "1'000": 1000, "0b101": 5, "0o17": 15, "0X1F": 31, "1.5f": 1.5, "10L": 10, "0xFFul": "ul is a suffix in C, C++ and",
-    "$5": "a currency sign", "1,5": 1.5, "1 000 000,5": 1000000.5, "12,34,567.89": 1234567.89, "1.234,56": 1234.56, "#FF": "a prefix",
+    "$5": "a currency sign", "1,5": 1.5, "1 000 000,5": 1000000.5, "12,34,567.89": 1234567.89, "1.234,56": 1234.56,
     "101b": 5, "1__0": 10, "1_000_": 1000, "6.02D+23": 6.02e23, "deadbeef": 3735928559, "1,000.50": 1000.5, "1e": None, "_1": 1}
 
 
@@ -34,9 +36,10 @@ class Offers(Walk):
                     self.assertNotIn("can be a suffix", advice)
 
     def test_prefixes_of_other_languages_are_told_as_format_tells_them(self):
-        row = re.search(r"^\| (have a prefix.*) \|$", (TOP / "docs/FORMAT.md").read_text(), re.M)[1]
-        cannot, texts, instead = row.split(" | ")
-        texts = [*re.findall("`([^`]*)`", texts), "-$FF", "$1F", "$dead_beef"]
+        rows = (TOP / "docs/FORMAT.md").read_text().partition("## What a format cannot express")[2]
+        cannot, _, instead = re.sub(r"\[([^\]]*)\]\([^)]*\)", r"\1", rows.split("\n| ")[2]).split(" | ")
+        instead = instead.removesuffix(" |").replace("`", "")
+        texts = ["16#FF#E2", "-$FF"]
         told = f"A format cannot {cannot.replace('`', '')}. Instead, {instead}.What a format cannot express"
         wanted = [[[told], text, "What a format cannot express", True] for text in texts]
         self.assertEqual(self.call("prefixesShown", texts), wanted)

@@ -4,7 +4,7 @@
 function test_kinds_are_told_apart() {
     const { library } = page;
     const differ = (...lists) => library.call("differ", ...lists.map((form) => ({ forms: [form] }))).flat().length;
-    const kinds = library.conditions.filter(({ isKind }) => isKind);
+    const kinds = library.conditions.filter(({ isOfForm }) => isOfForm);
     const bits = ([least, most]) => range(least, Math.min(most, 127)); // No type has an integer of more than 128 bits.
     const forms = kinds.flatMap(({ name, limits = [1, 1] }) => bits(limits).map((it) => library.with(library.usual, name, it)));
     return forms.filter((it) => !differ(library.usual, it) || !differ(it, library.usual)).map((it) => library.formText(it));
@@ -26,7 +26,7 @@ function test_separators_are_in_their_rows_and_columns() {
 /* Returns each flag, group, byte and condition: its name, its bits, and what is told and shown of it. */
 function shownFields() {
     const { fields, groups, conditions } = page.library;
-    return [...fields, ...groups, ...conditions].filter(({ isKind }) => !isKind).map(({ name, mask }) => {
+    return [...fields, ...groups, ...conditions].filter(({ isOfForm }) => !isOfForm).map(({ name, mask }) => {
         const shown = `${find(name).ariaLabel} ${find(name).closest(`[data-field=${name}]`).textContent}`;
         return [name, String(mask), shown.replaceAll("`", "")];
     });
@@ -44,6 +44,8 @@ function test_each_choice_lands_in_the_state_the_link_and_the_code() {
         single: ["::Single", "_FLOATS_SINGLE", "(single=True)"],
         largest: ["::Largest", "_LIMITS_LARGEST", '(limits="largest")'],
         vanishing: ["::Both", "_LIMITS_BOTH", '(limits="both")'],
+        opening: ['.with_opening(Affix::new(b"%").unwrap())', ', .opening = "%"', 'Affixes("%", "")'],
+        closing: ['.with_closing(Affix::new(b"%").unwrap()).unwrap()', ', .closing = "%"', 'Affixes("", "%")'],
     };
     const start = (name) => {
         show([formOf(...whole, name === "higher_group_size" ? "integer_group_size=3" : "")]);
@@ -58,24 +60,24 @@ function test_each_choice_lands_in_the_state_the_link_and_the_code() {
         else for (let clicks = isOther ? 1 : 2; clicks; clicks -= 1) control.click();
     };
     return library.differing.flatMap((field) => {
-        const { name, isKind, isNumber } = field;
+        const { name, isOfForm, isNumber, isText } = field;
         const [form, control] = [start(name), find(name)];
         const usual = library.value(form, name);
         const isTaken = (it) => !library.explain(library.with(form, name, it)).problems.some(({ fields }) => fields.includes(name));
-        const numbers = range(0, isKind ? field.limits?.[1] ?? 1 : 98).filter((it) => it === 0 || isKind || isTaken(it));
-        const typed = isNumber ? [2, 4, 8, 16, 32, 36] : [33, 59, 126];
+        const numbers = range(0, isOfForm ? field.limits?.[1] ?? 1 : 98).filter((it) => it === 0 || isOfForm || isTaken(it));
+        const typed = isText ? ["!", "&H", ":'#"] : isNumber ? [2, 4, 8, 16, 32, 36] : [33, 59, 126];
         const values = control.type === "checkbox" ? [1 - usual, usual] : control.options ? numbers : typed;
         const options = control.options ? [...control.options].map(({ value }) => Number(value)) : values;
         const lost = String(options) === String(values) ? [] : [`${name}: ${options}`];
         return [...lost, ...values.flatMap((value) => {
             start(name);
-            set(control, isNumber ? value : String.fromCharCode(value), value !== usual);
+            set(control, isNumber || isText ? value : String.fromCharCode(value), value !== usual);
             const [link, text] = [new URLSearchParams(page.fragment().slice(1)), library.setting(field, value)];
             const changed = library.differences(page.form, form).map((it) => it.text).join();
             const linked = link.has("forms") ? library.form(link.get("forms")) : library.usual;
             const isUsual = value === library.value(library.usual, name);
             const setter = OPTIONS.includes(field) ? `'${String.fromCharCode(value)}'` : `.${name}(`;
-            const codes = kinds[name]?.map((it) => it.replace("%", value)) ?? [setter, `"${text}`, `"${text}"`];
+            const codes = kinds[name]?.map((it) => it.replace("%", () => value)) ?? [setter, `"${text}`, `"${text}"`];
             const wanted = { settings: `\n${text}\n`, ...(page.shown.problems.length ? {} : { rust: codes[0], c: codes[1], python: codes[2] }) };
             const missing = isUsual ? [] : Object.entries(wanted).filter(([tab, it]) => !codeOf(tab).includes(it));
             const isAlone = changed === (value === usual ? "" : text) && codeOf("settings").includes(wanted.settings) === !isUsual;
@@ -101,8 +103,9 @@ function test_a_group_that_is_partly_set_is_cleared_first() {
 /* Each byte and option refuses texts below it, without a change, and takes the names of bytes that cannot be seen. */
 function test_texts_are_refused_below_their_fields() {
     page.chooseTab("edit");
-    const refused = [...page.library.bytes, ...OPTIONS].flatMap(({ name }) => {
-        return ["xyz", ...(name.endsWith("_radix") ? ["256", "a", "'a'"] : [])].map((text) => [name, text]);
+    const refused = [...page.library.bytes, ...OPTIONS, ...AFFIXES].flatMap(({ name, isText }) => {
+        const texts = isText ? ["123456789", "\u00e9"] : name.endsWith("_radix") ? ["xyz", "256", "a", "'a'"] : ["xyz"];
+        return texts.map((text) => [name, text]);
     }).filter(([name, text]) => {
         const before = page.fragment();
         type(name, text);

@@ -8,7 +8,7 @@ from test_base import PAGE, run
 
 class Sources(unittest.TestCase):
     def test_index_is_up_to_date(self):
-        run(sys.executable, PAGE.parent / "build.py", "--check")
+        run(sys.executable, PAGE.parent / "build", "--check")
 
     @unittest.skipUnless(shutil.which("node"), "no node")
     def test_scripts_have_no_errors(self):

@@ -17,7 +17,7 @@ function test_choices_are_the_languages() {
 function test_each_typing_is_undone() {
     page.chooseTab("edit");
     const press = () => document.activeElement.dispatchEvent(new KeyboardEvent("keydown", { key: "z", ctrlKey: true, bubbles: true, cancelable: true }));
-    return ["literal", ...page.library.bytes.map(({ name }) => name), ...OPTIONS.map(({ name }) => name)].filter((name) => {
+    return ["literal", ...page.library.bytes.map(({ name }) => name), ...[...OPTIONS, ...AFFIXES].map(({ name }) => name)].filter((name) => {
         show([page.library.usual]);
         const before = page.fragment();
         return [press, press, () => find("undo").click()].some((undo) => {

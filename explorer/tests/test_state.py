@@ -6,7 +6,7 @@ from test_base import Walk, Keys, STANDARD, MIXED, MIXED_FORM
 
 class State(Walk):
     def test_changes_are_undone_and_done_again(self):
-        """By buttons and keys, also after the page is loaded again, at once. The browser goes back from a language and an offer, too."""
+        """By buttons and keys. The browser goes back from a language and an offer, too, which is a step to undo."""
         def state():
             return self.run_script("return `${page.library.formText(page.form)} ${page.state.language} ${page.state.numbers}`")
 
@@ -27,10 +27,7 @@ class State(Walk):
         self.assertFalse(self.find("#undo").is_enabled())
         lead([press(Keys.CONTROL, "y"), redo, press(Keys.CONTROL, Keys.SHIFT, "z")], states[1:])
         self.assertFalse(self.find("#redo").is_enabled())
-        self.run_script("for (let step = 1; step < 102; step += 1) page.change({ numbers: String(step) }); page.save();")
-        self.refresh()
         undo()
-        self.assertEqual(self.value("#literal"), "100")
         self.click("#no_exponent_notation")
         self.assertFalse(self.find("#redo").is_enabled())
         self.wait(lambda: self.run_script("return location.hash === page.fragment()"))
@@ -43,7 +40,7 @@ class State(Walk):
             entered = state()
             self.driver.back()
             self.wait(lambda: state() == before)
-            lead([redo, undo], [entered, before])
+            lead([undo, redo], [entered, before])
 
     def test_what_is_lost_is_told(self):
         self.type("#word", "digit_separator=95 base_prefix=120" + Keys.ENTER)

@@ -6,7 +6,7 @@ extern crate alloc;
 mod suggest;
 
 use peltzivar::format::DIGIT_SEPARATOR_FLAG_MASK;
-use peltzivar::literal::{Conditions, Kind, Language, Specials};
+use peltzivar::literal::{Affix, Conditions, Kind, Language, Specials};
 use peltzivar::{Edit, NumberFormatBuilder};
 use suggest::{lines_of, offers, Line, State};
 
@@ -22,7 +22,8 @@ fn state(settings: &str, exponent: u8, point: u8) -> State {
     let edits = edits.split(" groups=").next().unwrap_or_default();
     let builder: Result<NumberFormatBuilder, _> = edits.split_whitespace().map(str::parse::<Edit>).collect();
     let word = builder.expect(settings).build_unchecked();
-    State { word, exponent, point, conditions, kind: Kind::EXACT, specials: SPECIALS }
+    let none = Affix::NONE;
+    State { word, exponent, point, conditions, kind: Kind::EXACT, opening: none, closing: none, specials: SPECIALS }
 }
 
 /// Returns what is offered for the first of the lines.
@@ -92,7 +93,7 @@ fn numbers_of_many_forms_lead_to_their_formats() {
         let wanted = state(&bytes.collect::<Vec<_>>().join(" "), exponent, point);
         assert_eq!(offered(state("", b'e', b'.'), &swapped(lines)).first(), Some(&wanted), "{lines}");
     }
-    for text in ["16#FF#", "#FF", "0xFF_u8", "0x", "1.2.3", "1,2,3", "1e5.5"] {
+    for text in ["16#FF#E2", "-$FF", "0xFF_u8", "0x", "1.2.3", "1,2,3", "1e5.5"] {
         assert_eq!(offered(state("", b'e', b'.'), text), [], "{text}");
     }
     assert_eq!(offered(state("hexadecimal base_prefix='x'", b'p', b'.'), "0x1.8p3f"), []);
