@@ -180,7 +180,8 @@ REPLACED += [
     # A decimal literal need not be in memory where another one would be.
     ("lexical_value/src/float.rt", "binary_size(F::DOUBLE, literal)", "binary_size(F::DOUBLE, &{ *literal })"),
     ("lexical_value/src/float.rt", "match nearest_single(literal)", "match nearest_single(&{ *literal })"),
-    ("lexical_value/src/float.rt", "        whole_float(literal)\n", "        whole_float(&{ *literal })\n"),
+    ("lexical_value/src/float.rt", "return whole_float(literal)", "return whole_float(&{ *literal })"),
+    ("lexical_value/src/float.rt", "has_digits(literal) =>", "has_digits(&{ *literal }) =>"),
     ("lexical_value/src/float.rt", "#[inline(always)]\npub(crate) fn beyond(", "#[cfg_attr(not(peltzivar_small), inline(always))]\npub(crate) const fn beyond("),
     ("lexical_value/src/float.rt", "\nfn has_digits", "\nconst fn has_digits"),
     ("lexical_value/src/scaled.rt", "long_scaled(literal, places", "long_scaled(&{ *literal }, places"),

@@ -16,8 +16,8 @@ ghost use Rattle.lexical_value.specs.Value.{denominator, numerator};
 ghost use Rattle.lexical_value.specs.declared.integer.ValueErrorKind.TheVariants as kinds;
 
 use crate::integer::{ValueErrorKind, integer_numeral};
-use crate::kind::{fewer, is_exact};
-use lexical_literal::kind::{FloatKind, FloatLimits};
+use crate::kind::{fewer, is_exact, keeps};
+use lexical_literal::kind::{FloatKind, FloatLimits, Kind};
 use lexical_literal::literal::Literal;
 use lexical_number::decimal::{decimal_to_float, digits_to_float};
 use lexical_number::float::Float;
@@ -41,19 +41,36 @@ pub fn to_float<F: Float>(literal: &Literal) -> Result<F, ValueErrorKind>
     ensures error { IfErr result (λ error. float_worth literal.now.kind (format_of F.DOUBLE) (bytes_of literal.now.format) literal.now.literal ≡ Err error) }
     ensures no_nan { IfOk result (λ value. NotNan (F.value value)) }
 {
+    let Some(kind) = nearest_kind(literal) else {
+        return whole_float(literal);
+    };
+    match float_of_kind::<F>(kind.floats(), literal) {
+        Ok(value) => match beyond(kind.limits(), value.is_infinite(), value.is_zero(), literal) {
+            None => Ok(value),
+            Some(error) => Err(error),
+        },
+        Err(error) => Err(error),
+    }
+}
+
+// Returns a kind by which a literal is worth the float that it is by its own, and by which it is the nearest one within limits, or `None`
+// if it is an integer that may be worth another number than its digits represent.
+#[inline(always)]
+fn nearest_kind(literal: &Literal) -> Option<Kind>
+    ensures some { IfSome result (λ kind. (f : Format) → float_worth kind f (bytes_of literal.now.format) literal.now.literal
+        ≡ float_worth literal.now.kind f (bytes_of literal.now.format) literal.now.literal) }
+    ensures plain { IfSome result (λ kind. (is_exact kind.integers || is_float literal.now.literal) ≡ true) }
+    ensures none { IsNone result → is_exact literal.now.kind.integers ≡ false }
+    ensures integer { IsNone result → is_float literal.now.literal ≡ false }
+{
     let kind = literal.kind();
-    if is_exact(kind.integers()) || literal.is_float() {
-        match float_of_kind::<F>(kind.floats(), literal) {
-            Ok(value) => {
-                match beyond(kind.limits(), value.is_infinite(), value.is_zero(), literal) {
-                    None => Ok(value),
-                    Some(error) => Err(error),
-                }
-            }
-            Err(error) => Err(error),
-        }
-    } else {
-        whole_float(literal)
+    if is_exact(kind.integers()) {
+        return Some(kind);
+    }
+    match integer_numeral(literal) {
+        None => Some(kind),
+        Some(numeral) if keeps(kind.integers(), &numeral) => Some(Kind::EXACT),
+        Some(_) => None,
     }
 }
 
