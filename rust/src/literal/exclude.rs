@@ -22,6 +22,7 @@ pub(crate) const fn excludes(grammar: Grammar, text: &[u8], sign: usize) -> bool
 
 // Returns whether `text` is not a literal of a form, and no error of it goes further than one up to `size` whose cause is a wrong byte: the
 // first bytes exclude the form, or the byte there plays no role.
+#[cfg_attr(not(peltzivar_small), inline(always))]
 pub(crate) const fn is_settled(grammar: Grammar, text: &[u8], size: usize) -> bool {
     let start = sign_size(text);
     if size > start + 1 {
@@ -32,6 +33,7 @@ pub(crate) const fn is_settled(grammar: Grammar, text: &[u8], size: usize) -> bo
 }
 
 // Returns whether the byte at `index`, if there is one, plays no role, and its other case neither.
+#[inline(always)]
 const fn is_silent_at(grammar: Grammar, text: &[u8], index: usize) -> bool {
     index < text.len() && is_silent(grammar, text[index])
 }
