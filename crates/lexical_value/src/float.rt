@@ -1,7 +1,7 @@
 //! The value of a literal as a value of a float type.
 
-ghost use Rattle.std.specs.Prelude.{ℕ, ◌≡◌, ◌↔◌, ◌≤◌, ◌^◌, ◌==◌, ◌||◌, false, min, not, Err, IfErr, IfOk, Ok, IfSome, IsOk, IsSome, IsTrue, MatchOption};
-ghost use Rattle.std.specs.Float.{Float as Value, NotNan, binary32, float_is_infinite};
+ghost use Rattle.std.specs.Prelude.{ℕ, ◌≡◌, ◌↔◌, ◌≤◌, ◌^◌, ◌==◌, ◌||◌, false, min, not, true, Err, IfErr, IfOk, Ok, IfSome, IsNone, IsOk, IsSome, IsTrue, MatchOption};
+ghost use Rattle.std.specs.Float.{Float as Value, Format, NotNan, binary32, float_is_infinite};
 ghost use Rattle.std.specs.Float.Ieee.{round};
 ghost use Rattle.core.specs.Dec2flt.Rounding.{IsNearestBits};
 ghost use Rattle.lexical_util.specs.Layout as layout;
@@ -64,12 +64,13 @@ fn nearest_kind(literal: &Literal) -> Option<Kind>
     ensures integer { IsNone result → is_float literal.now.literal ≡ false }
 {
     let kind = literal.kind();
-    if is_exact(kind.integers()) {
+    let integers = kind.integers();
+    if is_exact(integers) {
         return Some(kind);
     }
     match integer_numeral(literal) {
         None => Some(kind),
-        Some(numeral) if keeps(kind.integers(), &numeral) => Some(Kind::EXACT),
+        Some(numeral) if keeps(integers, &numeral) => Some(Kind::EXACT),
         Some(_) => None,
     }
 }

@@ -40,12 +40,13 @@ pub fn to_float<F: Float>(literal: &Literal) -> Result<F, ValueErrorKind> {
 #[inline(always)]
 fn nearest_kind(literal: &Literal) -> Option<Kind> {
     let kind = literal.kind();
-    if is_exact(kind.integers()) {
+    let integers = kind.integers();
+    if is_exact(integers) {
         return Some(kind);
     }
     match integer_numeral(literal) {
         None => Some(kind),
-        Some(numeral) if keeps(kind.integers(), &numeral) => Some(Kind::EXACT),
+        Some(numeral) if keeps(integers, &numeral) => Some(Kind::EXACT),
         Some(_) => None,
     }
 }
