@@ -1,7 +1,7 @@
 //! Special values: the texts that are NaN or infinity.
 
-ghost use Rattle.std.specs.Prelude.{◌≡◌, ◌==◌, Some};
-ghost use Rattle.lexical_literal.specs.Notation.{notation_of};
+ghost use Rattle.std.specs.Prelude.{ℕ, ◌≡◌, ◌==◌, IsTrue, List, None, Some};
+ghost use Rattle.lexical_literal.specs.Notation.{Notation, notation_of};
 ghost use Rattle.lexical_forms.specs.Specials.{allows, behind_sign, means_nan, is_negative, is_read_back, is_spelled, is_value, letter_of, matches};
 ghost use Rattle.lexical_forms.specs.Specials.{sign_of, signed, special_of, special_separator, spelling_of, text_of_special, written_sign};
 

@@ -1,9 +1,9 @@
 -- No form but the first has to be asked.
-use Rattle.lexical_forms.proofs.Common.{◌≡◌, All-more, FormList, Grammar, IsSomeAnd, NoForm, NoLiteral, arith, get_or, length, nat_tests, notation_of, refl}
+use Rattle.lexical_forms.proofs.Common.{◌≡◌, All-more, FormList, Grammar, IsSomeAnd, NoLiteral, arith, get_or, length, nat_tests, notation_of, refl}
 use Rattle.lexical_forms.proofs.Common.{slice_get, subst, sym}
 use Rattle.lexical_forms.specs.Additions.Forms.{IsLow, IsNoBetter, IsRefusedAt}
 use Rattle.lexical_forms.specs.Forms.{ReadsIn}
-use Rattle.lexical_forms.proofs.FormLemmas.{all_tried, at_index, first_none, leads_all, leads_first, left_out}
+use Rattle.lexical_forms.proofs.FormLemmas.{at_index, first_none, leads_all, leads_first, left_out}
 use Rattle.lexical_forms.proofs.OpeningLemmas.{low_plain, none_plain}
 use Rattle.lexical_literal.specs.Front.{NoneBy}
 use Rattle.lexical_forms.proofs.list.Forms.first_leads.Goals as goal
@@ -25,3 +25,7 @@ loop-form-preserved c =
           (subst (λ (g : Grammar). IsNoBetter (notation_of g) text size) c.grammar.ensures.value
           (c.is_settled.ensures.better c.if-not-is_settled.false)))),
     )
+
+pub returns-clause-leads : goal.returns-clause-leads
+returns-clause-leads c = rw (← c.self.view_is) (leads_all c.self.inside.forms.now c.args.text.now c.loop-form.form c.loop-form-test.false _
+    c.loop-form.invariant.1)
