@@ -1,6 +1,7 @@
 //! The value of a literal as a value of a float type.
 
-ghost use Rattle.std.specs.Prelude.{ℕ, ◌≡◌, ◌↔◌, ◌≤◌, ◌^◌, ◌==◌, ◌||◌, false, min, not, true, Err, IfErr, IfOk, Ok, IfSome, IsNone, IsOk, IsSome, IsTrue, MatchOption};
+ghost use Rattle.std.specs.Prelude.{ℕ, ◌≡◌, ◌↔◌, ◌≤◌, ◌^◌, ◌==◌, ◌||◌, false, min, not, true, Err, IfErr, IfOk, Ok, IfSome, IsNone};
+ghost use Rattle.std.specs.Prelude.{IsOk, IsSome, IsTrue, MatchOption};
 ghost use Rattle.std.specs.Float.{Float as Value, Format, NotNan, binary32, float_is_infinite};
 ghost use Rattle.std.specs.Float.Ieee.{round};
 ghost use Rattle.core.specs.Dec2flt.Rounding.{IsNearestBits};
