@@ -30,7 +30,7 @@ is behind it.
 
 A form reads an optional sign, `.5` and `1.` beside `1.5`, and exponents with `e` or `E`, unless its row says otherwise:
 *integers* have neither a point nor an exponent, and a prefix is required. Values are those of the numbers, unless a
-form has a [kind](FORMS.md#kinds). Digits of a *radix in front* are of the radix, which the [opening](FORMS.md#openings) says:
+form has a [kind](FORMS.md#kinds). Digits of a *radix in front* are of the radix, which the [opening](FORMS.md#openings-and-closings) says:
 `36#Z` is 35. Of a radix that is neither 10 nor a power of two, `parse` has integers, but no `f64`.
 
 [languages.py](languages.py) writes this page from the [constants](../rust/src/literal/language/tables.rs). Each language

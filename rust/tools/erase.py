@@ -166,16 +166,22 @@ REPLACED += [
     ("marks.rt", "#[inline(always)]\n    pub(crate) const fn front_past(", "#[cfg_attr(not(peltzivar_small), inline(always))]\n    pub(crate) const fn front_past("),
     ("marks.rt", "        let begun = syntax.begin(false, inside, false);", "        if cfg!(peltzivar_small) { return match syntax.read_generally(inside) { Ok(literal) => Some(literal), Err(_) => None }; } let begun = syntax.begin(false, inside, false);"),
     ("lexical_literal/src/stop.rt", "#[inline(always)]\n    pub(crate) const fn front(", "#[cfg_attr(not(peltzivar_small), inline(always))]\n    pub(crate) const fn front("),
+    ("exclude.rt", "pub(crate) const fn is_settled(", "#[cfg_attr(not(peltzivar_small), inline(always))]\npub(crate) const fn is_settled("),
+    ("exclude.rt", "\nconst fn is_silent_at(", "\n#[inline(always)]\nconst fn is_silent_at("),
     ("exclude.rt", "#[inline(always)]\npub(crate) const fn lacks_longer(", "#[cfg_attr(not(peltzivar_small), inline(always))]\npub(crate) const fn lacks_longer("),
     ("lexical_literal/src/stop.rt", "stop.step(syntax, text, last)", "stop.step_any(syntax, text, last)"),
     ("lexical_literal/src/stop.rt", "at.step(self, text, last)", "at.step_any(self, text, last)"),
     # Texts that are refused need it alone, and one copy is enough for all calls.
     ("lexical_literal/src/stop.rt", "#[inline(always)]\n    const fn step(", "#[cfg_attr(not(peltzivar_small), inline(always))]\n    pub(crate) const fn step("),
     ("lexical_literal/src/stop.rt", "#[inline(always)]\n    pub(crate) const fn go_on(", "#[inline(never)]\n    pub(crate) const fn go_on("),
+    # An error is made in its place.
+    ("lexical_literal/src/stop.rt", "    const fn spot(", "    pub(crate) const fn spot("),
+    ("span.rt", "pub(crate) const fn spot(", "#[cfg_attr(not(peltzivar_small), inline(always))]\npub(crate) const fn spot("),
     # A decimal literal need not be in memory where another one would be.
     ("lexical_value/src/float.rt", "binary_size(F::DOUBLE, literal)", "binary_size(F::DOUBLE, &{ *literal })"),
     ("lexical_value/src/float.rt", "match nearest_single(literal)", "match nearest_single(&{ *literal })"),
-    ("lexical_value/src/float.rt", "        whole_float(literal)\n", "        whole_float(&{ *literal })\n"),
+    ("lexical_value/src/float.rt", "return whole_float(literal)", "return whole_float(&{ *literal })"),
+    ("lexical_value/src/float.rt", "has_digits(literal) =>", "has_digits(&{ *literal }) =>"),
     ("lexical_value/src/float.rt", "#[inline(always)]\npub(crate) fn beyond(", "#[cfg_attr(not(peltzivar_small), inline(always))]\npub(crate) const fn beyond("),
     ("lexical_value/src/float.rt", "\nfn has_digits", "\nconst fn has_digits"),
     ("lexical_value/src/scaled.rt", "long_scaled(literal, places", "long_scaled(&{ *literal }, places"),

@@ -62,7 +62,9 @@ const fn is_silent(grammar: Grammar, byte: u8) -> bool
     ensures own { IsTrue result → PlaysNoRole (notation_of grammar) byte }
     ensures other { IsTrue result → PlaysNoRole (notation_of grammar) (other_case byte) }
 {
-    byte > b'9' && is_stranger(grammar, byte) && is_apart(base_prefix(grammar.word), byte)
+    byte > b'9'
+        && is_stranger(grammar, byte)
+        && is_apart(base_prefix(grammar.word), byte, other_case(byte))
 }
 
 // Returns whether the byte at `index` is a stranger, if there is one.
@@ -79,33 +81,38 @@ const fn is_stranger_at(grammar: Grammar, text: &[u8], index: usize) -> bool
 const fn is_stranger(grammar: Grammar, byte: u8) -> bool
     ensures { IsTrue result → IsStranger (notation_of grammar) byte }
 {
+    let other = other_case(byte);
     !is_digit(grammar, Part::Integer, byte)
         && !is_digit(grammar, Part::Exponent, byte)
         && byte != b'+'
         && byte != b'-'
-        && is_apart(digit_separator(grammar.word), byte)
-        && is_apart(base_suffix(grammar.word), byte)
-        && is_no_mark(grammar.options, byte)
+        && is_apart(digit_separator(grammar.word), byte, other)
+        && is_apart(base_suffix(grammar.word), byte, other)
+        && is_no_mark(grammar.options, byte, other)
 }
 
 // Returns whether `byte` is neither the exponent character nor the decimal point, and its other case neither.
 #[inline(always)]
-const fn is_no_mark(options: Option<Options>, byte: u8) -> bool
+const fn is_no_mark(options: Option<Options>, byte: u8, other: u8) -> bool
+    requires { other ≡ other_case byte }
     ensures point { IsTrue result → AreFalse (point_of options) byte }
     ensures exponent { IsTrue result → (r : Record) → AreFalse (exponent_character_of r options) byte }
 {
     match options {
         None => true,
-        Some(options) => is_apart(options.exponent, byte) && is_apart(options.point, byte),
+        Some(options) => {
+            is_apart(options.exponent, byte, other) && is_apart(options.point, byte, other)
+        }
     }
 }
 
 // Returns whether `byte` is not `own`, and its other case neither.
 #[inline(always)]
-const fn is_apart(own: u8, byte: u8) -> bool
+const fn is_apart(own: u8, byte: u8, other: u8) -> bool
+    requires { other ≡ other_case byte }
     ensures { IsTrue result → (counts : Bool) → AreFalse (cased counts own) byte }
 {
-    own != byte && own != other_case(byte)
+    own != byte && own != other
 }
 
 // Returns the length of the sign with which `text` begins.

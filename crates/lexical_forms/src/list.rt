@@ -414,6 +414,34 @@ impl<'a> Forms<'a> {
         }
     }
 
+    // Returns that the first form, which stops at `stop`, has the error of the list, or `None` if another form has to be asked, or there are
+    // special values.
+    #[cold]
+    #[inline(never)]
+    pub(crate) fn first_leads(&self, text: &[u8], stop: Stopped) -> Option<Furthest>
+        requires { IsSomeAnd (slice_get self.now.forms 0) (IsRefusedAt text.now stop) }
+        ensures none { IsSome result → NoForm self.now.forms text.now }
+        ensures special { IsSome result → special_by self.now text.now ≡ None }
+        ensures leads { IfSome result (Leads self.now.forms text.now (length self.now.forms)) }
+    {
+        if !self.specials.are_none() {
+            return None;
+        }
+        let mut form = 1;
+        while form < self.forms.len() {
+            let it = &self.forms[form];
+            if !it.opening.is_empty() || !is_settled(it.syntax.grammar(), text, stop.size) {
+                return None;
+            }
+            form += 1;
+        }
+        Some(Furthest {
+            form: 0,
+            stop,
+            settled: false,
+        })
+    }
+
     // Returns the form whose error is that of the list, where `text` is no literal.
     #[cold]
     #[inline(never)]

@@ -1,7 +1,7 @@
 //! Special values: the texts that are NaN or infinity.
 
-ghost use Rattle.std.specs.Prelude.{◌≡◌, ◌==◌, Some};
-ghost use Rattle.lexical_literal.specs.Notation.{notation_of};
+ghost use Rattle.std.specs.Prelude.{ℕ, ◌≡◌, ◌==◌, IsTrue, List, None, Some};
+ghost use Rattle.lexical_literal.specs.Notation.{Notation, notation_of};
 ghost use Rattle.lexical_forms.specs.Specials.{allows, behind_sign, means_nan, is_negative, is_read_back, is_spelled, is_value, letter_of, matches};
 ghost use Rattle.lexical_forms.specs.Specials.{sign_of, signed, special_of, special_separator, spelling_of, text_of_special, written_sign};
 
@@ -155,6 +155,14 @@ impl<'a> Specials<'a> {
             Some(spelling) => Some(Special { sign, spelling }),
             None => None,
         }
+    }
+
+    // Returns whether there are no spellings.
+    #[inline(always)]
+    pub(crate) const fn are_none(&self) -> bool
+        ensures { IsTrue result → (m : Notation) (text : List ℕ) → special_of m self.now text ≡ None }
+    {
+        matches!((self.nan, self.inf, self.infinity), (None, None, None))
     }
 
     // Returns the first spelling that `text` matches.

@@ -136,3 +136,13 @@ kept_float f kind r l x known other whole kept fraction exponent near = (λ i. i
     else (if other i || whole i then within kind.limits (is_minus l.sign) (mantissa r.byte l) (nearest (format_by kind.floats f) r.byte l)
     else ok_or (option_map (λ w. round f w.0 w.1 1) (kept i)) (if is_minus l.sign then kinds.TooSmall else kinds.TooLarge)))
     ∙ ap Ok ((λ i. round f (is_minus l.sign) (sym (whole_numerator r l fraction exponent) i) (sym (whole_denominator r l fraction exponent) i)) ∙ sym near)
+
+-- It is worth what it is by the exact kind.
+pub kept_worth : (f : Format) (kind : Kind) (r : Record) (l : Literal) → is_exact kind.integers ≡ false → is_float l ≡ false
+    → integer_worth kind.integers r.byte l ≡ Some (is_minus l.sign, integer_size r.byte l) → l.fraction ≡ [] → l.exponent ≡ []
+    → float_worth exact f r.byte l ≡ float_worth kind f r.byte l
+kept_worth f kind r l other whole kept fraction exponent = go (is_decimal r.byte || is_binary r.byte) refl where
+  go : (known : Bool) → (is_decimal r.byte || is_binary r.byte) ≡ known → float_worth exact f r.byte l ≡ float_worth kind f r.byte l
+  go true known = limited_worth f exact r l (Ok (nearest f r.byte l)) known refl refl
+      ∙ sym (kept_float f kind r l (nearest f r.byte l) known other whole kept fraction exponent refl)
+  go false unknown = no_worth f exact r l unknown ∙ sym (no_worth f kind r l unknown)

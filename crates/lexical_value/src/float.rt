@@ -1,7 +1,8 @@
 //! The value of a literal as a value of a float type.
 
-ghost use Rattle.std.specs.Prelude.{ℕ, ◌≡◌, ◌↔◌, ◌≤◌, ◌^◌, ◌==◌, ◌||◌, false, min, not, Err, IfErr, IfOk, Ok, IfSome, IsOk, IsSome, IsTrue, MatchOption};
-ghost use Rattle.std.specs.Float.{Float as Value, NotNan, binary32, float_is_infinite};
+ghost use Rattle.std.specs.Prelude.{ℕ, ◌≡◌, ◌↔◌, ◌≤◌, ◌^◌, ◌==◌, ◌||◌, false, min, not, true, Err, IfErr, IfOk, Ok, IfSome, IsNone};
+ghost use Rattle.std.specs.Prelude.{IsOk, IsSome, IsTrue, MatchOption};
+ghost use Rattle.std.specs.Float.{Float as Value, Format, NotNan, binary32, float_is_infinite};
 ghost use Rattle.std.specs.Float.Ieee.{round};
 ghost use Rattle.core.specs.Dec2flt.Rounding.{IsNearestBits};
 ghost use Rattle.lexical_util.specs.Layout as layout;
@@ -16,8 +17,8 @@ ghost use Rattle.lexical_value.specs.Value.{denominator, numerator};
 ghost use Rattle.lexical_value.specs.declared.integer.ValueErrorKind.TheVariants as kinds;
 
 use crate::integer::{ValueErrorKind, integer_numeral};
-use crate::kind::{fewer, is_exact};
-use lexical_literal::kind::{FloatKind, FloatLimits};
+use crate::kind::{fewer, is_exact, keeps};
+use lexical_literal::kind::{FloatKind, FloatLimits, Kind};
 use lexical_literal::literal::Literal;
 use lexical_number::decimal::{decimal_to_float, digits_to_float};
 use lexical_number::float::Float;
@@ -41,19 +42,37 @@ pub fn to_float<F: Float>(literal: &Literal) -> Result<F, ValueErrorKind>
     ensures error { IfErr result (λ error. float_worth literal.now.kind (format_of F.DOUBLE) (bytes_of literal.now.format) literal.now.literal ≡ Err error) }
     ensures no_nan { IfOk result (λ value. NotNan (F.value value)) }
 {
+    let Some(kind) = nearest_kind(literal) else {
+        return whole_float(literal);
+    };
+    match float_of_kind::<F>(kind.floats(), literal) {
+        Ok(value) => match beyond(kind.limits(), value.is_infinite(), value.is_zero(), literal) {
+            None => Ok(value),
+            Some(error) => Err(error),
+        },
+        Err(error) => Err(error),
+    }
+}
+
+// Returns a kind by which a literal is worth the float that it is by its own, and by which it is the nearest one within limits, or `None`
+// if it is an integer that may be worth another number than its digits represent.
+#[inline(always)]
+fn nearest_kind(literal: &Literal) -> Option<Kind>
+    ensures some { IfSome result (λ kind. (f : Format) → float_worth kind f (bytes_of literal.now.format) literal.now.literal
+        ≡ float_worth literal.now.kind f (bytes_of literal.now.format) literal.now.literal) }
+    ensures plain { IfSome result (λ kind. (is_exact kind.integers || is_float literal.now.literal) ≡ true) }
+    ensures none { IsNone result → is_exact literal.now.kind.integers ≡ false }
+    ensures integer { IsNone result → is_float literal.now.literal ≡ false }
+{
     let kind = literal.kind();
-    if is_exact(kind.integers()) || literal.is_float() {
-        match float_of_kind::<F>(kind.floats(), literal) {
-            Ok(value) => {
-                match beyond(kind.limits(), value.is_infinite(), value.is_zero(), literal) {
-                    None => Ok(value),
-                    Some(error) => Err(error),
-                }
-            }
-            Err(error) => Err(error),
-        }
-    } else {
-        whole_float(literal)
+    let integers = kind.integers();
+    if is_exact(integers) {
+        return Some(kind);
+    }
+    match integer_numeral(literal) {
+        None => Some(kind),
+        Some(numeral) if keeps(integers, &numeral) => Some(Kind::EXACT),
+        Some(_) => None,
     }
 }
 

@@ -23,6 +23,7 @@ pub(crate) const fn excludes(grammar: Grammar, text: &[u8], sign: usize) -> bool
 
 // Returns whether `text` is not a literal of a form, and no error of it goes further than one up to `size` whose cause is a wrong byte: the
 // first bytes exclude the form, or the byte there plays no role.
+#[cfg_attr(not(peltzivar_small), inline(always))]
 pub(crate) const fn is_settled(grammar: Grammar, text: &[u8], size: usize) -> bool {
     let start = sign_size(text);
     if size > start + 1 {
@@ -33,6 +34,7 @@ pub(crate) const fn is_settled(grammar: Grammar, text: &[u8], size: usize) -> bo
 }
 
 // Returns whether the byte at `index`, if there is one, plays no role, and its other case neither.
+#[inline(always)]
 const fn is_silent_at(grammar: Grammar, text: &[u8], index: usize) -> bool {
     index < text.len() && is_silent(grammar, text[index])
 }
@@ -41,7 +43,7 @@ const fn is_silent_at(grammar: Grammar, text: &[u8], index: usize) -> bool {
 // begins with a zero.
 #[inline(always)]
 const fn is_silent(grammar: Grammar, byte: u8) -> bool {
-    byte > b'9' && is_stranger(grammar, byte) && is_apart(base_prefix(grammar.word), byte)
+    byte > b'9' && is_stranger(grammar, byte) && is_apart(base_prefix(grammar.word), byte, other_case(byte))
 }
 
 // Returns whether the byte at `index` is a stranger, if there is one.
@@ -53,28 +55,29 @@ const fn is_stranger_at(grammar: Grammar, text: &[u8], index: usize) -> bool {
 // Returns whether `byte` plays no role behind the base prefix, and its other case neither.
 #[inline(always)]
 const fn is_stranger(grammar: Grammar, byte: u8) -> bool {
+    let other = other_case(byte);
     !is_digit(grammar, Part::Integer, byte)
         && !is_digit(grammar, Part::Exponent, byte)
         && byte != b'+'
         && byte != b'-'
-        && is_apart(digit_separator(grammar.word), byte)
-        && is_apart(base_suffix(grammar.word), byte)
-        && is_no_mark(grammar.options, byte)
+        && is_apart(digit_separator(grammar.word), byte, other)
+        && is_apart(base_suffix(grammar.word), byte, other)
+        && is_no_mark(grammar.options, byte, other)
 }
 
 // Returns whether `byte` is neither the exponent character nor the decimal point, and its other case neither.
 #[inline(always)]
-const fn is_no_mark(options: Option<Options>, byte: u8) -> bool {
+const fn is_no_mark(options: Option<Options>, byte: u8, other: u8) -> bool {
     match options {
         None => true,
-        Some(options) => is_apart(options.exponent, byte) && is_apart(options.point, byte),
+        Some(options) => is_apart(options.exponent, byte, other) && is_apart(options.point, byte, other),
     }
 }
 
 // Returns whether `byte` is not `own`, and its other case neither.
 #[inline(always)]
-const fn is_apart(own: u8, byte: u8) -> bool {
-    own != byte && own != other_case(byte)
+const fn is_apart(own: u8, byte: u8, other: u8) -> bool {
+    own != byte && own != other
 }
 
 // Returns the length of the sign with which `text` begins.

@@ -84,16 +84,25 @@ impl<'a> Forms<'a> {
     /// If `text` is not a number, or if its value is not one of the type, returns why.
     pub fn parse<T: FromLiteral>(&self, text: impl AsRef<[u8]>) -> Result<T, ParseError> {
         let text = text.as_ref();
-        let mut stop = None;
         if self.asks_first(text) {
             let Form { syntax, kind, .. } = self.as_slice()[0];
             match syntax.parse_decimal(kind, text) {
                 Decimal::Value(value) => return Ok(value),
-                Decimal::Stopped(at) => stop = Some(at),
+                Decimal::Stopped(at) => return self.parse_stopped(text, at),
                 Decimal::Unknown => {}
             }
         }
-        self.parse_behind(text, stop)
+        self.parse_behind(text, None)
+    }
+
+    // Returns what `parse` returns, where the first form stops at `stop`.
+    #[cold]
+    #[inline(never)]
+    fn parse_stopped<T: FromLiteral>(&self, text: &[u8], stop: Stopped) -> Result<T, ParseError> {
+        match self.first_leads(text, stop) {
+            Some(furthest) => self.refuse(text, furthest),
+            None => self.parse_behind(text, Some(stop)),
+        }
     }
 
     // Returns what `parse` returns, where the first form stops at `stop`, if it has been asked.
@@ -131,10 +140,15 @@ impl<'a> Forms<'a> {
         }
     }
 
-    // Returns the error of the form that goes furthest.
+    // Returns the error of the form that goes furthest, made in its place. The list has neither openings nor closings.
     #[cold]
     fn refuse<T>(&self, text: &[u8], furthest: Furthest) -> Result<T, ParseError> {
-        Err(ParseError::Read(self.error_at(text, furthest)))
+        let Furthest { form, stop, .. } = furthest;
+        let Form { name, ref syntax, .. } = self.as_slice()[form];
+        if cfg!(peltzivar_small) {
+            return Err(ParseError::Read(self.error_at(text, furthest)));
+        }
+        Err(ParseError::Read(FormError { form, name, opened: 0, error: Ok(stop.error(syntax, text)) }))
     }
 
     /// Returns the value of the longest literal of any form that `text` begins with, and the rest of `text`, as

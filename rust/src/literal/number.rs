@@ -185,6 +185,12 @@ impl Stopped {
         }
     }
 
+    // Returns why `text` is not a literal, as `refuse` does, in its place.
+    #[inline(always)]
+    pub(crate) const fn error(self, syntax: &Syntax, text: &[u8]) -> ReadError {
+        ReadError { spot: self.spot(syntax, text) }
+    }
+
     // Returns what `step` returns, in one copy.
     #[inline(never)]
     pub(crate) const fn step_any(self, syntax: &Syntax, text: &[u8], group: Group) -> Option<(Role, Stopped, Group)> {

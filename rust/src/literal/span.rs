@@ -60,6 +60,7 @@ const fn first(grammar: Grammar, kind: ByteKind, text: &[u8]) -> usize {
 }
 
 // Returns where reading stopped, behind the right bytes `front`.
+#[cfg_attr(not(peltzivar_small), inline(always))]
 pub(crate) const fn spot(
     grammar: Grammar,
     front: &[u8],

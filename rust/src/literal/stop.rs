@@ -177,7 +177,7 @@ impl Stopped {
 
     // Returns where reading `text` stopped.
     #[inline(always)]
-    const fn spot(self, syntax: &Syntax, text: &[u8]) -> Spot {
+    pub(crate) const fn spot(self, syntax: &Syntax, text: &[u8]) -> Spot {
         let byte = byte_at(text, self.size);
         let front = front_of(text, self.size);
         let tail = tail_at(text, self.size, byte);

@@ -484,7 +484,7 @@ impl Syntax {
     // Returns why `text`, of which reading stopped at `stop`, is not a literal.
     #[cold]
     fn refuse_value<T>(&self, text: &[u8], stop: Stopped) -> Result<T, ParseError> {
-        Ok(stop.refuse(self, text)?)
+        Err(stop.error(self, text).into())
     }
 
     /// Returns whether literals have values of float types: whether the mantissa radix and the exponent base of the format

@@ -2,10 +2,10 @@
 
 //! The value of a literal as a value of a float type.
 
-use crate::literal::kind::{FloatKind, FloatLimits};
+use crate::literal::kind::{FloatKind, FloatLimits, Kind};
 use crate::literal::literal::Literal;
 use crate::literal::value::integer::{integer_numeral, ValueErrorKind};
-use crate::literal::value::kind::{fewer, is_exact};
+use crate::literal::value::kind::{fewer, is_exact, keeps};
 use crate::literal::value::number::decimal::{decimal_to_float, digits_to_float};
 use crate::literal::value::number::float::Float;
 use crate::literal::value::number::leading::{push_all, saturating, Leading};
@@ -23,17 +23,31 @@ use crate::word::FormatView;
 /// large for its kind, or vanishes.
 #[inline(always)]
 pub fn to_float<F: Float>(literal: &Literal) -> Result<F, ValueErrorKind> {
+    let Some(kind) = nearest_kind(literal) else {
+        return whole_float(&{ *literal });
+    };
+    match float_of_kind::<F>(kind.floats(), literal) {
+        Ok(value) => match beyond(kind.limits(), value.is_infinite(), value.is_zero(), literal) {
+            None => Ok(value),
+            Some(error) => Err(error),
+        },
+        Err(error) => Err(error),
+    }
+}
+
+// Returns a kind by which a literal is worth the float that it is by its own, and by which it is the nearest one within limits, or `None`
+// if it is an integer that may be worth another number than its digits represent.
+#[inline(always)]
+fn nearest_kind(literal: &Literal) -> Option<Kind> {
     let kind = literal.kind();
-    if is_exact(kind.integers()) || literal.is_float() {
-        match float_of_kind::<F>(kind.floats(), literal) {
-            Ok(value) => match beyond(kind.limits(), value.is_infinite(), value.is_zero(), literal) {
-                None => Ok(value),
-                Some(error) => Err(error),
-            },
-            Err(error) => Err(error),
-        }
-    } else {
-        whole_float(&{ *literal })
+    let integers = kind.integers();
+    if is_exact(integers) {
+        return Some(kind);
+    }
+    match integer_numeral(literal) {
+        None => Some(kind),
+        Some(numeral) if keeps(integers, &numeral) => Some(Kind::EXACT),
+        Some(_) => None,
     }
 }
 
@@ -60,7 +74,7 @@ pub(crate) const fn beyond(
     match limits {
         FloatLimits::None => None,
         _ if infinite => Some(ValueErrorKind::out_of_range(literal.is_negative())),
-        FloatLimits::Both if zero && has_digits(literal) => Some(ValueErrorKind::Vanishes),
+        FloatLimits::Both if zero && has_digits(&{ *literal }) => Some(ValueErrorKind::Vanishes),
         _ => None,
     }
 }

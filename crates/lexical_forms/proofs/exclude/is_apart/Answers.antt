@@ -9,4 +9,4 @@ differs x y z is same = grind (arith, nat_tests)
 
 pub returns-then-own-byte : goal.returns-then-own-byte
 returns-then-own-byte c = λ is counts. cased_apart counts c.args.own c.args.byte (let differ = c.if-own-byte.true in grind (arith, nat_tests))
-    (differs c.args.own c.other_case.result _ is c.other_case.ensures)
+    (differs c.args.own c.args.other _ is c.requires)
