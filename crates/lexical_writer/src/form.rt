@@ -14,7 +14,9 @@ ghost use Rattle.lexical_writer.specs.Layout.{given_fraction};
 ghost use Rattle.lexical_writer.specs.declared.run.Source.TheVariants as sources;
 
 use crate::float_digits::split;
-use crate::layout::{Amount, ExponentStyle, Power, Style, allows_exponent, needs_exponent};
+use crate::layout::{
+    Amount, ExponentStyle, Power, Style, allows_exponent, is_whole, needs_exponent,
+};
 use crate::run::Source;
 use lexical_literal::syntax::Syntax;
 use lexical_number::shortest::{Decimal, shortest};
@@ -111,7 +113,7 @@ pub(crate) fn least_places(syntax: &Syntax, style: Style, shown: bool) -> usize
     ensures value { result ≡ least_places syntax.now style shown }
     ensures limit { result ≤ 255 }
 {
-    if syntax.options().is_none() {
+    if is_whole(syntax) {
         return 0;
     }
     match style.decimals {

@@ -5,7 +5,7 @@
 use crate::literal::syntax::Syntax;
 use crate::literal::value::number::shortest::{shortest, Decimal};
 use crate::literal::writer::float_digits::split;
-use crate::literal::writer::layout::{allows_exponent, needs_exponent, Amount, ExponentStyle, Power, Style};
+use crate::literal::writer::layout::{allows_exponent, is_whole, needs_exponent, Amount, ExponentStyle, Power, Style};
 use crate::literal::writer::run::Source;
 
 // How the digits of a number are written: with zeros behind them, with a point before the last of all these digits, and with an
@@ -68,7 +68,7 @@ const fn is_wanted(wish: ExponentStyle, size: u64, far: bool) -> bool {
 // Returns how many digits are behind the point at least, where an exponent is shown or not.
 #[inline(always)]
 pub(crate) fn least_places(syntax: &Syntax, style: Style, shown: bool) -> usize {
-    if syntax.options().is_none() {
+    if is_whole(syntax) {
         return 0;
     }
     match style.decimals {

@@ -3,13 +3,10 @@ use Rattle.lexical_writer.proofs.Common.{List, Option, Source, [], ap, append-ni
 use Rattle.lexical_writer.proofs.Common.{is_present, is_some, length, nil_from_length, number_from_digits, padded_values, refl, replicate, sym, take, trimmed}
 use Rattle.lexical_writer.proofs.Common.{true, unwrap_or, up_of, values_of, ℕ, ◌*◌, ◌++◌, ◌+◌, ◌-◌, ◌<◌, ◌^◌, ◌∙◌, ◌∷◌, ◌≡◌}
 use Rattle.lexical_writer.specs.declared.run.Source.TheVariants as sources
+use Rattle.lexical_writer.proofs.FloatLemmas.{present}
 use Rattle.lexical_writer.proofs.PlainLemmas.{behind, down, moved_worth, up}
 use Rattle.lexical_writer.proofs.moved.without_exponent.Goals.{else-count-gt0, then-count-gt0}
 use Rattle.lexical_writer.proofs.moved.without_exponent.Goals as goal
-
-present : (digits : List ℕ) → 0 < length digits → true ≡ is_present digits
-present [] some = absurd (omega (arith, some))
-present (d ∷ digits) some = refl
 
 pub returns-clause-number : goal.returns-clause-number
 returns-clause-number c =
@@ -46,7 +43,7 @@ returns-clause-number c =
       digits = behind left n i f;
       fraction = given;
       some = elim c.if-count-gt0.branch [
-        | then-count-gt0 w ↦ ap is_some w.result-is ∙ present _ (omega (arith, counts, w.if-count-gt0.true))
+        | then-count-gt0 w ↦ ap is_some w.result-is ∙ sym (present _ (omega (arith, counts, w.if-count-gt0.true)))
             ∙ sym (ap (λ o. is_present (value o)) w.result-is)
         | else-count-gt0 w ↦ ap is_some w.result-is ∙ sym (ap (λ o. is_present (value o)) w.result-is)
       ];
