@@ -1,7 +1,7 @@
 -- A float as an odd number times a power of two, and its digits in a radix that is a power of two.
 use Rattle.lexical_writer.proofs.Common.{None, Option, Some, ap, arith, cases_lt, div-add-mod', eq-zero-or-pos, eq_of_mul-eq-mul_right, inl, inr, is_some}
-use Rattle.lexical_writer.proofs.Common.{mod-eq_of_lt, mul-le-mul_left, mul-pos, nat_lt, one-le-pow, raised_down, raised_up, refl, rounded, subst, suc, sym, true, zero, ℕ}
-use Rattle.lexical_writer.proofs.Common.{◌%◌, ◌*◌, ◌+◌, ◌-◌, ◌/◌, ◌<◌, ◌^◌, ◌∙◌, ◌≡◌, ◌≤◌, ◌⊎◌}
+use Rattle.lexical_writer.proofs.Common.{mod-eq_of_lt, mul-le-mul_left, mul-pos, nat_lt, one-le-pow, raised_down, raised_up, refl, rounded, subst, suc, sym}
+use Rattle.lexical_writer.proofs.Common.{true, zero, ℕ, ◌%◌, ◌*◌, ◌+◌, ◌-◌, ◌/◌, ◌<◌, ◌^◌, ◌∙◌, ◌≡◌, ◌≤◌, ◌⊎◌}
 use Rattle.std.proofs.lemmas.Nat.Bits.{bit_at-trailing_zeros}
 use Rattle.core.specs.Int.{w64}
 use lib.Count.{count_trailing_zeros}
