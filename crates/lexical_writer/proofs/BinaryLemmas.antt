@@ -1,7 +1,10 @@
 -- A float as an odd number times a power of two, and its digits in a radix that is a power of two.
 use Rattle.lexical_writer.proofs.Common.{None, Option, Some, ap, arith, cases_lt, div-add-mod', eq-zero-or-pos, eq_of_mul-eq-mul_right, inl, inr, is_some}
-use Rattle.lexical_writer.proofs.Common.{mul-le-mul_left, mul-pos, nat_lt, one-le-pow, raised_down, raised_up, refl, rounded, subst, suc, sym, true, zero, ℕ}
-use Rattle.lexical_writer.proofs.Common.{◌%◌, ◌*◌, ◌+◌, ◌-◌, ◌/◌, ◌<◌, ◌^◌, ◌∙◌, ◌≡◌, ◌≤◌, ◌⊎◌}
+use Rattle.lexical_writer.proofs.Common.{mod-eq_of_lt, mul-le-mul_left, mul-pos, nat_lt, one-le-pow, raised_down, raised_up, refl, rounded, subst, suc, sym}
+use Rattle.lexical_writer.proofs.Common.{true, zero, ℕ, ◌%◌, ◌*◌, ◌+◌, ◌-◌, ◌/◌, ◌<◌, ◌^◌, ◌∙◌, ◌≡◌, ◌≤◌, ◌⊎◌}
+use Rattle.std.proofs.lemmas.Nat.Bits.{bit_at-trailing_zeros}
+use Rattle.core.specs.Int.{w64}
+use lib.Count.{count_trailing_zeros}
 use Rattle.lexical_writer.proofs.AmountLemmas.{exact_crossed, powers, size, units_crossed}
 use Rattle.lexical_writer.proofs.PlainLemmas.{pow_twice}
 use Rattle.lexical_writer.proofs.RoundedLemmas.{rounded_same, rounded_whole}
@@ -29,6 +32,10 @@ moved_exact n k b p low least =
 pub moved_units : (n k b p low : ℕ) → low ≤ k + b * p
     → n * 2 ^ ((k + b * p - low) % b) * (2 ^ b) ^ ((k + b * p - low) / b) ≡ rounded (n * 2 ^ k * (2 ^ b) ^ p) (2 ^ low)
 moved_units n k b p low least = sym (rounded_whole _ (2 ^ low) _ (one-le-pow low 2 (omega arith)) (sym (moved_exact n k b p low least)))
+
+-- A number without its twos is odd.
+pub odd : (n : ℕ) → 0 < n → n < 2 ^ 64 → n / 2 ^ (count_trailing_zeros 64 n % 64) % 2 ≡ 1
+odd n some small = let t = bit_at-trailing_zeros w64 n some small in ap (λ z. n / 2 ^ z % 2) (mod-eq_of_lt t.0) ∙ t.1
 
 -- An odd number times fewer twos than a digit has is no multiple of the radix.
 pub odd_left : (n u b : ℕ) → n % 2 ≡ 1 → u < b → 0 < n * 2 ^ u % 2 ^ b

@@ -26,8 +26,8 @@ pub use Rattle.lexical_util.specs.declared.format_flags.Part.{Part}
 pub use Rattle.lexical_value.specs.Float.{is_binary, is_decimal, nearest}
 pub use Rattle.lexical_value.specs.Kind.{integer_worth, is_exact, worth}
 pub use Rattle.lexical_value.specs.Value.{denominator, numerator, power, scale}
-pub use Rattle.lexical_writer.specs.Amount.{HasShape, HasUnits, IsExponent, IsFloatOf, IsWrittenWith, first_refusal, is_long, is_shown, least_places, units_at}
-pub use Rattle.lexical_writer.specs.Amount.{units_in, wished_places}
+pub use Rattle.lexical_writer.specs.Amount.{HasShape, HasUnits, IsExponent, IsFloatOf, IsWrittenWith, is_long, is_shown, least_places, units_at, units_in}
+pub use Rattle.lexical_writer.specs.Amount.{wished_places}
 pub use Rattle.lexical_writer.specs.Choice.{IsWhole}
 pub use Rattle.lexical_writer.specs.Conversion.{SameFraction, amount_of}
 pub use Rattle.lexical_writer.specs.Digits.{at_least, begins_decimal, character, ends_group, grouped, grouped_front, no_groups, only_if, padded_values}

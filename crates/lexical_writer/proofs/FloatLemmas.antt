@@ -1,21 +1,24 @@
 -- Digits with a point, zeros around them and an exponent have the value of the literal that is written.
 use Rattle.lexical_writer.proofs.Common.{Amount, Bool, Err, Grammar, HasNumber, IfOk, IsCutTo, IsFloatOf, IsLaidOut, IsRounded, Layout, List, Literal, None, Ok}
-use Rattle.lexical_writer.proofs.Common.{Option, Power, Record, Result, Some, Style, WriteError, [], ap, append_assoc, arith, cons_option, decimals_in}
-use Rattle.lexical_writer.proofs.Common.{denominator, digit_of, digits_in, drop, effective_exponent_base, effective_exponent_radix, emax, eq-zero-or-pos}
-use Rattle.lexical_writer.proofs.Common.{eq_of_mul-eq-mul_right, false, false≢true, filter_map-append, format_of, given_fraction, if◌then◌else◌, inl, inr}
-use Rattle.lexical_writer.proofs.Common.{is_binary, is_decimal, is_minus, is_present, is_some, lacks_options, laid_out, least_places, length, length-append}
-use Rattle.lexical_writer.proofs.Common.{literal_of, low, mantissa, mul-le-mul_right, nat_lt, nat_tests, nearest, no_power, not, number, number_after_append}
-use Rattle.lexical_writer.proofs.Common.{number_from_digits, number_from_digits_after, numerator, one-le-pow, pow-add, pow-le-pow_right, pow-zero, power, prec}
-use Rattle.lexical_writer.proofs.Common.{raised_down, raised_up, raw, refl, replicate, round, round_same, rounded, scale, size_of, subst, suc, sym, take}
-use Rattle.lexical_writer.proofs.Common.{take-append-drop, true, unwrap_or, values_of, wished_places, ℕ, ◌%◌, ◌&&◌, ◌*◌, ◌++◌, ◌+◌, ◌-◌, ◌/◌, ◌<◌, ◌==◌, ◌^◌}
-use Rattle.lexical_writer.proofs.Common.{◌||◌, ◌∙◌, ◌∷◌, ◌≡◌, ◌≢◌, ◌≤◌}
-use Rattle.std.proofs.Math.Nat.{div-eq_of_lt-le, mod-eq-sub-div-mul}
-use lib.Ieee.{Float, Format, down, fin, inf, nan, up}
-use lib.Ieee.Exact.{HasValue, round_exact}
+use Rattle.lexical_writer.proofs.Common.{Option, Power, Record, Result, Some, Style, WriteError, [], ap, append_assoc, arith, cond, cons_option, decimals_in}
+use Rattle.lexical_writer.proofs.Common.{denominator, digit_of, digits_in, drop, effective_exponent_base, effective_exponent_radix, emax, eq-eqb}
+use Rattle.lexical_writer.proofs.Common.{eq-zero-or-pos, eq_of_mul-eq-mul_right, false, false≢true, filter_map-append, format_of, given_fraction, if◌then◌else◌}
+use Rattle.lexical_writer.proofs.Common.{inl, inr, is_binary, is_decimal, is_minus, is_present, is_some, lacks_options, laid_out, least_places, length}
+use Rattle.lexical_writer.proofs.Common.{length-append, literal_of, low, mantissa, mod-lt, mul-le-mul_right, mul-pos, nat_lt, nat_tests, nearest, no_power, not}
+use Rattle.lexical_writer.proofs.Common.{number, number_after_append, number_from_digits, number_from_digits_after, numerator, one-le-pow, pow-add}
+use Rattle.lexical_writer.proofs.Common.{pow-le-pow_right, pow-suc, pow-zero, power, prec, raised_down, raised_up, raw, refl, replicate, round, round_same}
+use Rattle.lexical_writer.proofs.Common.{rounded, scale, size_of, subst, suc, sym, take, take-append-drop, true, unwrap_or, values_of, wished_places, zero, ℕ}
+use Rattle.lexical_writer.proofs.Common.{ℤ, ◌%◌, ◌&&◌, ◌*◌, ◌++◌, ◌+◌, ◌-◌, ◌/◌, ◌<◌, ◌==◌, ◌^◌, ◌||◌, ◌∙◌, ◌∷◌, ◌≡◌, ◌≢◌, ◌≤◌}
+use Rattle.std.proofs.Math.Nat.{div-eq_of_lt-le, div-lt_iff_lt-mul, mod-eq-sub-div-mul}
+use Rattle.std.proofs.lemmas.Bool.{ne_eqb}
+use lib.Ieee.{Float, Format, down, down as below, fin, hid, inf, is_nan, nan, odd, of_bits, of_fields, ones, top, up}
+use lib.Ieee.Exact.{HasValue, odd_sign, round_exact}
+use lib.Dec.{eqb, leb}
+use lib.IntN.{negsuc, pos}
 use lib.Pow.{shl_lt}
 use Rattle.lexical_literal.specs.Read.{exponent}
 use Rattle.lexical_util.specs.Layout as layout
-use Rattle.lexical_writer.specs.Amount.{IsTextOf, power_if}
+use Rattle.lexical_writer.specs.Amount.{IsBroken, IsFinite, IsTextOf, power_if}
 use Rattle.lexical_writer.specs.Rounded.{HasDecimals}
 use Rattle.lexical_writer.proofs.ConversionLemmas.{size_values, zero_scaled}
 use Rattle.lexical_writer.proofs.DigitLemmas.{zeros_number}
@@ -240,3 +243,58 @@ pub if_numbered : (g : Grammar) (style : Style) (amount : Amount) (P : Layout �
     → ((layout : Layout) → literal_of layout ≡ laid_out g style amount → HasNumber g amount (literal_of layout) → P layout) → IfOk result P
 if_numbered g style amount P (Ok layout) is has follows = follows layout is.1 has
 if_numbered g style amount P (Err error) is has follows = tt
+
+-- The float with some bits is finite if those of its size are below infinity, and otherwise has no value.
+at_field : (f : Format) (s : Bool) (x t : ℕ) (test : Bool) → eqb (suc x) (ones f) ≡ test
+    → of_fields f s (suc x) t ≡ cond test (cond (eqb t 0) (inf s) nan) (odd (prec f) s (hid f + t) x (low f))
+unfolding of_fields
+at_field f s x t test is = ap (λ test. cond test (cond (eqb t 0) (inf s) nan) (odd (prec f) s (hid f + t) x (low f))) is
+
+pub finite : (f : Format) (b : ℕ) → b % top f < ones f * hid f → IsFinite (of_bits f b) (leb (top f) b)
+unfolding of_bits of_fields
+finite f b less =
+    go (b % top f / hid f) ((div-lt_iff_lt-mul {k = hid f} {x = b % top f} {y = ones f} (one-le-pow (prec f - 1) 2 (omega arith))).1 less)
+  where
+    go : (field : ℕ) → field < ones f → IsFinite (of_fields f (leb (top f) b) field (b % hid f)) (leb (top f) b)
+    go zero below = (b % hid f * 2 ^ 0, 2 ^ low f, odd_sign (prec f) (leb (top f) b) (b % hid f) 0 (low f))
+    go (suc k) below =
+        subst (λ x. IsFinite x (leb (top f) b)) (sym (at_field f _ k (b % hid f) false (ne_eqb (suc k) (ones f) (λ is. omega (arith, is, below)))))
+        ((hid f + b % hid f) * 2 ^ k, 2 ^ low f, odd_sign (prec f) (leb (top f) b) (hid f + b % hid f) k (low f))
+
+pub special : (f : Format) (b : ℕ) → ones f * hid f ≤ b % top f → (negative : Bool) → IsFinite (of_bits f b) negative → ⊥
+unfolding of_bits
+special f b most negative is = go (b % top f / hid f) field_is is
+  where
+    some : 0 < hid f
+    some = one-le-pow (prec f - 1) 2 (omega arith)
+
+    field_is : b % top f / hid f ≡ ones f
+    field_is = div-eq_of_lt-le {k = ones f} (hid f) {m = b % top f} most (let less = mod-lt b {m = top f} (mul-pos some (omega arith)) in omega (arith, less))
+
+    none : (t : Bool) → IsFinite (cond t (inf (leb (top f) b)) nan) negative → ⊥
+    none true it = it.2
+    none false it = it.2
+
+    go : (field : ℕ) → field ≡ ones f → IsFinite (of_fields f (leb (top f) b) field (b % hid f)) negative → ⊥
+    go zero same it = absurd (omega (arith, same))
+    go (suc k) same it = none (eqb (b % hid f) 0) (subst (λ x. IsFinite x negative) (at_field f _ k (b % hid f) true (eq-eqb (suc k) (ones f) same)) it)
+
+pub not_number : (x : Float) → is_nan x ≡ true → (negative : Bool) → IsFinite x negative → ⊥
+unfolding is_nan
+not_number nan is negative it = it.2
+not_number (inf t) is negative it = it.2
+not_number (fin t m e) is negative it = false≢true is
+
+-- A float that is an odd number over a power of two above 1 is not whole.
+pub broken : (x : Float) (s : Bool) (n up down : ℕ) → 0 < down → n % 2 ≡ 1 → up ≡ 0 → HasValue x s (n * 2 ^ up) (2 ^ down) → IsBroken x
+broken nan s n up down some odd none value = absurd value
+broken (inf t) s n up down some odd none value = absurd value
+broken (fin t m e) s n up down some odd none value = λ negative k whole.
+    let same : k * 2 ^ down ≡ n * 2 ^ up = eq_of_mul-eq-mul_right (below e) (positive e) (k * 2 ^ down) (n * 2 ^ up)
+    (omega (arith, value.1, ap (λ v. v * 2 ^ down) whole.1)) in
+    let half : 2 ^ down ≡ 2 ^ (down - 1) * 2 = ap (λ d. 2 ^ d) {x = down} {y = suc (down - 1)} (omega (arith, some)) ∙ pow-suc 2 (down - 1) in
+    omega (arith, odd, same, ap (λ p. k * p) half, ap (λ i. n * 2 ^ i) none, ap (λ p. n * p) (pow-zero 2))
+  where
+    positive : (e : ℤ) → 0 < below e
+    positive (pos k) = omega arith
+    positive (negsuc k) = one-le-pow (suc k) 2 (omega arith)

@@ -2,9 +2,9 @@
 use Rattle.lexical_writer.proofs.Common.{AllBelowBase, Amount, Bool, Ending, Err, IsEnding, IsMoved, IsOver, IsSize, List, None, Ok, Option, Parts, Record}
 use Rattle.lexical_writer.proofs.Common.{Result, Some, SomeIff, WriteError, [], ap, append-nil, arith, below, can_move, cases_lt, cons_option, denominator}
 use Rattle.lexical_writer.proofs.Common.{digit_of, digits_in, digits_of, down_of, effective_exponent_base, effective_exponent_radix, eq-eqb}
-use Rattle.lexical_writer.proofs.Common.{eq_of_mul-eq-mul_right, eqb-true, false, false≢true, filter_map-append, first_digits_of, get_or, if◌then◌else◌, inl}
-use Rattle.lexical_writer.proofs.Common.{inr, is_minus, le-ltb, le-mul_of_pos_right, length, mantissa, nat_lt, nat_tests, not, number, number_after}
-use Rattle.lexical_writer.proofs.Common.{number_after_append, number_from_digits, number_from_digits_after, numerator, ok_or, one-le-pow, pow-add}
+use Rattle.lexical_writer.proofs.Common.{eq_of_mul-eq-mul_right, eqb-true, false, false≢true, filter_map-append, get_or, if◌then◌else◌, inl}
+use Rattle.lexical_writer.proofs.Common.{inr, is_minus, le-ltb, le-mul_of_pos_right, length, length-digits_of_step, mantissa, nat_lt, nat_tests, not, number}
+use Rattle.lexical_writer.proofs.Common.{number_after, number_after_append, number_from_digits, number_from_digits_after, numerator, ok_or, one-le-pow, pow-add}
 use Rattle.lexical_writer.proofs.Common.{pow-le-pow_right, pow-suc, pow-zero, refl, subst, suc, sym, take, true, up_of, zero, ℕ, ◌&&◌, ◌*◌, ◌++◌, ◌+◌, ◌-◌, ◌<◌}
 use Rattle.lexical_writer.proofs.Common.{◌==◌, ◌^◌, ◌||◌, ◌∙◌, ◌∷◌, ◌≡◌, ◌≤◌, ◌⊎◌}
 use Rattle.std.specs.Result.{is_ok}
@@ -38,33 +38,13 @@ byte_passed radix n i bytes o inside is none =
 pub number_of : (radix : ℕ) (i f : List ℕ) → number_after radix (number radix i) f ≡ number radix (i ++ f)
 number_of radix i f = sym (ap (number_from_digits radix) (filter_map-append _ i f) ∙ number_after_append radix 0 (digits_in radix i) (digits_in radix f))
 
--- Digits represent 0 if and only if both pieces have none without leading zeros.
-none_left : (radix n : ℕ) → 2 ≤ radix → (length (digits_of radix n) == 0) ≡ (n == 0)
+-- A number has no digits if and only if it is 0.
+pub none_left : (radix n : ℕ) → 2 ≤ radix → (length (digits_of radix n) == 0) ≡ (n == 0)
 none_left radix zero two = refl
-none_left radix (suc n) two = go (digits_of radix (suc n)) (first_digits_of radix (suc n) two (omega arith)) ∙ sym (not_zero n)
+none_left radix (suc n) two = both _ (suc n) (let more = length-digits_of_step radix (suc n) two (omega arith) in omega (arith, more)) (omega arith)
   where
-    not_zero : (n : ℕ) → (suc n == 0) ≡ false
-    not_zero n = grind (arith, nat_tests)
-
-    go : (digits : List ℕ) → 0 < get_or digits 0 0 → (length digits == 0) ≡ false
-    go [] some = absurd (omega (arith, some))
-    go (d ∷ digits) some = not_zero (length digits)
-
-grows : (radix n : ℕ) (digits : List ℕ) → 2 ≤ radix → 0 < n → 0 < number_from_digits_after radix n digits
-grows radix n [] two some = some
-grows radix n (d ∷ digits) two some = grows radix (n * radix + d) digits two (more n radix d some two)
-  where
-    more : (n radix d : ℕ) → 0 < n → 2 ≤ radix → 0 < n * radix + d
-    more n radix d some two = grind arith
-
-pub both_none : (radix : ℕ) (i f : List ℕ) → 2 ≤ radix → (length (digits_of radix (number radix i)) == 0
-    && length (digits_of radix (number radix f)) == 0) ≡ (number radix (i ++ f) == 0)
-both_none radix i f two =
-    (λ j. none_left radix (number radix i) two j && none_left radix (number radix f) two j) ∙ go (number radix i) ∙ ap (λ n. n == 0) (number_of radix i f)
-  where
-    go : (n : ℕ) → ((n == 0) && (number radix f == 0)) ≡ (number_after radix n f == 0)
-    go zero = refl
-    go (suc n) = let some = grows radix (suc n) (digits_in radix f) two (omega arith) in grind (arith, nat_tests)
+    both : (k n : ℕ) → 0 < k → 0 < n → (k == 0) ≡ (n == 0)
+    both k n some more = grind (arith, nat_tests)
 
 -- Digits of a number, which is 0 if they have no last one.
 pub none_read : (radix : ℕ) → 0 < radix → IsEnding radix 0 (record { front = Some 0; last = 0; zeros = 0 })

@@ -15,7 +15,7 @@ use Rattle.lexical_value.specs.Float.{is_binary, is_decimal}
 use Rattle.lexical_number.specs.Float.{raised_down, raised_up}
 use Rattle.lexical_number.specs.Number.{number, places as digit_count}
 use Rattle.lexical_writer.specs.Digits.{values_of}
-use Rattle.lexical_writer.specs.Layout.{HasNumber, allows_exponent, given_fraction, laid_out, needs_exponent, one_if}
+use Rattle.lexical_writer.specs.Layout.{HasNumber, allows_exponent, first_error, given_fraction, laid_out, needs_exponent, one_if}
 use Rattle.lexical_writer.specs.Rounded.{rounded}
 use Rattle.lexical_writer.specs.declared.layout.Amount.{Amount}
 use Rattle.lexical_writer.specs.declared.layout.ExponentStyle.{ExponentStyle}
@@ -133,16 +133,32 @@ IsWrittenAt g style num den places exponent =
 abbrev pub power_if : Bool → Bool → ℕ → Option Power
 power_if shown negative e = if shown then Some (record { negative = negative; source = sources.Number e }) else None
 
--- `first_refusal sign fraction radix` is the error of the first of the three that is refused.
-abbrev pub first_refusal : Bool → Bool → Bool → Option WriteError
-first_refusal sign fraction radix =
-    if sign then Some errors.Negative else (if fraction then Some errors.Fraction else (if radix then Some errors.Radix else None))
-
 -- `float_error g style negative fraction` is why no float is written as a literal of `g`, whatever its digits are, or `None`: one that is
 -- below 0, or -0, if `negative` is true, and not whole if `fraction` is.
 abbrev pub float_error : Grammar → Style → Bool → Bool → Option WriteError
-float_error g style negative fraction = first_refusal (negative && has g.conditions conditions.NegativeSign)
-    ((lacks_options g.options && not (is_some style.decimals)) && fraction) (not (is_decimal (bytes_of g.word) || is_binary (bytes_of g.word)))
+float_error g style negative fraction = first_error (negative && has g.conditions conditions.NegativeSign)
+    ((lacks_options g.options && not (is_some style.decimals)) && fraction) (not (is_decimal (bytes_of g.word) || is_binary (bytes_of g.word))) errors.Radix
+
+-- `IsFinite x negative` holds if the float `x` is a number, with the sign `-` if `negative` is true.
+abbrev pub IsFinite : Float → Bool → Type 0
+IsFinite x negative = (num : ℕ) × (den : ℕ) × HasValue x negative num den
+
+-- `IsBroken x` holds if the float `x` is not whole.
+abbrev pub IsBroken : Float → Type 0
+IsBroken x = (negative : Bool) → (n : ℕ) → HasValue x negative n 1 → ⊥
+
+-- `is_limit g error` is true if `error` can be that of a float that is not refused: `Long` where no exponent is allowed, and `Radix` for digits
+-- that are not read as the float.
+abbrev pub is_limit : Grammar → WriteError → Bool
+is_limit g errors.Long = not (allows_exponent g)
+is_limit g errors.Radix = true
+is_limit g _ = false
+
+-- `IsFloatError x g style error` holds if `error` is why no literal of `g` is written for the float `x` by `style`, the first that applies.
+abbrev pub IsFloatError : Float → Grammar → Style → WriteError → Type 0
+IsFloatError x g style error = ((error ≡ errors.Special) × ((negative : Bool) → IsFinite x negative → ⊥))
+    ⊎ ((negative : Bool) × (fraction : Bool) × IsFinite x negative × (fraction ≡ true → IsBroken x)
+    × ((float_error g style negative fraction ≡ Some error) ⊎ ((float_error g style negative fraction ≡ None) × (is_limit g error ≡ true))))
 
 -- `HasShape g style num den shown negative e places units` holds if `num` over `den` is written in `g` by `style` with these digits, of which
 -- `places` are behind the point, and in radix 10 with the exponent `e`, if it is `shown`.

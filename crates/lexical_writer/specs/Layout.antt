@@ -208,15 +208,15 @@ laid_out g style amount =
       suffix = option_to_list (base_byte (style.suffix || has g.conditions conditions.BaseSuffix) (r.byte layout.base_suffix));
     }
 
--- `first_error sign fraction exponent` is the error of the first of the three that is refused.
-abbrev pub first_error : Bool → Bool → Bool → Option WriteError
-first_error sign fraction exponent =
-    if sign then Some errors.Negative else (if fraction then Some errors.Fraction else (if exponent then Some errors.Exponent else None))
+-- `first_error sign fraction last error` is the error of the first of the three that is refused. That of the last one is `error`.
+abbrev pub first_error : Bool → Bool → Bool → WriteError → Option WriteError
+first_error sign fraction last error =
+    if sign then Some errors.Negative else (if fraction then Some errors.Fraction else (if last then Some error else None))
 
 -- `refusal g amount` is why `amount` cannot be written as a literal of `g`, or `None` if it can.
 abbrev pub refusal : Grammar → Amount → Option WriteError
 refusal g amount = first_error (amount.negative && has g.conditions conditions.NegativeSign) (lacks_options g.options && is_some amount.fraction)
-    ((lacks_options g.options || (raw g.word).flag layout.no_exponent_notation) && is_some amount.exponent)
+    ((lacks_options g.options || (raw g.word).flag layout.no_exponent_notation) && is_some amount.exponent) errors.Exponent
 
 -- `IsLaidOut g style amount result` holds if `result` is what is written for `amount`, or why it cannot be written.
 abbrev pub IsLaidOut : Grammar → Style → Amount → Result Layout WriteError → Type 0

@@ -1,9 +1,9 @@
 //! How a float is written in a radix that is a power of two.
 
-ghost use Rattle.std.specs.Prelude.{◌≡◌, ◌+◌, ◌-◌, ◌*◌, ◌/◌, ◌%◌, ◌^◌, ◌<◌, ◌≤◌, ◌||◌, true, is_some, None, IfOk, IfSome};
+ghost use Rattle.std.specs.Prelude.{◌≡◌, ◌+◌, ◌-◌, ◌*◌, ◌/◌, ◌%◌, ◌^◌, ◌<◌, ◌≤◌, ◌||◌, true, is_some, None, IfErr, IfOk, IfSome};
 ghost use Rattle.lexical_util.specs.Layout as layout;
 ghost use Rattle.lexical_util.specs.Record.{effective_exponent_base, raw};
-ghost use Rattle.lexical_writer.specs.Amount.{HasUnits};
+ghost use Rattle.lexical_writer.specs.Amount.{HasUnits, is_limit};
 ghost use Rattle.lexical_writer.specs.Rounded.{rounded};
 
 use crate::checked::Exact;
@@ -174,8 +174,9 @@ impl Binary {
     pub(crate) fn digits(&self, syntax: &Syntax, style: Style) -> Result<(u64, Shape), WriteError>
         requires radix { (raw syntax.now.word).byte layout.mantissa_radix ≡ 2 ^ self.now.bits }
         requires base { effective_exponent_base (raw syntax.now.word) ≡ 2 ^ self.now.base_bits }
-        ensures { IfOk result (λ it. HasUnits syntax.now style it.1.shown (self.now.number * 2 ^ self.now.power) (2 ^ 1200) it.1.negative it.1.exponent
+        ensures form { IfOk result (λ it. HasUnits syntax.now style it.1.shown (self.now.number * 2 ^ self.now.power) (2 ^ 1200) it.1.negative it.1.exponent
             it.1.places (it.0 * (raw syntax.now.word).byte layout.mantissa_radix ^ it.1.after)) }
+        ensures limit { IfErr result (λ error. is_limit syntax.now error ≡ true) }
     {
         let long = self.is_long(self.places(style, least_places(syntax, style, false), RAISED));
         if long && !allows_exponent(syntax) {

@@ -14,7 +14,9 @@ ghost use Rattle.lexical_writer.specs.Layout.{given_fraction};
 ghost use Rattle.lexical_writer.specs.declared.run.Source.TheVariants as sources;
 
 use crate::float_digits::split;
-use crate::layout::{Amount, ExponentStyle, Power, Style, allows_exponent, needs_exponent};
+use crate::layout::{
+    Amount, ExponentStyle, Power, Style, allows_exponent, is_whole, needs_exponent,
+};
 use crate::run::Source;
 use lexical_literal::syntax::Syntax;
 use lexical_number::shortest::{Decimal, shortest};
@@ -35,7 +37,7 @@ pub(crate) struct Shape {
 
 // Returns a fraction, if it has digits, of which there are as many as `places`.
 #[inline(always)]
-const fn fraction_in<'a>(places: usize, fraction: Source<'a>) -> Option<Source<'a>>
+pub(crate) const fn fraction_in<'a>(places: u128, fraction: Source<'a>) -> Option<Source<'a>>
     ensures values { (radix : ℕ) → length (values_of radix fraction.entry) ≡ places
         → values_of radix (unwrap_or result (sources.Number 0)) ≡ values_of radix fraction.entry }
     ensures some { is_some result ≡ nat_lt 0 places }
@@ -75,7 +77,7 @@ pub(crate) fn amount_in<'a>(negative: bool, digits: &'a [u8], form: Shape) -> Am
     Amount {
         negative,
         integer,
-        fraction: fraction_in(form.places, fraction),
+        fraction: fraction_in(form.places as u128, fraction),
         exponent: power_in(form),
     }
 }
@@ -111,7 +113,7 @@ pub(crate) fn least_places(syntax: &Syntax, style: Style, shown: bool) -> usize
     ensures value { result ≡ least_places syntax.now style shown }
     ensures limit { result ≤ 255 }
 {
-    if syntax.options().is_none() {
+    if is_whole(syntax) {
         return 0;
     }
     match style.decimals {

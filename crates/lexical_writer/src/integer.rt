@@ -7,8 +7,8 @@ ghost use Rattle.lexical_literal.specs.Notation.{notation_of};
 ghost use Rattle.lexical_value.specs.Integer.{IsInteger};
 ghost use Rattle.lexical_writer.specs.Layout.{HasValue, IsWhole, literal_of, wants_exponent, whole_refusal};
 
-use crate::layout::{Amount, Layout, Style, WriteError, needs_exponent};
-use lexical_literal::syntax::{Condition, Syntax};
+use crate::layout::{Amount, Layout, Style, WriteError, forbids_minus, needs_exponent};
+use lexical_literal::syntax::Syntax;
 use lexical_number::integer::Integer;
 
 /// Returns how the value of an integer is written as a literal of `syntax`.
@@ -34,7 +34,7 @@ pub fn format_integer<T: Integer>(
     ensures error { IfErr result (λ error. whole_refusal syntax.now (T.range.value value) ≡ Some error) }
 {
     let (negative, size) = value.sign_and_size();
-    if negative && syntax.conditions().has(Condition::NegativeSign) {
+    if negative && forbids_minus(syntax) {
         return Err(WriteError::Negative);
     }
     if needs_exponent(syntax) {

@@ -5,8 +5,9 @@ ghost use Rattle.std.specs.Int.Digits.{digits_of};
 ghost use Rattle.lexical_util.specs.Record.{raw};
 ghost use Rattle.lexical_util.specs.Rules.{IsRadix, Lawful};
 ghost use Rattle.lexical_literal.specs.Literal.{Reads, is_present, text_of};
-ghost use Rattle.lexical_literal.specs.Notation.{notation_of};
+ghost use Rattle.lexical_literal.specs.Notation.{has, lacks_options, notation_of};
 ghost use Rattle.lexical_literal.specs.Syntax.{IsSyntax};
+ghost use Rattle.lexical_literal.specs.declared.syntax.Condition.TheVariants as conditions;
 ghost use Rattle.lexical_writer.specs.Digits.{no_groups, only_if, run_text, size_of, values_of};
 ghost use Rattle.lexical_writer.specs.Layout.{HasNumber, IsLaidOut, allows_exponent, base_byte, exponent_text, first_error, fraction_pattern, fraction_text};
 ghost use Rattle.lexical_writer.specs.Layout.{has_exponent, has_point, has_zero, integer_pattern, integer_text};
@@ -409,12 +410,13 @@ impl<'a> Amount<'a> {
     fn refusal(&self, syntax: &Syntax) -> Option<WriteError>
         ensures { result ≡ refusal syntax.now self.now }
     {
-        let integers = syntax.options().is_none();
+        let integers = is_whole(syntax);
         let no_exponent = integers | syntax.format().view().no_exponent_notation();
         first_error(
-            self.negative & syntax.conditions().has(Condition::NegativeSign),
+            self.negative & forbids_minus(syntax),
             integers & self.fraction.is_some(),
             no_exponent & self.exponent.is_some(),
+            WriteError::Exponent,
         )
     }
 
@@ -510,6 +512,22 @@ fn exponent_run<'a>(
     }
 }
 
+// Returns whether no literal has the sign `-`.
+#[inline]
+pub(crate) fn forbids_minus(syntax: &Syntax) -> bool
+    ensures { result ≡ has syntax.now.conditions conditions.NegativeSign }
+{
+    syntax.conditions().has(Condition::NegativeSign)
+}
+
+// Returns whether literals are integers.
+#[inline]
+pub(crate) fn is_whole(syntax: &Syntax) -> bool
+    ensures { result ≡ lacks_options syntax.now.options }
+{
+    syntax.options().is_none()
+}
+
 // Returns whether each literal has an exponent.
 #[inline]
 pub(crate) fn needs_exponent(syntax: &Syntax) -> bool
@@ -533,16 +551,22 @@ const fn wants_exponent(wish: ExponentStyle) -> bool
     matches!(wish, ExponentStyle::Always)
 }
 
-// Returns the error of a sign, a fraction or an exponent that is refused, the first if several are.
-const fn first_error(sign: bool, fraction: bool, exponent: bool) -> Option<WriteError>
-    ensures { result ≡ first_error sign fraction exponent }
+// Returns the error of the first that is refused: of a sign, of a fraction, or `error`.
+#[inline(always)]
+pub(crate) const fn first_error(
+    sign: bool,
+    fraction: bool,
+    last: bool,
+    error: WriteError,
+) -> Option<WriteError>
+    ensures { result ≡ first_error sign fraction last error }
 {
     if sign {
         Some(WriteError::Negative)
     } else if fraction {
         Some(WriteError::Fraction)
-    } else if exponent {
-        Some(WriteError::Exponent)
+    } else if last {
+        Some(error)
     } else {
         None
     }

@@ -4,7 +4,7 @@ ghost use Rattle.std.specs.Prelude.{◌≡◌, ◌&&◌, false, true, IfOk, None
 ghost use Rattle.lexical_util.specs.Record.{raw};
 ghost use Rattle.lexical_util.specs.Rules.{Lawful};
 ghost use Rattle.lexical_literal.specs.Literal.{Reads, text_of, is_minus};
-ghost use Rattle.lexical_literal.specs.Notation.{has, lacks_options, notation_of};
+ghost use Rattle.lexical_literal.specs.Notation.{notation_of};
 ghost use Rattle.lexical_literal.specs.Parts.{literal_of};
 ghost use Rattle.lexical_literal.specs.Syntax.{IsSyntax};
 ghost use Rattle.lexical_number.specs.Numeral.{size_of as numeral_size};
@@ -14,12 +14,13 @@ ghost use Rattle.lexical_writer.specs.Layout.{HasNumber, IsLaidOut, literal_of a
 ghost use Rattle.lexical_writer.specs.Moved.{can_move};
 
 use crate::layout::{
-    Amount, ExponentStyle, Layout, Power, Style, WriteError, allows_exponent, needs_exponent,
+    Amount, ExponentStyle, Layout, Power, Style, WriteError, allows_exponent, forbids_minus,
+    is_whole, needs_exponent,
 };
 use crate::moved::{can_move, exponent_of, places_of, too_far, whole_size, without_exponent};
 use crate::run::Source;
 use lexical_literal::literal::{Literal, Parts};
-use lexical_literal::syntax::{Condition, Syntax};
+use lexical_literal::syntax::Syntax;
 use lexical_number::numeral::{Magnitude, Numeral};
 use lexical_util::format::NumberFormat;
 
@@ -78,14 +79,7 @@ pub(crate) fn convert<'a>(
 fn is_refused(parts: &Parts, syntax: &Syntax) -> bool
     ensures { result ≡ is_refused parts.now syntax.now }
 {
-    is_minus(parts.sign) && syntax.conditions().has(Condition::NegativeSign)
-}
-
-// Returns whether literals are integers.
-fn is_whole(syntax: &Syntax) -> bool
-    ensures { result ≡ lacks_options syntax.now.options }
-{
-    syntax.options().is_none()
+    is_minus(parts.sign) && forbids_minus(syntax)
 }
 
 // Returns whether a format and that of `syntax` have the same mantissa radix.

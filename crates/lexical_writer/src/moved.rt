@@ -11,7 +11,7 @@ ghost use Rattle.lexical_number.specs.Numeral.{size_of as numeral_size};
 ghost use Rattle.lexical_writer.specs.Digits.{padded_values};
 ghost use Rattle.lexical_writer.specs.Moved.{IsMoved, IsOver, IsEnding, IsSize, can_move, down_of, places_of, too_far, trimmed, up_of};
 
-use crate::digits::without_zeros;
+use crate::form::fraction_in;
 use crate::layout::{Amount, WriteError};
 use crate::literal::is_minus;
 use crate::run::{Padded, Source};
@@ -118,11 +118,7 @@ pub(crate) fn without_exponent<'a>(parts: &Parts<'a>, radix: u32, places: usize)
     Amount {
         negative: is_minus(parts.sign),
         integer: Source::Padded(integer),
-        fraction: if fraction.count(radix) > 0 {
-            Some(Source::Padded(fraction))
-        } else {
-            None
-        },
+        fraction: fraction_in(fraction.count(radix), Source::Padded(fraction)),
         exponent: None,
     }
 }
@@ -154,8 +150,13 @@ fn is_zero(parts: &Parts, radix: u32) -> bool
     requires { IsRadix radix }
     ensures { result ≡ (number radix (parts.now.integer.now ++ parts.now.fraction.now) == 0) }
 {
-    count(without_zeros(parts.integer, radix), radix) == 0
-        && count(without_zeros(parts.fraction, radix), radix) == 0
+    let digits = Padded {
+        before: 0,
+        first: parts.integer,
+        second: parts.fraction,
+        after: 0,
+    };
+    digits.lean(radix).count(radix) == 0
 }
 
 // Returns by how many digits the point of a literal moves in place of an exponent whose base is the radix, or `None` for too many.

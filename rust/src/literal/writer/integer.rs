@@ -2,9 +2,9 @@
 
 //! Integers are written.
 
-use crate::literal::syntax::{Condition, Syntax};
+use crate::literal::syntax::Syntax;
 use crate::literal::value::number::integer::Integer;
-use crate::literal::writer::layout::{needs_exponent, Amount, Layout, Style, WriteError};
+use crate::literal::writer::layout::{forbids_minus, needs_exponent, Amount, Layout, Style, WriteError};
 
 /// Returns how the value of an integer is written as a literal of `syntax`.
 ///
@@ -15,7 +15,7 @@ use crate::literal::writer::layout::{needs_exponent, Amount, Layout, Style, Writ
 #[inline(always)]
 pub fn format_integer<T: Integer>(syntax: &Syntax, value: T, style: Style) -> Result<Layout<'static>, WriteError> {
     let (negative, size) = value.sign_and_size();
-    if negative && syntax.conditions().has(Condition::NegativeSign) {
+    if negative && forbids_minus(syntax) {
         return Err(WriteError::Negative);
     }
     if needs_exponent(syntax) {

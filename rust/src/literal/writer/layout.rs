@@ -321,12 +321,13 @@ impl<'a> Amount<'a> {
     // Returns why the number cannot be written, if it cannot.
     #[inline]
     fn refusal(&self, syntax: &Syntax) -> Option<WriteError> {
-        let integers = syntax.options().is_none();
+        let integers = is_whole(syntax);
         let no_exponent = integers | syntax.format().view().no_exponent_notation();
         first_error(
-            self.negative & syntax.conditions().has(Condition::NegativeSign),
+            self.negative & forbids_minus(syntax),
             integers & self.fraction.is_some(),
             no_exponent & self.exponent.is_some(),
+            WriteError::Exponent,
         )
     }
 
@@ -390,6 +391,18 @@ fn exponent_run<'a>(source: Source<'a>, format: FormatView, style: Style, expone
     Run { source: lean(source, radix), radix, least: one_if(exponent), pattern: no_groups(style.lowercase) }
 }
 
+// Returns whether no literal has the sign `-`.
+#[inline]
+pub(crate) fn forbids_minus(syntax: &Syntax) -> bool {
+    syntax.conditions().has(Condition::NegativeSign)
+}
+
+// Returns whether literals are integers.
+#[inline]
+pub(crate) fn is_whole(syntax: &Syntax) -> bool {
+    syntax.options().is_none()
+}
+
 // Returns whether each literal has an exponent.
 #[inline]
 pub(crate) fn needs_exponent(syntax: &Syntax) -> bool {
@@ -407,14 +420,15 @@ const fn wants_exponent(wish: ExponentStyle) -> bool {
     matches!(wish, ExponentStyle::Always)
 }
 
-// Returns the error of a sign, a fraction or an exponent that is refused, the first if several are.
-const fn first_error(sign: bool, fraction: bool, exponent: bool) -> Option<WriteError> {
+// Returns the error of the first that is refused: of a sign, of a fraction, or `error`.
+#[inline(always)]
+pub(crate) const fn first_error(sign: bool, fraction: bool, last: bool, error: WriteError) -> Option<WriteError> {
     if sign {
         Some(WriteError::Negative)
     } else if fraction {
         Some(WriteError::Fraction)
-    } else if exponent {
-        Some(WriteError::Exponent)
+    } else if last {
+        Some(error)
     } else {
         None
     }

@@ -3,10 +3,10 @@
 //! Literals are written as literals of another syntax.
 
 use crate::literal::literal::{Literal, Parts};
-use crate::literal::syntax::{Condition, Syntax};
+use crate::literal::syntax::Syntax;
 use crate::literal::value::number::numeral::{Magnitude, Numeral};
 use crate::literal::writer::layout::{
-    allows_exponent, needs_exponent, Amount, ExponentStyle, Layout, Power, Style, WriteError,
+    allows_exponent, forbids_minus, is_whole, needs_exponent, Amount, ExponentStyle, Layout, Power, Style, WriteError,
 };
 use crate::literal::writer::moved::{can_move, exponent_of, places_of, too_far, whole_size, without_exponent};
 use crate::literal::writer::run::Source;
@@ -49,12 +49,7 @@ pub(crate) fn convert<'a>(
 
 // Returns whether a literal is below 0, or -0, and no literal of `syntax` is.
 fn is_refused(parts: &Parts, syntax: &Syntax) -> bool {
-    is_minus(parts.sign) && syntax.conditions().has(Condition::NegativeSign)
-}
-
-// Returns whether literals are integers.
-fn is_whole(syntax: &Syntax) -> bool {
-    syntax.options().is_none()
+    is_minus(parts.sign) && forbids_minus(syntax)
 }
 
 // Returns whether a format and that of `syntax` have the same mantissa radix.

@@ -8,7 +8,7 @@ use crate::literal::value::number::numeral::{Magnitude, Numeral};
 use crate::literal::value::number::scaling::bits_of;
 use crate::literal::value::number::small::count;
 use crate::literal::value::scaled::raised;
-use crate::literal::writer::digits::without_zeros;
+use crate::literal::writer::form::fraction_in;
 use crate::literal::writer::layout::{Amount, WriteError};
 use crate::literal::writer::literal::is_minus;
 use crate::literal::writer::run::{Padded, Source};
@@ -74,7 +74,7 @@ pub(crate) fn without_exponent<'a>(parts: &Parts<'a>, radix: u32, places: usize)
     Amount {
         negative: is_minus(parts.sign),
         integer: Source::Padded(integer),
-        fraction: if fraction.count(radix) > 0 { Some(Source::Padded(fraction)) } else { None },
+        fraction: fraction_in(fraction.count(radix), Source::Padded(fraction)),
         exponent: None,
     }
 }
@@ -95,7 +95,8 @@ pub(crate) fn exponent_of<'a>(format: FormatView, parts: &Parts<'a>) -> Numeral<
 
 // Returns whether all digits of a literal are zeros.
 fn is_zero(parts: &Parts, radix: u32) -> bool {
-    count(without_zeros(parts.integer, radix), radix) == 0 && count(without_zeros(parts.fraction, radix), radix) == 0
+    let digits = Padded { before: 0, first: parts.integer, second: parts.fraction, after: 0 };
+    digits.lean(radix).count(radix) == 0
 }
 
 // Returns by how many digits the point of a literal moves in place of an exponent whose base is the radix, or `None` for too many.

@@ -8,8 +8,8 @@ use Rattle.lexical_writer.proofs.float.binary_digits.Goals as goal
 two_power : (b : ℕ) → 1 ≤ b → 2 ≤ 2 ^ b
 two_power b some = let power = twos 1 b some in omega (arith, power)
 
-pub returns : goal.returns
-returns g c =
+pub returns-clause-form : goal.returns-clause-form
+returns-clause-form g c =
     let s = c.args.syntax.now in
     let R = (raw s.word).byte layouts.mantissa_radix in
     let float = c.in-Some.float in
@@ -38,7 +38,7 @@ returns g c =
             (c.if-not-is_exact.ensures.value refl));
       },
       (
-        subst (HasUnits s c.args.style form.shown num den form.negative form.exponent form.places) (sym units) c.in_ok-number.ensures,
+        subst (HasUnits s c.args.style form.shown num den form.negative form.exponent form.places) (sym units) c.in_ok-number.ensures.form,
         λ ten. absurd (c.requires.radix ten),
       ),
       subst (λ r. places r bytes ≡ length bytes) radix c.put_word-bytes.ensures.places,

@@ -5,8 +5,8 @@ use Rattle.lexical_util.specs.Layout as layouts
 use Rattle.lexical_writer.proofs.FloatLemmas.{some_down}
 use Rattle.lexical_writer.proofs.float.decimal_digits.Goals as goal
 
-pub returns : goal.returns
-returns g c =
+pub returns-clause-form : goal.returns-clause-form
+returns-clause-form g c =
     let s = c.args.syntax.now in
     let d = c.args.decimal.digits in
     let bytes = c.put_word-bytes.result.now in
