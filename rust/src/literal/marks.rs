@@ -21,13 +21,7 @@ impl Form {
         if excludes(syntax.as_grammar(), inside, sign_size(inside)) {
             return None;
         }
-        if cfg!(peltzivar_small) {
-            return match syntax.read_generally(inside) {
-                Ok(literal) => Some(literal),
-                Err(_) => None,
-            };
-        }
-        let begun = syntax.begin(false, inside, false);
+        let begun = syntax.begin_small(inside, false);
         if begun.is_whole(syntax, inside) {
             return Some(syntax.literal(inside, begun.counts, begun.sums));
         }
@@ -39,7 +33,7 @@ impl Form {
 
     // Returns what is between the opening and the closing of `text`, if both are there.
     #[inline(always)]
-    const fn between<'t>(&self, text: &'t [u8]) -> Option<&'t [u8]> {
+    pub(crate) const fn between<'t>(&self, text: &'t [u8]) -> Option<&'t [u8]> {
         let opened = self.opening.opened(text);
         if opened < self.opening.size() {
             return None;
