@@ -162,9 +162,10 @@ REPLACED += [
     # The library for C has one copy of these.
     ("reasons.rt", "#[inline(always)]\n#[tactic(auto, unfolding(lexical_flags::specs::Roles::Disjoint))]\nconst fn clash(", "#[cfg_attr(not(peltzivar_small), inline(always))]\nconst fn clash("),
     ("reasons.rt", "#[inline(always)]\nconst fn reason_for(", "#[cfg_attr(not(peltzivar_small), inline(always))]\nconst fn reason_for("),
-    ("marks.rt", "#[inline(always)]\n    pub(crate) const fn literal<", "#[cfg_attr(not(peltzivar_small), inline(always))]\n    pub(crate) const fn literal<"),
     ("marks.rt", "#[inline(always)]\n    pub(crate) const fn front_past(", "#[cfg_attr(not(peltzivar_small), inline(always))]\n    pub(crate) const fn front_past("),
-    ("marks.rt", "syntax.begin(false, inside, false)", "syntax.begin_small(inside, false)"),
+    ("token.rt", "None => self.token_of(", "None if cfg!(peltzivar_small) => self.token_marked(tokens, text),\n            None => self.token_of("),
+    ("marked.rt", "match self.find_marked(word) {", "if cfg!(peltzivar_small) { return self.fault(word, end); } match self.find_marked(word) {"),
+    ("marked.rt", "match self.literal(front) {", "match self.literal_of(front, candidate.counts) {"),
     ("marks.rt", "const fn between<", "pub(crate) const fn between<"),
     ("list.rt", "        if self.marked {\n            self.number(text, self.find_marked(text))", "        if !cfg!(peltzivar_small) && self.marked {\n            self.number(text, self.find_marked(text))"),
     ("list.rt", "            let syntax = &self.forms[form].syntax;\n            if !is_behind(", "            let Some((text, sign)) = self.inside(text, sign, form) else { form += 1; continue; }; let syntax = &self.forms[form].syntax;\n            if !is_behind("),

@@ -9,7 +9,7 @@ use crate::literal::stop::Stopped;
 use crate::literal::value::Decimal;
 use crate::literal::{
     Form, FormError, Forms, FromLiteral, IntegerKind, Literal, Number, ParseError, ReadError, ReadErrorKind, Special,
-    Specials, Syntax, ValueError,
+    Specials, Syntax, TokenError, ValueError,
 };
 
 impl<'a> Forms<'a> {
@@ -58,6 +58,16 @@ impl<'a> Forms<'a> {
             }
         }
         self.read_behind(text, stop)
+    }
+
+    // Returns why `word`, up to `end`, is not a token, as the library for C reads all texts.
+    #[cold]
+    pub(crate) const fn fault(&self, word: &[u8], end: usize) -> TokenError {
+        let specials = Specials { nan: None, inf: None, infinity: None };
+        match self.with_specials(specials).read_behind(word, None) {
+            Err(error) => TokenError::Literal(error),
+            Ok(_) => TokenError::NotAToken { end },
+        }
     }
 
     // Returns what a form reads of `text`, and the length of its sign. In the library for C, which has one reader for all lists, that is what
@@ -249,6 +259,20 @@ impl fmt::Display for Number<'_> {
 impl fmt::Display for Special {
     fn fmt(&self, f: &mut fmt::Formatter<'_>) -> fmt::Result {
         self.to_f64().fmt(f)
+    }
+}
+
+impl Form {
+    // Returns the literal that `text` is, with parts of these lengths. The library for C does not read it again.
+    #[inline(always)]
+    pub(crate) const fn literal_of<'t>(&self, text: &'t [u8], counts: [usize; 9]) -> Option<Literal<'t>> {
+        if !cfg!(peltzivar_small) {
+            return self.literal(text);
+        }
+        match self.between(text) {
+            Some(inside) => Some(self.syntax.summed(inside, counts)),
+            None => None,
+        }
     }
 }
 

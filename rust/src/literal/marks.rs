@@ -12,7 +12,7 @@ use crate::literal::syntax::Condition;
 
 impl Form {
     // Returns the literal that `text` is, if it is one.
-    #[cfg_attr(not(peltzivar_small), inline(always))]
+    #[inline(always)]
     pub(crate) const fn literal<'t>(&self, text: &'t [u8]) -> Option<Literal<'t>> {
         let Some(inside) = self.between(text) else {
             return None;
@@ -21,7 +21,7 @@ impl Form {
         if excludes(syntax.as_grammar(), inside, sign_size(inside)) {
             return None;
         }
-        let begun = syntax.begin_small(inside, false);
+        let begun = syntax.begin(false, inside, false);
         if begun.is_whole(syntax, inside) {
             return Some(syntax.literal(inside, begun.counts, begun.sums));
         }
