@@ -212,6 +212,12 @@ REPLACED += [
     ("choice.rt", "fn read_alone<N: Writable>(", "fn read_alone<N: Writable + ?Sized>("),
     ("choice.rt", "fn read_token<N: Writable>(", "fn read_token<N: Writable + ?Sized>("),
     ("choice.rt", "fn write_by<N: Writable>(", "fn write_by<N: Writable + ?Sized>("),
+    # Programs that write floats have no code for tokens.
+    ("choice.rt", "    fn radix(&self) -> u32;\n", "    fn radix(&self) -> u32; /// Returns the token that `text` begins with. Only integers are written with words.\n fn token<'t>(&self, _: &Forms, _: &'t [u8]) -> Option<Token<'t>> { None }\n"),
+    ("choice.rt", "impl Writable for Whole {", "impl Writable for Whole { fn token<'t>(&self, forms: &Forms, text: &'t [u8]) -> Option<Token<'t>> { forms.token(text).ok() }"),
+    ("choice.rt", "impl Writable for Literal<'_> {", "impl Writable for Literal<'_> { fn token<'t>(&self, forms: &Forms, text: &'t [u8]) -> Option<Token<'t>> { forms.token(text).ok() }"),
+    ("choice.rt", "list::{Forms, Number};", "list::{Forms, Number}; use lexical_forms::token::Token;"),
+    ("choice.rt", "let Ok(token) = forms.token(text) else", "let Some(token) = number.token(forms, text) else"),
     # `Debug` prints the answers.
     ("cause.rt", "#[derive(Debug, Clone, Copy, PartialEq, Eq, Hash)]\npub struct ReadError {", "#[derive(Clone, Copy, PartialEq, Eq, Hash)]\npub struct ReadError {"),
     ("lawful.rt", "Eq)]\npub struct FormatError", "Eq, Hash)]\npub struct FormatError"),
