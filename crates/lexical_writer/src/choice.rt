@@ -410,7 +410,7 @@ pub(crate) const LONGEST: usize = 4096;
 /// index of the form, the length of the text, and the style in which it is written. Forms of the number's radix are asked first,
 /// then decimal ones, and then the others, each in the order of the list, and all forms with floats write a float before those of
 /// integers alone. Where an exponent would make an integer another number, the wish for one is dropped. A float is rounded in the radix
-/// of the form that is asked first. Forms with an opening are not asked yet.
+/// of the form that is asked first. Forms with an opening or a closing are not asked yet.
 ///
 /// # Errors
 ///
@@ -435,7 +435,7 @@ pub fn choose<N: Writable>(
         for (index, form) in forms.as_slice().iter().enumerate() {
             let syntax = form.syntax();
             if turn(number.radix(), number.is_integer(), &syntax) != wanted
-                || !form.opening().is_empty()
+                || form.is_marked()
             {
                 continue;
             }
@@ -559,7 +559,7 @@ fn write_by<N: Writable>(
     ensures length { IfOk result (λ size. size ≤ length buffer.new) }
 {
     let it = &forms.as_slice()[index];
-    if !it.opening().is_empty() {
+    if it.is_marked() {
         return Err(WriteError::ReadBack);
     }
     let syntax = it.syntax();

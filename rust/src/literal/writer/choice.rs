@@ -282,7 +282,7 @@ pub(crate) const LONGEST: usize = 4096;
 /// index of the form, the length of the text, and the style in which it is written. Forms of the number's radix are asked first,
 /// then decimal ones, and then the others, each in the order of the list, and all forms with floats write a float before those of
 /// integers alone. Where an exponent would make an integer another number, the wish for one is dropped. A float is rounded in the radix
-/// of the form that is asked first. Forms with an opening are not asked yet.
+/// of the form that is asked first. Forms with an opening or a closing are not asked yet.
 ///
 /// # Errors
 ///
@@ -300,7 +300,7 @@ pub fn choose<N: Writable + ?Sized>(
     for wanted in 0..if number.is_integer() { 3 } else { 6 } {
         for (index, form) in forms.as_slice().iter().enumerate() {
             let syntax = form.syntax();
-            if turn(number.radix(), number.is_integer(), &syntax) != wanted || !form.opening().is_empty() {
+            if turn(number.radix(), number.is_integer(), &syntax) != wanted || form.is_marked() {
                 continue;
             }
             // A number is rounded in one radix alone and, if there are forms with floats, by these alone.
@@ -400,7 +400,7 @@ fn write_by<N: Writable + ?Sized>(
     buffer: &mut [u8],
 ) -> Result<usize, WriteError> {
     let it = &forms.as_slice()[index];
-    if !it.opening().is_empty() {
+    if it.is_marked() {
         return Err(WriteError::ReadBack);
     }
     let syntax = it.syntax();
