@@ -511,7 +511,7 @@ fn write_around<N: Writable + ?Sized>(
     let it = &forms.as_slice()[index];
     let opening = it.opening();
     let start = put_at(buffer, 0, opening.as_bytes());
-    let least = if start < buffer.len() { start } else { buffer.len() };
+    let least = start.min(buffer.len());
     let (size, _) = number.write(&it.syntax(), style, &mut buffer[least..])?;
     let end = match word {
         Some(word) => put_at(buffer, start.saturating_add(size), word),
