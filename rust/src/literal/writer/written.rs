@@ -21,8 +21,9 @@ pub struct Written<'a> {
     pub(super) word: Option<&'static &'static [u8]>,
 }
 
-impl<'a> From<Text<'a>> for Written<'a> {
-    fn from(text: Text<'a>) -> Self {
+impl<'a> Written<'a> {
+    /// Returns a text that nothing stands around.
+    pub(super) const fn of(text: Text<'a>) -> Written<'a> {
         Written { text, opening: Affix::NONE, word: None }
     }
 }
@@ -134,10 +135,14 @@ impl Written<'_> {
             return text.len();
         }
         let mut window = Window { bytes: buffer, length: 0 };
-        window.put_all(self.opening.as_bytes());
+        if !self.opening.is_empty() {
+            window.put_all(self.opening.as_bytes());
+        }
         let start = window.length.min(window.bytes.len());
         window.length = window.length.saturating_add(self.text.write(&mut window.bytes[start..]));
-        window.put_all(self.word());
+        if self.word.is_some() {
+            window.put_all(self.word());
+        }
         window.length
     }
 
