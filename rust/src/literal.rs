@@ -54,6 +54,7 @@ mod cause;
 mod conditions;
 #[allow(clippy::match_like_matches_macro, clippy::redundant_pattern_matching, reason = "as it is proved")]
 mod exclude;
+mod form;
 mod forms;
 mod group_size;
 mod kind;
@@ -62,6 +63,8 @@ mod language;
 mod list;
 #[allow(clippy::module_inception, clippy::needless_lifetimes, reason = "as it is proved")]
 mod literal;
+mod marked;
+mod marks;
 mod notation;
 mod number;
 mod scan;
@@ -96,6 +99,7 @@ mod writer;
 
 pub use affix::Affix;
 pub use cause::{Place, ReadError, ReadErrorKind};
+pub use form::Form;
 pub use kind::{FloatKind, FloatLimits, IntegerKind, Kind};
 pub use language::{Language, LanguageError};
 /// Reads and writes numbers that have one of several forms, such as `10` and `0x1F`.
@@ -120,7 +124,7 @@ pub use language::{Language, LanguageError};
 /// assert_eq!((error.form, error.name, error.to_string()), (1, "octal", "unexpected character '8'".into()));
 /// ```
 pub use list::Forms;
-pub use list::{Form, FormError, Number, Tokens};
+pub use list::{FormError, Mark, Number, Tokens};
 /// A number that was read from a text: its parts, which can be converted to a type of Rust.
 ///
 /// A part that is absent has no bytes. All bytes are ASCII. Two literals are equal if they have the same format, up to

@@ -5,10 +5,11 @@
 mod random;
 
 use peltzivar::literal::{
-    Affix, Condition, Form, FormError, Forms, FromLiteral, Kind, Language, Number, ParseError, ReadError,
-    ReadErrorKind, Special, Specials, Syntax,
+    Affix, Condition, Form, FormError, Forms, FromLiteral, Kind, Language, Literal, Number, ParseError, ReadError,
+    ReadErrorKind, Special, Specials, Suffixes, Syntax, Tokens,
 };
 use random::Random;
+use std::cmp::Reverse;
 use std::fmt::{Debug, Display};
 use std::ops::Range;
 
@@ -31,50 +32,127 @@ fn text(random: &mut Random) -> Vec<u8> {
     (0..count).flat_map(|_| random.pick(&PIECES)).copied().collect()
 }
 
-/// Openings that overlap each other and literals. Those with a capital letter are case-sensitive.
+/// Openings and closings that overlap each other and literals. Those with a capital letter are case-sensitive.
 const OPENINGS: [&[u8]; 9] = [b"0", b"0x", b"x", b"1", b"12", b"0Xe5", b"-", b"e", b"8F.+0001"];
+const CLOSINGS: [&[u8]; 8] = [b"q", b" ", b";", b";;", b"h", b"Qe5", b"'1.", b"x0x"];
 
-/// Returns a list of forms of any languages, some with the kind of another form, some with an opening, and some with special values that
-/// begin as literals do.
-fn list(random: &mut Random) -> Forms<'static> {
+/// Suffixes of half of the forms, and words that may follow numbers.
+static SUFFIXES: Suffixes = Suffixes::new(&[b"u8", b"x", b"D0"], &[b"f", b"f1"], &[]);
+const FOLLOWING: [&[u8]; 2] = [b"inf", b"x"];
+
+/// A list, the forms that need a suffix, and whether points are given back.
+struct Case {
+    list: Forms<'static>,
+    needing: &'static [Form],
+    back: bool,
+}
+
+/// Returns a form of any language, with the kind of another one, maybe with an opening, a closing and suffixes.
+fn form(random: &mut Random, are_marked: bool) -> Form {
     let forms: Vec<Form> = Language::ALL.iter().flat_map(Language::forms).copied().collect();
-    let are_opened = random.one_in(2);
-    let form = |random: &mut Random| {
-        let form = random.pick(&forms).with_kind(random.pick(&forms).kind());
-        let bytes = random.pick(&OPENINGS);
-        let opening = Affix::new(bytes).unwrap().case_sensitive(bytes.iter().any(u8::is_ascii_uppercase));
-        if are_opened && random.one_in(2) {
-            form.with_opening(opening)
-        } else {
-            form
-        }
+    let [from, kind] = [random.pick(&forms), random.pick(&forms)];
+    let mut form = Form::new(from.name(), from.syntax()).with_kind(kind.kind());
+    let mark = |random: &mut Random, marks: &[&[u8]]| {
+        let bytes = random.pick(marks);
+        Affix::new(bytes).unwrap().case_sensitive(bytes.iter().any(u8::is_ascii_uppercase))
     };
-    let count = random.byte(1, 5);
-    let list = Forms::new_or_panic((0..count).map(|_| form(random)).collect::<Vec<_>>().leak());
+    if random.one_in(2) {
+        form = form.with_suffixes(&SUFFIXES);
+    }
+    if are_marked && random.one_in(2) {
+        form = form.with_opening(mark(random, &OPENINGS));
+    }
+    if are_marked && random.one_in(2) {
+        form = form.with_closing(mark(random, &CLOSINGS)).unwrap_or(form);
+    }
+    form
+}
+
+/// Returns a list of forms, some with special values that begin as literals do.
+fn list(random: &mut Random) -> Case {
+    let are_marked = random.one_in(2);
+    let mut forms = |least, most| {
+        let count = random.byte(least, most);
+        &*(0..count).map(|_| form(random, are_marked)).collect::<Vec<_>>().leak()
+    };
+    let (list, needing) = (forms(1, 5), forms(0, 2));
+    let back = random.one_in(2);
+    let tokens = Box::leak(Box::new(Tokens::new(needing, &FOLLOWING).gives_points_back(back)));
     let odd = Specials { nan: Some(b"1x"), inf: Some(b"0x"), infinity: Some(b"q1") };
-    list.with_specials(random.pick(&[Specials::default(), Language::TOML.forms().specials(), odd]))
+    let specials = random.pick(&[Specials::default(), Language::TOML.forms().specials(), odd]);
+    Case { list: Forms::new_or_panic(list).with_specials(specials).with_tokens(tokens), needing, back }
+}
+
+/// How many bytes of an opening or a closing a text begins with.
+fn common(mark: Affix, text: &[u8]) -> usize {
+    let same = |(own, byte): &(&u8, &u8)| own == byte || !mark.is_case_sensitive() && own.eq_ignore_ascii_case(byte);
+    mark.as_bytes().iter().zip(text).take_while(same).count()
+}
+
+/// What is between the opening and the closing of a text, if it has both, and is a literal of the syntax.
+fn between<'t>(form: &Form, text: &'t [u8]) -> Option<Literal<'t>> {
+    let [opening, closing] = [form.opening(), form.closing()];
+    let (start, size) = (opening.as_bytes().len(), closing.as_bytes().len());
+    let end = text.len().checked_sub(size).filter(|end| start <= *end)?;
+    let is_marked = common(opening, text) == start && common(closing, &text[end..]) == size;
+    is_marked.then(|| form.syntax().read(&text[start..end]).ok())?
+}
+
+/// The index in `text`, which is behind the opening, where a literal ends behind which a part of the closing is the rest.
+fn closed_at(form: &Form, text: &[u8]) -> Option<usize> {
+    let is_end = |end: &usize| {
+        common(form.closing(), &text[*end..]) == text.len() - end && form.syntax().read(&text[..*end]).is_ok()
+    };
+    (0..=text.len()).find(is_end)
+}
+
+/// Whether some literal of a form begins with a text.
+fn is_front(form: &Form, text: &[u8]) -> bool {
+    let opened = common(form.opening(), text);
+    let rest = &text[opened..];
+    if opened < form.opening().as_bytes().len() {
+        return rest.is_empty();
+    }
+    closed_at(form, rest).is_some() || form.syntax().read(rest).err().is_none_or(|it| it.valid_up_to() == rest.len())
+}
+
+/// The longest front of a text with which some literal of a form begins.
+fn right(form: &Form, text: &[u8]) -> usize {
+    (0..=text.len()).rev().find(|size| is_front(form, &text[..*size])).unwrap()
 }
 
 /// Why a text is not a literal of a form: how many bytes are right, whether the cause is stray, the bytes to show, and
 /// the sentence.
 type Why = (usize, bool, Range<usize>, [String; 2]);
 
-/// What the syntax of a form reads behind the opening, by `read`.
-fn behind<T>(form: &Form, text: &[u8], read: fn(&Syntax, &[u8]) -> Result<T, ReadError>) -> Result<T, Why> {
-    let opening = form.opening().as_bytes();
-    let is_sensitive = opening.iter().any(u8::is_ascii_uppercase);
-    let same = |(own, byte): &(&u8, &u8)| own == byte || !is_sensitive && own.eq_ignore_ascii_case(byte);
-    let size = opening.iter().zip(text).take_while(same).count();
-    if size < opening.len() {
-        let shown = if text[size..].starts_with("é".as_bytes()) { 2 } else { 1.min(text.len() - size) };
-        let sentence = format!("expected the opening `{}`", std::str::from_utf8(opening).unwrap());
-        return Err((size, true, size..size + shown, [sentence.clone(), sentence]));
+fn why(form: &Form, text: &[u8]) -> Why {
+    let right = right(form, text);
+    let shown = if text[right..].starts_with("é".as_bytes()) { 2 } else { 1.min(text.len() - right) };
+    let stray = |sentence: String| (right, true, right..right + shown, [sentence.clone(), sentence]);
+    let expected =
+        |name, mark: Affix| stray(format!("expected the {name} `{}`", std::str::from_utf8(mark.as_bytes()).unwrap()));
+    let opened = form.opening().as_bytes().len();
+    if right < opened {
+        return expected("opening", form.opening());
     }
-    read(&form.syntax(), &text[size..]).map_err(|it| {
-        let is_stray = it.kind() == ReadErrorKind::Byte || it.conditions().has(Condition::BasePrefix);
-        let span = size + it.span().start..size + it.span().end;
-        (size + it.valid_up_to(), is_stray, span, [format!("{it}"), format!("{it:#}")])
-    })
+    let (rest, size) = (&text[opened..], right - opened);
+    let error = form.syntax().read(rest).err();
+    let is_stray = |it: &ReadError| it.kind() == ReadErrorKind::Byte || it.conditions().has(Condition::BasePrefix);
+    let closing = form.closing().as_bytes().len();
+    if let Some(end) = closed_at(form, &rest[..size]).filter(|_| closing > 0) {
+        if size - end == closing {
+            return stray(match text[right] {
+                byte if byte.is_ascii_graphic() && byte != b'\'' => format!("unexpected character '{}'", byte as char),
+                _ => Syntax::default().read(&text[right..]).unwrap_err().to_string(),
+            });
+        }
+        if size > end || error.is_none_or(|it| is_stray(&it)) {
+            return expected("closing", form.closing());
+        }
+    }
+    let it = error.unwrap();
+    let span = opened + it.span().start..opened + it.span().end;
+    (right, is_stray(&it), span, [format!("{it}"), format!("{it:#}")])
 }
 
 /// Returns the error of the form that goes furthest, with its index. Of several, it is the first whose cause is not a
@@ -89,27 +167,99 @@ fn error_of(errors: &[Why]) -> (usize, Why) {
 /// A literal of a form, whose index, text and kind it has, or a special value.
 type Found = Result<(usize, String, Kind), Special>;
 
+/// The error of a list.
+fn error_in(list: &Forms, text: &[u8]) -> (usize, Why) {
+    error_of(&list.into_iter().map(|form| why(form, text)).collect::<Vec<_>>())
+}
+
 /// What a list reads: the literal of a form, or else a special value, or else an error.
-fn read(forms: &Forms, text: &[u8]) -> Result<Found, (usize, Why)> {
-    let of_form = |form| behind(form, text, |syntax, text| syntax.read(text).map(|it| format!("{it:?}")));
-    let results: Vec<Result<String, Why>> = forms.into_iter().map(of_form).collect();
-    if let Some(form) = results.iter().position(Result::is_ok) {
-        return Ok(Ok((form, results[form].clone().unwrap(), forms[form].kind())));
+fn read(list: &Forms, text: &[u8]) -> Result<Found, (usize, Why)> {
+    let literals = list.into_iter().map(|form| between(form, text));
+    if let Some((form, literal)) = literals.enumerate().find_map(|(form, it)| Some((form, it?))) {
+        return Ok(Ok((form, format!("{literal:?}"), list[form].kind())));
     }
-    match forms.specials().read(&forms[0].syntax(), text) {
+    match list.specials().read(&list[0].syntax(), text) {
         Some(special) => Ok(Err(special)),
-        None => Err(error_of(&results.into_iter().map(Result::unwrap_err).collect::<Vec<_>>())),
+        None => Err(error_in(list, text)),
     }
 }
 
+/// The longest front of a text that is a literal of a form.
+fn longest(form: &Form, text: &[u8]) -> Option<usize> {
+    (0..=text.len()).rev().find(|size| between(form, &text[..*size]).is_some())
+}
+
 /// The longest front that is a literal of a form, of the first form of equals: its index, and how many bytes follow.
-fn read_prefix(forms: &Forms, text: &[u8]) -> Result<(usize, usize), (usize, Why)> {
-    let of_form = |form| behind(form, text, |syntax, text| syntax.read_prefix(text).map(|(_, rest)| rest.len()));
-    let results: Vec<_> = forms.into_iter().map(of_form).collect();
-    let fronts = results.iter().enumerate().filter_map(|(form, it)| Some((form, *it.as_ref().ok()?)));
-    match fronts.min_by_key(|(_, rest)| *rest) {
+fn read_prefix(list: &Forms, text: &[u8]) -> Result<(usize, usize), (usize, Why)> {
+    let fronts = list.into_iter().map(|form| longest(form, text)).enumerate();
+    match fronts.filter_map(|(form, it)| Some((form, text.len() - it?))).min_by_key(|(_, rest)| *rest) {
         Some(front) => Ok(front),
-        None => Err(error_of(&results.into_iter().map(Result::unwrap_err).collect::<Vec<_>>())),
+        None => Err(error_in(list, text)),
+    }
+}
+
+fn is_word_byte(byte: u8) -> bool {
+    byte.is_ascii_alphanumeric() || byte == b'_' || byte >= 128
+}
+
+/// The length of the word with which a text begins.
+fn word(text: &[u8]) -> usize {
+    text.iter().take_while(|it| is_word_byte(**it)).count()
+}
+
+/// Whether the byte at an index is the point of a form.
+fn is_point(form: &Form, text: &[u8], index: usize) -> bool {
+    form.syntax().point().is_some_and(|it| text.get(index) == Some(&it))
+}
+
+/// The lengths of the longest literal of a form, without a point that is given back, and of this with its suffix.
+fn candidate(form: &Form, needs: bool, back: bool, text: &[u8]) -> Option<(usize, usize)> {
+    let mut size = longest(form, text)?;
+    let follows = text.get(size).is_some_and(|it| *it == b'.' || is_word_byte(*it));
+    if back && follows && form.closing().is_empty() && is_point(form, text, size - 1) {
+        size -= 1;
+    }
+    let literal = between(form, &text[..size])?;
+    let words = form.suffixes().map_or(&[][..], |it| if literal.is_float() { it.floats() } else { it.integers() });
+    let suffix = words.iter().filter(|it| text[size..].starts_with(it)).map(|it| it.len()).max().unwrap_or(0);
+    (suffix > 0 || !needs).then_some((size, size + suffix))
+}
+
+/// The index of the form, and the lengths of the literal with its marks and of this with its suffix, or the span and the sentence of an error.
+type Ended = Result<(usize, usize, usize), (Range<usize>, String)>;
+
+/// The token by the steps of the page.
+fn token(case: &Case, text: &[u8]) -> Ended {
+    let Case { list, needing, back } = case;
+    let forms = list.into_iter().map(|it| (it, false)).chain(needing.iter().map(|it| (it, true)));
+    let candidates = forms.enumerate().filter_map(|(index, (form, needs))| {
+        let (size, end) = candidate(form, needs, *back, text)?;
+        Some(((end, size, Reverse(index)), form))
+    });
+    let chosen = candidates.max_by_key(|it| it.0);
+    let fails = || {
+        let furthest = list.into_iter().map(|form| right(form, text)).max().unwrap();
+        let end = furthest + word(&text[furthest..]);
+        let part = &text[..end];
+        if list.into_iter().any(|form| between(form, part).is_some()) {
+            return Err((end..end, "the decimal point belongs to what follows".into()));
+        }
+        let (_, (_, _, span, [sentence, _])) = error_in(list, part);
+        Err((span, sentence))
+    };
+    let Some(((end, size, Reverse(index)), _)) = chosen else { return fails() };
+    let behind = &text[end..];
+    let goes_on = |form: &Form| {
+        let right = right(form, text);
+        right > end && !(*back && right == end + 1 && is_point(form, text, end))
+    };
+    let follows = word(behind);
+    if FOLLOWING.contains(&&behind[..follows]) || !(list.into_iter().any(goes_on) || follows > 0) {
+        Ok((index, size, end))
+    } else if list.into_iter().any(goes_on) || (size == end && behind[0].is_ascii_digit()) {
+        fails()
+    } else {
+        Err((size..end + follows, "unknown suffix".into()))
     }
 }
 
@@ -158,12 +308,33 @@ fn agrees(forms: &Forms, text: &[u8]) {
     parses::<f32, _>(forms, text, f32::to_bits);
 }
 
+/// Asserts that a list has the token that the page states.
+fn has_token(case: &Case, text: &[u8]) {
+    let own = case.list.token(text);
+    if let Ok(it) = own {
+        let end = text.len() - it.rest.len();
+        let literal = between(&case.list[it.form], &text[..end - it.suffix.len()]).map(|it| format!("{it:?}"));
+        assert_eq!(Some(format!("{:?}", it.literal)), literal, "{text:?} {:?}", case.list);
+    }
+    let own = match own {
+        Ok(it) => Ok((it.form, text.len() - it.rest.len() - it.suffix.len(), text.len() - it.rest.len())),
+        Err(error) => Err((error.span(), error.to_string().split("; known").next().unwrap().to_string())),
+    };
+    assert_eq!(own, token(case, text), "{text:?} {:?}", case.list);
+}
+
 #[test]
 fn languages_and_other_lists_read_as_their_forms_do() {
     let random = &mut Random::new(20_261_128);
-    for language in Language::ALL.iter().cycle().take(2_000) {
+    for language in Language::ALL.iter().cycle().take(1_000) {
         let text = text(random);
         agrees(language.forms(), &text);
-        agrees(&list(random), &text);
+        let case = list(random);
+        let form = case.list[usize::from(random.byte(0, case.list.as_slice().len() as u8 - 1))];
+        let marked = [form.opening().as_bytes(), &text, form.closing().as_bytes(), random.pick(&PIECES)].concat();
+        for text in [&text, &marked[..usize::from(random.byte(0, marked.len() as u8))]] {
+            agrees(&case.list, text);
+            has_token(&case, text);
+        }
     }
 }

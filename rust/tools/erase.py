@@ -84,7 +84,7 @@ REPLACED = [
 ]
 
 # Files in which each function is const in plain Rust. Rattle's `split_at` is not, nor is what calls it.
-CONST = ("lexical_literal/src/stop.rt", "list.rt", "span.rt", "token.rt", "lexical_literal/src/literal.rt")
+CONST = ("lexical_literal/src/stop.rt", "affix.rt", "marked.rt", "marks.rt", "list.rt", "span.rt", "token.rt", "lexical_literal/src/literal.rt")
 
 # Texts that plain Rust replaces in every file, wherever they occur.
 EVERYWHERE = [
@@ -124,7 +124,7 @@ REPLACED += [
     ("short_text.rt", "#[derive(Drop)]\n#[doc(hidden)]", "#[derive(Clone,\nCopy)]"),
     ("big.rt", "#[derive(Drop)]\n", ""),
     ("long.rt", "#[derive(Drop)]\n", ""),
-    ("list.rt", "#[derive(Clone, Copy)]\npub struct Form ", "#[derive(Debug, Clone, Copy, PartialEq, Eq, Hash)]\npub struct Form "),
+    ("lexical_forms/src/form.rt", "#[derive(Clone, Copy)]\npub struct Form ", "#[derive(Debug, Clone, Copy, PartialEq, Eq, Hash)]\npub struct Form "),
     ("list.rt", "#[derive(Clone, Copy)]\npub struct Tokens ", "#[derive(Debug, Clone, Copy, PartialEq, Eq, Hash)]\npub struct Tokens "),
     ("suffix.rt", "#[derive(Clone, Copy)]\npub struct Stop ", "#[derive(Debug, Clone, Copy, PartialEq, Eq, Hash)]\npub struct Stop "),
     ("suffix.rt", "#[derive(Clone, Copy)]\npub struct Suffixes ", "#[derive(Debug, Clone, Copy, PartialEq, Eq, Hash)]\npub struct Suffixes "),
@@ -159,15 +159,14 @@ REPLACED += [
     ("lexical_literal/src/stop.rt", "self.begin(false, text, true)", "self.begin_any(text, true)"),
     # The error of a token has a copy of its own, which calls what others inline.
     ("lexical_forms/src/list.rt", "const fn find<'t>(", "const fn find<'t, const RARE: bool>("),
-    ("lexical_forms/src/list.rt", "syntax.begin(false, rest, false)", "if RARE { syntax.begin_any(rest, false) } else { syntax.begin(false, rest, false) }"),
+    ("lexical_forms/src/list.rt", "const fn find_plain<'t>(", "const fn find_plain<'t, const RARE: bool>("),
+    ("lexical_forms/src/list.rt", "self.find_plain(text, stop)", "self.find_plain::<RARE>(text, stop)"),
+    ("lexical_forms/src/list.rt", "syntax.begin(false, text, false)", "if RARE { syntax.begin_any(text, false) } else { syntax.begin(false, text, false) }"),
     ("lexical_forms/src/list.rt", "self.find(text, stop)", "self.find::<false>(text, stop)"),
     ("token.rt", "self.find(word, None)", "self.find::<true>(word, None)"),
+    ("marked.rt", "self.find(word, None)", "self.find::<true>(word, None)"),
     ("token.rt", "it.syntax.begin(false, text, true)", "it.syntax.begin_small(text, true)"),
     ("token.rt", "it.syntax.begin(false, front, true)", "it.syntax.begin_small(front, true)"),
-    # The library for C and the page have no form with an opening.
-    ("lexical_forms/src/affix.rt", "        self.bytes.len()\n", "        if cfg!(peltzivar_small) { 0 } else { self.bytes.len() }\n"),
-    ("lexical_forms/src/affix.rt", "self.bytes.len() == 0", "self.size() == 0"),
-    ("lexical_forms/src/affix.rt", "size < self.bytes.len()", "size < self.size()"),
     # The library for C has one copy of these.
     ("reasons.rt", "#[inline(always)]\n#[tactic(auto, unfolding(lexical_flags::specs::Roles::Disjoint))]\nconst fn clash(", "#[cfg_attr(not(peltzivar_small), inline(always))]\nconst fn clash("),
     ("reasons.rt", "#[inline(always)]\nconst fn reason_for(", "#[cfg_attr(not(peltzivar_small), inline(always))]\nconst fn reason_for("),

@@ -1,52 +1,68 @@
-//! What stands before the literals of a form, such as `16r` or `#x`.
+//! What stands before and behind the literals of a form, such as `16#` and `#`.
 
-ghost use Rattle.std.specs.Prelude.{◌≡◌, ◌==◌, ◌<◌, ◌≤◌, ◌↔◌, All, SomeIff, false, length, true};
-ghost use Rattle.lexical_forms.specs.Affix.{IsOpenedTo, spells};
+ghost use Rattle.std.specs.Prelude.{◌≤◌, length};
 
 use lexical_literal::cause::other_case;
 
-/// Up to 8 bytes of ASCII that stand before each literal of a form, its *opening*, such as `$`, `16r` or `#x`. An empty one is
-/// none. Letters are in either case, unless [`case_sensitive`][Self::case_sensitive] says otherwise.
+/// Up to 8 bytes of ASCII that stand before each literal of a form, its *opening*, such as `$`, `16r` or `#x`, or behind it, its
+/// *closing*, such as `#` or `'`. An empty one is none. Letters are in either case, unless
+/// [`case_sensitive`][Self::case_sensitive] says otherwise.
 ///
-/// A text is a literal of a form with an opening if it is the opening, and then a literal of the syntax. So a sign stands behind the
-/// opening, and a [`Literal`][lexical_literal::literal::Literal] is what is behind it.
+/// A text is a literal of a form if it is the opening, then a literal of the syntax, and then the closing. So a sign stands behind the
+/// opening, and a [`Literal`][lexical_literal::literal::Literal] is what is between both.
 ///
 /// ```
 /// use peltzivar::literal::{Affix, Form, Forms, Syntax};
 /// use peltzivar::NumberFormatBuilder;
 ///
+/// let [opening, closing] = [b"16#", &b"#"[..]].map(|it| Affix::new(it).unwrap());
 /// let syntax = Syntax::integers(NumberFormatBuilder::new().radix(16).build_format_or_panic());
-/// let forms = [Form::new("hexadecimal", syntax).with_opening(Affix::new(b"16r").unwrap())];
+/// let forms = [Form::new("hexadecimal", syntax).with_opening(opening).with_closing(closing).unwrap()];
 /// let list = Forms::new_or_panic(&forms);
-/// assert_eq!(list.parse("16rFF"), Ok(255));
-/// let error = list.read("16FF").unwrap_err();
-/// assert_eq!((error.span(), error.to_string()), (2..3, "expected the opening `16r`".into()));
-/// assert_eq!(list.read("16rFG").unwrap_err().span(), 4..5);
+/// assert_eq!(list.parse("16#FF#"), Ok(255));
+/// let error = list.read("16rFF").unwrap_err();
+/// assert_eq!((error.span(), error.to_string()), (2..3, "expected the opening `16#`".into()));
+/// let error = list.read("16#FF").unwrap_err();
+/// assert_eq!((error.span(), error.to_string()), (5..5, "expected the closing `#`".into()));
 /// ```
 #[derive(Debug, Clone, Copy, PartialEq, Eq, Hash)]
 pub struct Affix {
-    bytes: &'static [u8],
+    bytes: [u8; 8],
+    size: u8,
     case_sensitive: bool,
+    ghost within: { size ≤ length bytes },
 }
 
 impl Affix {
+    ghost use Rattle.std.specs.Prelude.{ℕ, ◌≡◌, ◌==◌, ◌<◌, ◌≤◌, ◌↔◌, All, IfSome, IsSome, false, get_or, length, true};
+    ghost use Rattle.lexical_forms.specs.Affix.{IsOpenedTo, spells, spelling};
+
     /// No bytes.
     pub const NONE: Affix = Affix {
-        bytes: &[],
+        bytes: [0; 8],
+        size: 0,
         case_sensitive: false,
     };
 
     /// Returns an affix with these bytes, letters of which are in either case, or `None` if they are more than 8, or not all ASCII.
     #[must_use]
-    pub const fn new(bytes: &'static [u8]) -> Option<Affix>
-        ensures { SomeIff result ((length bytes.now ≤ 8) × All (λ byte. byte < 128) bytes.now)
-            (record { bytes = bytes.entry; case_sensitive = false }) }
+    pub const fn new(bytes: &[u8]) -> Option<Affix>
+        ensures some { IsSome result ↔ ((length bytes.now ≤ 8) × All (λ byte. byte < 128) bytes.now) }
+        ensures bytes { IfSome result (λ it. spelling it ≡ bytes.now) }
+        ensures case { IfSome result (λ it. it.case_sensitive ≡ false) }
     {
         if bytes.len() > 8 || !is_ascii(bytes) {
             return None;
         }
+        let mut own = [0; 8];
+        let mut size = 0;
+        while size < bytes.len() {
+            own[size] = bytes[size];
+            size += 1;
+        }
         Some(Affix {
-            bytes,
+            bytes: own,
+            size: size as u8,
             case_sensitive: false,
         })
     }
@@ -57,33 +73,42 @@ impl Affix {
         ensures { result ≡ record self { case_sensitive = sensitive } }
     {
         Affix {
+            bytes: self.bytes,
+            size: self.size,
             case_sensitive: sensitive,
-            ..self
         }
+    }
+
+    /// Returns whether letters have the case in which they are given.
+    #[must_use]
+    pub const fn is_case_sensitive(&self) -> bool
+        ensures { result ≡ self.now.case_sensitive }
+    {
+        self.case_sensitive
     }
 
     /// Returns the bytes.
     #[must_use]
-    pub const fn as_bytes(&self) -> &'static [u8]
-        ensures { result ≡ self.now.bytes }
+    pub fn as_bytes(&self) -> &[u8]
+        ensures { result.now ≡ spelling self.now }
     {
-        self.bytes
+        self.bytes.split_at(self.size()).0
     }
 
     /// Returns whether there are no bytes.
     #[must_use]
     pub const fn is_empty(&self) -> bool
-        ensures { result ≡ (length self.now.bytes.now == 0) }
+        ensures { result ≡ (self.now.size == 0) }
     {
-        self.bytes.len() == 0
+        self.size == 0
     }
 
     // Returns the number of bytes.
     #[inline(always)]
     pub(crate) const fn size(&self) -> usize
-        ensures { result ≡ length self.now.bytes.now }
+        ensures { result ≡ self.now.size }
     {
-        self.bytes.len()
+        self.size as usize
     }
 
     // Returns the number of its bytes that `text` begins with.
@@ -92,7 +117,7 @@ impl Affix {
         ensures { IsOpenedTo self.now text.now result }
     {
         let mut size = 0;
-        while size < self.bytes.len() && size < text.len() && self.spells(size, text[size]) {
+        while size < self.size() && size < text.len() && self.spells(size, text[size]) {
             size += 1;
         }
         size
@@ -101,11 +126,19 @@ impl Affix {
     // Returns whether `byte` may be the byte with this index.
     #[inline(always)]
     const fn spells(&self, index: usize, byte: u8) -> bool
-        requires { index < length self.now.bytes.now }
+        requires { index < self.now.size }
         ensures { result ≡ spells self.now index byte }
     {
         let own = self.bytes[index];
         byte == own || (!self.case_sensitive && byte == other_case(own))
+    }
+
+    // Returns the first byte, or 0 if there is none.
+    #[inline(always)]
+    pub(crate) const fn first(&self) -> u8
+        ensures { result ≡ get_or self.now.bytes 0 0 }
+    {
+        self.bytes[0]
     }
 }
 

@@ -3,7 +3,10 @@
 
 pub mod affix;
 mod exclude;
+pub mod form;
 pub mod list;
+mod marked;
+mod marks;
 pub mod specials;
 pub mod suffix;
 pub mod token;

@@ -12,228 +12,14 @@ ghost use Rattle.lexical_literal.specs.Read.{exact};
 ghost use Rattle.lexical_literal.specs.Notation.{notation_of};
 
 use crate::affix::Affix;
-use crate::exclude::{excludes, has_letter_behind_zero, is_settled, lacks_longer, sign_size};
+use crate::exclude::{excludes, has_letter_behind_zero, is_settled, sign_size};
+use crate::form::Form;
 use crate::specials::{Special, Specials};
-use crate::suffix::Suffixes;
 use lexical_literal::cause::ReadError;
-use lexical_literal::kind::Kind;
-use lexical_literal::laws::literal_facts;
 use lexical_literal::literal::Literal;
-use lexical_literal::stop::{BEGIN, Found, Stopped, byte_at, tail_at};
-use lexical_literal::syntax::{Grammar, Syntax};
+use lexical_literal::stop::{Found, Stopped};
+use lexical_literal::syntax::Grammar;
 use std::marker::Model;
-
-/// A form of numbers: its name, such as `hexadecimal`, its opening, its syntax, the suffixes of its tokens, and its kind.
-#[derive(Clone, Copy)]
-pub struct Form {
-    pub(crate) name: &'static str,
-    pub(crate) opening: Affix,
-    pub(crate) syntax: Syntax,
-    pub(crate) suffixes: Option<&'static Suffixes>,
-    pub(crate) kind: Kind,
-}
-
-impl Form {
-    /// Returns the form with a name, which may be empty, and a syntax, without an opening and suffixes, of the kind [`Kind::EXACT`].
-    #[must_use]
-    pub const fn new(name: &'static str, syntax: Syntax) -> Form
-        ensures name { result.name.now ≡ name.now }
-        ensures opening { result.opening.bytes.now ≡ [] }
-        ensures syntax { result.syntax ≡ syntax }
-        ensures suffixes { result.suffixes ≡ None }
-        ensures kind { result.kind ≡ exact }
-    {
-        Form {
-            name,
-            opening: Affix::NONE,
-            syntax,
-            suffixes: None,
-            kind: Kind::EXACT,
-        }
-    }
-
-    /// Returns the same form with an opening before each of its literals.
-    #[must_use]
-    pub const fn with_opening(&self, opening: Affix) -> Form
-        ensures { result ≡ record self.now { opening = opening } }
-    {
-        Form { opening, ..*self }
-    }
-
-    /// Returns the same form with the suffixes that its tokens may have.
-    #[must_use]
-    pub const fn with_suffixes(&self, suffixes: &'static Suffixes) -> Form
-        ensures { result ≡ record self.now { suffixes = Some suffixes.entry } }
-    {
-        Form {
-            suffixes: Some(suffixes),
-            ..*self
-        }
-    }
-
-    /// Returns the same form with another kind, which its literals have.
-    #[must_use]
-    pub const fn with_kind(&self, kind: Kind) -> Form
-        ensures { result ≡ record self.now { kind = kind } }
-    {
-        Form { kind, ..*self }
-    }
-
-    /// Returns the opening, which is empty if there is none.
-    #[must_use]
-    pub const fn opening(&self) -> Affix
-        ensures { result ≡ self.now.opening }
-    {
-        self.opening
-    }
-
-    /// Returns the kind.
-    #[must_use]
-    pub const fn kind(&self) -> Kind
-        ensures { result ≡ self.now.kind }
-    {
-        self.kind
-    }
-
-    /// Returns the suffixes, if there are any.
-    #[must_use]
-    pub const fn suffixes(&self) -> Option<&'static Suffixes>
-        ensures { result ≡ self.now.suffixes }
-    {
-        self.suffixes
-    }
-
-    /// Returns the name.
-    #[must_use]
-    pub const fn name(&self) -> &'static str
-        ensures { result.now ≡ self.now.name.now }
-    {
-        self.name
-    }
-
-    /// Returns the syntax.
-    #[must_use]
-    pub const fn syntax(&self) -> Syntax
-        ensures { result ≡ self.now.syntax }
-    {
-        self.syntax
-    }
-}
-
-impl Form {
-    // Returns the longest front of `text` that is a literal, if it has more than `size` bytes.
-    #[inline(always)]
-    fn front_past(&self, text: &[u8], size: usize) -> Option<Found>
-        ensures none { IsNone result → NonePast text.now size self.now }
-        ensures some { IfSome result (λ found. (size < found.size) × IsFrontIn text.now found self.now) }
-    {
-        let opened = self.opening.opened(text);
-        let (_, rest) = text.split_at(opened);
-        let least = size.saturating_sub(opened);
-        if opened < self.opening.size() || lacks_longer(self.syntax.grammar(), rest, least) {
-            return None;
-        }
-        let (_, found) = self.syntax.front(rest);
-        let Some(found) = found else {
-            return None;
-        };
-        let Found { size, counts } = found;
-        if size > least {
-            let size = opened + size;
-            Some(Found { size, counts })
-        } else {
-            None
-        }
-    }
-}
-
-// Calls for a form in which a text is not a literal.
-impl Form {
-    // Returns where reading `text` stops.
-    #[cold]
-    fn stop(&self, text: &[u8]) -> Stopped
-        requires { NoneBy (ReadsIn self.now) text.now }
-        ensures { IsRefusedAt text.now result self.now }
-    {
-        let opened = self.opening.opened(text);
-        if opened < self.opening.size() {
-            return BEGIN.at(opened);
-        }
-        let (_, rest) = text.split_at(opened);
-        let stop = self.syntax.stop(rest);
-        stop.at(opened + stop.size)
-    }
-
-    // Returns what is behind the opening, and where reading this stops, or `None` if the opening is not there.
-    #[inline(always)]
-    fn behind<'t>(&self, text: &'t [u8], stop: Stopped) -> Option<(&'t [u8], Stopped)>
-        requires { IsRefusedAt text.now stop self.now }
-        ensures none { IsNone result → IsStoppedBefore text.now stop self.now }
-        ensures opened { IsSome result → IsStoppedBehind text.now stop self.now }
-        ensures stopped { IfSome result (λ it. IsStopped (notation_of self.now.syntax) it.0.now it.1) }
-        ensures refused { IfSome result (λ it. NoLiteral (notation_of self.now.syntax) it.0.now) }
-        ensures rest { IfSome result (λ it. it.0.now ≡ behind self.now text.now) }
-        ensures size { IfSome result (λ it. it.1.size ≡ stop.size - length self.now.opening.bytes.now) }
-    {
-        let opened = self.opening.size();
-        if stop.size < opened {
-            return None;
-        }
-        let (_, rest) = text.split_at(opened);
-        Some((rest, stop.at(stop.size - opened)))
-    }
-
-    // Returns whether the cause is stray: it is a wrong byte, or the opening or a required prefix is not there.
-    fn is_stray(&self, text: &[u8], stop: Stopped) -> bool
-        requires { IsRefusedAt text.now stop self.now }
-        ensures { (n : ℕ) → Reaches text.now self.now n → n ≡ 2 * stop.size + (if result then 0 else 1) }
-    {
-        match self.behind(text, stop) {
-            None => true,
-            Some((rest, stop)) => stop.is_stray(&self.syntax, rest),
-        }
-    }
-
-    // Returns why `text` is not a literal of the form, which has the index `form`.
-    #[inline(always)]
-    fn refuse(&self, text: &[u8], form: usize, stop: Stopped) -> FormError
-        requires { IsRefusedAt text.now stop self.now }
-        ensures form { result.form ≡ form }
-        ensures error { IsErrorOfForm text.now result self.now }
-    {
-        let syntax = self.syntax();
-        let (opened, error) = match self.behind(text, stop) {
-            None => (stop.size, Err(self.unopened(text, stop.size))),
-            Some((rest, inside)) => {
-                let Err(error) = inside.refuse::<()>(&syntax, rest) else {
-                    unreachable!()
-                };
-                (self.opening.size(), Ok(error))
-            }
-        };
-        literal_facts();
-        FormError {
-            form,
-            name: self.name,
-            opened,
-            error,
-        }
-    }
-
-    // Returns that the opening is not there behind the first `size` bytes.
-    #[inline(always)]
-    fn unopened(&self, text: &[u8], size: usize) -> Unopened
-        requires { size ≤ length text.now }
-        ensures { IsUnopened text.now self.now size result }
-    {
-        let byte = byte_at(text, size);
-        Unopened {
-            opening: self.opening,
-            byte,
-            tail: tail_at(text, size, byte),
-        }
-    }
-}
 
 /// How numbers end in the middle of source text: forms that need a suffix, which no call but [`Forms::token`] takes, words that may
 /// follow a number directly, and whether a point at the end of a number may belong to what follows.
@@ -294,17 +80,19 @@ pub struct Forms<'a> {
     pub(crate) forms: &'a [Form],
     specials: Specials<'a>,
     pub(crate) tokens: Option<&'a Tokens>,
+    // Whether a form, or one of the tokens, may have an opening or a closing.
+    pub(crate) marked: bool,
 }
 
 impl<'a> Model for Forms<'a> {
-    ghost use Rattle.std.specs.Prelude.{◌<◌, length};
-    ghost use Rattle.lexical_forms.specs.FormList.{FormList};
+    ghost use Rattle.std.specs.Prelude.{◌≡◌, ◌<◌, false, length};
+    ghost use Rattle.lexical_forms.specs.FormList.{FormList, IsPlain};
 
     ghost Value = { FormList };
 
     ghost view = { λ it. record { forms = it.forms.now; specials = it.specials; tokens = it.tokens } };
 
-    ghost invariant = { λ it. 0 < length it.forms.now };
+    ghost invariant = { λ it. (0 < length it.forms.now) × (it.marked ≡ false → IsPlain it.forms.now it.tokens) };
 }
 
 /// A number that has one of several forms.
@@ -359,18 +147,31 @@ pub struct FormError {
     pub form: usize,
     /// The name of the form.
     pub name: &'static str,
-    // The number of bytes of the opening that are there.
+    // The number of bytes of the opening, or of those that are right where a mark is not there.
     pub(crate) opened: usize,
-    // Why what is behind the opening is not a literal of the syntax, or that the opening is not there.
-    pub(crate) error: Result<ReadError, Unopened>,
+    // Why what is behind the opening is not a literal of the syntax, or that the opening or the closing is not there.
+    pub(crate) error: Result<ReadError, Unmarked>,
 }
 
-// An opening that is not there, the byte that differs, or `None` if the text ends, and what follows it in its character.
+// An opening or a closing that is not there, or that is followed by more, the byte that differs, or `None` if the text ends, and what
+// follows it in its character.
 #[derive(Debug, Clone, Copy, PartialEq, Eq, Hash)]
-pub struct Unopened {
-    pub(crate) opening: Affix,
+pub struct Unmarked {
+    pub(crate) mark: Mark,
+    pub(crate) affix: Affix,
     pub(crate) byte: Option<u8>,
     pub(crate) tail: [u8; 3],
+}
+
+/// What stands before or behind the literals of a form.
+#[derive(Debug, Clone, Copy, PartialEq, Eq, Hash)]
+pub enum Mark {
+    /// The opening.
+    Opening,
+    /// The closing.
+    Closing,
+    /// The end of the text, which is behind the closing.
+    End,
 }
 
 impl<'a> Forms<'a> {
@@ -395,6 +196,7 @@ impl<'a> Forms<'a> {
             forms,
             specials,
             tokens: None,
+            marked: have_marks(forms),
         })
     }
 
@@ -415,21 +217,17 @@ impl<'a> Forms<'a> {
         Forms { specials, ..self }
     }
 
-    /// Returns the same forms with rules for tokens, without which there are none. A list with an opening has no tokens yet: it takes no
-    /// rules.
+    /// Returns the same forms with rules for tokens, without which there are none.
     #[must_use]
     pub const fn with_tokens(self, tokens: &'a Tokens) -> Forms<'a>
-        ensures forms { result.forms ≡ self.entry.forms }
-        ensures specials { result.specials ≡ self.entry.specials }
-        ensures tokens { result.tokens
-            ≡ (if have_openings self.entry.forms || have_openings tokens.now.forms.now then None else Some tokens.entry) }
+        ensures { result ≡ record self.entry { tokens = Some tokens.entry } }
     {
-        let tokens = if have_openings(self.forms) || have_openings(tokens.forms) {
-            None
-        } else {
-            Some(tokens)
-        };
-        Forms { tokens, ..self }
+        let marked = self.marked || have_marks(tokens.forms);
+        Forms {
+            tokens: Some(tokens),
+            marked,
+            ..self
+        }
     }
 
     /// Returns the forms.
@@ -506,6 +304,7 @@ impl<'a> Forms<'a> {
                 let Found { size, counts } = found;
                 let it = &self.as_slice()[form];
                 let (front, rest) = text.split_at(size);
+                let (front, _) = front.split_at(size - it.closing.size());
                 let (_, inside) = front.split_at(it.opening.size());
                 let literal = self.of_form(form, it.syntax.summed(inside, counts));
                 Ok((Number::Literal { literal, form }, rest))
@@ -534,8 +333,7 @@ impl<'a> Forms<'a> {
     }
 
     // Returns the index of the first form of which `text` is a literal, and the literal, or the form whose error is that of the list.
-    // The first form stops at `stop`, if it has been asked. Each form is asked once, but if it has not been asked and no form goes beyond
-    // the first byte behind the sign, all are asked again. A form whose opening is not there does not ask its syntax.
+    // The first form stops at `stop`, if it has been asked.
     #[inline(always)]
     pub(crate) fn find<'t>(
         &self,
@@ -543,6 +341,40 @@ impl<'a> Forms<'a> {
         stop: Option<Stopped>,
     ) -> Result<(usize, Literal<'t>), Furthest>
         requires { IfSome stop (λ stop. IsSomeAnd (slice_get self.now.forms 0) (IsRefusedAt text.now stop)) }
+        ensures { IsFoundForm self.now.forms text.now result }
+    {
+        if self.marked {
+            self.find_marked(text)
+        } else {
+            self.find_plain(text, stop)
+        }
+    }
+
+    // Returns the same in a list of which a form may have an opening or a closing. If there is no literal, all forms are asked again.
+    #[inline(never)]
+    fn find_marked<'t>(&self, text: &'t [u8]) -> Result<(usize, Literal<'t>), Furthest>
+        ensures { IsFoundForm self.now.forms text.now result }
+    {
+        let mut form = 0;
+        while form < self.forms.len() {
+            if let Some(literal) = self.forms[form].literal(text) {
+                return Ok((form, literal));
+            }
+            form += 1;
+        }
+        Err(self.furthest(text))
+    }
+
+    // Returns the same in a list without openings and closings. Each form is asked once, but if it has not been asked and no form goes
+    // beyond the first byte behind the sign, all are asked again.
+    #[inline(always)]
+    fn find_plain<'t>(
+        &self,
+        text: &'t [u8],
+        stop: Option<Stopped>,
+    ) -> Result<(usize, Literal<'t>), Furthest>
+        requires stop { IfSome stop (λ stop. IsSomeAnd (slice_get self.now.forms 0) (IsRefusedAt text.now stop)) }
+        requires plain { have_marks self.now.forms ≡ false }
         ensures { IsFoundForm self.now.forms text.now result }
     {
         let sign = sign_size(text);
@@ -557,23 +389,15 @@ impl<'a> Forms<'a> {
             form = 1;
         }
         while form < self.forms.len() {
-            let it = &self.forms[form];
-            let syntax = &it.syntax;
-            let opened = it.opening.opened(text);
-            if opened < it.opening.size() {
-                furthest = self.further_on(text, sign, furthest, form, BEGIN.at(opened));
-            } else if opened > 0 || !is_behind(syntax.grammar(), text, sign, furthest) {
-                let (_, rest) = text.split_at(opened);
-                let begun = syntax.begin(false, rest, false);
-                if begun.is_whole(syntax, rest) {
-                    return Ok((form, syntax.literal(rest, begun.counts, begun.sums)));
+            let syntax = &self.forms[form].syntax;
+            if !is_behind(syntax.grammar(), text, sign, furthest) {
+                let begun = syntax.begin(false, text, false);
+                if begun.is_whole(syntax, text) {
+                    return Ok((form, syntax.literal(text, begun.counts, begun.sums)));
                 }
-                match begun.lengths(syntax, rest) {
-                    Ok(counts) => return Ok((form, syntax.summed(rest, counts))),
-                    Err(stop) => {
-                        let stop = stop.at(opened + stop.size);
-                        furthest = self.further_on(text, sign, furthest, form, stop);
-                    }
+                match begun.lengths(syntax, text) {
+                    Ok(counts) => return Ok((form, syntax.summed(text, counts))),
+                    Err(stop) => furthest = self.further_on(text, sign, furthest, form, stop),
                 }
             }
             form += 1;
@@ -600,9 +424,7 @@ impl<'a> Forms<'a> {
         let mut form = 1;
         while form < self.forms.len() {
             let it = &self.forms[form];
-            if !it.opening.is_empty()
-                || !is_settled(it.syntax.grammar(), text, furthest.stop.size)
-            {
+            if it.is_marked() || !is_settled(it.syntax.grammar(), text, furthest.stop.size) {
                 let stop = it.stop(text);
                 furthest = self.further(text, furthest, form, stop);
             }
@@ -729,13 +551,13 @@ impl<'a> Forms<'a> {
     }
 }
 
-// Returns whether a form has an opening.
-const fn have_openings(forms: &[Form]) -> bool
-    ensures { result ≡ have_openings forms.now }
+// Returns whether a form has an opening or a closing.
+pub(crate) const fn have_marks(forms: &[Form]) -> bool
+    ensures { result ≡ have_marks forms.now }
 {
     let mut form = 0;
     while form < forms.len() {
-        if !forms[form].opening.is_empty() {
+        if forms[form].is_marked() {
             return true;
         }
         form += 1;

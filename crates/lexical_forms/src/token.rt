@@ -18,7 +18,8 @@ ghost use Rattle.lexical_forms.specs.Token.{ReadsSyntax, is_shorter};
 ghost use Rattle.lexical_util.specs.Record.{raw};
 
 use crate::exclude::{has_letter_behind_zero, is_over, lacks_longer, sign_size};
-use crate::list::{Form, FormError, Forms, Tokens};
+use crate::form::Form;
+use crate::list::{FormError, Forms, Tokens};
 use crate::suffix::{
     byte_before, has_word_byte, is_followed, is_stopped, is_word_byte, kind_with, suffix_size,
     suffix_words, word_size,
@@ -120,6 +121,9 @@ impl<'a> Forms<'a> {
         let Some(tokens) = self.tokens else {
             return Err(TokenError::NoTokens);
         };
+        if self.marked {
+            return self.token_marked(tokens, text);
+        }
         let sign = sign_size(text);
         let reached = if has_letter_behind_zero(text) {
             sign + 1
@@ -341,7 +345,7 @@ fn are_past(forms: &[Form], but: usize, back: bool, text: &[u8], size: usize) ->
 
 // Returns the larger of two sizes.
 #[inline(always)]
-const fn larger(one: usize, other: usize) -> usize
+pub(crate) const fn larger(one: usize, other: usize) -> usize
     ensures one { one ≤ result }
     ensures other { other ≤ result }
 {
@@ -452,7 +456,7 @@ impl Form {
 
     // Returns the candidate with the literal `own`, if there is a suffix or none is needed.
     #[inline(always)]
-    fn suffixed(&self, needs: bool, text: &[u8], own: Found) -> Option<Candidate>
+    pub(crate) fn suffixed(&self, needs: bool, text: &[u8], own: Found) -> Option<Candidate>
         requires { own.size ≤ length text.now }
         ensures candidate { result ≡ suffixed self.now.suffixes needs text.now own }
         ensures within { ForSome result (λ c. c.end ≤ length text.now) }
@@ -487,7 +491,7 @@ impl Form {
 
 // Returns the front `found` if it has `size` bytes.
 #[inline(always)]
-fn whole(found: Option<Found>, size: usize) -> Option<Found>
+pub(crate) fn whole(found: Option<Found>, size: usize) -> Option<Found>
     ensures { result ≡ whole found size }
 {
     match found {
@@ -498,7 +502,7 @@ fn whole(found: Option<Found>, size: usize) -> Option<Found>
 
 // Returns whether the first `size` bytes of `text` end in a point that is given back.
 #[inline(always)]
-fn gives_back(syntax: Syntax, back: bool, text: &[u8], size: usize) -> bool
+pub(crate) fn gives_back(syntax: Syntax, back: bool, text: &[u8], size: usize) -> bool
     ensures { result ≡ gives_back back (notation_of syntax) text.now size }
 {
     back && is_one(syntax, byte_before(text, size))
@@ -520,7 +524,7 @@ fn is_one(syntax: Syntax, byte: Option<u8>) -> bool
 }
 
 // Returns whether a digit is behind a literal of `size` bytes that has no suffix, so that the number ends where the literal does.
-fn has_digit(text: &[u8], size: usize, end: usize) -> bool
+pub(crate) fn has_digit(text: &[u8], size: usize, end: usize) -> bool
     ensures { result ≡ ((size == end) && is_in is_digit (slice_get text.now size)) }
 {
     size == end
@@ -531,7 +535,7 @@ fn has_digit(text: &[u8], size: usize, end: usize) -> bool
 }
 
 // Returns why what is behind the number with this candidate may not follow it: a word, or otherwise a byte that a stop names.
-fn stopped(it: &Form, text: &[u8], form: usize, candidate: Candidate) -> TokenError
+pub(crate) fn stopped(it: &Form, text: &[u8], form: usize, candidate: Candidate) -> TokenError
     ensures { IsEnd it.now text.now form candidate result }
 {
     let Candidate { size, counts, end } = candidate;
@@ -613,7 +617,7 @@ const fn further(
 
 // Returns the longer of two candidates, the first of equals.
 #[inline(always)]
-fn better(
+pub(crate) fn better(
     best: Option<(usize, Candidate)>,
     form: usize,
     candidate: Option<Candidate>,
@@ -648,7 +652,7 @@ fn is_one_ahead(forms: &[Form], back: bool, text: &[u8], end: usize) -> bool
 }
 
 // Returns whether a literal that goes up to `stop` goes on behind `end`.
-fn goes_on(syntax: Syntax, back: bool, text: &[u8], end: usize, stop: usize) -> bool
+pub(crate) fn goes_on(syntax: Syntax, back: bool, text: &[u8], end: usize, stop: usize) -> bool
     ensures { result ≡ goes_on back (notation_of syntax) text.now end stop }
 {
     end < stop && !(back && stop == end + 1 && is_one(syntax, byte_at(text, end)))

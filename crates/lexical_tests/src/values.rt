@@ -2,7 +2,8 @@
 //! The tests of plain Rust have the other values, of std and of tables.
 
 use callers::formats::read_decimal;
-use lexical_forms::list::{Form, Forms};
+use lexical_forms::form::Form;
+use lexical_forms::list::Forms;
 use lexical_literal::syntax::Syntax;
 use lexical_util::edits::{Edit, FlagSetter};
 use lexical_util::error::Error;

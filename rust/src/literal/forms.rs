@@ -3,8 +3,8 @@
 use core::{fmt, ops, ops::Range, slice, str};
 
 use crate::literal::exclude::has_letter_behind_zero;
-use crate::literal::list::{Furthest, Unopened};
-use crate::literal::sentence::first_character;
+use crate::literal::list::{Furthest, Mark, Unmarked};
+use crate::literal::sentence::{first_character, unexpected};
 use crate::literal::stop::Stopped;
 use crate::literal::value::Decimal;
 use crate::literal::{
@@ -64,9 +64,7 @@ impl<'a> Forms<'a> {
     // The library for C and the page, which set `peltzivar_small`, have no copy for it.
     #[inline(always)]
     fn asks_first(&self, text: &[u8]) -> bool {
-        !cfg!(peltzivar_small)
-            && self.as_slice()[0].opening.as_bytes().is_empty()
-            && (self.as_slice().len() == 1 || !has_letter_behind_zero(text))
+        !cfg!(peltzivar_small) && !self.marked && (self.as_slice().len() == 1 || !has_letter_behind_zero(text))
     }
 
     /// Returns the longest literal of any form that `text` begins with, and the rest of `text`, which may be anything.
@@ -220,8 +218,8 @@ impl FormError {
         FormError { form: 0, name: "", opened: 0, error: Ok(error) }
     }
 
-    /// Returns why what is behind the [opening][Form::with_opening] is not a literal of the syntax, or `None` if the opening is not there.
-    /// All indexes count from the beginning of the text.
+    /// Returns why what is between the [opening][Form::with_opening] and the [closing][Form::with_closing] is not a literal of the syntax,
+    /// or `None` if one of both is not there, or is followed by more. All indexes count from the beginning of the text.
     #[must_use]
     pub const fn error(&self) -> Option<ReadError> {
         match &self.error {
@@ -230,13 +228,23 @@ impl FormError {
         }
     }
 
-    /// Returns the range of the bytes to show, as [`ReadError::span`] does, or the character that differs from the opening.
+    /// Returns what is not there: the opening, the closing, or the end of the text behind the closing, or `None` if the syntax refuses
+    /// what is between.
+    #[must_use]
+    pub const fn mark(&self) -> Option<Mark> {
+        match &self.error {
+            Ok(_) => None,
+            Err(it) => Some(it.mark),
+        }
+    }
+
+    /// Returns the range of the bytes to show, as [`ReadError::span`] does, or the character that is not that of the opening or closing.
     #[must_use]
     pub const fn span(&self) -> Range<usize> {
         let Range { start, end } = match &self.error {
             Ok(error) => error.span(),
-            Err(Unopened { byte: None, .. }) => 0..0,
-            Err(Unopened { byte: Some(byte), tail, .. }) => {
+            Err(Unmarked { byte: None, .. }) => 0..0,
+            Err(Unmarked { byte: Some(byte), tail, .. }) => {
                 0..first_character(&[*byte, tail[0], tail[1], tail[2]]).len()
             }
         };
@@ -255,7 +263,7 @@ impl FormError {
         self.name
     }
 
-    /// Returns the kind, as [`ReadError::kind`] does, or `None` if the [opening][Form::with_opening] is not there.
+    /// Returns the kind, as [`ReadError::kind`] does, or `None` if a [mark][Self::mark] is not there.
     #[must_use]
     pub const fn kind(&self) -> Option<ReadErrorKind> {
         match &self.error {
@@ -279,7 +287,7 @@ impl FormError {
         }
     }
 
-    /// Returns the mask of the flags to blame, as [`ReadError::mask`] does, or 0 if the opening is not there.
+    /// Returns the mask of the flags to blame, as [`ReadError::mask`] does, or 0 if a [mark][Self::mark] is not there.
     #[must_use]
     pub const fn mask(&self) -> u128 {
         match &self.error {
@@ -298,13 +306,18 @@ impl FormError {
     }
 }
 
-/// Prints the error of the form, or the opening that is not there.
+/// Prints the error of the form, or which mark is not there.
 impl fmt::Display for FormError {
     fn fmt(&self, f: &mut fmt::Formatter<'_>) -> fmt::Result {
         match &self.error {
             Ok(error) => error.fmt(f),
-            Err(it) => {
-                write!(f, "expected the opening `{}`", str::from_utf8(it.opening.as_bytes()).unwrap_or_default())
+            Err(Unmarked { mark: Mark::End, byte, tail, .. }) => {
+                let bytes = [byte.unwrap_or_default(), tail[0], tail[1], tail[2]];
+                f.write_str(unexpected(first_character(&bytes)).as_str())
+            }
+            Err(Unmarked { mark, affix, .. }) => {
+                let mark = if *mark == Mark::Opening { "opening" } else { "closing" };
+                write!(f, "expected the {mark} `{}`", str::from_utf8(affix.as_bytes()).unwrap_or_default())
             }
         }
     }

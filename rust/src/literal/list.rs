@@ -4,158 +4,12 @@
 
 use crate::literal::affix::Affix;
 use crate::literal::cause::ReadError;
-use crate::literal::exclude::{excludes, has_letter_behind_zero, is_settled, lacks_longer, sign_size};
-use crate::literal::kind::Kind;
+use crate::literal::exclude::{excludes, has_letter_behind_zero, is_settled, sign_size};
+use crate::literal::form::Form;
 use crate::literal::literal::Literal;
 use crate::literal::specials::{Special, Specials};
-use crate::literal::stop::{byte_at, tail_at, Found, Stopped, BEGIN};
-use crate::literal::suffix::Suffixes;
-use crate::literal::syntax::{Grammar, Syntax};
-
-/// A form of numbers: its name, such as `hexadecimal`, its opening, its syntax, the suffixes of its tokens, and its kind.
-#[derive(Debug, Clone, Copy, PartialEq, Eq, Hash)]
-pub struct Form {
-    pub(crate) name: &'static str,
-    pub(crate) opening: Affix,
-    pub(crate) syntax: Syntax,
-    pub(crate) suffixes: Option<&'static Suffixes>,
-    pub(crate) kind: Kind,
-}
-
-impl Form {
-    /// Returns the form with a name, which may be empty, and a syntax, without an opening and suffixes, of the kind [`Kind::EXACT`].
-    #[must_use]
-    pub const fn new(name: &'static str, syntax: Syntax) -> Form {
-        Form { name, opening: Affix::NONE, syntax, suffixes: None, kind: Kind::EXACT }
-    }
-
-    /// Returns the same form with an opening before each of its literals.
-    #[must_use]
-    pub const fn with_opening(&self, opening: Affix) -> Form {
-        Form { opening, ..*self }
-    }
-
-    /// Returns the same form with the suffixes that its tokens may have.
-    #[must_use]
-    pub const fn with_suffixes(&self, suffixes: &'static Suffixes) -> Form {
-        Form { suffixes: Some(suffixes), ..*self }
-    }
-
-    /// Returns the same form with another kind, which its literals have.
-    #[must_use]
-    pub const fn with_kind(&self, kind: Kind) -> Form {
-        Form { kind, ..*self }
-    }
-
-    /// Returns the opening, which is empty if there is none.
-    #[must_use]
-    pub const fn opening(&self) -> Affix {
-        self.opening
-    }
-
-    /// Returns the kind.
-    #[must_use]
-    pub const fn kind(&self) -> Kind {
-        self.kind
-    }
-
-    /// Returns the suffixes, if there are any.
-    #[must_use]
-    pub const fn suffixes(&self) -> Option<&'static Suffixes> {
-        self.suffixes
-    }
-
-    /// Returns the name.
-    #[must_use]
-    pub const fn name(&self) -> &'static str {
-        self.name
-    }
-
-    /// Returns the syntax.
-    #[must_use]
-    pub const fn syntax(&self) -> Syntax {
-        self.syntax
-    }
-}
-
-impl Form {
-    // Returns the longest front of `text` that is a literal, if it has more than `size` bytes.
-    #[inline(always)]
-    const fn front_past(&self, text: &[u8], size: usize) -> Option<Found> {
-        let opened = self.opening.opened(text);
-        let (_, rest) = text.split_at(opened);
-        let least = size.saturating_sub(opened);
-        if opened < self.opening.size() || lacks_longer(self.syntax.as_grammar(), rest, least) {
-            return None;
-        }
-        let (_, found) = self.syntax.front(rest);
-        let Some(found) = found else {
-            return None;
-        };
-        let Found { size, counts } = found;
-        if size > least {
-            let size = opened + size;
-            Some(Found { size, counts })
-        } else {
-            None
-        }
-    }
-}
-
-// Calls for a form in which a text is not a literal.
-impl Form {
-    // Returns where reading `text` stops.
-    #[cold]
-    const fn stop(&self, text: &[u8]) -> Stopped {
-        let opened = self.opening.opened(text);
-        if opened < self.opening.size() {
-            return BEGIN.at(opened);
-        }
-        let (_, rest) = text.split_at(opened);
-        let stop = self.syntax.stop(rest);
-        stop.at(opened + stop.size)
-    }
-
-    // Returns what is behind the opening, and where reading this stops, or `None` if the opening is not there.
-    #[inline(always)]
-    const fn behind<'t>(&self, text: &'t [u8], stop: Stopped) -> Option<(&'t [u8], Stopped)> {
-        let opened = self.opening.size();
-        if stop.size < opened {
-            return None;
-        }
-        let (_, rest) = text.split_at(opened);
-        Some((rest, stop.at(stop.size - opened)))
-    }
-
-    // Returns whether the cause is stray: it is a wrong byte, or the opening or a required prefix is not there.
-    const fn is_stray(&self, text: &[u8], stop: Stopped) -> bool {
-        match self.behind(text, stop) {
-            None => true,
-            Some((rest, stop)) => stop.is_stray(&self.syntax, rest),
-        }
-    }
-
-    // Returns why `text` is not a literal of the form, which has the index `form`.
-    #[inline(always)]
-    const fn refuse(&self, text: &[u8], form: usize, stop: Stopped) -> FormError {
-        let syntax = self.syntax();
-        let (opened, error) = match self.behind(text, stop) {
-            None => (stop.size, Err(self.unopened(text, stop.size))),
-            Some((rest, inside)) => {
-                let Err(error) = inside.refuse::<()>(&syntax, rest) else { unreachable!() };
-                (self.opening.size(), Ok(error))
-            }
-        };
-        FormError { form, name: self.name, opened, error }
-    }
-
-    // Returns that the opening is not there behind the first `size` bytes.
-    #[inline(always)]
-    const fn unopened(&self, text: &[u8], size: usize) -> Unopened {
-        let byte = byte_at(text, size);
-        Unopened { opening: self.opening, byte, tail: tail_at(text, size, byte) }
-    }
-}
+use crate::literal::stop::{Found, Stopped};
+use crate::literal::syntax::Grammar;
 
 /// How numbers end in the middle of source text: forms that need a suffix, which no call but [`Forms::token`] takes, words that may
 /// follow a number directly, and whether a point at the end of a number may belong to what follows.
@@ -201,6 +55,8 @@ pub struct Forms<'a> {
     pub(crate) forms: &'a [Form],
     specials: Specials<'a>,
     pub(crate) tokens: Option<&'a Tokens>,
+    // Whether a form, or one of the tokens, may have an opening or a closing.
+    pub(crate) marked: bool,
 }
 
 /// A number that has one of several forms.
@@ -256,18 +112,31 @@ pub struct FormError {
     pub form: usize,
     /// The name of the form.
     pub name: &'static str,
-    // The number of bytes of the opening that are there.
+    // The number of bytes of the opening, or of those that are right where a mark is not there.
     pub(crate) opened: usize,
-    // Why what is behind the opening is not a literal of the syntax, or that the opening is not there.
-    pub(crate) error: Result<ReadError, Unopened>,
+    // Why what is behind the opening is not a literal of the syntax, or that the opening or the closing is not there.
+    pub(crate) error: Result<ReadError, Unmarked>,
 }
 
-// An opening that is not there, the byte that differs, or `None` if the text ends, and what follows it in its character.
+// An opening or a closing that is not there, or that is followed by more, the byte that differs, or `None` if the text ends, and what
+// follows it in its character.
 #[derive(Debug, Clone, Copy, PartialEq, Eq, Hash)]
-pub struct Unopened {
-    pub(crate) opening: Affix,
+pub struct Unmarked {
+    pub(crate) mark: Mark,
+    pub(crate) affix: Affix,
     pub(crate) byte: Option<u8>,
     pub(crate) tail: [u8; 3],
+}
+
+/// What stands before or behind the literals of a form.
+#[derive(Debug, Clone, Copy, PartialEq, Eq, Hash)]
+pub enum Mark {
+    /// The opening.
+    Opening,
+    /// The closing.
+    Closing,
+    /// The end of the text, which is behind the closing.
+    End,
 }
 
 impl<'a> Forms<'a> {
@@ -278,7 +147,7 @@ impl<'a> Forms<'a> {
             return None;
         }
         let specials = Specials { nan: None, inf: None, infinity: None };
-        Some(Forms { forms, specials, tokens: None })
+        Some(Forms { forms, specials, tokens: None, marked: have_marks(forms) })
     }
 
     /// Returns the same forms with these special values. The format of the first form decides what flags say of them.
@@ -296,12 +165,11 @@ impl<'a> Forms<'a> {
         Forms { specials, ..self }
     }
 
-    /// Returns the same forms with rules for tokens, without which there are none. A list with an opening has no tokens yet: it takes no
-    /// rules.
+    /// Returns the same forms with rules for tokens, without which there are none.
     #[must_use]
     pub const fn with_tokens(self, tokens: &'a Tokens) -> Forms<'a> {
-        let tokens = if have_openings(self.forms) || have_openings(tokens.forms) { None } else { Some(tokens) };
-        Forms { tokens, ..self }
+        let marked = self.marked || have_marks(tokens.forms);
+        Forms { tokens: Some(tokens), marked, ..self }
     }
 
     /// Returns the forms.
@@ -360,6 +228,7 @@ impl<'a> Forms<'a> {
                 let Found { size, counts } = found;
                 let it = &self.as_slice()[form];
                 let (front, rest) = text.split_at(size);
+                let (front, _) = front.split_at(size - it.closing.size());
                 let (_, inside) = front.split_at(it.opening.size());
                 let literal = self.of_form(form, it.syntax.summed(inside, counts));
                 Ok((Number::Literal { literal, form }, rest))
@@ -381,10 +250,37 @@ impl<'a> Forms<'a> {
     }
 
     // Returns the index of the first form of which `text` is a literal, and the literal, or the form whose error is that of the list.
-    // The first form stops at `stop`, if it has been asked. Each form is asked once, but if it has not been asked and no form goes beyond
-    // the first byte behind the sign, all are asked again. A form whose opening is not there does not ask its syntax.
+    // The first form stops at `stop`, if it has been asked.
     #[inline(always)]
     pub(crate) const fn find<'t, const RARE: bool>(
+        &self,
+        text: &'t [u8],
+        stop: Option<Stopped>,
+    ) -> Result<(usize, Literal<'t>), Furthest> {
+        if self.marked {
+            self.find_marked(text)
+        } else {
+            self.find_plain::<RARE>(text, stop)
+        }
+    }
+
+    // Returns the same in a list of which a form may have an opening or a closing. If there is no literal, all forms are asked again.
+    #[inline(never)]
+    const fn find_marked<'t>(&self, text: &'t [u8]) -> Result<(usize, Literal<'t>), Furthest> {
+        let mut form = 0;
+        while form < self.forms.len() {
+            if let Some(literal) = self.forms[form].literal(text) {
+                return Ok((form, literal));
+            }
+            form += 1;
+        }
+        Err(self.furthest(text))
+    }
+
+    // Returns the same in a list without openings and closings. Each form is asked once, but if it has not been asked and no form goes
+    // beyond the first byte behind the sign, all are asked again.
+    #[inline(always)]
+    const fn find_plain<'t, const RARE: bool>(
         &self,
         text: &'t [u8],
         stop: Option<Stopped>,
@@ -397,23 +293,15 @@ impl<'a> Forms<'a> {
             form = 1;
         }
         while form < self.forms.len() {
-            let it = &self.forms[form];
-            let syntax = &it.syntax;
-            let opened = it.opening.opened(text);
-            if opened < it.opening.size() {
-                furthest = self.further_on(text, sign, furthest, form, BEGIN.at(opened));
-            } else if opened > 0 || !is_behind(syntax.as_grammar(), text, sign, furthest) {
-                let (_, rest) = text.split_at(opened);
-                let begun = if RARE { syntax.begin_any(rest, false) } else { syntax.begin(false, rest, false) };
-                if begun.is_whole(syntax, rest) {
-                    return Ok((form, syntax.literal(rest, begun.counts, begun.sums)));
+            let syntax = &self.forms[form].syntax;
+            if !is_behind(syntax.as_grammar(), text, sign, furthest) {
+                let begun = if RARE { syntax.begin_any(text, false) } else { syntax.begin(false, text, false) };
+                if begun.is_whole(syntax, text) {
+                    return Ok((form, syntax.literal(text, begun.counts, begun.sums)));
                 }
-                match begun.lengths(syntax, rest) {
-                    Ok(counts) => return Ok((form, syntax.summed(rest, counts))),
-                    Err(stop) => {
-                        let stop = stop.at(opened + stop.size);
-                        furthest = self.further_on(text, sign, furthest, form, stop);
-                    }
+                match begun.lengths(syntax, text) {
+                    Ok(counts) => return Ok((form, syntax.summed(text, counts))),
+                    Err(stop) => furthest = self.further_on(text, sign, furthest, form, stop),
                 }
             }
             form += 1;
@@ -433,7 +321,7 @@ impl<'a> Forms<'a> {
         let mut form = 1;
         while form < self.forms.len() {
             let it = &self.forms[form];
-            if !it.opening.is_empty() || !is_settled(it.syntax.as_grammar(), text, furthest.stop.size) {
+            if it.is_marked() || !is_settled(it.syntax.as_grammar(), text, furthest.stop.size) {
                 let stop = it.stop(text);
                 furthest = self.further(text, furthest, form, stop);
             }
@@ -526,11 +414,11 @@ impl<'a> Forms<'a> {
     }
 }
 
-// Returns whether a form has an opening.
-const fn have_openings(forms: &[Form]) -> bool {
+// Returns whether a form has an opening or a closing.
+pub(crate) const fn have_marks(forms: &[Form]) -> bool {
     let mut form = 0;
     while form < forms.len() {
-        if !forms[form].opening.is_empty() {
+        if forms[form].is_marked() {
             return true;
         }
         form += 1;

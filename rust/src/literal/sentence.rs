@@ -287,7 +287,7 @@ pub(crate) const fn first_character(bytes: &[u8; 4]) -> &[u8] {
 
 /// Returns the sentence for a character, or for a byte that begins none. It has no character that cannot be seen or that
 /// changes the order of others.
-const fn unexpected(wrong: &[u8]) -> ShortText {
+pub(crate) const fn unexpected(wrong: &[u8]) -> ShortText {
     let text = ShortText::of("unexpected ");
     match wrong {
         b" " => text.and("space"),

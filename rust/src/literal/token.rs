@@ -3,7 +3,8 @@
 //! Tokens: numbers in the middle of a text, each with its suffix.
 
 use crate::literal::exclude::{has_letter_behind_zero, is_over, lacks_longer, sign_size};
-use crate::literal::list::{Form, FormError, Forms, Tokens};
+use crate::literal::form::Form;
+use crate::literal::list::{FormError, Forms, Tokens};
 use crate::literal::literal::Literal;
 use crate::literal::step::is_point;
 use crate::literal::stop::{byte_at, Begun, Found, Stopped};
@@ -104,6 +105,9 @@ impl<'a> Forms<'a> {
         let Some(tokens) = self.tokens else {
             return Err(TokenError::NoTokens);
         };
+        if self.marked {
+            return self.token_marked(tokens, text);
+        }
         let sign = sign_size(text);
         let reached = if has_letter_behind_zero(text) { sign + 1 } else { sign };
         match self.leading(tokens, text, reached) {
@@ -278,7 +282,7 @@ const fn are_past(forms: &[Form], but: usize, back: bool, text: &[u8], size: usi
 
 // Returns the larger of two sizes.
 #[inline(always)]
-const fn larger(one: usize, other: usize) -> usize {
+pub(crate) const fn larger(one: usize, other: usize) -> usize {
     if one < other {
         other
     } else {
@@ -354,7 +358,7 @@ impl Form {
 
     // Returns the candidate with the literal `own`, if there is a suffix or none is needed.
     #[inline(always)]
-    const fn suffixed(&self, needs: bool, text: &[u8], own: Found) -> Option<Candidate> {
+    pub(crate) const fn suffixed(&self, needs: bool, text: &[u8], own: Found) -> Option<Candidate> {
         let Found { size, counts } = own;
         let (_, rest) = text.split_at(size);
         let more = suffix_size(self.suffixes, is_float(counts), rest);
@@ -381,7 +385,7 @@ impl Form {
 
 // Returns the front `found` if it has `size` bytes.
 #[inline(always)]
-const fn whole(found: Option<Found>, size: usize) -> Option<Found> {
+pub(crate) const fn whole(found: Option<Found>, size: usize) -> Option<Found> {
     match found {
         Some(found) if found.size == size => Some(found),
         _ => None,
@@ -390,7 +394,7 @@ const fn whole(found: Option<Found>, size: usize) -> Option<Found> {
 
 // Returns whether the first `size` bytes of `text` end in a point that is given back.
 #[inline(always)]
-const fn gives_back(syntax: Syntax, back: bool, text: &[u8], size: usize) -> bool {
+pub(crate) const fn gives_back(syntax: Syntax, back: bool, text: &[u8], size: usize) -> bool {
     back && is_one(syntax, byte_before(text, size))
         && match byte_at(text, size) {
             None => false,
@@ -408,7 +412,7 @@ const fn is_one(syntax: Syntax, byte: Option<u8>) -> bool {
 }
 
 // Returns whether a digit is behind a literal of `size` bytes that has no suffix, so that the number ends where the literal does.
-const fn has_digit(text: &[u8], size: usize, end: usize) -> bool {
+pub(crate) const fn has_digit(text: &[u8], size: usize, end: usize) -> bool {
     size == end
         && match byte_at(text, size) {
             None => false,
@@ -417,7 +421,7 @@ const fn has_digit(text: &[u8], size: usize, end: usize) -> bool {
 }
 
 // Returns why what is behind the number with this candidate may not follow it: a word, or otherwise a byte that a stop names.
-const fn stopped(it: &Form, text: &[u8], form: usize, candidate: Candidate) -> TokenError {
+pub(crate) const fn stopped(it: &Form, text: &[u8], form: usize, candidate: Candidate) -> TokenError {
     let Candidate { size, counts, end } = candidate;
     if has_word_byte(text, end) {
         TokenError::UnknownSuffix {
@@ -478,7 +482,7 @@ const fn further(furthest: Option<(usize, Stopped)>, form: usize, stop: Stopped)
 
 // Returns the longer of two candidates, the first of equals.
 #[inline(always)]
-const fn better(
+pub(crate) const fn better(
     best: Option<(usize, Candidate)>,
     form: usize,
     candidate: Option<Candidate>,
@@ -508,6 +512,6 @@ const fn is_one_ahead(forms: &[Form], back: bool, text: &[u8], end: usize) -> bo
 }
 
 // Returns whether a literal that goes up to `stop` goes on behind `end`.
-const fn goes_on(syntax: Syntax, back: bool, text: &[u8], end: usize, stop: usize) -> bool {
+pub(crate) const fn goes_on(syntax: Syntax, back: bool, text: &[u8], end: usize, stop: usize) -> bool {
     end < stop && !(back && stop == end + 1 && is_one(syntax, byte_at(text, end)))
 }

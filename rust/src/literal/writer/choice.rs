@@ -2,8 +2,9 @@
 
 //! A list of forms writes numbers: in the first form whose text the list reads as the number.
 
+use crate::literal::form::Form;
 use crate::literal::kind::{FloatKind, FloatLimits, IntegerKind, Kind};
-use crate::literal::list::{Form, Forms, Number};
+use crate::literal::list::{Forms, Number};
 use crate::literal::literal::Literal;
 use crate::literal::syntax::{Condition, Syntax};
 use crate::literal::value::float::{supports_floats, to_float};

@@ -1,0 +1,170 @@
+//! A form of numbers.
+
+ghost use Rattle.std.specs.Prelude.{◌≡◌, ◌==◌, ◌||◌, None, Some, SomeIff, false, not, true};
+ghost use Rattle.lexical_forms.specs.Affix.{may_close};
+ghost use Rattle.lexical_literal.specs.Read.{exact};
+ghost use Rattle.lexical_literal.specs.Notation.{notation_of};
+
+use crate::affix::Affix;
+use crate::exclude::may_close;
+use crate::suffix::Suffixes;
+use lexical_literal::kind::Kind;
+use lexical_literal::syntax::Syntax;
+
+/// A form of numbers: its name, such as `hexadecimal`, its opening, syntax and closing, the suffixes of its tokens, and its kind.
+#[derive(Clone, Copy)]
+pub struct Form {
+    pub(crate) name: &'static str,
+    pub(crate) opening: Affix,
+    pub(crate) closing: Affix,
+    pub(crate) syntax: Syntax,
+    pub(crate) suffixes: Option<&'static Suffixes>,
+    pub(crate) kind: Kind,
+    pub(crate) only_read: bool,
+    ghost closable: { may_close (notation_of syntax) closing ≡ true },
+}
+
+impl Form {
+    /// Returns the form with a name, which may be empty, and a syntax, without an opening, closing and suffixes, of the kind
+    /// [`Kind::EXACT`].
+    #[must_use]
+    pub const fn new(name: &'static str, syntax: Syntax) -> Form
+        ensures name { result.name.now ≡ name.now }
+        ensures opening { result.opening.size ≡ 0 }
+        ensures closing { result.closing.size ≡ 0 }
+        ensures syntax { result.syntax ≡ syntax }
+        ensures suffixes { result.suffixes ≡ None }
+        ensures kind { result.kind ≡ exact }
+        ensures only_read { result.only_read ≡ false }
+    {
+        Form {
+            name,
+            opening: Affix::NONE,
+            closing: Affix::NONE,
+            syntax,
+            suffixes: None,
+            kind: Kind::EXACT,
+            only_read: false,
+        }
+    }
+
+    /// Returns the same form with an opening before each of its literals.
+    #[must_use]
+    pub const fn with_opening(&self, opening: Affix) -> Form
+        ensures { result ≡ record self.now { opening = opening } }
+    {
+        let mut form = *self;
+        form.opening = opening;
+        form
+    }
+
+    /// Returns the same form with a closing behind each of its literals, or `None` if the first byte of the closing, or its other case,
+    /// plays a role in the syntax: a digit, a sign, the digit separator, the decimal point, the exponent character, or the base prefix
+    /// with its 0 or suffix.
+    #[must_use]
+    pub const fn with_closing(&self, closing: Affix) -> Option<Form>
+        ensures { SomeIff result (may_close (notation_of self.now.syntax) closing ≡ true) (record self.now { closing = closing }) }
+    {
+        if may_close(self.syntax.grammar(), closing) {
+            let mut form = *self;
+            form.closing = closing;
+            Some(form)
+        } else {
+            None
+        }
+    }
+
+    /// Returns the same form with the suffixes that its tokens may have.
+    #[must_use]
+    pub const fn with_suffixes(&self, suffixes: &'static Suffixes) -> Form
+        ensures { result ≡ record self.now { suffixes = Some suffixes.entry } }
+    {
+        let mut form = *self;
+        form.suffixes = Some(suffixes);
+        form
+    }
+
+    /// Returns the same form with another kind, which its literals have.
+    #[must_use]
+    pub const fn with_kind(&self, kind: Kind) -> Form
+        ensures { result ≡ record self.now { kind = kind } }
+    {
+        let mut form = *self;
+        form.kind = kind;
+        form
+    }
+
+    /// Sets whether lists only read the form, and write numbers in others.
+    #[must_use]
+    pub const fn only_read(&self, only: bool) -> Form
+        ensures { result ≡ record self.now { only_read = only } }
+    {
+        let mut form = *self;
+        form.only_read = only;
+        form
+    }
+
+    /// Returns the opening, which is empty if there is none.
+    #[must_use]
+    pub const fn opening(&self) -> Affix
+        ensures { result ≡ self.now.opening }
+    {
+        self.opening
+    }
+
+    /// Returns the closing, which is empty if there is none.
+    #[must_use]
+    pub const fn closing(&self) -> Affix
+        ensures { result ≡ self.now.closing }
+    {
+        self.closing
+    }
+
+    /// Returns the kind.
+    #[must_use]
+    pub const fn kind(&self) -> Kind
+        ensures { result ≡ self.now.kind }
+    {
+        self.kind
+    }
+
+    /// Returns the suffixes, if there are any.
+    #[must_use]
+    pub const fn suffixes(&self) -> Option<&'static Suffixes>
+        ensures { result ≡ self.now.suffixes }
+    {
+        self.suffixes
+    }
+
+    /// Returns whether lists only read the form.
+    #[must_use]
+    pub const fn is_only_read(&self) -> bool
+        ensures { result ≡ self.now.only_read }
+    {
+        self.only_read
+    }
+
+    /// Returns the name.
+    #[must_use]
+    pub const fn name(&self) -> &'static str
+        ensures { result.now ≡ self.now.name.now }
+    {
+        self.name
+    }
+
+    /// Returns the syntax.
+    #[must_use]
+    pub const fn syntax(&self) -> Syntax
+        ensures { result ≡ self.now.syntax }
+    {
+        self.syntax
+    }
+
+    // Returns whether there is an opening or a closing.
+    #[inline(always)]
+    pub(crate) const fn is_marked(&self) -> bool
+        ensures { result ≡ (not (self.now.opening.size == 0) || not (self.now.closing.size == 0)) }
+    {
+        !self.opening.is_empty() || !self.closing.is_empty()
+    }
+}
