@@ -157,14 +157,6 @@ REPLACED += [
     # Programs have one copy of these.
     ("lexical_literal/src/stop.rt", "self.begin(false, text, false)", "self.begin_any(text, false)"),
     ("lexical_literal/src/stop.rt", "self.begin(false, text, true)", "self.begin_any(text, true)"),
-    # The error of a token has a copy of its own, which calls what others inline.
-    ("lexical_forms/src/list.rt", "const fn find<'t>(", "const fn find<'t, const RARE: bool>("),
-    ("lexical_forms/src/list.rt", "const fn find_plain<'t>(", "const fn find_plain<'t, const RARE: bool>("),
-    ("lexical_forms/src/list.rt", "self.find_plain(text, stop)", "self.find_plain::<RARE>(text, stop)"),
-    ("lexical_forms/src/list.rt", "syntax.begin(false, text, false)", "if RARE { syntax.begin_any(text, false) } else { syntax.begin(false, text, false) }"),
-    ("lexical_forms/src/list.rt", "self.find(text, stop)", "self.find::<false>(text, stop)"),
-    ("token.rt", "self.find(word, None)", "self.find::<true>(word, None)"),
-    ("marked.rt", "self.find(word, None)", "self.find::<true>(word, None)"),
     ("token.rt", "it.syntax.begin(false, text, true)", "it.syntax.begin_small(text, true)"),
     ("token.rt", "it.syntax.begin(false, front, true)", "it.syntax.begin_small(front, true)"),
     # The library for C has one copy of these.

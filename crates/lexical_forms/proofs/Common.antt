@@ -4,7 +4,7 @@ pub use Rattle.lexical_forms.specs.Additions.Token.{IsWithin}
 pub use Rattle.lexical_forms.specs.FormList.{FormList}
 pub use Rattle.lexical_forms.specs.Forms.{NoForm, ReadsForm, reach}
 pub use Rattle.lexical_forms.specs.Token.{IsAhead, ReadsSyntax}
-pub use Rattle.lexical_forms.specs.declared.list.Form.{Form}
+pub use Rattle.lexical_forms.specs.declared.form.Form.{Form}
 pub use Rattle.lexical_forms.specs.declared.token.Candidate.{Candidate}
 pub use Rattle.lexical_literal.specs.Additions.Stop.{IsCountedFront, IsMeasured, IsStopped}
 pub use Rattle.lexical_literal.specs.Additions.Literal.{AreSums, cut}

@@ -8,10 +8,14 @@ use Rattle.lexical_literal.specs.Front.{NoFrontBy}
 use Rattle.lexical_forms.specs.Additions.Forms.{AreBelow, IsFoundForm, IsFoundFrontForm, IsFrontIn, IsLed, IsLeftOut, IsLongestPast, IsLow}
 use Rattle.lexical_forms.specs.Additions.Forms.{IsNearSign, IsRefusedAt, Leads, NoFrontPast, NonePast, greater, limit}
 use Rattle.lexical_forms.specs.Forms.{HasFront, HasKind, IsErrorOfForm, IsFirst, IsFormError, IsGreatest, IsReadByForms, Reaches, ReadsIn, reach_in, refusal_in}
-use Rattle.lexical_forms.proofs.OpeningLemmas.{bit_within, front_in, none_empty, none_in, one_reach, one_size, reach_least, reach_most}
+use Rattle.lexical_forms.proofs.MarkLemmas.{front_in, none_empty_in, none_in, one_reach, reach_least, reach_most}
+use Rattle.lexical_forms.proofs.OpeningLemmas.{bit_within, one_size}
 use Rattle.std.proofs.lemmas.List.{get_or-take}
 use Rattle.std.proofs.lemmas.Option.{slice_get_within}
+use Rattle.lexical_forms.specs.FormList.{ArePlain, have_marks}
 use Rattle.lexical_forms.specs.declared.list.FormError.{FormError}
+use Rattle.lexical_forms.specs.declared.list.Tokens.{Tokens}
+use Rattle.std.specs.Borrow.{Bor}
 use Rattle.lexical_forms.specs.declared.list.Furthest.{Furthest}
 use Rattle.lexical_forms.specs.declared.list.Number.TheVariants as numbers
 
@@ -117,6 +121,18 @@ number_is list text i read own is format same kind = record {
   error = tt;
 }
 
+-- A form of a list without marks has none.
+pub plain_at : (forms : List Form) (i : ℕ) (d : Form) → i < length forms → have_marks forms ≡ false
+    → ((get_or forms i d).opening.size ≡ 0) × ((get_or forms i d).closing.size ≡ 0)
+plain_at [] i d inside none = absurd (omega (arith, inside))
+plain_at (form ∷ forms) ℕ.zero d inside none = grind (arith, nat_tests)
+plain_at (form ∷ forms) (ℕ.suc i) d inside none = plain_at forms i d (omega (arith, inside)) (grind (arith, nat_tests))
+
+-- The forms of a list whose tokens, if there are any, have none either.
+pub plain_forms : (forms : List Form) (t : Option (Bor Tokens)) → ArePlain forms t → have_marks forms ≡ false
+plain_forms forms None is = is
+plain_forms forms (Some t) is = is.0
+
 -- All forms have been tried.
 module _ (forms : List Form) (text : List ℕ) (i : ℕ) (end : length forms ≤ i) where
   pub furthest_is : 0 < length forms → (furthest : Option (ℕ × Stopped)) → IsBest (goes text) forms i furthest → IsFurthestForm forms text furthest
@@ -170,7 +186,7 @@ module _ (forms : List Form) (text : List ℕ) (size : ℕ) where
     front_more found is = record {
       low = omega (arith, old.low, is.0);
       past = All-more (Past found.size) forms i d inside (λ k e below n more. old.past k e below n (omega (arith, more, is.0)))
-          (front_in text (get_or forms i d) found is.1).no_longer;
+          (front_in (get_or forms i d) text found is.1).no_longer;
       best = record {
         same = refl;
         here = at_index (IsFrontIn text found) forms forms d i refl inside is.1;
@@ -188,7 +204,7 @@ module _ (forms : List Form) (text : List ℕ) (size : ℕ) where
       record {
         longest = record {
           here = each (IsFrontIn text best.1) (λ g. HasFront text g best.1.size) (slice_get forms best.0)
-              (λ g found. (found.front.literal, front_in text g best.1 found)) is.best.here;
+              (λ g found. (found.front.literal, front_in g text best.1 found)) is.best.here;
           before = is.best.before;
           others = λ k d below n front. let most = up_to reached (get_or forms k d) (past k d below) n front in omega (arith, most, is.best.same);
         };
@@ -212,7 +228,7 @@ front_is forms text size index found is = record {
 
 -- No front has a byte.
 pub no_front : (forms : List Form) (text : List ℕ) → IsLongestPast forms text 0 None → All (λ g. NoFrontBy (ReadsIn g) text) forms
-no_front forms text none k d below ℕ.zero within l reads = none_empty (get_or forms k d) l reads
+no_front forms text none k d below ℕ.zero within l reads = none_empty_in (get_or forms k d) l reads
 no_front forms text none k d below (ℕ.suc n) within l reads = none k d below (ℕ.suc n) (omega arith) within l reads
 
 pub limit_within : (best : Furthest) → (2 * best.stop.size ≤ limit best) × (limit best ≤ 2 * best.stop.size + 1)
@@ -221,7 +237,7 @@ limit_within best = bit_within (2 * best.stop.size) 1 0 best.settled (omega arit
 -- The first form does not read the text.
 pub first_none : (forms : List Form) (text : List ℕ) (stop : Stopped) → IsSomeAnd (slice_get forms 0) (IsRefusedAt text stop) → NoForm (take 1 forms) text
 first_none [] text stop here k d below = absurd here
-first_none (form ∷ forms) text stop here ℕ.zero d below = none_in text form stop here
+first_none (form ∷ forms) text stop here ℕ.zero d below = none_in form text stop here
 first_none (form ∷ forms) text stop here (ℕ.suc k) d below = absurd (omega (arith, below))
 
 module _ (forms : List Form) (text : List ℕ) where
@@ -251,7 +267,7 @@ module _ (forms : List Form) (text : List ℕ) where
       → Leads forms text (i + 1) (record { form = i; stop = stop; settled = false })
   leads_first i stop here before = leads i stop false here
       (each (IsRefusedAt text stop) (λ g. (n : ℕ) → Reaches text g n → 2 * stop.size + 0 ≤ n) (slice_get forms i)
-      (λ g is n reaches. let least = reach_least text g stop is n reaches in omega (arith, least)) here)
+      (λ g is n reaches. let least = reach_least g text stop is n reaches in omega (arith, least)) here)
       (weaker 0 i (2 * stop.size) (2 * stop.size + 0) (omega arith) before)
 
   module _ (i : ℕ) (best : Furthest) (old : Leads forms text i best) where
@@ -292,12 +308,12 @@ module _ (forms : List Form) (text : List ℕ) where
   module _ (i : ℕ) (best : Furthest) (old : Leads forms text i best) (stop : Stopped) (here : IsSomeAnd (slice_get forms i) (IsRefusedAt text stop)) where
     pub no_further : 2 * stop.size + 1 ≤ limit best → Leads forms text (i + 1) best
     no_further less = kept i best old (each (IsRefusedAt text stop) (λ g. (n : ℕ) → Reaches text g n → n ≤ limit best) (slice_get forms i)
-        (λ g is n reaches. let most = reach_most text g stop is n reaches in omega (arith, most, less)) here)
+        (λ g is n reaches. let most = reach_most g text stop is n reaches in omega (arith, most, less)) here)
 
     pub goes_further : best.stop.size < stop.size → Leads forms text (i + 1) (record { form = i; stop = stop; settled = false })
     goes_further far = leads_first i stop here (all_below i best old (2 * stop.size) (let most = (limit_within best).1 in omega (arith, most, far))
         (each (IsRefusedAt text best.stop) (λ g. (n : ℕ) → Reaches text g n → n < 2 * stop.size) (slice_get forms best.form)
-        (λ g is n reaches. let most = reach_most text g best.stop is n reaches in omega (arith, most, far)) old.here))
+        (λ g is n reaches. let most = reach_most g text best.stop is n reaches in omega (arith, most, far)) old.here))
 
     -- The causes are not stray, or stray.
     pub settles : stop.size ≤ best.stop.size
@@ -307,7 +323,7 @@ module _ (forms : List Form) (text : List ℕ) where
         (each (λ g. (n : ℕ) → Reaches text g n → n ≡ 2 * best.stop.size + 1) (λ g. (n : ℕ) → Reaches text g n → 2 * best.stop.size + 1 ≤ n)
         (slice_get forms best.form) (λ g is n reaches. let same = is n reaches in omega (arith, same)) own) (limit_within best).1)
         (each (IsRefusedAt text stop) (λ g. (n : ℕ) → Reaches text g n → n ≤ 2 * best.stop.size + 1) (slice_get forms i)
-        (λ g is n reaches. let most = reach_most text g stop is n reaches in omega (arith, most, near)) here)
+        (λ g is n reaches. let most = reach_most g text stop is n reaches in omega (arith, most, near)) here)
 
     pub stays : stop.size ≤ best.stop.size → IsSomeAnd (slice_get forms i) (λ g. (n : ℕ) → Reaches text g n → n ≡ 2 * stop.size + 0)
         → Leads forms text (i + 1) best
@@ -365,7 +381,7 @@ module _ (forms : List Form) (text : List ℕ) where
           | inl behind ↦ (λ n reaches. let less = is.behind k d (omega (arith, behind)) below n reaches in omega (arith, less, least))
           | inr here ↦ (λ n reaches. let most = one_below best.form (reached + 1)
               (each (IsErrorOfForm text error) (λ g. (n : ℕ) → Reaches text g n → n < reached + 1) (slice_get forms best.form)
-              (λ g is n reaches. let one = one_reach text g reaches.0 error.opened reaches.1 (refusal_in error) reaches.2 is.refusal in
+              (λ g is n reaches. let one = one_reach g text reaches.0 error.opened reaches.1 (refusal_in error) reaches.2 is.refusal in
               omega (arith, one, reaches.3)) own) k d past (omega (arith, here)) n reaches in omega (arith, most))
         ])
       ];

@@ -2,7 +2,8 @@ mod Common
 mod SpecialLemmas
 mod ExcludeLemmas
 mod StrangerLemmas
-pub mod OpeningLemmas
+mod OpeningLemmas
+pub mod MarkLemmas
 mod FormLemmas
 mod TokenLemmas
 mod LeadingLemmas

@@ -1,12 +1,18 @@
--- Openings: what stands before the literals of a form.
-use Rattle.std.specs.Prelude.{ℕ, ◌≡◌, ◌==◌, ◌&&◌, ◌||◌, ◌<◌, ◌≤◌, not, Bool, true, false, List, get_or, length}
+-- Openings and closings: what stands before and behind the literals of a form.
+use Rattle.std.specs.Prelude.{ℕ, ◌≡◌, ◌==◌, ◌&&◌, ◌||◌, ◌<◌, ◌≤◌, not, Bool, true, false, List, get_or, length, take}
 use Rattle.lexical_util.specs.Roles.{other_case}
+use Rattle.lexical_util.specs.declared.format_flags.Part.TheVariants as parts
+use Rattle.lexical_literal.specs.Notation.{Notation}
 use Rattle.lexical_forms.specs.declared.affix.Affix.{Affix}
+
+-- `spelling affix` is the list of the bytes of `affix`.
+abbrev pub spelling : Affix → List ℕ
+spelling affix = take affix.size affix.bytes
 
 -- `spells affix index byte` is true if `byte` is the byte of `affix` with this index or, unless its case counts, the other case of this byte.
 abbrev pub spells : Affix → ℕ → ℕ → Bool
 spells affix index byte =
-    (byte == get_or affix.bytes.now index 0) || (not affix.case_sensitive && (byte == other_case (get_or affix.bytes.now index 0)))
+    (byte == get_or affix.bytes index 0) || (not affix.case_sensitive && (byte == other_case (get_or affix.bytes index 0)))
 
 -- `Begins affix text size` holds if the first `size` bytes of `text` are those of `affix`.
 pub record Begins (affix : Affix) (text : List ℕ) (size : ℕ) : Type 0 where
@@ -15,10 +21,20 @@ pub record Begins (affix : Affix) (text : List ℕ) (size : ℕ) : Type 0 where
 
 -- `IsOpened affix text` holds if `text` begins with `affix`.
 abbrev pub IsOpened : Affix → List ℕ → Type 0
-IsOpened affix text = Begins affix text (length affix.bytes.now)
+IsOpened affix text = Begins affix text affix.size
 
 -- `IsOpenedTo affix text size` holds if `text` begins with the first `size` bytes of `affix`, and not with more.
 pub record IsOpenedTo (affix : Affix) (text : List ℕ) (size : ℕ) : Type 0 where
-  pub inside : size ≤ length affix.bytes.now
+  pub inside : size ≤ affix.size
   pub begins : Begins affix text size
-  pub differs : size < length affix.bytes.now → size < length text → spells affix size (get_or text size 0) ≡ false
+  pub differs : size < affix.size → size < length text → spells affix size (get_or text size 0) ≡ false
+
+-- `is_free m byte` is true if `byte` plays no role in `m`, and is not the zero of a prefix.
+abbrev pub is_free : Notation → ℕ → Bool
+is_free m byte = not (byte == 48) && not (m.digit parts.Integer byte) && not (m.digit parts.Exponent byte) && not (byte == 43) && not (byte == 45)
+    && not (m.separator byte) && not (m.prefix byte) && not (m.suffix byte) && not (m.point byte) && not (m.exponent_character byte)
+
+-- `may_close m closing` is true if `closing` is empty, or if its first byte plays no role in `m`, and the other case of this byte neither.
+abbrev pub may_close : Notation → Affix → Bool
+may_close m closing =
+    (closing.size == 0) || (is_free m (get_or closing.bytes 0 0) && is_free m (other_case (get_or closing.bytes 0 0)))

@@ -1,7 +1,8 @@
 -- The forms of numbers, and the spellings of special values, as contracts see them.
-use Rattle.std.specs.Prelude.{List, Option}
+use Rattle.std.specs.Prelude.{◌≡◌, ◌==◌, ◌||◌, not, Bool, false, List, None, Option, Some}
 use Rattle.std.specs.Borrow.{Bor}
-use Rattle.lexical_forms.specs.declared.list.Form.{Form}
+use Rattle.std.specs.List.{list_any}
+use Rattle.lexical_forms.specs.declared.form.Form.{Form}
 use Rattle.lexical_forms.specs.declared.list.Tokens.{Tokens}
 use Rattle.lexical_forms.specs.declared.specials.Specials.{Specials}
 
@@ -11,3 +12,12 @@ pub record FormList : Type 0 where
   pub forms : List Form
   pub specials : Specials
   pub tokens : Option (Bor Tokens)
+
+-- `have_marks forms` is true if one of `forms` has an opening or a closing. `ArePlain forms tokens` holds if none of `forms` has one, and none of those
+-- of `tokens`, if there are any.
+abbrev pub have_marks : List Form → Bool
+have_marks forms = list_any (λ (form : Form). not (form.opening.size == 0) || not (form.closing.size == 0)) forms
+
+abbrev pub ArePlain : List Form → Option (Bor Tokens) → Type 0
+ArePlain forms None = have_marks forms ≡ false
+ArePlain forms (Some t) = (have_marks forms ≡ false) × (have_marks t.now.forms.now ≡ false)

@@ -1,46 +1,69 @@
 -- Several forms of numbers: which form has a text, and which error a text has that is of no form.
-use Rattle.std.specs.Prelude.{ℕ, ◌≡◌, ◌+◌, ◌*◌, ◌<◌, ◌≤◌, if◌then◌else◌, IfErr, IfOk, IsErr, IsSomeAnd, List, Option, Some, None, Result}
+use Rattle.std.specs.Prelude.{ℕ, ◌≡◌, ◌+◌, ◌-◌, ◌*◌, ◌<◌, ◌≤◌, ◌⊎◌, true, false, if◌then◌else◌, IfErr, IfOk, IsErr, IsSomeAnd, List, Option, Some, None, Result}
 use Rattle.std.specs.Prelude.{All}
-use Rattle.std.specs.Prelude.{◌==◌, Bool, drop, length, not, option_map, slice_get, take}
-use Rattle.std.specs.List.{list_any}
+use Rattle.std.specs.Prelude.{drop, length, option_map, slice_get, take}
 use Rattle.std.specs.Result.{result_ok}
 use Rattle.std.specs.Borrow.{Bor}
 use Rattle.lexical_literal.specs.Cause.{Explained, IsRefusal, is_stray, tail_of}
 use Rattle.lexical_forms.specs.Affix.{IsOpened, IsOpenedTo}
 use Rattle.lexical_forms.specs.FormList.{FormList}
-use Rattle.lexical_literal.specs.Front.{IsValidBy, NoFrontBy, NoneBy, ReadsFrontBy}
+use Rattle.lexical_literal.specs.Front.{IsValidBy, IsValidUpTo, NoFrontBy, NoLiteral, NoneBy, ReadsFrontBy}
 use Rattle.lexical_literal.specs.Literal.{Literal, Reads}
 use Rattle.lexical_literal.specs.Notation.{notation_of}
 use Rattle.lexical_literal.specs.Read.{Read}
 use Rattle.lexical_forms.specs.Specials.{special_of}
 use Rattle.lexical_literal.specs.declared.cause.Refusal.{Refusal}
-use Rattle.lexical_forms.specs.declared.list.Form.{Form}
+use Rattle.lexical_forms.specs.declared.affix.Affix.{Affix}
+use Rattle.lexical_forms.specs.declared.form.Form.{Form}
 use Rattle.lexical_forms.specs.declared.list.FormError.{FormError}
-use Rattle.lexical_forms.specs.declared.list.Unopened.{Unopened}
+use Rattle.lexical_forms.specs.declared.list.Mark.{Mark}
+use Rattle.lexical_forms.specs.declared.list.Mark.TheVariants as marks
+use Rattle.lexical_forms.specs.declared.list.Unmarked.{Unmarked}
 use Rattle.lexical_forms.specs.declared.list.Number.{Number}
 use Rattle.lexical_forms.specs.declared.list.Number.TheVariants as numbers
 use Rattle.lexical_forms.specs.declared.specials.Special.{Special}
 use Rattle.lexical_forms.specs.declared.specials.Specials.{Specials}
 
--- `have_openings forms` is true if one of `forms` has an opening.
-abbrev pub have_openings : List Form → Bool
-have_openings forms = list_any (λ (form : Form). not (length form.opening.bytes.now == 0)) forms
-
 -- `behind form text` is what follows as many bytes of `text` as the opening of `form` has.
 abbrev pub behind : Form → List ℕ → List ℕ
-behind form text = drop (length form.opening.bytes.now) text
+behind form text = drop form.opening.size text
 
--- `ReadsIn form l text` holds if `text` is a literal of `form` with the parts of `l`: the opening, and then a literal of its syntax.
-pub record ReadsIn (form : Form) (l : Literal) (text : List ℕ) : Type 0 where
+-- `OpensIn form l text` holds if `text` is the opening of `form`, and then a literal of its syntax with the parts of `l`.
+pub record OpensIn (form : Form) (l : Literal) (text : List ℕ) : Type 0 where
   pub opened : IsOpened form.opening text
   pub reads : Reads (notation_of form.syntax) l (behind form text)
 
--- `IsErrorIn form text opened error` holds if `opened` bytes of the opening of `form` are right, and if `error` says why what is behind it
--- is not a literal of the syntax, or is `None`, and they are not all.
+-- `ReadsIn form l text` holds if `text` is a literal of `form` with the parts of `l`: the opening, a literal of the syntax, and then the closing.
+pub record ReadsIn (form : Form) (l : Literal) (text : List ℕ) : Type 0 where
+  pub room : form.closing.size ≤ length text
+  pub opens : OpensIn form l (take (length text - form.closing.size) text)
+  pub closed : IsOpened form.closing (drop (length text - form.closing.size) text)
+
+-- `LacksClosing form rest size closed` holds if the longest front of `rest`, which is behind the opening, with which some literal of the syntax begins
+-- has `size` bytes and is one, if `closed` bytes of the closing of `form` follow, and if there is one, or nothing but a wrong byte.
+pub record LacksClosing (form : Form) (rest : List ℕ) (size closed : ℕ) : Type 0 where
+  pub some : 0 < form.closing.size
+  pub valid : IsValidUpTo (notation_of form.syntax) rest size
+  pub literal : Literal
+  pub reads : Reads (notation_of form.syntax) literal (take size rest)
+  pub closed : IsOpenedTo form.closing (drop size rest) closed
+  pub stray : (closed ≡ 0) → NoLiteral (notation_of form.syntax) rest → (error : Refusal) → IsRefusal (notation_of form.syntax) rest error
+      → is_stray error ≡ true
+
+-- `KeepsError form rest error` holds if `error` says why `rest` is not a literal of the syntax, and if `form` has no closing, or the front that is right
+-- is not a literal, or is one behind which the closing does not begin, and the cause is more than a wrong byte.
+pub record KeepsError (form : Form) (rest : List ℕ) (error : Refusal) : Type 0 where
+  pub none : NoLiteral (notation_of form.syntax) rest
+  pub refusal : IsRefusal (notation_of form.syntax) rest error
+  pub kept : (form.closing.size ≡ 0) ⊎ (NoLiteral (notation_of form.syntax) (take error.valid_up_to rest)
+      ⊎ (IsOpenedTo form.closing (drop error.valid_up_to rest) 0 × (is_stray error ≡ false)))
+
+-- `IsErrorIn form text right error` holds if `error` says why what is behind the opening of `form`, which has `right` bytes, is not a literal of the
+-- syntax, or if `error` is `None`, and the opening or the closing is not there behind `right` bytes.
 abbrev pub IsErrorIn : Form → List ℕ → ℕ → Option Refusal → Type 0
-IsErrorIn form text opened None = IsOpenedTo form.opening text opened × (opened < length form.opening.bytes.now)
-IsErrorIn form text opened (Some error) =
-    IsOpened form.opening text × (opened ≡ length form.opening.bytes.now) × IsRefusal (notation_of form.syntax) (behind form text) error
+IsErrorIn form text right None = (IsOpenedTo form.opening text right × (right < form.opening.size)) ⊎ (IsOpened form.opening text
+    × (size : ℕ) × (closed : ℕ) × LacksClosing form (behind form text) size closed × (right ≡ form.opening.size + size + closed))
+IsErrorIn form text right (Some error) = IsOpened form.opening text × (right ≡ form.opening.size) × KeepsError form (behind form text) error
 
 -- `GoesTo text form size` holds if some literal of `form` begins with the first `size` bytes of `text`, and none with more.
 abbrev pub GoesTo : List ℕ → Form → ℕ → Type 0
@@ -78,7 +101,7 @@ pub record IsGreatest (P : Form → ℕ → Type 0) (forms : List Form) (index s
 abbrev pub reach : Refusal → ℕ
 reach error = 2 * error.valid_up_to + (if is_stray error then 0 else 1)
 
--- `reach_in opened error` is the same for an error behind `opened` bytes of an opening. An opening that is not there counts as a wrong byte.
+-- `reach_in opened error` is the same for an error behind `opened` bytes. An opening or a closing that is not there counts as a wrong byte.
 abbrev pub reach_in : ℕ → Option Refusal → ℕ
 reach_in opened None = 2 * opened
 reach_in opened (Some error) = 2 * opened + reach error
@@ -92,15 +115,20 @@ right_in opened (Some error) = opened + error.valid_up_to
 abbrev pub Reaches : List ℕ → Form → ℕ → Type 0
 Reaches text form n = (opened : ℕ) × (error : Option Refusal) × IsErrorIn form text opened error × (reach_in opened error ≡ n)
 
--- `refusal_in error` is why what is behind the opening is not a literal, or `None` if the opening is not there.
+-- `refusal_in error` is why what is behind the opening is not a literal, or `None` if the opening or the closing is not there.
 abbrev pub refusal_in : FormError → Option Refusal
 refusal_in error = option_map (λ (it : Explained). it.refusal) (result_ok error.error)
 
--- `IsUnopened text form size unopened` holds if `unopened` has the opening of `form`, and the byte behind the first `size`, with its character.
-pub record IsUnopened (text : List ℕ) (form : Form) (size : ℕ) (unopened : Unopened) : Type 0 where
-  pub opening : unopened.opening ≡ form.opening
-  pub byte : unopened.byte ≡ slice_get text size
-  pub tail : unopened.tail ≡ tail_of text size
+-- `mark_of form mark` is the opening or the closing of `form`. `IsUnmarked text form size it` holds if `it` has one of both, and the byte behind the
+-- first `size`, with its character.
+abbrev pub mark_of : Form → Mark → Affix
+mark_of form marks.Opening = form.opening
+mark_of form _ = form.closing
+
+pub record IsUnmarked (text : List ℕ) (form : Form) (size : ℕ) (it : Unmarked) : Type 0 where
+  pub affix : it.affix ≡ mark_of form it.mark
+  pub byte : it.byte ≡ slice_get text size
+  pub tail : it.tail ≡ tail_of text size
 
 -- `IsErrorOfForm text error form` holds if `error` has the name of `form`, and says why `text` is not a literal of it. The bytes that are right
 -- are the longest front with which some literal begins.
@@ -108,7 +136,7 @@ pub record IsErrorOfForm (text : List ℕ) (error : FormError) (form : Form) : T
   pub name : error.name.now ≡ form.name.now
   pub refusal : IsErrorIn form text error.opened (refusal_in error)
   pub valid : GoesTo text form (right_in error.opened (refusal_in error))
-  pub unopened : IfErr error.error (IsUnopened text form error.opened)
+  pub unmarked : IfErr error.error (IsUnmarked text form error.opened)
 
 -- `IsFormError forms text error` holds if `error` is that of the form that goes furthest in `text`. Of several, it is the first
 -- whose cause is not a wrong byte and that does not lack a required prefix, or the first if there is none.

@@ -34,8 +34,9 @@ pub struct Affix {
 }
 
 impl Affix {
-    ghost use Rattle.std.specs.Prelude.{ℕ, ◌≡◌, ◌==◌, ◌<◌, ◌≤◌, ◌↔◌, All, IfSome, IsSome, false, get_or, length, true};
-    ghost use Rattle.lexical_forms.specs.Affix.{IsOpenedTo, spells, spelling};
+    ghost use Rattle.std.specs.Prelude.{ℕ, ◌≡◌, ◌==◌, ◌<◌, ◌≤◌, ◌↔◌, All, IfSome, IsSome, IsTrue, false, get_or, length, true};
+    ghost use Rattle.lexical_forms.specs.Affix.{IsOpenedTo, spelling, spells};
+    ghost use Rattle.lexical_util.specs.Roles.{other_case};
 
     /// No bytes.
     pub const NONE: Affix = Affix {
@@ -72,8 +73,9 @@ impl Affix {
     pub const fn case_sensitive(self, sensitive: bool) -> Affix
         ensures { result ≡ record self { case_sensitive = sensitive } }
     {
+        let bytes = self.bytes;
         Affix {
-            bytes: self.bytes,
+            bytes,
             size: self.size,
             case_sensitive: sensitive,
         }
@@ -109,6 +111,15 @@ impl Affix {
         ensures { result ≡ self.now.size }
     {
         self.size as usize
+    }
+
+    // Returns whether the first byte is neither `byte` nor `other`, which is its other case. Then no text that begins with `byte` is opened.
+    #[inline(always)]
+    pub(crate) const fn excludes(&self, byte: u8, other: u8) -> bool
+        requires { other ≡ other_case byte }
+        ensures { IsTrue result → (0 < self.now.size) × (spells self.now 0 byte ≡ false) }
+    {
+        self.size != 0 && self.bytes[0] != byte && self.bytes[0] != other
     }
 
     // Returns the number of its bytes that `text` begins with.

@@ -53,9 +53,15 @@ impl Form {
     pub const fn with_opening(&self, opening: Affix) -> Form
         ensures { result ≡ record self.now { opening = opening } }
     {
-        let mut form = *self;
-        form.opening = opening;
-        form
+        Form {
+            name: self.name,
+            opening,
+            closing: self.closing,
+            syntax: self.syntax,
+            suffixes: self.suffixes,
+            kind: self.kind,
+            only_read: self.only_read,
+        }
     }
 
     /// Returns the same form with a closing behind each of its literals, or `None` if the first byte of the closing, or its other case,
@@ -66,9 +72,15 @@ impl Form {
         ensures { SomeIff result (may_close (notation_of self.now.syntax) closing ≡ true) (record self.now { closing = closing }) }
     {
         if may_close(self.syntax.grammar(), closing) {
-            let mut form = *self;
-            form.closing = closing;
-            Some(form)
+            Some(Form {
+                name: self.name,
+                opening: self.opening,
+                closing,
+                syntax: self.syntax,
+                suffixes: self.suffixes,
+                kind: self.kind,
+                only_read: self.only_read,
+            })
         } else {
             None
         }
@@ -79,9 +91,15 @@ impl Form {
     pub const fn with_suffixes(&self, suffixes: &'static Suffixes) -> Form
         ensures { result ≡ record self.now { suffixes = Some suffixes.entry } }
     {
-        let mut form = *self;
-        form.suffixes = Some(suffixes);
-        form
+        Form {
+            name: self.name,
+            opening: self.opening,
+            closing: self.closing,
+            syntax: self.syntax,
+            suffixes: Some(suffixes),
+            kind: self.kind,
+            only_read: self.only_read,
+        }
     }
 
     /// Returns the same form with another kind, which its literals have.
@@ -89,9 +107,15 @@ impl Form {
     pub const fn with_kind(&self, kind: Kind) -> Form
         ensures { result ≡ record self.now { kind = kind } }
     {
-        let mut form = *self;
-        form.kind = kind;
-        form
+        Form {
+            name: self.name,
+            opening: self.opening,
+            closing: self.closing,
+            syntax: self.syntax,
+            suffixes: self.suffixes,
+            kind,
+            only_read: self.only_read,
+        }
     }
 
     /// Sets whether lists only read the form, and write numbers in others.
@@ -99,9 +123,15 @@ impl Form {
     pub const fn only_read(&self, only: bool) -> Form
         ensures { result ≡ record self.now { only_read = only } }
     {
-        let mut form = *self;
-        form.only_read = only;
-        form
+        Form {
+            name: self.name,
+            opening: self.opening,
+            closing: self.closing,
+            syntax: self.syntax,
+            suffixes: self.suffixes,
+            kind: self.kind,
+            only_read: only,
+        }
     }
 
     /// Returns the opening, which is empty if there is none.

@@ -1,23 +1,21 @@
 //! Numbers that have several forms, such as `10`, `0x1F` and `0b1`.
 
-ghost use Rattle.std.specs.Prelude.{ℕ, ◌≡◌, ◌<◌, ◌≤◌, ◌+◌, ◌-◌, ◌*◌, ◌||◌, [], IfSome, IsNone, IsSome, IsSomeAnd, IsTrue, None, Some, SomeIff};
+ghost use Rattle.std.specs.Prelude.{ℕ, ◌≡◌, ◌<◌, ◌≤◌, ◌+◌, ◌-◌, ◌*◌, IfSome, IsNone, IsSomeAnd, IsTrue, None, Some, SomeIff};
 ghost use Rattle.std.specs.Prelude.{false, if◌then◌else◌, length, slice_get};
 ghost use Rattle.lexical_forms.specs.Additions.Forms.{IsBehind, IsFoundForm, IsFoundFrontForm, IsLed, IsLongestPast, IsRefusedAt};
-ghost use Rattle.lexical_forms.specs.Additions.Forms.{IsFrontIn, IsStoppedBefore, IsStoppedBehind, Leads, NonePast, sign_size};
-ghost use Rattle.lexical_forms.specs.Forms.{HasKind, IsErrorOfForm, IsFormError, IsFrontByForms, IsReadByForms, IsUnopened, NoForm, Reaches, ReadsIn, behind};
-ghost use Rattle.lexical_forms.specs.Forms.{have_openings, special_by};
-ghost use Rattle.lexical_literal.specs.Additions.Stop.{IsStopped};
-ghost use Rattle.lexical_literal.specs.Front.{NoLiteral, NoneBy};
-ghost use Rattle.lexical_literal.specs.Read.{exact};
+ghost use Rattle.lexical_forms.specs.Additions.Forms.{Leads, sign_size};
+ghost use Rattle.lexical_forms.specs.FormList.{have_marks};
+ghost use Rattle.lexical_forms.specs.Forms.{HasKind, IsFormError, IsFrontByForms, IsReadByForms, NoForm, Reaches, special_by};
+ghost use Rattle.lexical_literal.specs.Front.{NoLiteral};
 ghost use Rattle.lexical_literal.specs.Notation.{notation_of};
 
 use crate::affix::Affix;
 use crate::exclude::{excludes, has_letter_behind_zero, is_settled, sign_size};
 use crate::form::Form;
 use crate::specials::{Special, Specials};
-use lexical_literal::cause::ReadError;
+use lexical_literal::cause::{ReadError, other_case};
 use lexical_literal::literal::Literal;
-use lexical_literal::stop::{Found, Stopped};
+use lexical_literal::stop::{Found, Stopped, byte_at};
 use lexical_literal::syntax::Grammar;
 use std::marker::Model;
 
@@ -86,13 +84,13 @@ pub struct Forms<'a> {
 
 impl<'a> Model for Forms<'a> {
     ghost use Rattle.std.specs.Prelude.{◌≡◌, ◌<◌, false, length};
-    ghost use Rattle.lexical_forms.specs.FormList.{FormList, IsPlain};
+    ghost use Rattle.lexical_forms.specs.FormList.{ArePlain, FormList};
 
     ghost Value = { FormList };
 
     ghost view = { λ it. record { forms = it.forms.now; specials = it.specials; tokens = it.tokens } };
 
-    ghost invariant = { λ it. (0 < length it.forms.now) × (it.marked ≡ false → IsPlain it.forms.now it.tokens) };
+    ghost invariant = { λ it. (0 < length it.forms.now) × (it.marked ≡ false → ArePlain it.forms.now it.tokens) };
 }
 
 /// A number that has one of several forms.
@@ -278,7 +276,24 @@ impl<'a> Forms<'a> {
         requires { IfSome stop (λ stop. IsSomeAnd (slice_get self.now.forms 0) (IsRefusedAt text.now stop)) }
         ensures { IsReadByForms self.now text.now result }
     {
-        match self.find(text, stop) {
+        if self.marked {
+            self.number(text, self.find_marked(text))
+        } else {
+            self.number(text, self.find_plain(text, stop))
+        }
+    }
+
+    // Returns the number of the form that has been found, or a special value, or the error of the form that goes furthest.
+    #[inline(always)]
+    fn number<'t>(
+        &self,
+        text: &'t [u8],
+        found: Result<(usize, Literal<'t>), Furthest>,
+    ) -> Result<Number<'t>, FormError>
+        requires { IsFoundForm self.now.forms text.now found }
+        ensures { IsReadByForms self.now text.now result }
+    {
+        match found {
             Ok((form, found)) => {
                 let literal = self.of_form(form, found);
                 Ok(Number::Literal { literal, form })
@@ -332,43 +347,34 @@ impl<'a> Forms<'a> {
         self.specials.read(&self.forms[0].syntax, text)
     }
 
-    // Returns the index of the first form of which `text` is a literal, and the literal, or the form whose error is that of the list.
-    // The first form stops at `stop`, if it has been asked.
-    #[inline(always)]
-    pub(crate) fn find<'t>(
-        &self,
-        text: &'t [u8],
-        stop: Option<Stopped>,
-    ) -> Result<(usize, Literal<'t>), Furthest>
-        requires { IfSome stop (λ stop. IsSomeAnd (slice_get self.now.forms 0) (IsRefusedAt text.now stop)) }
-        ensures { IsFoundForm self.now.forms text.now result }
-    {
-        if self.marked {
-            self.find_marked(text)
-        } else {
-            self.find_plain(text, stop)
-        }
-    }
-
-    // Returns the same in a list of which a form may have an opening or a closing. If there is no literal, all forms are asked again.
+    // Returns the index of the first form of which `text` is a literal, and the literal, or the form whose error is that of the list. If there is
+    // no literal, all forms are asked again.
     #[inline(never)]
-    fn find_marked<'t>(&self, text: &'t [u8]) -> Result<(usize, Literal<'t>), Furthest>
+    pub(crate) fn find_marked<'t>(&self, text: &'t [u8]) -> Result<(usize, Literal<'t>), Furthest>
         ensures { IsFoundForm self.now.forms text.now result }
     {
+        let byte = match byte_at(text, 0) {
+            None => 0,
+            Some(byte) => byte,
+        };
+        let other = other_case(byte);
         let mut form = 0;
         while form < self.forms.len() {
-            if let Some(literal) = self.forms[form].literal(text) {
-                return Ok((form, literal));
+            let it = &self.forms[form];
+            if !it.opening.excludes(byte, other) {
+                if let Some(literal) = it.literal(text) {
+                    return Ok((form, literal));
+                }
             }
             form += 1;
         }
         Err(self.furthest(text))
     }
 
-    // Returns the same in a list without openings and closings. Each form is asked once, but if it has not been asked and no form goes
-    // beyond the first byte behind the sign, all are asked again.
+    // Returns the same in a list without openings and closings, where the first form stops at `stop`, if it has been asked. Each form is asked
+    // once, but if it has not been asked and no form goes beyond the first byte behind the sign, all are asked again.
     #[inline(always)]
-    fn find_plain<'t>(
+    pub(crate) fn find_plain<'t>(
         &self,
         text: &'t [u8],
         stop: Option<Stopped>,

@@ -1,5 +1,9 @@
 //! Tokens of lists with openings or closings, by the rules of tokens. Contracts state nothing of which token it is.
 
+ghost use Rattle.std.specs.Prelude.{◌≡◌, ◌<◌, ◌≤◌, ◌+◌, length};
+ghost use Rattle.std.specs.Option.{ForSome};
+ghost use Rattle.lexical_forms.specs.Additions.Token.{IsInside};
+
 use crate::form::Form;
 use crate::list::{Forms, Tokens};
 use crate::suffix::{is_followed, is_stopped, kind_with, word_size};
@@ -41,7 +45,9 @@ impl<'a> Forms<'a> {
 
     // Returns the form with this index. Those that need a suffix are behind the others.
     #[inline(always)]
-    fn form_at<'f>(&'f self, tokens: &'f Tokens, form: usize) -> &'f Form {
+    fn form_at<'f>(&'f self, tokens: &'f Tokens, form: usize) -> &'f Form
+        requires { form < length self.now.forms + length tokens.now.forms.now }
+    {
         if form < self.forms.len() {
             &self.forms[form]
         } else {
@@ -50,17 +56,15 @@ impl<'a> Forms<'a> {
     }
 
     // Returns the longest candidate of the forms of the list, and then of those that need a suffix, with the index of its form.
-    fn best_marked(&self, tokens: &Tokens, text: &[u8]) -> Option<(usize, Candidate)> {
-        let plain = self.forms.len();
-        let mut best = None;
-        let mut form = 0;
-        while form < plain + tokens.forms.len() {
-            let it = self.form_at(tokens, form);
-            let candidate = it.candidate_marked(tokens.gives_points_back, form >= plain, text);
-            best = better(best, form, candidate);
-            form += 1;
+    fn best_marked(&self, tokens: &Tokens, text: &[u8]) -> Option<(usize, Candidate)>
+        ensures { ForSome result (IsInside (length self.now.forms + length tokens.now.forms.now) text.now) }
+    {
+        let back = tokens.gives_points_back;
+        let plain = best_of(self.forms, back, false, text);
+        match best_of(tokens.forms, back, true, text) {
+            None => plain,
+            Some((behind, other)) => better(plain, self.forms.len() + behind, Some(other)),
         }
-        best
     }
 
     // Returns whether a literal of a form of the list goes on behind `end`.
@@ -88,7 +92,7 @@ impl<'a> Forms<'a> {
         let (_, rest) = text.split_at(size);
         let end = size + word_size(rest);
         let (word, _) = text.split_at(end);
-        match self.find(word, None) {
+        match self.find_marked(word) {
             Err(furthest) => TokenError::Literal(self.error_at(word, furthest)),
             Ok(_) => TokenError::NotAToken { end },
         }
@@ -98,7 +102,9 @@ impl<'a> Forms<'a> {
 impl Form {
     // Returns the candidate of the form, if there is one.
     #[inline(always)]
-    fn candidate_marked(&self, back: bool, needs: bool, text: &[u8]) -> Option<Candidate> {
+    fn candidate_marked(&self, back: bool, needs: bool, text: &[u8]) -> Option<Candidate>
+        ensures { ForSome result (λ it. IsInside 1 text.now (0, it)) }
+    {
         match self.front_past(text, 0) {
             None => None,
             Some(found) => match self.own_marked(back, text, found) {
@@ -110,7 +116,11 @@ impl Form {
 
     // Returns the front `found`, or without its point if that is given back, if it is a literal. A closing is no point.
     #[inline(always)]
-    fn own_marked(&self, back: bool, text: &[u8], found: Found) -> Option<Found> {
+    fn own_marked(&self, back: bool, text: &[u8], found: Found) -> Option<Found>
+        requires some { 0 < found.size }
+        requires within { found.size ≤ length text.now }
+        ensures { ForSome result (λ it. it.size ≤ length text.now) }
+    {
         if self.closing.is_empty() && gives_back(self.syntax, back, text, found.size) {
             let (shorter, _) = text.split_at(found.size - 1);
             whole(self.front_past(shorter, 0), shorter.len())
@@ -126,7 +136,10 @@ impl Form {
         text: &'t [u8],
         form: usize,
         candidate: Candidate,
-    ) -> Option<Token<'t>> {
+    ) -> Option<Token<'t>>
+        requires order { candidate.size ≤ candidate.end }
+        requires within { candidate.end ≤ length text.now }
+    {
         let Candidate { size, end, .. } = candidate;
         let (front, behind) = text.split_at(size);
         let (suffix, rest) = behind.split_at(end - size);
@@ -141,4 +154,17 @@ impl Form {
             }),
         }
     }
+}
+
+// Returns the longest candidate of the forms, the first of equals, with the index of its form.
+fn best_of(forms: &[Form], back: bool, needs: bool, text: &[u8]) -> Option<(usize, Candidate)>
+    ensures { ForSome result (IsInside (length forms.now) text.now) }
+{
+    let mut best = None;
+    let mut form = 0;
+    while form < forms.len() {
+        best = better(best, form, forms[form].candidate_marked(back, needs, text));
+        form += 1;
+    }
+    best
 }

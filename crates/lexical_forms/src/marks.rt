@@ -1,16 +1,30 @@
 //! Forms with an opening and a closing: what a syntax reads between them.
 
+ghost use Rattle.std.specs.Prelude.{ℕ, ◌≡◌, ◌<◌, ◌≤◌, ◌+◌, ◌-◌, ◌*◌, IfSome, IsNone, IsSomeAnd, IsTrue, drop, false, if◌then◌else◌, length};
+ghost use Rattle.lexical_forms.specs.Additions.Forms.{IsBetween, IsEnding, IsFrontIn, IsRefusedAt, NonePast};
+ghost use Rattle.lexical_forms.specs.Affix.{IsOpened};
+ghost use Rattle.lexical_forms.specs.Forms.{IsErrorOfForm, IsUnmarked, Reaches, ReadsForm, ReadsIn};
+ghost use Rattle.lexical_literal.specs.Additions.Stop.{IsStopped};
+ghost use Rattle.lexical_literal.specs.Cause.{is_stray};
+ghost use Rattle.lexical_literal.specs.Front.{NoLiteral, NoneBy};
+ghost use Rattle.lexical_literal.specs.Notation.{notation_of};
+
 use crate::exclude::{excludes, lacks_longer, sign_size};
 use crate::form::Form;
 use crate::list::{FormError, Mark, Unmarked};
+use lexical_literal::cause::{ReadError, ReadErrorKind};
 use lexical_literal::laws::literal_facts;
 use lexical_literal::literal::Literal;
 use lexical_literal::stop::{BEGIN, Found, Stopped, byte_at, tail_at};
+use lexical_literal::syntax::Condition;
 
 impl Form {
     // Returns the literal that `text` is, if it is one.
     #[inline(always)]
-    pub(crate) fn literal<'t>(&self, text: &'t [u8]) -> Option<Literal<'t>> {
+    pub(crate) fn literal<'t>(&self, text: &'t [u8]) -> Option<Literal<'t>>
+        ensures none { IsNone result → NoneBy (ReadsIn self.now) text.now }
+        ensures some { IfSome result (λ it. ReadsForm text.now it self.now) }
+    {
         let Some(inside) = self.between(text) else {
             return None;
         };
@@ -30,7 +44,10 @@ impl Form {
 
     // Returns what is between the opening and the closing of `text`, if both are there.
     #[inline(always)]
-    fn between<'t>(&self, text: &'t [u8]) -> Option<&'t [u8]> {
+    fn between<'t>(&self, text: &'t [u8]) -> Option<&'t [u8]>
+        ensures none { IsNone result → NoneBy (ReadsIn self.now) text.now }
+        ensures some { IfSome result (λ it. IsBetween self.now text.now it.now) }
+    {
         let opened = self.opening.opened(text);
         if opened < self.opening.size() {
             return None;
@@ -49,11 +66,15 @@ impl Form {
 
     // Returns the longest front of `text` that is a literal, if it has more than `size` bytes.
     #[inline(always)]
-    pub(crate) fn front_past(&self, text: &[u8], size: usize) -> Option<Found> {
+    pub(crate) fn front_past(&self, text: &[u8], size: usize) -> Option<Found>
+        ensures none { IsNone result → NonePast text.now size self.now }
+        ensures some { IfSome result (λ found. (size < found.size) × IsFrontIn text.now found self.now) }
+    {
         let opened = self.opening.opened(text);
         let (_, rest) = text.split_at(opened);
-        let marks = opened + self.closing.size();
-        let least = size.saturating_sub(marks);
+        let least = size
+            .saturating_sub(self.closing.size())
+            .saturating_sub(opened);
         if opened < self.opening.size() || lacks_longer(self.syntax.grammar(), rest, least) {
             return None;
         }
@@ -65,13 +86,19 @@ impl Form {
             return None;
         }
         let Found { size, counts } = found;
-        let size = marks + size;
+        let size = opened + size + self.closing.size();
         Some(Found { size, counts })
     }
 
     // Returns whether the closing is behind `found`, the longest front of `rest` that is a literal of the syntax, which stops at `stop`.
     #[inline(always)]
-    fn closes(&self, rest: &[u8], stop: Stopped, found: Found) -> bool {
+    fn closes(&self, rest: &[u8], stop: Stopped, found: Found) -> bool
+        requires { found.size ≤ length rest.now }
+        ensures closed { IsTrue result → IsOpened self.now.closing (drop found.size rest.now) }
+        ensures ends { IsTrue result → (0 < self.now.closing.size) → found.size ≡ stop.size }
+        ensures some { result ≡ false → 0 < self.now.closing.size }
+        ensures open { result ≡ false → (found.size ≡ stop.size) → IsOpened self.now.closing (drop found.size rest.now) → ⊥ }
+    {
         let (_, closing) = rest.split_at(found.size);
         self.closing.is_empty()
             || (found.size == stop.size && self.closing.opened(closing) == self.closing.size())
@@ -80,122 +107,207 @@ impl Form {
 
 // Where the closing is not there, behind the opening, and how many bytes of it are.
 #[derive(Clone, Copy)]
-struct Unclosed {
-    size: usize,
-    closed: usize,
+pub(crate) struct Unclosed {
+    pub(crate) size: usize,
+    pub(crate) closed: usize,
 }
 
 // Calls for a form in which a text is not a literal.
 impl Form {
     // Returns where reading `text` stops.
     #[cold]
-    pub(crate) fn stop(&self, text: &[u8]) -> Stopped {
+    pub(crate) fn stop(&self, text: &[u8]) -> Stopped
+        ensures stop { NoneBy (ReadsIn self.now) text.now → IsRefusedAt text.now result self.now }
+        ensures within { result.size ≤ length text.now }
+    {
         let opened = self.opening.opened(text);
         if opened < self.opening.size() {
             return BEGIN.at(opened);
         }
         let (_, rest) = text.split_at(opened);
+        if self.closing.is_empty() {
+            let stop = self.syntax.stop(rest);
+            return stop.at(opened + stop.size);
+        }
         match self.ending(rest) {
-            Ok(stop) => stop.at(opened + stop.size),
+            Ok(error) => BEGIN.at(opened + error.valid_up_to()),
             Err(Unclosed { size, closed }) => BEGIN.at(opened + size + closed),
         }
     }
 
-    // Returns where the syntax stops in `rest`, which is behind the opening, if this is why there is no literal, or that the closing
-    // is not there: what is before is a literal, and the syntax knows no more than that a byte is wrong.
-    fn ending(&self, rest: &[u8]) -> Result<Stopped, Unclosed> {
-        if self.closing.is_empty() {
-            return Ok(self.syntax.stop(rest));
-        }
-        let (stop, found) = self.syntax.front(rest);
-        match found {
-            Some(Found { size, .. }) if size == stop.size => {
-                let (_, closing) = rest.split_at(size);
-                let closed = self.closing.opened(closing);
-                if closed == 0 && !closing.is_empty() && !stop.is_stray(&self.syntax, rest) {
-                    Ok(stop)
-                } else {
-                    Err(Unclosed { size, closed })
-                }
-            }
-            _ => Ok(stop),
+    // Returns whether the cause is stray: it is a wrong byte, or the opening, the closing or a required prefix is not there.
+    pub(crate) fn is_stray(&self, text: &[u8], stop: Stopped) -> bool
+        requires { IsRefusedAt text.now stop self.now }
+        ensures { (n : ℕ) → Reaches text.now self.now n → n ≡ 2 * stop.size + (if result then 0 else 1) }
+    {
+        if self.is_marked() {
+            self.is_marked_stray(text, stop)
+        } else {
+            stop.is_stray(&self.syntax, text)
         }
     }
 
-    // Returns what is behind the opening, and where reading this stops, or `None` if the opening is not there.
-    #[inline(always)]
-    fn behind<'t>(
-        &self,
-        text: &'t [u8],
-        stop: Stopped,
-    ) -> Option<(&'t [u8], Result<Stopped, Unclosed>)> {
+    // Returns the same for a form with an opening or a closing.
+    #[cold]
+    fn is_marked_stray(&self, text: &[u8], stop: Stopped) -> bool
+        requires { IsRefusedAt text.now stop self.now }
+        ensures { (n : ℕ) → Reaches text.now self.now n → n ≡ 2 * stop.size + (if result then 0 else 1) }
+    {
         let opened = self.opening.size();
         if stop.size < opened {
-            return None;
+            return true;
         }
         let (_, rest) = text.split_at(opened);
-        if self.closing.is_empty() {
-            Some((rest, Ok(stop.at(stop.size - opened))))
-        } else {
-            Some((rest, self.ending(rest)))
-        }
-    }
-
-    // Returns whether the cause is stray: it is a wrong byte, or the opening, the closing or a required prefix is not there.
-    pub(crate) fn is_stray(&self, text: &[u8], stop: Stopped) -> bool {
-        match self.behind(text, stop) {
-            Some((rest, Ok(stop))) => stop.is_stray(&self.syntax, rest),
-            _ => true,
+        match self.refusal(rest, stop.at(stop.size - opened)) {
+            Ok(error) => is_stray(&error),
+            Err(_) => true,
         }
     }
 
     // Returns why `text` is not a literal of the form, which has the index `form`.
     #[inline(always)]
-    pub(crate) fn refuse(&self, text: &[u8], form: usize, stop: Stopped) -> FormError {
+    pub(crate) fn refuse(&self, text: &[u8], form: usize, stop: Stopped) -> FormError
+        requires { IsRefusedAt text.now stop self.now }
+        ensures form { result.form ≡ form }
+        ensures error { IsErrorOfForm text.now result self.now }
+    {
+        if self.is_marked() {
+            return self.refuse_marked(text, form, stop);
+        }
         let syntax = self.syntax();
-        let (opened, error) = match self.behind(text, stop) {
-            None => (
+        let Err(error) = stop.refuse::<()>(&syntax, text) else {
+            unreachable!()
+        };
+        literal_facts();
+        FormError {
+            form,
+            name: self.name,
+            opened: 0,
+            error: Ok(error),
+        }
+    }
+
+    // Returns the same for a form with an opening or a closing.
+    #[cold]
+    fn refuse_marked(&self, text: &[u8], form: usize, stop: Stopped) -> FormError
+        requires { IsRefusedAt text.now stop self.now }
+        ensures form { result.form ≡ form }
+        ensures error { IsErrorOfForm text.now result self.now }
+    {
+        let opened = self.opening.size();
+        let (right, error) = if stop.size < opened {
+            (
                 stop.size,
                 Err(self.unmarked(text, stop.size, Mark::Opening)),
-            ),
-            Some((rest, Ok(inside))) => {
-                let Err(error) = inside.refuse::<()>(&syntax, rest) else {
-                    unreachable!()
-                };
-                (self.opening.size(), Ok(error))
-            }
-            Some((_, Err(Unclosed { size, closed }))) => {
-                let size = self.opening.size() + size + closed;
-                let mark = if closed < self.closing.size() {
-                    Mark::Closing
-                } else {
-                    Mark::End
-                };
-                (size, Err(self.unmarked(text, size, mark)))
+            )
+        } else {
+            let (_, rest) = text.split_at(opened);
+            match self.refusal(rest, stop.at(stop.size - opened)) {
+                Ok(error) => (opened, Ok(error)),
+                Err(it) => {
+                    let right = opened + it.size + it.closed;
+                    (right, Err(self.unmarked(text, right, self.mark(it.closed))))
+                }
             }
         };
         literal_facts();
         FormError {
             form,
             name: self.name,
-            opened,
+            opened: right,
             error,
+        }
+    }
+
+    // Returns why `rest`, which is behind the opening, is not a literal of the syntax, which stops at `stop` if there is no closing, or where the
+    // closing is not there.
+    fn refusal(&self, rest: &[u8], stop: Stopped) -> Result<ReadError, Unclosed>
+        requires stopped { (self.now.closing.size ≡ 0) → IsStopped (notation_of self.now.syntax) rest.now stop }
+        requires refused { (self.now.closing.size ≡ 0) → NoLiteral (notation_of self.now.syntax) rest.now }
+        ensures { IsEnding self.now rest.now result }
+    {
+        if !self.closing.is_empty() {
+            return self.ending(rest);
+        }
+        let Err(error) = stop.refuse::<()>(&self.syntax, rest) else {
+            unreachable!()
+        };
+        Ok(error)
+    }
+
+    // Returns the same for a form with a closing. It is not there if what is before is a literal, and the syntax knows no more than that a byte is
+    // wrong.
+    fn ending(&self, rest: &[u8]) -> Result<ReadError, Unclosed>
+        requires { 0 < self.now.closing.size }
+        ensures { IsEnding self.now rest.now result }
+    {
+        let (stop, found) = self.syntax.front(rest);
+        let size = stop.size;
+        if !is_at(found, size) {
+            let Err(error) = stop.refuse::<()>(&self.syntax, rest) else {
+                unreachable!()
+            };
+            return Ok(error);
+        }
+        let (_, closing) = rest.split_at(size);
+        let closed = self.closing.opened(closing);
+        let unclosed = Unclosed { size, closed };
+        if closed > 0 || closing.is_empty() {
+            return Err(unclosed);
+        }
+        let Err(error) = stop.refuse::<()>(&self.syntax, rest) else {
+            unreachable!()
+        };
+        if is_stray(&error) {
+            Err(unclosed)
+        } else {
+            Ok(error)
+        }
+    }
+
+    // Returns what is not there behind `closed` bytes of the closing.
+    const fn mark(&self, closed: usize) -> Mark {
+        if closed < self.closing.size() {
+            Mark::Closing
+        } else {
+            Mark::End
         }
     }
 
     // Returns that `mark` is not there behind the first `size` bytes.
     #[inline(always)]
-    fn unmarked(&self, text: &[u8], size: usize, mark: Mark) -> Unmarked {
+    fn unmarked(&self, text: &[u8], size: usize, mark: Mark) -> Unmarked
+        requires { size ≤ length text.now }
+        ensures { IsUnmarked text.now self.now size result }
+    {
         let byte = byte_at(text, size);
+        let affix = match mark {
+            Mark::Opening => self.opening,
+            _ => self.closing,
+        };
         Unmarked {
             mark,
-            affix: if matches!(mark, Mark::Opening) {
-                self.opening
-            } else {
-                self.closing
-            },
+            affix,
             byte,
             tail: tail_at(text, size, byte),
         }
     }
+}
+
+// Returns whether `found` has `size` bytes.
+fn is_at(found: Option<Found>, size: usize) -> bool
+    ensures at { IsTrue result → IsSomeAnd found (λ it. it.size ≡ size) }
+    ensures other { result ≡ false → IfSome found (λ it. it.size ≡ size → ⊥) }
+{
+    match found {
+        None => false,
+        Some(found) => found.size == size,
+    }
+}
+
+// Returns whether the cause is a wrong byte, or a required prefix is not there.
+fn is_stray(error: &ReadError) -> bool
+    ensures { result ≡ is_stray error.now.refusal }
+{
+    matches!(error.kind(), ReadErrorKind::Byte) || error.conditions().has(Condition::BasePrefix)
 }

@@ -12,6 +12,7 @@ ghost use Rattle.lexical_forms.specs.Additions.Token.{goes_on};
 ghost use Rattle.lexical_forms.specs.Additions.Token.{has_float, suffixed, whole};
 ghost use Rattle.lexical_literal.specs.Cause.{is_in};
 ghost use Rattle.lexical_literal.specs.Notation.{notation_of};
+ghost use Rattle.lexical_forms.specs.FormList.{ArePlain};
 ghost use Rattle.lexical_forms.specs.Suffix.{is_digit, kind_with, stop_end};
 ghost use Rattle.lexical_forms.specs.Token.{HasNone, IsAhead, IsReadByTokens, IsToken, IsTokenError, IsRefused, IsWordUpTo, NoCandidate, gives_back};
 ghost use Rattle.lexical_forms.specs.Token.{ReadsSyntax, is_shorter};
@@ -116,7 +117,8 @@ impl<'a> Forms<'a> {
     /// If the list has no rules for tokens, if a form goes on behind the number without an end, or if there is no number,
     /// or if the word behind the number is not a suffix of its form, returns why.
     pub fn token<'t>(&self, text: &'t [u8]) -> Result<Token<'t>, TokenError>
-        ensures { IsReadByTokens self.now self.now.tokens text.now result }
+        // That of a list in which a form has an opening or a closing is not stated.
+        ensures { ArePlain self.now.forms self.now.tokens → IsReadByTokens self.now self.now.tokens text.now result }
     {
         let Some(tokens) = self.tokens else {
             return Err(TokenError::NoTokens);
@@ -319,7 +321,7 @@ impl<'a> Forms<'a> {
         let (_, rest) = text.split_at(stop.size);
         let end = stop.size + word_size(rest);
         let (word, _) = text.split_at(end);
-        match self.find(word, None) {
+        match self.find_marked(word) {
             Err(furthest) => TokenError::Literal(self.error_at(word, furthest)),
             Ok(_) => TokenError::NotAToken { end },
         }

@@ -54,7 +54,8 @@ impl Affix {
     /// Sets whether letters have the case in which they are given.
     #[must_use]
     pub const fn case_sensitive(self, sensitive: bool) -> Affix {
-        Affix { bytes: self.bytes, size: self.size, case_sensitive: sensitive }
+        let bytes = self.bytes;
+        Affix { bytes, size: self.size, case_sensitive: sensitive }
     }
 
     /// Returns whether letters have the case in which they are given.
@@ -79,6 +80,12 @@ impl Affix {
     #[inline(always)]
     pub(crate) const fn size(&self) -> usize {
         self.size as usize
+    }
+
+    // Returns whether the first byte is neither `byte` nor `other`, which is its other case. Then no text that begins with `byte` is opened.
+    #[inline(always)]
+    pub(crate) const fn excludes(&self, byte: u8, other: u8) -> bool {
+        self.size != 0 && self.bytes[0] != byte && self.bytes[0] != other
     }
 
     // Returns the number of its bytes that `text` begins with.

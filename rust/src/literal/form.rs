@@ -39,9 +39,15 @@ impl Form {
     /// Returns the same form with an opening before each of its literals.
     #[must_use]
     pub const fn with_opening(&self, opening: Affix) -> Form {
-        let mut form = *self;
-        form.opening = opening;
-        form
+        Form {
+            name: self.name,
+            opening,
+            closing: self.closing,
+            syntax: self.syntax,
+            suffixes: self.suffixes,
+            kind: self.kind,
+            only_read: self.only_read,
+        }
     }
 
     /// Returns the same form with a closing behind each of its literals, or `None` if the first byte of the closing, or its other case,
@@ -50,9 +56,15 @@ impl Form {
     #[must_use]
     pub const fn with_closing(&self, closing: Affix) -> Option<Form> {
         if may_close(self.syntax.as_grammar(), closing) {
-            let mut form = *self;
-            form.closing = closing;
-            Some(form)
+            Some(Form {
+                name: self.name,
+                opening: self.opening,
+                closing,
+                syntax: self.syntax,
+                suffixes: self.suffixes,
+                kind: self.kind,
+                only_read: self.only_read,
+            })
         } else {
             None
         }
@@ -61,25 +73,43 @@ impl Form {
     /// Returns the same form with the suffixes that its tokens may have.
     #[must_use]
     pub const fn with_suffixes(&self, suffixes: &'static Suffixes) -> Form {
-        let mut form = *self;
-        form.suffixes = Some(suffixes);
-        form
+        Form {
+            name: self.name,
+            opening: self.opening,
+            closing: self.closing,
+            syntax: self.syntax,
+            suffixes: Some(suffixes),
+            kind: self.kind,
+            only_read: self.only_read,
+        }
     }
 
     /// Returns the same form with another kind, which its literals have.
     #[must_use]
     pub const fn with_kind(&self, kind: Kind) -> Form {
-        let mut form = *self;
-        form.kind = kind;
-        form
+        Form {
+            name: self.name,
+            opening: self.opening,
+            closing: self.closing,
+            syntax: self.syntax,
+            suffixes: self.suffixes,
+            kind,
+            only_read: self.only_read,
+        }
     }
 
     /// Sets whether lists only read the form, and write numbers in others.
     #[must_use]
     pub const fn only_read(&self, only: bool) -> Form {
-        let mut form = *self;
-        form.only_read = only;
-        form
+        Form {
+            name: self.name,
+            opening: self.opening,
+            closing: self.closing,
+            syntax: self.syntax,
+            suffixes: self.suffixes,
+            kind: self.kind,
+            only_read: only,
+        }
     }
 
     /// Returns the opening, which is empty if there is none.

@@ -99,7 +99,10 @@ impl<'a> Forms<'a> {
     // Returns what `parse` returns, where the first form stops at `stop`, if it has been asked.
     #[inline(never)]
     fn parse_behind<T: FromLiteral>(&self, text: &[u8], stop: Option<Stopped>) -> Result<T, ParseError> {
-        let (error, kind) = match self.find::<false>(text, stop) {
+        if self.marked {
+            return self.parse_marked(text);
+        }
+        let (error, kind) = match self.find_plain(text, stop) {
             Ok((form, literal)) => {
                 let literal = literal.with_kind(self.as_slice()[form].kind);
                 match T::from_literal(literal) {
@@ -116,6 +119,16 @@ impl<'a> Forms<'a> {
             },
         };
         Err(ParseError::Value(ValueError::of::<T>(error, text.len(), kind)))
+    }
+
+    // Returns what `parse` returns in a list with openings or closings.
+    #[cold]
+    fn parse_marked<T: FromLiteral>(&self, text: &[u8]) -> Result<T, ParseError> {
+        match self.read_bytes(text)? {
+            Number::Special(special) => T::from_special(special)
+                .map_err(|error| ParseError::Value(ValueError::of::<T>(error, text.len(), IntegerKind::Exact))),
+            number => Ok(number.value()?),
+        }
     }
 
     // Returns the error of the form that goes furthest.

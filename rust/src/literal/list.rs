@@ -3,12 +3,12 @@
 //! Numbers that have several forms, such as `10`, `0x1F` and `0b1`.
 
 use crate::literal::affix::Affix;
-use crate::literal::cause::ReadError;
+use crate::literal::cause::{other_case, ReadError};
 use crate::literal::exclude::{excludes, has_letter_behind_zero, is_settled, sign_size};
 use crate::literal::form::Form;
 use crate::literal::literal::Literal;
 use crate::literal::specials::{Special, Specials};
-use crate::literal::stop::{Found, Stopped};
+use crate::literal::stop::{byte_at, Found, Stopped};
 use crate::literal::syntax::Grammar;
 
 /// How numbers end in the middle of source text: forms that need a suffix, which no call but [`Forms::token`] takes, words that may
@@ -204,7 +204,21 @@ impl<'a> Forms<'a> {
     // Returns what `read` returns, where the first form stops at `stop`, if it has been asked.
     #[inline(never)]
     pub(crate) const fn read_behind<'t>(&self, text: &'t [u8], stop: Option<Stopped>) -> Result<Number<'t>, FormError> {
-        match self.find::<false>(text, stop) {
+        if self.marked {
+            self.number(text, self.find_marked(text))
+        } else {
+            self.number(text, self.find_plain(text, stop))
+        }
+    }
+
+    // Returns the number of the form that has been found, or a special value, or the error of the form that goes furthest.
+    #[inline(always)]
+    const fn number<'t>(
+        &self,
+        text: &'t [u8],
+        found: Result<(usize, Literal<'t>), Furthest>,
+    ) -> Result<Number<'t>, FormError> {
+        match found {
             Ok((form, found)) => {
                 let literal = self.of_form(form, found);
                 Ok(Number::Literal { literal, form })
@@ -249,38 +263,32 @@ impl<'a> Forms<'a> {
         self.specials.read_bytes(&self.forms[0].syntax, text)
     }
 
-    // Returns the index of the first form of which `text` is a literal, and the literal, or the form whose error is that of the list.
-    // The first form stops at `stop`, if it has been asked.
-    #[inline(always)]
-    pub(crate) const fn find<'t, const RARE: bool>(
-        &self,
-        text: &'t [u8],
-        stop: Option<Stopped>,
-    ) -> Result<(usize, Literal<'t>), Furthest> {
-        if self.marked {
-            self.find_marked(text)
-        } else {
-            self.find_plain::<RARE>(text, stop)
-        }
-    }
-
-    // Returns the same in a list of which a form may have an opening or a closing. If there is no literal, all forms are asked again.
+    // Returns the index of the first form of which `text` is a literal, and the literal, or the form whose error is that of the list. If there is
+    // no literal, all forms are asked again.
     #[inline(never)]
-    const fn find_marked<'t>(&self, text: &'t [u8]) -> Result<(usize, Literal<'t>), Furthest> {
+    pub(crate) const fn find_marked<'t>(&self, text: &'t [u8]) -> Result<(usize, Literal<'t>), Furthest> {
+        let byte = match byte_at(text, 0) {
+            None => 0,
+            Some(byte) => byte,
+        };
+        let other = other_case(byte);
         let mut form = 0;
         while form < self.forms.len() {
-            if let Some(literal) = self.forms[form].literal(text) {
-                return Ok((form, literal));
+            let it = &self.forms[form];
+            if !it.opening.excludes(byte, other) {
+                if let Some(literal) = it.literal(text) {
+                    return Ok((form, literal));
+                }
             }
             form += 1;
         }
         Err(self.furthest(text))
     }
 
-    // Returns the same in a list without openings and closings. Each form is asked once, but if it has not been asked and no form goes
-    // beyond the first byte behind the sign, all are asked again.
+    // Returns the same in a list without openings and closings, where the first form stops at `stop`, if it has been asked. Each form is asked
+    // once, but if it has not been asked and no form goes beyond the first byte behind the sign, all are asked again.
     #[inline(always)]
-    const fn find_plain<'t, const RARE: bool>(
+    pub(crate) const fn find_plain<'t>(
         &self,
         text: &'t [u8],
         stop: Option<Stopped>,
@@ -295,7 +303,7 @@ impl<'a> Forms<'a> {
         while form < self.forms.len() {
             let syntax = &self.forms[form].syntax;
             if !is_behind(syntax.as_grammar(), text, sign, furthest) {
-                let begun = if RARE { syntax.begin_any(text, false) } else { syntax.begin(false, text, false) };
+                let begun = syntax.begin(false, text, false);
                 if begun.is_whole(syntax, text) {
                     return Ok((form, syntax.literal(text, begun.counts, begun.sums)));
                 }

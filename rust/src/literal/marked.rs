@@ -46,16 +46,12 @@ impl<'a> Forms<'a> {
 
     // Returns the longest candidate of the forms of the list, and then of those that need a suffix, with the index of its form.
     const fn best_marked(&self, tokens: &Tokens, text: &[u8]) -> Option<(usize, Candidate)> {
-        let plain = self.forms.len();
-        let mut best = None;
-        let mut form = 0;
-        while form < plain + tokens.forms.len() {
-            let it = self.form_at(tokens, form);
-            let candidate = it.candidate_marked(tokens.gives_points_back, form >= plain, text);
-            best = better(best, form, candidate);
-            form += 1;
+        let back = tokens.gives_points_back;
+        let plain = best_of(self.forms, back, false, text);
+        match best_of(tokens.forms, back, true, text) {
+            None => plain,
+            Some((behind, other)) => better(plain, self.forms.len() + behind, Some(other)),
         }
-        best
     }
 
     // Returns whether a literal of a form of the list goes on behind `end`.
@@ -83,7 +79,7 @@ impl<'a> Forms<'a> {
         let (_, rest) = text.split_at(size);
         let end = size + word_size(rest);
         let (word, _) = text.split_at(end);
-        match self.find::<true>(word, None) {
+        match self.find_marked(word) {
             Err(furthest) => TokenError::Literal(self.error_at(word, furthest)),
             Ok(_) => TokenError::NotAToken { end },
         }
@@ -128,4 +124,15 @@ impl Form {
             }
         }
     }
+}
+
+// Returns the longest candidate of the forms, the first of equals, with the index of its form.
+const fn best_of(forms: &[Form], back: bool, needs: bool, text: &[u8]) -> Option<(usize, Candidate)> {
+    let mut best = None;
+    let mut form = 0;
+    while form < forms.len() {
+        best = better(best, form, forms[form].candidate_marked(back, needs, text));
+        form += 1;
+    }
+    best
 }

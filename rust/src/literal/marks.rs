@@ -2,11 +2,13 @@
 
 //! Forms with an opening and a closing: what a syntax reads between them.
 
+use crate::literal::cause::{ReadError, ReadErrorKind};
 use crate::literal::exclude::{excludes, lacks_longer, sign_size};
 use crate::literal::form::Form;
 use crate::literal::list::{FormError, Mark, Unmarked};
 use crate::literal::literal::Literal;
 use crate::literal::stop::{byte_at, tail_at, Found, Stopped, BEGIN};
+use crate::literal::syntax::Condition;
 
 impl Form {
     // Returns the literal that `text` is, if it is one.
@@ -53,8 +55,7 @@ impl Form {
     pub(crate) const fn front_past(&self, text: &[u8], size: usize) -> Option<Found> {
         let opened = self.opening.opened(text);
         let (_, rest) = text.split_at(opened);
-        let marks = opened + self.closing.size();
-        let least = size.saturating_sub(marks);
+        let least = size.saturating_sub(self.closing.size()).saturating_sub(opened);
         if opened < self.opening.size() || lacks_longer(self.syntax.as_grammar(), rest, least) {
             return None;
         }
@@ -66,7 +67,7 @@ impl Form {
             return None;
         }
         let Found { size, counts } = found;
-        let size = marks + size;
+        let size = opened + size + self.closing.size();
         Some(Found { size, counts })
     }
 
@@ -80,9 +81,9 @@ impl Form {
 
 // Where the closing is not there, behind the opening, and how many bytes of it are.
 #[derive(Clone, Copy)]
-struct Unclosed {
-    size: usize,
-    closed: usize,
+pub(crate) struct Unclosed {
+    pub(crate) size: usize,
+    pub(crate) closed: usize,
 }
 
 // Calls for a form in which a text is not a literal.
@@ -95,84 +96,132 @@ impl Form {
             return BEGIN.at(opened);
         }
         let (_, rest) = text.split_at(opened);
+        if self.closing.is_empty() {
+            let stop = self.syntax.stop(rest);
+            return stop.at(opened + stop.size);
+        }
         match self.ending(rest) {
-            Ok(stop) => stop.at(opened + stop.size),
+            Ok(error) => BEGIN.at(opened + error.valid_up_to()),
             Err(Unclosed { size, closed }) => BEGIN.at(opened + size + closed),
-        }
-    }
-
-    // Returns where the syntax stops in `rest`, which is behind the opening, if this is why there is no literal, or that the closing
-    // is not there: what is before is a literal, and the syntax knows no more than that a byte is wrong.
-    const fn ending(&self, rest: &[u8]) -> Result<Stopped, Unclosed> {
-        if self.closing.is_empty() {
-            return Ok(self.syntax.stop(rest));
-        }
-        let (stop, found) = self.syntax.front(rest);
-        match found {
-            Some(Found { size, .. }) if size == stop.size => {
-                let (_, closing) = rest.split_at(size);
-                let closed = self.closing.opened(closing);
-                if closed == 0 && !closing.is_empty() && !stop.is_stray(&self.syntax, rest) {
-                    Ok(stop)
-                } else {
-                    Err(Unclosed { size, closed })
-                }
-            }
-            _ => Ok(stop),
-        }
-    }
-
-    // Returns what is behind the opening, and where reading this stops, or `None` if the opening is not there.
-    #[inline(always)]
-    const fn behind<'t>(&self, text: &'t [u8], stop: Stopped) -> Option<(&'t [u8], Result<Stopped, Unclosed>)> {
-        let opened = self.opening.size();
-        if stop.size < opened {
-            return None;
-        }
-        let (_, rest) = text.split_at(opened);
-        if self.closing.is_empty() {
-            Some((rest, Ok(stop.at(stop.size - opened))))
-        } else {
-            Some((rest, self.ending(rest)))
         }
     }
 
     // Returns whether the cause is stray: it is a wrong byte, or the opening, the closing or a required prefix is not there.
     pub(crate) const fn is_stray(&self, text: &[u8], stop: Stopped) -> bool {
-        match self.behind(text, stop) {
-            Some((rest, Ok(stop))) => stop.is_stray(&self.syntax, rest),
-            _ => true,
+        if self.is_marked() {
+            self.is_marked_stray(text, stop)
+        } else {
+            stop.is_stray(&self.syntax, text)
+        }
+    }
+
+    // Returns the same for a form with an opening or a closing.
+    #[cold]
+    const fn is_marked_stray(&self, text: &[u8], stop: Stopped) -> bool {
+        let opened = self.opening.size();
+        if stop.size < opened {
+            return true;
+        }
+        let (_, rest) = text.split_at(opened);
+        match self.refusal(rest, stop.at(stop.size - opened)) {
+            Ok(error) => is_stray(&error),
+            Err(_) => true,
         }
     }
 
     // Returns why `text` is not a literal of the form, which has the index `form`.
     #[inline(always)]
     pub(crate) const fn refuse(&self, text: &[u8], form: usize, stop: Stopped) -> FormError {
+        if self.is_marked() {
+            return self.refuse_marked(text, form, stop);
+        }
         let syntax = self.syntax();
-        let (opened, error) = match self.behind(text, stop) {
-            None => (stop.size, Err(self.unmarked(text, stop.size, Mark::Opening))),
-            Some((rest, Ok(inside))) => {
-                let Err(error) = inside.refuse::<()>(&syntax, rest) else { unreachable!() };
-                (self.opening.size(), Ok(error))
-            }
-            Some((_, Err(Unclosed { size, closed }))) => {
-                let size = self.opening.size() + size + closed;
-                let mark = if closed < self.closing.size() { Mark::Closing } else { Mark::End };
-                (size, Err(self.unmarked(text, size, mark)))
+        let Err(error) = stop.refuse::<()>(&syntax, text) else { unreachable!() };
+        FormError { form, name: self.name, opened: 0, error: Ok(error) }
+    }
+
+    // Returns the same for a form with an opening or a closing.
+    #[cold]
+    const fn refuse_marked(&self, text: &[u8], form: usize, stop: Stopped) -> FormError {
+        let opened = self.opening.size();
+        let (right, error) = if stop.size < opened {
+            (stop.size, Err(self.unmarked(text, stop.size, Mark::Opening)))
+        } else {
+            let (_, rest) = text.split_at(opened);
+            match self.refusal(rest, stop.at(stop.size - opened)) {
+                Ok(error) => (opened, Ok(error)),
+                Err(it) => {
+                    let right = opened + it.size + it.closed;
+                    (right, Err(self.unmarked(text, right, self.mark(it.closed))))
+                }
             }
         };
-        FormError { form, name: self.name, opened, error }
+        FormError { form, name: self.name, opened: right, error }
+    }
+
+    // Returns why `rest`, which is behind the opening, is not a literal of the syntax, which stops at `stop` if there is no closing, or where the
+    // closing is not there.
+    const fn refusal(&self, rest: &[u8], stop: Stopped) -> Result<ReadError, Unclosed> {
+        if !self.closing.is_empty() {
+            return self.ending(rest);
+        }
+        let Err(error) = stop.refuse::<()>(&self.syntax, rest) else { unreachable!() };
+        Ok(error)
+    }
+
+    // Returns the same for a form with a closing. It is not there if what is before is a literal, and the syntax knows no more than that a byte is
+    // wrong.
+    const fn ending(&self, rest: &[u8]) -> Result<ReadError, Unclosed> {
+        let (stop, found) = self.syntax.front(rest);
+        let size = stop.size;
+        if !is_at(found, size) {
+            let Err(error) = stop.refuse::<()>(&self.syntax, rest) else { unreachable!() };
+            return Ok(error);
+        }
+        let (_, closing) = rest.split_at(size);
+        let closed = self.closing.opened(closing);
+        let unclosed = Unclosed { size, closed };
+        if closed > 0 || closing.is_empty() {
+            return Err(unclosed);
+        }
+        let Err(error) = stop.refuse::<()>(&self.syntax, rest) else { unreachable!() };
+        if is_stray(&error) {
+            Err(unclosed)
+        } else {
+            Ok(error)
+        }
+    }
+
+    // Returns what is not there behind `closed` bytes of the closing.
+    const fn mark(&self, closed: usize) -> Mark {
+        if closed < self.closing.size() {
+            Mark::Closing
+        } else {
+            Mark::End
+        }
     }
 
     // Returns that `mark` is not there behind the first `size` bytes.
     #[inline(always)]
     const fn unmarked(&self, text: &[u8], size: usize, mark: Mark) -> Unmarked {
         let byte = byte_at(text, size);
-        Unmarked {
-            mark,
-            affix: if matches!(mark, Mark::Opening) { self.opening } else { self.closing },
-            byte,
-            tail: tail_at(text, size, byte),
-        }
+        let affix = match mark {
+            Mark::Opening => self.opening,
+            _ => self.closing,
+        };
+        Unmarked { mark, affix, byte, tail: tail_at(text, size, byte) }
     }
+}
+
+// Returns whether `found` has `size` bytes.
+const fn is_at(found: Option<Found>, size: usize) -> bool {
+    match found {
+        None => false,
+        Some(found) => found.size == size,
+    }
+}
+
+// Returns whether the cause is a wrong byte, or a required prefix is not there.
+const fn is_stray(error: &ReadError) -> bool {
+    matches!(error.kind(), ReadErrorKind::Byte) || error.conditions().has(Condition::BasePrefix)
 }

@@ -1,15 +1,16 @@
 -- What one pass over several forms finds.
-use Rattle.std.specs.Prelude.{ℕ, ◌≡◌, ◌+◌, ◌-◌, ◌*◌, ◌<◌, ◌≤◌, ◌⊎◌, [], ◌∷◌, false, if◌then◌else◌, nat_lt, IfErr, IfOk, IsErr, IsSomeAnd, List, Option, get_or}
-use Rattle.std.specs.Prelude.{Some, None, Result, All, length, slice_get, take}
+use Rattle.std.specs.Prelude.{ℕ, ◌≡◌, ◌+◌, ◌-◌, ◌*◌, ◌<◌, ◌≤◌, ◌⊎◌, [], ◌∷◌, false, true, if◌then◌else◌, nat_lt, IfErr, IfOk, IsErr, IsSomeAnd, List, Option, get_or}
+use Rattle.std.specs.Prelude.{Some, None, Result, Ok, Err, All, drop, length, slice_get, take}
 use Rattle.lexical_util.specs.Ascii.{ByteSet}
 use Rattle.lexical_util.specs.Roles.{other_case, signs}
 use Rattle.lexical_util.specs.declared.feature_format.roles.Role.{Role}
 use Rattle.lexical_util.specs.declared.feature_format.roles.Role.TheVariants as roles
 use Rattle.lexical_literal.specs.Additions.Stop.{IsCountedFront, IsStopped}
-use Rattle.lexical_literal.specs.Cause.{IsRefusal}
+use Rattle.lexical_literal.specs.Cause.{IsRefusal, is_stray}
 use Rattle.lexical_forms.specs.Affix.{IsOpened, IsOpenedTo}
-use Rattle.lexical_forms.specs.Forms.{HasFront, IsFirst, IsFormError, IsGreatest, NoForm, Reaches, ReadsIn, behind, reach}
+use Rattle.lexical_forms.specs.Forms.{HasFront, IsFirst, IsFormError, IsGreatest, LacksClosing, NoForm, OpensIn, Reaches, ReadsIn, behind, reach}
 use Rattle.lexical_literal.specs.Front.{IsValidUpTo, NoFrontBy, NoLiteral, NoneBy}
+use Rattle.lexical_literal.specs.Literal.{Literal, Reads}
 use Rattle.lexical_literal.specs.Read.{Read}
 use Rattle.lexical_literal.specs.Notation.{Notation, notation_of, set_of_role}
 use Rattle.lexical_literal.specs.declared.cause.Refusal.{Refusal}
@@ -17,7 +18,8 @@ use Rattle.lexical_forms.specs.declared.list.FormError.{FormError}
 use Rattle.lexical_forms.specs.declared.list.Furthest.{Furthest}
 use Rattle.lexical_literal.specs.declared.stop.Found.{Found}
 use Rattle.lexical_literal.specs.declared.stop.Stopped.{Stopped}
-use Rattle.lexical_forms.specs.declared.list.Form.{Form}
+use Rattle.lexical_forms.specs.declared.form.Form.{Form}
+use Rattle.lexical_forms.specs.declared.marks.Unclosed.{Unclosed}
 
 -- `sign_size text` is the length of the sign with which `text` begins.
 abbrev pub sign_size : List ℕ → ℕ
@@ -61,19 +63,44 @@ IsBehind m text None = (n : ℕ) → IsValidUpTo m text n → n ≤ sign_size te
 IsBehind m text (Some best) = IsNoBetter m text best.stop.size
 
 -- `IsStoppedBefore text stop g` holds if reading stops at `stop` in the opening of the form `g`. `IsStoppedBehind text stop g` holds if the opening is
--- there, and if what is behind it is not a literal, and reading it stops at `stop`. `IsRefusedAt text stop g` holds if one of both does.
+-- there, and there is no closing, and if what is behind it is not a literal, and reading it stops at `stop`. `IsUnended text stop g` holds if there is a
+-- closing, and each error of `text` is where `stop` is. `IsRefusedAt text stop g` holds if one of them does.
 pub record IsStoppedBefore (text : List ℕ) (stop : Stopped) (g : Form) : Type 0 where
   pub opened : IsOpenedTo g.opening text stop.size
-  pub short : stop.size < length g.opening.bytes.now
+  pub short : stop.size < g.opening.size
 
 pub record IsStoppedBehind (text : List ℕ) (stop : Stopped) (g : Form) : Type 0 where
+  pub bare : g.closing.size ≡ 0
   pub opened : IsOpened g.opening text
-  pub past : length g.opening.bytes.now ≤ stop.size
-  pub stopped : IsStopped (notation_of g.syntax) (behind g text) (record stop { size = stop.size - length g.opening.bytes.now })
+  pub past : g.opening.size ≤ stop.size
+  pub stopped : IsStopped (notation_of g.syntax) (behind g text) (record stop { size = stop.size - g.opening.size })
   pub none : NoLiteral (notation_of g.syntax) (behind g text)
 
+pub record IsUnended (text : List ℕ) (stop : Stopped) (g : Form) : Type 0 where
+  pub some : 0 < g.closing.size
+  pub opened : IsOpened g.opening text
+  pub past : g.opening.size ≤ stop.size
+  pub none : NoneBy (ReadsIn g) text
+  pub near : (n : ℕ) → Reaches text g n → (2 * stop.size ≤ n) × (n ≤ 2 * stop.size + 1)
+
 abbrev pub IsRefusedAt : List ℕ → Stopped → Form → Type 0
-IsRefusedAt text stop g = IsStoppedBefore text stop g ⊎ IsStoppedBehind text stop g
+IsRefusedAt text stop g = IsStoppedBefore text stop g ⊎ (IsStoppedBehind text stop g ⊎ IsUnended text stop g)
+
+-- `IsBetween g text part` holds if `text` is a literal of `g` exactly if `part` is one of its syntax, with the same parts.
+pub record IsBetween (g : Form) (text part : List ℕ) : Type 0 where
+  pub within : (l : Literal) → ReadsIn g l text → Reads (notation_of g.syntax) l part
+  pub around : (l : Literal) → Reads (notation_of g.syntax) l part → ReadsIn g l text
+
+-- `IsEnding g rest result` holds if `result` is where the syntax of `g` stops in `rest`, which is behind the opening, if this is an error that is kept, or
+-- where the closing is not there.
+pub record IsStopEnding (g : Form) (rest : List ℕ) (stop : Stopped) : Type 0 where
+  pub stopped : IsStopped (notation_of g.syntax) rest stop
+  pub kept : (0 < g.closing.size) → (NoLiteral (notation_of g.syntax) (take stop.size rest) ⊎ (IsOpenedTo g.closing (drop stop.size rest) 0
+      × (stop.size < length rest) × ((error : Refusal) → IsRefusal (notation_of g.syntax) rest error → is_stray error ≡ false)))
+
+abbrev pub IsEnding : Form → List ℕ → Result Stopped Unclosed → Type 0
+IsEnding g rest (Ok stop) = IsStopEnding g rest stop
+IsEnding g rest (Err it) = LacksClosing g rest it.size it.closed
 
 -- `IsLow text size g` holds if no error of `text` in the form `g` has a greater reach than one that goes up to `size` and whose cause is a wrong byte.
 -- `IsLeftOut text furthest g` holds if none has a greater one than `furthest`, or if none goes beyond the first byte behind the sign, where it is `None`.
@@ -117,17 +144,24 @@ pub record IsFoundForm (forms : List Form) (text : List ℕ) (result : Result (�
   pub furthest : IfErr result (Leads forms text (length forms))
 
 -- `NoFrontPast m text size` holds if no front of `text` with more than `size` bytes is a literal, and `NonePast text size g` if none is one of the form `g`.
--- `IsFrontIn text found g` holds if `found` has the longest front that is a literal of `g`, and the lengths of its parts behind the opening.
+-- `IsFrontIn text found g` holds if `found` has the longest front that is a literal of `g`, and the lengths of its parts behind the opening. If there is a
+-- closing, it is where the syntax stops.
 abbrev pub NoFrontPast : Notation → List ℕ → ℕ → Type 0
 NoFrontPast m text size = (more : ℕ) → size < more → more ≤ length text → NoLiteral m (take more text)
+
+-- `NoneOpenedPast text size g` holds if none is an opening of `g` with a literal of its syntax.
+abbrev pub NoneOpenedPast : List ℕ → ℕ → Form → Type 0
+NoneOpenedPast text size g = (more : ℕ) → size < more → more ≤ length text → NoneBy (OpensIn g) (take more text)
 
 abbrev pub NonePast : List ℕ → ℕ → Form → Type 0
 NonePast text size g = (more : ℕ) → size < more → more ≤ length text → NoneBy (ReadsIn g) (take more text)
 
 pub record IsFrontIn (text : List ℕ) (found : Found) (g : Form) : Type 0 where
   pub opened : IsOpened g.opening text
-  pub past : length g.opening.bytes.now ≤ found.size
-  pub front : IsCountedFront (notation_of g.syntax) (behind g text) (record found { size = found.size - length g.opening.bytes.now })
+  pub past : g.opening.size + g.closing.size ≤ found.size
+  pub front : IsCountedFront (notation_of g.syntax) (behind g text) (record found { size = found.size - (g.opening.size + g.closing.size) })
+  pub closed : IsOpened g.closing (drop (found.size - g.closing.size) text)
+  pub ends : 0 < g.closing.size → IsValidUpTo (notation_of g.syntax) (behind g text) (found.size - (g.opening.size + g.closing.size))
 
 -- `IsLongestPast forms text size longest` holds if `longest` has the longest front of `text` with more than `size` bytes that is a literal of a
 -- form, of the first form of equals, or if it is `None`, and there is no such front.

@@ -12,7 +12,7 @@ use Rattle.lexical_forms.specs.Token.{HasFrontOfSyntax, IsBest, IsCandidate, IsC
 use Rattle.lexical_forms.specs.declared.list.Tokens.{Tokens}
 use Rattle.lexical_literal.specs.declared.stop.Found.{Found}
 use Rattle.lexical_literal.specs.Notation.{Notation, notation_of}
-use Rattle.lexical_forms.specs.declared.list.Form.{Form}
+use Rattle.lexical_forms.specs.declared.form.Form.{Form}
 use Rattle.lexical_forms.specs.declared.token.Candidate.{Candidate}
 use Rattle.lexical_forms.specs.declared.token.TokenError.{TokenError}
 use Rattle.lexical_forms.specs.declared.token.TokenError.TheVariants as errors
@@ -22,6 +22,12 @@ pub record IsMade (back needs : Bool) (text : List ℕ) (form : Form) (c : Candi
   pub candidate : IsCandidate back needs text form c.size c.end
   pub measured : IsMeasured (notation_of form.syntax) (take c.size text) c.counts
   pub within : c.end ≤ length text
+
+-- `IsInside count text best` holds if `best` is the index of one of `count` forms, and a candidate that ends in `text`.
+pub record IsInside (count : ℕ) (text : List ℕ) (best : ℕ × Candidate) : Type 0 where
+  pub form : best.0 < count
+  pub order : best.1.size ≤ best.1.end
+  pub within : best.1.end ≤ length text
 
 -- `IsBestOf back needs forms text best` holds if `best` is the index of the first of `forms` with the longest candidate, and this
 -- candidate, or `None` if there is none.

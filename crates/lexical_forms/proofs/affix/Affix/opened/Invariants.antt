@@ -3,7 +3,7 @@ use Rattle.lexical_forms.specs.Affix.{Begins}
 use Rattle.lexical_forms.proofs.affix.Affix.opened.Given as goal
 
 abbrev pub invariant-loop-size : goal.invariant-loop-size
-invariant-loop-size l = (l.size ≤ length l.self.bytes.now) × Begins l.self l.text l.size
+invariant-loop-size l = (l.size ≤ l.self.size) × Begins l.self l.text l.size
 
 abbrev pub decreases-loop-size : goal.decreases-loop-size
 decreases-loop-size l = length l.text - l.size

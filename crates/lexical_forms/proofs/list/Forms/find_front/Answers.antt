@@ -2,7 +2,7 @@
 use Rattle.lexical_forms.proofs.Common.{get_or, subst}
 use Rattle.lexical_forms.specs.Additions.Forms.{IsLongestPast}
 use Rattle.lexical_forms.proofs.FormLemmas.{front_is, no_front}
-use Rattle.lexical_forms.proofs.OpeningLemmas.{none_whole}
+use Rattle.lexical_forms.proofs.MarkLemmas.{none_whole}
 use Rattle.lexical_forms.proofs.list.Forms.find_front.Goals as goal
 
 pub returns-in-Some : goal.returns-in-Some
@@ -13,7 +13,7 @@ pub furthest-requires : goal.furthest-requires
 furthest-requires c =
     let none = no_front c.args.self.now.forms c.args.text.now
     (subst (IsLongestPast c.args.self.now.forms c.args.text.now 0) c.in-None.is c.longest_past-2.ensures) in
-    λ k d below. none_whole c.args.text.now (get_or c.args.self.now.forms k d) (none k d below)
+    λ k d below. none_whole (get_or c.args.self.now.forms k d) c.args.text.now (none k d below)
 
 pub returns-in-None : goal.returns-in-None
 returns-in-None c = record {

@@ -2,7 +2,7 @@
 use Rattle.lexical_forms.proofs.Common.{◌+◌, None, arith, sign_size, slice_get, subst}
 use Rattle.lexical_forms.specs.Additions.Forms.{IsLed, IsLeftOut, IsRefusedAt}
 use Rattle.lexical_forms.proofs.FormLemmas.{each, leads_first, led_out}
-use Rattle.lexical_forms.proofs.OpeningLemmas.{reach_most}
+use Rattle.lexical_forms.proofs.MarkLemmas.{reach_most}
 use Rattle.lexical_forms.proofs.list.Forms.further_on.Goals as goal
 
 pub returns-in-None : goal.returns-in-None
@@ -20,4 +20,4 @@ returns-in-None-2 c =
     let stop = c.args.stop in
     led_out forms text c.args.form None (subst (IsLed forms text c.args.form) c.in-None.is c.requires.furthest)
     (each (IsRefusedAt text stop) (IsLeftOut text None) (slice_get forms c.args.form)
-    (λ g is n reaches. let most = reach_most text g stop is n reaches in omega (arith, most, c.if-stop-sign.false, c.requires.sign)) c.requires.refused)
+    (λ g is n reaches. let most = reach_most g text stop is n reaches in omega (arith, most, c.if-stop-sign.false, c.requires.sign)) c.requires.refused)

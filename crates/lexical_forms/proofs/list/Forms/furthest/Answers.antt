@@ -2,24 +2,17 @@
 use Rattle.lexical_forms.proofs.Common.{◌+◌, arith, get_or, nat_tests, refl, sym, subst, slice_get, notation_of, FormList, Grammar, IsSomeAnd, NoForm}
 use Rattle.lexical_forms.specs.Additions.Forms.{IsLow, IsNoBetter, IsRefusedAt, Leads}
 use Rattle.lexical_forms.proofs.FormLemmas.{at_index, leads_all, leads_first, left_out}
-use Rattle.lexical_forms.proofs.OpeningLemmas.{low_plain}
+use Rattle.lexical_forms.proofs.MarkLemmas.{low_plain}
 use Rattle.lexical_forms.proofs.list.Forms.furthest.Goals as goal
-use Rattle.lexical_forms.proofs.list.Forms.furthest.Goals.{then-not-is_empty, else-not-is_empty+else-not-is_settled}
+use Rattle.lexical_forms.proofs.list.Forms.furthest.Goals.{then-is_marked, else-is_marked+else-not-is_settled}
 
 pub loop-form-init : goal.loop-form-init
 loop-form-init c =
     let forms = c.self.inside.forms.now in
     let text = c.args.text.now in
     let d = c.index-self-0.result in
-    leads_first forms text 0 c.stop-first.result (at_index (IsRefusedAt text c.stop-first.result) forms forms d 0 refl c.self.invariant
-    c.stop-first.ensures) (λ k d low below. absurd (omega (arith, below)))
-
-pub stop-first-requires : goal.stop-first-requires
-stop-first-requires c = subst (λ (l : FormList). NoForm l.forms c.args.text.now) (sym c.self.view_is) c.requires 0 c.index-self-0.result c.self.invariant
-
-pub stop-stop-requires : goal.stop-stop-requires
-stop-stop-requires c = subst (λ (l : FormList). NoForm l.forms c.args.text.now) (sym c.self.view_is) c.requires c.loop-form.form
-    c.index-self-form.result c.loop-form-test.true
+    leads_first forms text 0 c.stop-first.result (at_index (IsRefusedAt text c.stop-first.result) forms forms d 0 refl c.self.invariant.0
+    (c.stop-first.ensures.stop (subst (λ (l : FormList). NoForm l.forms text) (sym c.self.view_is) c.requires 0 d c.self.invariant.0))) (λ k d low below. absurd (omega (arith, below)))
 
 pub further-furthest-requires-clause-refused : goal.further-furthest-requires-clause-refused
 further-furthest-requires-clause-refused c =
@@ -28,7 +21,8 @@ further-furthest-requires-clause-refused c =
     let i = c.loop-form.form in
     let d = c.index-self-form.result in
     subst (λ (l : FormList). IsSomeAnd (slice_get l.forms i) (IsRefusedAt text c.stop-stop.result)) c.self.view_is
-    (at_index (IsRefusedAt text c.stop-stop.result) forms forms d i refl c.loop-form-test.true c.stop-stop.ensures)
+    (at_index (IsRefusedAt text c.stop-stop.result) forms forms d i refl c.loop-form-test.true
+    (c.stop-stop.ensures.stop (subst (λ (l : FormList). NoForm l.forms text) (sym c.self.view_is) c.requires i d c.loop-form-test.true)))
 
 pub loop-form-preserved : goal.loop-form-preserved
 loop-form-preserved c =
@@ -36,12 +30,13 @@ loop-form-preserved c =
     let text = c.args.text.now in
     let i = c.loop-form.form in
     let best = c.loop-form.furthest in
-    elim c.if-not-is_empty.branch [
-      | then-not-is_empty w ↦ subst (Leads forms text (i + 1)) (sym w.furthest-is)
+    elim c.if-is_marked.branch [
+      | then-is_marked w ↦ subst (Leads forms text (i + 1)) (sym w.furthest-is)
           (subst (λ (l : FormList). Leads l.forms text (i + 1) w.further-furthest.result) (sym c.self.view_is) w.further-furthest.ensures)
-      | else-not-is_empty+else-not-is_settled w ↦ subst (Leads forms text (i + 1)) (sym w.furthest-is) (left_out forms text i best c.loop-form.invariant
+      | else-is_marked+else-not-is_settled w ↦ subst (Leads forms text (i + 1)) (sym w.furthest-is) (left_out forms text i best c.loop-form.invariant
           (at_index (IsLow text best.stop.size) forms forms c.index-self-form.result i refl c.loop-form-test.true
-          (low_plain text (get_or forms i c.index-self-form.result) (let empty = c.is_empty.ensures in grind (arith, nat_tests)) best.stop.size
+          (low_plain (get_or forms i c.index-self-form.result) text (let marked = c.is_marked.ensures in let no = w.if-is_marked.false in grind (arith, nat_tests))
+          (let marked = c.is_marked.ensures in let no = w.if-is_marked.false in grind (arith, nat_tests)) best.stop.size
           (subst (λ (g : Grammar). IsNoBetter (notation_of g) text best.stop.size) w.grammar.ensures.value
           (w.is_settled.ensures.better w.if-not-is_settled.false)))))
     ]

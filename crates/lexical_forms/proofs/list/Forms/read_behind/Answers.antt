@@ -1,10 +1,9 @@
--- The literal of the first form, with its kind.
-use Rattle.lexical_forms.proofs.FormLemmas.{inside_of, number_is}
+-- A list that is not marked has no marks.
+use Rattle.lexical_forms.proofs.Common.{FormList, arith, nat_tests, subst, false, ◌≡◌}
+use Rattle.lexical_forms.specs.FormList.{have_marks}
+use Rattle.lexical_forms.proofs.FormLemmas.{plain_forms}
 use Rattle.lexical_forms.proofs.list.Forms.read_behind.Goals as goal
 
-pub of_form-literal-requires : goal.of_form-literal-requires
-of_form-literal-requires c = inside_of _ c.args.self.now.forms c.in-Ok.form c.in-Ok.ensures.found.reads
-
-pub returns-in-Ok : goal.returns-in-Ok
-returns-in-Ok c = let own = c.of_form-literal.ensures in
-    number_is c.args.self.now c.args.text.now c.in-Ok.form c.in-Ok.found c.of_form-literal.result c.in-Ok.ensures.found own.format own.literal own.kind
+pub find_plain-requires-clause-plain : goal.find_plain-requires-clause-plain
+find_plain-requires-clause-plain c = subst (λ (l : FormList). have_marks l.forms ≡ false) c.self.view_is
+    (plain_forms c.self.inside.forms.now c.self.inside.tokens (c.self.invariant.1 c.if-marked.false))

@@ -1,0 +1,671 @@
+-- Forms with an opening and a closing: what of a text stands between both, and where it stops.
+use Rattle.lexical_forms.proofs.Common.{ℕ, ◌≡◌, ◌+◌, ◌-◌, ◌*◌, ◌<◌, ◌≤◌, ◌++◌, ◌∙◌, ◌⊎◌, inl, inr, Bool, true, false, List, [], Option, Some, None, Form, Found}
+use Rattle.lexical_forms.proofs.Common.{Grammar, Literal, NoLiteral, Notation, Reads, Refusal, Stopped, ap, arith, cases_lt, drop, false≢true, get_or}
+use Rattle.lexical_forms.proofs.Common.{IsCountedFront, IsFront, IsRefusal, IsStopped, IsValidUpTo, ReadsFront, append-nil, if◌then◌else◌, is_stray, length}
+use Rattle.lexical_forms.proofs.Common.{length-take-le, nat_tests, notation_of, reach, refl, subst, sym, take, take_all, ◌&&◌, ◌||◌, ◌==◌, Role, set_of_role}
+use Rattle.lexical_literal.specs.Cause.{Explained}
+use Rattle.std.proofs.Common.{Err, Ok, not}
+use Rattle.lexical_literal.specs.Front.{BeginsBy, IsValidBy, NoFrontBy, NoneBy, ReadsFrontBy}
+use Rattle.lexical_forms.specs.Additions.Forms.{IsBehind, IsBetween, IsEnding, IsFrontIn, IsLeftOut, IsLow, IsNearSign, IsNoBetter, IsRefusedAt}
+use Rattle.lexical_forms.specs.Additions.Forms.{IsStoppedBefore, IsStoppedBehind, IsUnended, NoFrontPast, NoneOpenedPast, NonePast, PlaysNoRole, sign_size}
+use Rattle.lexical_forms.specs.Affix.{Begins, IsOpened, IsOpenedTo, is_free, spelling, spells}
+use Rattle.lexical_forms.specs.Forms.{GoesTo, IsErrorIn, KeepsError, LacksClosing, OpensIn, Reaches, ReadsIn, behind, reach_in, right_in}
+use Rattle.lexical_forms.specs.declared.list.Furthest.{Furthest}
+use Rattle.lexical_forms.specs.declared.marks.Unclosed.{Unclosed}
+use Rattle.lexical_util.specs.Roles.{other_case, signs}
+use Rattle.lexical_util.specs.declared.feature_format.roles.Role.TheVariants as roles
+use Rattle.lexical_literal.proofs.OneCauseLemmas.{one_refusal}
+use Rattle.lexical_forms.proofs.ExcludeLemmas.{near_no_role}
+use Rattle.lexical_forms.proofs.OpeningLemmas.{begins_front, begins_of, behind_take, completed, completed_size, front_before, front_behind, front_byte}
+use Rattle.lexical_forms.proofs.OpeningLemmas.{front_opened, none_empty, not_begun, not_longer, not_opened, one_opened, one_size, opened_front}
+use Rattle.lexical_forms.proofs.OpeningLemmas.{reach_within, rest_size, spelling_size, spells_own, valid_behind}
+use Rattle.std.proofs.lemmas.List.{append_assoc, drop-drop, drop-take, drop_at, get_or-drop, get_or-take, length-append, length-drop, take-append-drop}
+use Rattle.std.proofs.lemmas.List.{take-append-le, take-take, take_at, drop-append-le}
+use Rattle.std.proofs.Math.Nat.{le_antisymm}
+
+-- The first bytes of a list are its first ones, and then others.
+take_both : (n k : ℕ) (xs : List ℕ) → take (n + k) xs ≡ take n xs ++ take k (drop n xs)
+take_both n k xs = sym (take-append-drop n (take (n + k) xs)) ∙ ap (λ ys. ys ++ drop n (take (n + k) xs)) (take-take n (n + k) xs (omega arith))
+    ∙ ap (λ ys. take n xs ++ ys) (drop-take n k xs)
+
+-- A byte that is free plays no role.
+free_plays_none : (s : Grammar) (byte : ℕ) → is_free (notation_of s) byte ≡ true → PlaysNoRole (notation_of s) byte
+free_plays_none s byte is = record { not_zero = grind (arith, nat_tests); none = none } where
+  none : (role : Role) → set_of_role (notation_of s) role byte ≡ false
+  none roles.Digit = grind (arith, nat_tests)
+  none roles.Sign = grind (arith, nat_tests)
+  none roles.Separator = grind (arith, nat_tests)
+  none roles.Prefix = grind (arith, nat_tests)
+  none roles.Suffix = grind (arith, nat_tests)
+  none roles.Exponent = grind (arith, nat_tests)
+  none roles.Point = grind (arith, nat_tests)
+
+module _ (g : Form) where
+  abbrev m : Notation
+  m = notation_of g.syntax
+
+  abbrev n : ℕ
+  n = g.opening.size
+
+  abbrev c : ℕ
+  c = g.closing.size
+
+  -- The first byte of a closing plays no role in the syntax.
+  closing_plays_none : 0 < c → (byte : ℕ) → spells g.closing 0 byte ≡ true → PlaysNoRole m byte
+  closing_plays_none some byte is = let closable = g.closable in free_plays_none g.syntax byte (grind (arith, nat_tests))
+
+  -- A literal of the form begins with the opening.
+  reads_opened : (l : Literal) (text : List ℕ) → ReadsIn g l text → IsOpened g.opening text
+  reads_opened l text is = begins_of text g (length text - c) (omega arith) is.opens.opened
+
+  pub none_empty_in : NoneBy (ReadsIn g) []
+  none_empty_in l reads = none_empty g l (subst (OpensIn g l) (take_all (0 - c) [] (omega arith)) reads.opens)
+
+  -- WITHOUT A CLOSING
+
+  module _ (none : c ≡ 0) where
+    all_of : (text : List ℕ) → take (length text - c) text ≡ text
+    all_of text = take_all (length text - c) text (omega (arith, none))
+
+    pub opens_of : (l : Literal) (text : List ℕ) → ReadsIn g l text → OpensIn g l text
+    opens_of l text is = subst (OpensIn g l) (all_of text) is.opens
+
+    pub reads_of : (l : Literal) (text : List ℕ) → OpensIn g l text → ReadsIn g l text
+    reads_of l text is = record {
+      room = omega (arith, none);
+      opens = subst (OpensIn g l) (sym (all_of text)) is;
+      closed = record { within = omega (arith, none); each = λ index below. absurd (omega (arith, below, none)) };
+    }
+
+  -- THE CLOSING
+
+  -- The closing behind a literal.
+  close : (l : Literal) (text : List ℕ) → OpensIn g l text → ReadsIn g l (text ++ spelling g.closing)
+  close l text is = record {
+    room = omega (arith, all, size);
+    opens = subst (OpensIn g l) (sym (ap (λ k. take k (text ++ spelling g.closing)) end ∙ take_at text (spelling g.closing) (length text) refl)) is;
+    closed = subst (IsOpened g.closing) (sym (ap (λ k. drop k (text ++ spelling g.closing)) end ∙ drop_at text (spelling g.closing) (length text) refl))
+        (record {
+          within = omega (arith, size);
+          each = λ index below. subst (λ b. spells g.closing index b ≡ true) (sym (get_or-take c g.closing.bytes index 0 below)) (spells_own g.closing index);
+        });
+  } where
+    all : length (text ++ spelling g.closing) ≡ length text + length (spelling g.closing)
+    all = length-append text (spelling g.closing)
+
+    size : length (spelling g.closing) ≡ c
+    size = spelling_size g.closing
+
+    end : length (text ++ spelling g.closing) - c ≡ length text
+    end = omega (arith, all, size)
+
+  begins_closed : (text : List ℕ) → BeginsBy (OpensIn g) text → BeginsBy (ReadsIn g) text
+  begins_closed text is = record {
+    more = is.more ++ spelling g.closing;
+    literal = is.literal;
+    reads = subst (ReadsIn g is.literal) (append_assoc text is.more (spelling g.closing)) (close is.literal (text ++ is.more) is.reads);
+  }
+
+  module _ (text : List ℕ) where
+    abbrev rest : List ℕ
+    rest = behind g text
+
+    -- No front with more bytes is a literal if none is before its closing.
+    pub past_opened : (size : ℕ) → NoneOpenedPast text (size - c) g → NonePast text size g
+    past_opened size none more past inside l reads =
+        let all = length-take-le more text inside in let room = reads.room in
+        let opens = subst (OpensIn g l) (take-take (more - c) more text (omega arith))
+        (subst (λ k. OpensIn g l (take (k - c) (take more text))) all reads.opens) in
+        elim (cases_lt c more) [
+          | inl longer ↦ none (more - c) (omega (arith, longer, past)) (omega (arith, inside)) l opens
+          | inr low ↦ none_empty g l (subst (λ k. OpensIn g l (take k text)) (let zero : more - c ≡ 0 = omega (arith, low) in zero) opens)
+        ]
+
+    -- A front that begins a literal and ends in its closing, or behind it, has a literal of the syntax before.
+    record EndsAt (more : ℕ) (tail : List ℕ) : Type 0 where
+      end : ℕ
+      least : n ≤ end
+      before : end < more
+      inside : more ≤ length text
+      exact : more + length tail ≡ end + c
+      literal : Literal
+      reads : Reads m literal (take (end - n) rest)
+      closed : Begins g.closing (drop end text) (more - end)
+
+    module _ (more : ℕ) (least : n ≤ more) (inside : more ≤ length text) (is : BeginsBy (ReadsIn g) (take more text)) where
+      abbrev all : List ℕ
+      all = take more text ++ is.more
+
+      abbrev end : ℕ
+      end = length all - c
+
+      more_size : length (take more text) ≡ more
+      more_size = length-take-le more text inside
+
+      all_size : length all ≡ more + length is.more
+      all_size = length-append (take more text) is.more ∙ ap (λ k. k + length is.more) more_size
+
+      -- It ends in the literal.
+      inner : more ≤ end → IsFront m (take (more - n) rest)
+      inner low = front_behind text g more least inside (record {
+        more = take (end - more) is.more;
+        literal = is.literal;
+        reads = subst (OpensIn g is.literal) (ap (λ k. take k all) (let same : end ≡ more + (end - more) = omega (arith, low) in same)
+            ∙ take_both more (end - more) all
+            ∙ ap (λ xs. xs ++ take (end - more) (drop more all)) (take_at (take more text) is.more more more_size)
+            ∙ ap (λ xs. take more text ++ take (end - more) xs) (drop_at (take more text) is.more more more_size)) is.reads.opens;
+      })
+
+      outer : end < more → EndsAt more is.more
+      outer before = record {
+        end = end;
+        least = let low = opens.opened.within in let size = length-take-le end text (omega (arith, before, inside)) in omega (arith, low, size);
+        before = before;
+        inside = inside;
+        exact = let room = is.reads.room in omega (arith, all_size, room);
+        literal = is.literal;
+        reads = subst (Reads m is.literal) (behind_take n end text
+            (let low = opens.opened.within in let size = length-take-le end text (omega (arith, before, inside)) in omega (arith, low, size))) opens.reads;
+        closed = record {
+          within = let size = length-drop end text in omega (arith, size, inside);
+          each = λ index below. subst (λ b. spells g.closing index b ≡ true)
+              (get_or-drop end all index 0 ∙ front_byte text is.more more (end + index) (omega (arith, below)) inside ∙ sym (get_or-drop end text index 0))
+              (is.reads.closed.each index (let room = is.reads.room in omega (arith, below, all_size, room)));
+        };
+      } where
+        opens : OpensIn g is.literal (take end text)
+        opens = subst (OpensIn g is.literal) (take-append-le end (take more text) is.more (omega (arith, before, more_size))
+            ∙ take-take end more text (omega (arith, before))) is.reads.opens
+
+    -- Then it ends where the syntax stops.
+    record Closes (size more : ℕ) (tail : List ℕ) : Type 0 where
+      literal : Literal
+      reads : Reads m literal (take size rest)
+      exact : more + length tail ≡ n + size + c
+      closed : Begins g.closing (drop size rest) (more - (n + size))
+
+    module _ (some : 0 < c) (size : ℕ) (valid : IsValidUpTo m rest size) (more : ℕ) where
+      module _ (tail : List ℕ) (e : EndsAt more tail) where
+        all_rest : length rest + n ≡ length text
+        all_rest = let low = e.least in let before = e.before in let inside = e.inside in rest_size text g (omega (arith, low, before, inside))
+
+        low : e.end - n ≤ size
+        low = elim (cases_lt size (e.end - n)) [
+          | inl longer ↦ absurd (valid.no_longer (e.end - n) longer
+            (let before = e.before in let inside = e.inside in omega (arith, all_rest, before, inside)) (record {
+              more = [];
+              literal = e.literal;
+              reads = subst (Reads m e.literal) (sym (append-nil (take (e.end - n) rest))) e.reads;
+            }))
+          | inr low ↦ low
+        ]
+
+        first : get_or (drop e.end text) 0 0 ≡ get_or rest (e.end - n) 0
+        first = get_or-drop e.end text 0 0 ∙ ap (λ k. get_or text k 0) (let least = e.least in let same : e.end + 0 ≡ n + (e.end - n) = omega (arith, least) in same)
+            ∙ sym (get_or-drop n text (e.end - n) 0)
+
+        high : size ≤ e.end - n
+        high = near_no_role m rest size valid (e.end - n) (subst (PlaysNoRole m) first (closing_plays_none some (get_or (drop e.end text) 0 0)
+            (e.closed.each 0 (let before = e.before in omega (arith, before)))))
+
+        same : e.end - n ≡ size
+        same = omega (arith, low, high)
+
+        at_end : e.end ≡ n + size
+        at_end = let least = e.least in omega (arith, same, least)
+
+        ends : Closes size more tail
+        ends = record {
+          literal = e.literal;
+          reads = subst (λ k. Reads m e.literal (take k rest)) same e.reads;
+          exact = let exact = e.exact in omega (arith, exact, at_end);
+          closed = subst (λ k. Begins g.closing (drop size rest) (more - k)) at_end
+              (subst (λ xs. Begins g.closing xs (more - e.end)) (ap (λ k. drop k text) at_end ∙ sym (drop-drop size n text)) e.closed);
+        }
+
+      -- If some literal begins with more bytes than the syntax goes.
+      closes : n + size < more → more ≤ length text → (is : BeginsBy (ReadsIn g) (take more text)) → Closes size more is.more
+      closes past inside is = elim (cases_lt (end more (omega (arith, past)) inside is) more) [
+        | inl before ↦ ends is.more (outer more (omega (arith, past)) inside is before)
+        | inr low ↦ absurd (valid.no_longer (more - n) (omega (arith, past)) (let all = rest_size text g (omega (arith, past, inside)) in omega (arith, all, inside))
+            (inner more (omega (arith, past)) inside is low))
+      ]
+
+    -- The bytes that are right are the longest front that some literal begins with: without an opening,
+    pub goes_before : IsFront m [] → (size : ℕ) → IsOpenedTo g.opening text size → size < n → GoesTo text g size
+    goes_before some size is short = record {
+      within = is.begins.within;
+      front = begins_closed (take size text) (front_opened text g size is short some);
+      no_longer = λ more past inside front. not_longer text g size is short more front.more past inside
+          (reads_opened front.literal (take more text ++ front.more) front.reads);
+    }
+
+    module _ (opened : IsOpened g.opening text) where
+      -- up to where the syntax stops, if no closing begins there behind a literal,
+      pub goes_to : (size : ℕ) → IsValidUpTo m rest size → ((0 < c) → (more : ℕ) (tail : List ℕ) → n + size < more → Closes size more tail → ⊥) → GoesTo text g (n + size)
+      goes_to size valid none = record {
+        within = (valid_behind text g size opened valid).within;
+        front = begins_closed (take (n + size) text) (valid_behind text g size opened valid).front;
+        no_longer = λ more past inside front. elim (cases_lt 0 c) [
+          | inl some ↦ none some more front.more past (closes some size valid more past inside front)
+          | inr low ↦ (valid_behind text g size opened valid).no_longer more past inside (record {
+              more = front.more;
+              literal = front.literal;
+              reads = opens_of (omega (arith, low)) front.literal (take more text ++ front.more) front.reads;
+            })
+        ];
+      }
+
+      kept_alone : (error : Refusal) → KeepsError g rest error → (0 < c) → (more : ℕ) (tail : List ℕ) → n + error.valid_up_to < more
+          → Closes error.valid_up_to more tail → ⊥
+      kept_alone error is some more tail past ends = elim is.kept [
+        | inl bare ↦ absurd (omega (arith, bare, some))
+        | inr (inl none) ↦ none ends.literal ends.reads
+        | inr (inr alone) ↦ not_begun g.closing (drop error.valid_up_to rest) 0 (more - (n + error.valid_up_to)) alone.0 (omega (arith, past))
+            (let exact = ends.exact in omega (arith, exact)) ends.closed
+      ]
+
+      pub goes_kept : (error : Refusal) → KeepsError g rest error → GoesTo text g (n + error.valid_up_to)
+      goes_kept error is = goes_to error.valid_up_to is.refusal.valid_up_to (kept_alone error is)
+
+      -- or in the closing.
+      module _ (size closed : ℕ) (is : LacksClosing g rest size closed) where
+        rest_is : length rest + n ≡ length text
+        rest_is = rest_size text g opened.within
+
+        inside : n + size + closed ≤ length text
+        inside = let within = is.closed.begins.within in let left = length-drop size rest in let low = is.valid.within in
+            omega (arith, rest_is, within, left, low)
+
+        before : List ℕ
+        before = take (n + size) text
+
+        parts : take (n + size + closed) text ≡ before ++ take closed (drop size rest)
+        parts = take_both (n + size) closed text ∙ ap (λ xs. before ++ take closed xs) (sym (drop-drop size n text))
+
+        left : List ℕ
+        left = drop closed (spelling g.closing)
+
+        before_size : length before ≡ n + size
+        before_size = length-take-le (n + size) text (let in_text = inside in omega (arith, in_text))
+
+        closing_size : length (take closed (drop size rest) ++ left) ≡ c
+        closing_size = completed_size g.closing (drop size rest) closed is.closed.inside is.closed.begins []
+
+        literal_before : OpensIn g is.literal before
+        literal_before = record {
+          opened = subst (λ t. Begins g.opening t n) (append-nil before)
+              (begins_front g.opening text n (n + size) [] (omega arith) (let in_text = inside in omega (arith, in_text)) opened);
+          reads = subst (Reads m is.literal) (sym (behind_take n (n + size) text (omega arith)
+              ∙ ap (λ k. take k rest) (let same : n + size - n ≡ size = omega arith in same))) is.reads;
+        }
+
+        whole_size : length (before ++ (take closed (drop size rest) ++ left)) - c ≡ n + size
+        whole_size = let both = length-append before (take closed (drop size rest) ++ left) in omega (arith, both, before_size, closing_size)
+
+        closed_literal : ReadsIn g is.literal (before ++ (take closed (drop size rest) ++ left))
+        closed_literal = record {
+          room = let both = length-append before (take closed (drop size rest) ++ left) in omega (arith, both, closing_size);
+          opens = subst (OpensIn g is.literal) (sym (ap (λ k. take k (before ++ (take closed (drop size rest) ++ left))) whole_size
+              ∙ take_at before (take closed (drop size rest) ++ left) (n + size) before_size)) literal_before;
+          closed = subst (IsOpened g.closing) (sym (ap (λ k. drop k (before ++ (take closed (drop size rest) ++ left))) whole_size
+              ∙ drop_at before (take closed (drop size rest) ++ left) (n + size) before_size))
+              (subst (IsOpened g.closing) (ap (λ xs. take closed (drop size rest) ++ xs) (append-nil left))
+              (completed g.closing (drop size rest) closed is.closed.inside is.closed.begins []));
+        }
+
+        pub goes_closing : GoesTo text g (n + size + closed)
+        goes_closing = record {
+          within = inside;
+          front = record {
+            more = left;
+            literal = is.literal;
+            reads = subst (ReadsIn g is.literal) (sym (ap (λ xs. xs ++ left) parts ∙ append_assoc before (take closed (drop size rest)) left)) closed_literal;
+          };
+          no_longer = λ more past within front.
+              let ends = closes is.some size is.valid more (omega (arith, past)) within front in
+              not_begun g.closing (drop size rest) closed (more - (n + size)) is.closed (omega (arith, past))
+              (let exact = ends.exact in omega (arith, exact)) ends.closed;
+        }
+
+      -- FRONTS
+
+      -- The longest front, of which the syntax reads the literal `l`.
+      pub reads_front : (l : Literal) (size : ℕ) → ReadsFront m l rest size → (end : ℕ) → end ≡ n + size + c → IsOpened g.closing (drop (n + size) text)
+          → ((0 < c) → IsValidUpTo m rest size) → ReadsFrontBy (ReadsIn g) l text end
+      reads_front l size is end same closed valid = record {
+        within = within;
+        reads = record {
+          room = omega (arith, end_size, same);
+          opens = subst (OpensIn g l) (sym (ap (λ k. take k (take end text)) end_is ∙ take-take (n + size) end text (omega (arith, same)))) front.reads;
+          closed = subst (IsOpened g.closing) (sym (ap (λ k. drop k (take end text)) end_is ∙ behind_take (n + size) end text (omega (arith, same)))) (record {
+            within = let left = length-take-le (end - (n + size)) (drop (n + size) text) (let low = closed.within in omega (arith, same, low)) in
+                omega (arith, left, same);
+            each = λ index below. subst (λ b. spells g.closing index b ≡ true)
+                (sym (get_or-take (end - (n + size)) (drop (n + size) text) index 0 (omega (arith, below, same)))) (closed.each index below);
+          });
+        };
+        no_longer = λ more past inside l reads. elim (cases_lt 0 c) [
+          | inl some ↦ (let ends = closes some size (valid some) more (omega (arith, past, same)) inside (record {
+              more = [];
+              literal = l;
+              reads = subst (ReadsIn g l) (sym (append-nil (take more text))) reads;
+            }) in let exact = ends.exact in absurd (omega (arith, exact, past, same)))
+          | inr low ↦ front.no_longer more (omega (arith, past, same)) inside l (opens_of (omega (arith, low)) l (take more text) reads)
+        ];
+      } where
+        front : ReadsFrontBy (OpensIn g) l text (n + size)
+        front = opened_front text g l (n + size) opened (omega arith) (subst (ReadsFront m l rest) (let same : size ≡ n + size - n = omega arith in same) is)
+
+        within : end ≤ length text
+        within = let low = closed.within in let left = length-drop (n + size) text in let in_front = front.within in omega (arith, same, low, left, in_front)
+
+        end_size : length (take end text) ≡ end
+        end_size = length-take-le end text within
+
+        end_is : length (take end text) - c ≡ n + size
+        end_is = omega (arith, end_size, same)
+
+      -- A form whose closing is not behind its longest literal has no front.
+      pub past_unclosed : 0 < c → (stop size : ℕ) → IsValidUpTo m rest stop → (l : Literal) → ReadsFront m l rest size
+          → ((size ≡ stop) → IsOpened g.closing (drop size rest) → ⊥) → (least : ℕ) → NonePast text least g
+      past_unclosed some stop size valid l is open least more past inside k reads =
+          let all = rest_size text g opened.within in let within = valid.within in
+          elim (cases_lt size stop) [
+            | inl short ↦ is.no_longer stop short within closed.literal closed.reads
+            | inr far ↦ open (omega (arith, far, most)) (subst (λ k. IsOpened g.closing (drop k rest))
+              (let same : stop ≡ size = omega (arith, far, most) in same) (subst (Begins g.closing (drop stop rest))
+              (let exact = closed.exact in let same : more - (n + stop) ≡ c = omega (arith, exact) in same) closed.closed))
+          ]
+        where
+          begins : BeginsBy (ReadsIn g) (take more text)
+          begins = record { more = []; literal = k; reads = subst (ReadsIn g k) (sym (append-nil (take more text))) reads }
+
+          more_is : length (take more text) ≡ more
+          more_is = length-take-le more text inside
+
+          longer : n ≤ more
+          longer = let low = (reads_opened k (take more text) reads).within in omega (arith, low, more_is)
+
+          closed : Closes stop more []
+          closed = ends some stop valid more [] (outer more longer inside begins
+              (let size = all_size more longer inside begins in let room = reads.room in omega (arith, size, room, more_is, some)))
+
+          most : size ≤ stop
+          most = elim (cases_lt stop size) [
+            | inl more ↦ absurd (valid.no_longer size more is.within (record {
+                more = [];
+                literal = l;
+                reads = subst (Reads m l) (sym (append-nil (take size rest))) is.reads;
+              }))
+            | inr low ↦ low
+          ]
+
+  -- ERRORS
+
+  -- The syntax stops at one index, and so does the closing.
+  same_size : (rest : List ℕ) (a b : ℕ) → IsValidUpTo m rest a → IsValidUpTo m rest b → a ≡ b
+  same_size rest a b is other = le_antisymm (one_size (Reads m) rest a b is other) (one_size (Reads m) rest b a other is)
+
+  same_end : (rest : List ℕ) (a k b l : ℕ) → LacksClosing g rest a k → LacksClosing g rest b l → a + k ≡ b + l
+  same_end rest a k b l is other =
+      let same = same_size rest a b is.valid other.valid in
+      let there = subst (λ i. IsOpenedTo g.closing (drop i rest) l) (sym same) other.closed in
+      let one = le_antisymm (one_opened g.closing (drop a rest) k l is.closed there) (one_opened g.closing (drop a rest) l k there is.closed) in
+      omega (arith, same, one)
+
+  -- An error is that of the syntax, or that the closing is not there, but not both.
+  not_both : (rest : List ℕ) (size closed : ℕ) → LacksClosing g rest size closed → (error : Refusal) → KeepsError g rest error → ⊥
+  not_both rest size closed is error kept =
+      let same = same_size rest size error.valid_up_to is.valid kept.refusal.valid_up_to in
+      elim kept.kept [
+        | inl bare ↦ (let some = is.some in omega (arith, bare, some))
+        | inr (inl none) ↦ none is.literal (subst (λ k. Reads m is.literal (take k rest)) same is.reads)
+        | inr (inr alone) ↦ (let there = subst (λ k. IsOpenedTo g.closing (drop k rest) 0) (sym same) alone.0 in
+            let zero : closed ≡ 0 = let low = one_opened g.closing (drop size rest) closed 0 is.closed there in omega (arith, low) in
+            false≢true (sym alone.1 ∙ is.stray zero kept.none error kept.refusal))
+      ]
+
+  module _ (text : List ℕ) where
+    -- A text of which no front is a literal is none.
+    pub none_whole : NoFrontBy (ReadsIn g) text → NoneBy (ReadsIn g) text
+    none_whole none l reads = none (length text) (omega arith) l (subst (ReadsIn g l) (sym (take_all (length text) text (omega arith))) reads)
+
+    -- A text that is refused is not a literal.
+    pub none_in : (stop : Stopped) → IsRefusedAt text stop g → NoneBy (ReadsIn g) text
+    none_in stop (inl is) l reads = not_opened g.opening text stop.size is.opened is.short (reads_opened l text reads)
+    none_in stop (inr (inl is)) l reads = is.none l (opens_of is.bare l text reads).reads
+    none_in stop (inr (inr is)) l reads = is.none l reads
+
+    -- Two errors have one reach.
+    pub one_reach : (a b : ℕ) (x y : Option Refusal) → IsErrorIn g text a x → IsErrorIn g text b y → reach_in a x ≡ reach_in b y
+    one_reach a b None None (inl is) (inl other) = let one = le_antisymm (one_opened g.opening text a b is.0 other.0)
+        (one_opened g.opening text b a other.0 is.0) in omega (arith, one)
+    one_reach a b None None (inl is) (inr other) = absurd (not_opened g.opening text a is.0 is.1 other.0)
+    one_reach a b None None (inr is) (inl other) = absurd (not_opened g.opening text b other.0 other.1 is.0)
+    one_reach a b None None (inr is) (inr other) = let one = same_end (behind g text) is.1 is.2 other.1 other.2 is.3 other.3 in omega (arith, one, is.4, other.4)
+    one_reach a b None (Some y) (inl is) other = absurd (not_opened g.opening text a is.0 is.1 other.0)
+    one_reach a b None (Some y) (inr is) other = absurd (not_both (behind g text) is.1 is.2 is.3 y other.2)
+    one_reach a b (Some x) None is (inl other) = absurd (not_opened g.opening text b other.0 other.1 is.0)
+    one_reach a b (Some x) None is (inr other) = absurd (not_both (behind g text) other.1 other.2 other.3 x is.2)
+    one_reach a b (Some x) (Some y) is other =
+        let one = ap reach (one_refusal m (behind g text) x y is.2.refusal other.2.refusal) in omega (arith, one, is.1, other.1)
+
+    -- The bytes that are right are the longest front that some literal begins with.
+    pub valid_in : IsFront m [] → (right : ℕ) (error : Option Refusal) → IsErrorIn g text right error → GoesTo text g (right_in right error)
+    valid_in some right None (inl is) = goes_before text some right is.0 is.1
+    valid_in some right None (inr is) = subst (GoesTo text g) (sym is.4) (goes_closing text is.0 is.1 is.2 is.3)
+    valid_in some right (Some error) is = subst (λ k. GoesTo text g (k + error.valid_up_to)) (sym is.1) (goes_kept text is.0 error is.2)
+
+    -- The reach of a form in whose opening reading stops.
+    reaches_before : (stop : Stopped) → IsStoppedBefore text stop g → (k : ℕ) → Reaches text g k → k ≡ 2 * stop.size
+    reaches_before stop is k (right, error, reaches, same) =
+        let one = one_reach right stop.size error None reaches (inl (is.opened, is.short)) in omega (arith, one, same)
+
+    -- That of one whose syntax stops.
+    reaches_behind : (stop : Stopped) → IsStoppedBehind text stop g → (k : ℕ) → Reaches text g k
+        → (error : Refusal) × IsRefusal m (behind g text) error × (k ≡ 2 * n + reach error) × (n + error.valid_up_to ≡ stop.size)
+    reaches_behind stop is k (right, None, inl error, same) = absurd (not_opened g.opening text right error.0 error.1 is.opened)
+    reaches_behind stop is k (right, None, inr error, same) = absurd (let some = error.3.some in let bare = is.bare in omega (arith, some, bare))
+    reaches_behind stop is k (right, Some refusal, error, same) =
+        let one = same_size (behind g text) refusal.valid_up_to (stop.size - n) error.2.refusal.valid_up_to is.stopped.valid in
+        (refusal, error.2.refusal, omega (arith, same, error.1), omega (arith, one, is.past))
+
+    module _ (stop : Stopped) where
+      pub reach_least : IsRefusedAt text stop g → (k : ℕ) → Reaches text g k → 2 * stop.size ≤ k
+      reach_least (inl is) k reaches = let same = reaches_before stop is k reaches in omega (arith, same)
+      reach_least (inr (inl is)) k reaches = let (error, refusal, same, size) = reaches_behind stop is k reaches in
+          let least = (reach_within error).0 in omega (arith, least, same, size)
+      reach_least (inr (inr is)) k reaches = (is.near k reaches).0
+
+      pub reach_most : IsRefusedAt text stop g → (k : ℕ) → Reaches text g k → k ≤ 2 * stop.size + 1
+      reach_most (inl is) k reaches = let same = reaches_before stop is k reaches in omega (arith, same)
+      reach_most (inr (inl is)) k reaches = let (error, refusal, same, size) = reaches_behind stop is k reaches in
+          let most = (reach_within error).1 in omega (arith, most, same, size)
+      reach_most (inr (inr is)) k reaches = (is.near k reaches).1
+
+      pub stray_before : IsStoppedBefore text stop g → (k : ℕ) → Reaches text g k → k ≡ 2 * stop.size + 0
+      stray_before is k reaches = let same = reaches_before stop is k reaches in omega (arith, same)
+
+      pub stray_behind : (b : Bool) → IsStoppedBehind text stop g → ((error : Refusal) → IsRefusal m (behind g text) error → is_stray error ≡ b)
+          → (k : ℕ) → Reaches text g k → k ≡ 2 * stop.size + (if b then 0 else 1)
+      stray_behind b is stray k reaches = let (error, refusal, same, size) = reaches_behind stop is k reaches in
+          let one = ap (λ (b : Bool). 2 * error.valid_up_to + (if b then 0 else 1)) (stray error refusal) in
+          omega (arith, one, same, size)
+
+    -- WITHOUT MARKS
+
+    module _ (none : n ≡ 0) (bare : c ≡ 0) where
+      plain : (k : ℕ) → Reaches text g k → (error : Refusal) × IsRefusal m text error × (k ≡ reach error)
+      plain k (right, None, inl error, same) = absurd (omega (arith, error.1, none))
+      plain k (right, None, inr error, same) = absurd (let some = error.3.some in omega (arith, some, bare))
+      plain k (right, Some refusal, error, same) =
+          (refusal, subst (λ i. IsRefusal m (drop i text) refusal) none error.2.refusal, omega (arith, same, error.1, none))
+
+      -- It reads what its syntax reads.
+      pub plain_of : (l : Literal) → ReadsIn g l text → Reads m l text
+      plain_of l reads = subst (λ i. Reads m l (drop i text)) none (opens_of bare l text reads).reads
+
+      pub plain_in : (l : Literal) → Reads m l text → ReadsIn g l text
+      plain_in l reads = reads_of bare l text (record {
+        opened = record { within = omega (arith, none); each = λ index below. absurd (omega (arith, below, none)) };
+        reads = subst (λ i. Reads m l (drop i text)) (sym none) reads;
+      })
+
+      pub none_plain : NoLiteral m text → NoneBy (ReadsIn g) text
+      none_plain is l reads = is l (plain_of l reads)
+
+      pub low_plain : (size : ℕ) → IsNoBetter m text size → IsLow text size g
+      low_plain size is k reaches = let (error, refusal, same) = plain k reaches in let most = is error refusal in omega (arith, most, same)
+
+      near_plain : ((size : ℕ) → IsValidUpTo m text size → size ≤ sign_size text + 1) → IsNearSign text g
+      near_plain is k reaches = let (error, refusal, same) = plain k reaches in
+          let most = (reach_within error).1 in let size = is error.valid_up_to refusal.valid_up_to in omega (arith, most, same, size)
+
+      pub left_plain : (furthest : Option Furthest) → IsBehind m text furthest → IsLeftOut text furthest g
+      left_plain None is = near_plain is
+      left_plain (Some best) is = low_plain best.stop.size is
+
+    -- FRONTS OF FORMS
+
+    -- The longest front of a form, which is a literal `l` of its syntax between the marks.
+    pub read_in : (found : Found) (l : Literal) → IsFrontIn text found g → ReadsFront m l (behind g text) (found.size - (n + c))
+        → ReadsFrontBy (ReadsIn g) l text found.size
+    read_in found l is reads = reads_front text is.opened l (found.size - (n + c)) reads found.size
+        (let past = is.past in omega (arith, past))
+        (subst (λ k. IsOpened g.closing (drop k text)) (let past = is.past in let same : found.size - c ≡ n + (found.size - (n + c)) = omega (arith, past) in same)
+        is.closed) is.ends
+
+    pub front_in : (found : Found) → (is : IsFrontIn text found g) → ReadsFrontBy (ReadsIn g) is.front.literal text found.size
+    front_in found is = read_in found is.front.literal is is.front.reads
+
+    -- WHERE A FORM IS REFUSED
+
+    -- It stops in the opening, or the opening is there.
+    pub before_of : (stop : Stopped) → IsRefusedAt text stop g → stop.size < n → IsStoppedBefore text stop g
+    before_of stop (inl is) short = is
+    before_of stop (inr (inl is)) short = absurd (let past = is.past in omega (arith, past, short))
+    before_of stop (inr (inr is)) short = absurd (let past = is.past in omega (arith, past, short))
+
+    pub opened_of : (stop : Stopped) → IsRefusedAt text stop g → n ≤ stop.size → IsOpened g.opening text
+    opened_of stop (inl is) past = absurd (let short = is.short in omega (arith, past, short))
+    opened_of stop (inr (inl is)) past = is.opened
+    opened_of stop (inr (inr is)) past = is.opened
+
+    pub behind_of : (stop : Stopped) → IsRefusedAt text stop g → n ≤ stop.size → c ≡ 0 → IsStoppedBehind text stop g
+    behind_of stop (inl is) past bare = absurd (let short = is.short in omega (arith, past, short))
+    behind_of stop (inr (inl is)) past bare = is
+    behind_of stop (inr (inr is)) past bare = absurd (let some = is.some in omega (arith, some, bare))
+
+    -- Without marks, the syntax stops there.
+    pub plain_stopped : (stop : Stopped) → n ≡ 0 → c ≡ 0 → IsRefusedAt text stop g → IsStopped m text stop × NoLiteral m text
+    plain_stopped stop none bare refused =
+        let is = behind_of stop refused (omega (arith, none)) bare in (
+          subst (λ k. IsStopped m (drop k text) (record stop { size = stop.size - k })) none is.stopped,
+          subst (λ k. NoLiteral m (drop k text)) none is.none,
+        )
+
+    pub plain_refused : (stop : Stopped) → n ≡ 0 → c ≡ 0 → IsStopped m text stop → NoLiteral m text → IsRefusedAt text stop g
+    plain_refused stop none bare stopped refused = inr (inl (record {
+      bare = bare;
+      opened = record { within = omega (arith, none); each = λ index below. absurd (omega (arith, below, none)) };
+      past = omega (arith, none);
+      stopped = subst (λ k. IsStopped m (drop k text) (record stop { size = stop.size - k })) (sym none) stopped;
+      none = subst (λ k. NoLiteral m (drop k text)) (sym none) refused;
+    }))
+
+    -- What `ending` finds is an error of the form.
+    pub kept_in : IsOpened g.opening text → (error : Explained) → IsEnding g (behind g text) (Ok error) → IsErrorIn g text n (Some error.refusal)
+    kept_in opened error is = (opened, refl, is)
+
+    pub unclosed_in : IsOpened g.opening text → (it : Unclosed) → IsEnding g (behind g text) (Err it) → IsErrorIn g text (n + it.size + it.closed) None
+    unclosed_in opened it is = inr (opened, it.size, it.closed, is, refl)
+
+    reach_near : (right : ℕ) (error : Option Refusal) → (2 * right_in right error ≤ reach_in right error) × (reach_in right error ≤ 2 * right_in right error + 1)
+    reach_near right None = (omega arith, omega arith)
+    reach_near right (Some error) = let near = reach_within error in (omega (arith, near.0), omega (arith, near.1))
+
+    -- The form stops where the one error is.
+    pub ended : (stop : Stopped) → 0 < c → IsOpened g.opening text → NoneBy (ReadsIn g) text → (right : ℕ) (error : Option Refusal)
+        → IsErrorIn g text right error → stop.size ≡ right_in right error → n ≤ right → IsRefusedAt text stop g
+    ended stop some opened none right error is at past = inr (inr (record {
+      some = some;
+      opened = opened;
+      past = omega (arith, at, past, most);
+      none = none;
+      near = λ k reaches. let one = one_reach reaches.0 right reaches.1 error reaches.2 is in let near = reach_near right error in
+          (omega (arith, one, reaches.3, near.0, at), omega (arith, one, reaches.3, near.1, at));
+    })) where
+      most : right ≤ right_in right error
+      most = less error where
+        less : (error : Option Refusal) → right ≤ right_in right error
+        less None = omega arith
+        less (Some error) = omega arith
+
+    by_bit : (b : Bool) (right reach size : ℕ) → reach ≡ 2 * right + (if b then 0 else 1) → 2 * size ≤ reach → reach ≤ 2 * size + 1
+        → reach ≡ 2 * size + (if b then 0 else 1)
+    by_bit true right reach size is least most = omega (arith, is, least, most)
+    by_bit false right reach size is least most = omega (arith, is, least, most)
+
+    -- The cause of one error tells that of all.
+    pub stray_is : (stop : Stopped) → IsRefusedAt text stop g → (right : ℕ) (error : Option Refusal) → IsErrorIn g text right error → (b : Bool)
+        → reach_in right error ≡ 2 * right_in right error + (if b then 0 else 1) → (k : ℕ) → Reaches text g k → k ≡ 2 * stop.size + (if b then 0 else 1)
+    stray_is stop refused right error is b reach_is k reaches =
+        let one = one_reach reaches.0 right reaches.1 error reaches.2 is in
+        let least = reach_least stop refused (reach_in right error) (right, error, is, refl) in
+        let most = reach_most stop refused (reach_in right error) (right, error, is, refl) in
+        (let same : k ≡ reach_in right error = omega (arith, one, reaches.3) in same)
+        ∙ by_bit b (right_in right error) (reach_in right error) stop.size reach_is least most
+
+    -- BETWEEN THE MARKS
+
+    -- The opening is not there.
+    pub none_opened : (opened : ℕ) → IsOpenedTo g.opening text opened → opened < n → NoneBy (ReadsIn g) text
+    none_opened opened is short l reads = not_opened g.opening text opened is short (reads_opened l text reads)
+
+    -- It is, and `rest` is behind it.
+    module _ (opened : ℕ) (rest : List ℕ) (is : IsOpenedTo g.opening text opened) (least : n ≤ opened) (at : rest ≡ drop opened text) where
+      whole : opened ≡ n
+      whole = let inside = is.inside in omega (arith, least, inside)
+
+      pub opening_is : IsOpened g.opening text
+      opening_is = subst (Begins g.opening text) whole is.begins
+
+      pub rest_is : rest ≡ behind g text
+      rest_is = at ∙ ap (λ k. drop k text) whole
+
+      size_is : length rest + n ≡ length text
+      size_is = ap (λ xs. length xs + n) rest_is ∙ rest_size text g opening_is.within
+
+      pub none_room : length rest < c → NoneBy (ReadsIn g) text
+      none_room short l reads =
+          let low = reads.opens.opened.within in let size = length-take-le (length text - c) text (omega arith) in let room = reads.room in
+          omega (arith, size_is, low, size, room, short)
+
+      module _ (room : c ≤ length rest) (inside closing : List ℕ) (first : inside ≡ take (length rest - c) rest) (last : closing ≡ drop (length rest - c) rest) where
+        end_is : closing ≡ drop (length text - c) text
+        end_is = last ∙ ap (λ xs. drop (length rest - c) xs) rest_is ∙ drop-drop (length rest - c) n text
+            ∙ ap (λ k. drop k text) (let same : n + (length rest - c) ≡ length text - c = omega (arith, size_is, room) in same)
+
+        inside_is : inside ≡ drop n (take (length text - c) text)
+        inside_is = first ∙ ap (λ xs. take (length rest - c) xs) rest_is
+            ∙ ap (λ k. take k (drop n text)) (let same : length rest - c ≡ length text - c - n = omega (arith, size_is) in same)
+            ∙ sym (behind_take n (length text - c) text (omega (arith, size_is, room)))
+
+        pub none_closed : (closed : ℕ) → IsOpenedTo g.closing closing closed → closed < c → NoneBy (ReadsIn g) text
+        none_closed closed there short l reads = not_opened g.closing closing closed there short (subst (IsOpened g.closing) (sym end_is) reads.closed)
+
+        pub between_is : (closed : ℕ) → IsOpenedTo g.closing closing closed → c ≤ closed → IsBetween g text inside
+        between_is closed there all = record {
+          within = λ l reads. subst (Reads m l) (sym inside_is) reads.opens.reads;
+          around = λ l reads. record {
+            room = omega (arith, size_is, room);
+            opens = record {
+              opened = subst (λ t. Begins g.opening t n) (append-nil (take (length text - c) text))
+                  (begins_front g.opening text n (length text - c) [] (omega (arith, size_is, room)) (omega arith) opening_is);
+              reads = subst (Reads m l) inside_is reads;
+            };
+            closed = subst (IsOpened g.closing) end_is (subst (Begins g.closing closing)
+                (let most = there.inside in let same : closed ≡ c = omega (arith, most, all) in same) there.begins);
+          };
+        }
