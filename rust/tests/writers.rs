@@ -5,8 +5,8 @@ mod random;
 
 use peltzivar::format::FLAG_MASK;
 use peltzivar::literal::{
-    Condition, Conditions, ExponentStyle, Form, Forms, Language, Literal, Sign, Special, Specials, Spelling, Style,
-    Syntax, WriteError,
+    Affix, Condition, Conditions, ExponentStyle, Form, Forms, Language, Literal, Sign, Special, Specials, Spelling,
+    Style, Syntax, WriteError,
 };
 use peltzivar::{Format, NumberFormatBuilder, Part, Settings};
 use random::Random;
@@ -269,6 +269,40 @@ fn forms_write_what_they_read_as_the_same_number() {
     assert_eq!(forms.format_float(f64::NAN, Style::PLAIN).unwrap_err(), WriteError::Special);
     let special = |value: f64| Language::YAML.forms().format_float(value, Style::PLAIN).unwrap().to_string();
     assert_eq!([f64::NAN, f64::INFINITY, f64::NEG_INFINITY].map(special), [".nan", ".inf", "-.inf"]);
+}
+
+/// What stands around a literal counts for the width, and zeros are inside.
+#[test]
+fn marks_stand_around_what_is_written() {
+    let opening = Affix::new(b"#x").unwrap();
+    let forms = [Form::new("", syntax_of("mantissa_radix=16 exponent_base=2 exponent_radix=10 exponent=94"))
+        .with_opening(opening)];
+    let forms = Forms::new_or_panic(&forms);
+    let long = Language::PYTHON.read("0xFFFFFFFFFFFFFFFFFFFFFFFFFFFFFFFFFFFFFFFFFFFFFFFFF").unwrap().literal().unwrap();
+    let written = [
+        forms.format_integer(255, Style::PLAIN),
+        forms.format_float(-1.5, Style::PLAIN),
+        forms.format_literal(&long, Style::PLAIN),
+        Language::JAVA.forms().format_integer(3_000_000_000_u32, Style::PLAIN),
+    ];
+    for (written, wanted) in written.map(Result::unwrap).iter().zip([
+        "#xFF",
+        "#x-1.8",
+        "#xFFFFFFFFFFFFFFFFFFFFFFFFFFFFFFFFFFFFFFFFFFFFFFFFF",
+        "3000000000L",
+    ]) {
+        let padded = format!("{written:<60}|{written:^+60}|{written:060}");
+        let zeros = "0".repeat(60 - wanted.len());
+        let (before, inside) = wanted.split_at(wanted.find(|it: char| it.is_ascii_digit() || it == 'F').unwrap());
+        let plus = if before.ends_with('-') { String::from(wanted) } else { [before, "+", inside].concat() };
+        assert_eq!(padded, format!("{wanted:<60}|{plus:^60}|{before}{zeros}{inside}"));
+        assert_eq!((written.to_string(), format!("{written:?}")), (wanted.into(), format!("{wanted:?}")));
+        assert_eq!(written.write_into(&mut [0; 60]), Ok(wanted));
+        assert_eq!(written.write_into(&mut [0; 3]), Err(WriteError::Buffer(wanted.len())));
+        let mut text = String::new();
+        written.write_to(&mut text).unwrap();
+        assert_eq!(text, wanted);
+    }
 }
 
 /// Returns whether a literal is worth an integer: of a float, its exact digits are those of the integer.

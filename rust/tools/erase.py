@@ -191,7 +191,9 @@ REPLACED += [
     ("choice.rt", "fn choose<N: Writable>(", "fn choose<N: Writable + ?Sized>("),
     ("choice.rt", "fn write_in<N: Writable>(", "fn write_in<N: Writable + ?Sized>("),
     ("choice.rt", "fn write_words<N: Writable>(", "fn write_words<N: Writable + ?Sized>("),
-    ("choice.rt", "fn write_with<N: Writable>(", "fn write_with<N: Writable + ?Sized>("),
+    ("choice.rt", "fn write_around<N: Writable>(", "fn write_around<N: Writable + ?Sized>("),
+    ("choice.rt", "fn read_around<N: Writable>(", "fn read_around<N: Writable + ?Sized>("),
+    ("choice.rt", "fn write_one<N: Writable>(", "fn write_one<N: Writable + ?Sized>("),
     ("choice.rt", "fn write_by<N: Writable>(", "fn write_by<N: Writable + ?Sized>("),
     # `Debug` prints the answers.
     ("cause.rt", "#[derive(Debug, Clone, Copy, PartialEq, Eq, Hash)]\npub struct ReadError {", "#[derive(Clone, Copy, PartialEq, Eq, Hash)]\npub struct ReadError {"),

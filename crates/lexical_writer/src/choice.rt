@@ -1,7 +1,7 @@
 //! A list of forms writes numbers: in the first form whose text the list reads as the number.
 
 ghost use Rattle.std.specs.Prelude.{◌≡◌, ◌≤◌, ◌<◌, ◌-◌, ◌^◌, ◌⊎◌, ◌||◌, if◌then◌else◌, not, Bool, true, false};
-ghost use Rattle.std.specs.Prelude.{ℕ, IfOk, IfSome, IsFalse, None, Ok, Some, from_bits, length, take, ℤ};
+ghost use Rattle.std.specs.Prelude.{ℕ, IfOk, IfSome, IsFalse, None, Ok, Some, from_bits, is_some, length, take, ℤ};
 ghost use Rattle.std.specs.Float.{Float as Value};
 ghost use Rattle.lexical_util.specs.Record.{bytes_of};
 ghost use Rattle.lexical_literal.specs.Read.{exact, Read};
@@ -83,9 +83,9 @@ pub trait Writable {
         ensures { result ≡ true → own.now.kind ≡ exact → (g : Grammar) → own.now.format ≡ g.word
             → has self.now style g own.now.literal → is self.now style literal.now };
 
-    /// Returns whether a literal is worth the number, which is an integer.
-    fn is_worth(&self, literal: &Literal) -> bool
-        ensures { result ≡ true → (style : Wishes) → is self.now style literal.now };
+    /// Returns whether a literal is worth the number in a style, whatever is written for it. A number that is rounded is not.
+    fn is_worth(&self, style: Style, literal: &Literal) -> bool
+        ensures { result ≡ true → is self.now style literal.now };
 }
 
 /// The value of an integer type, by its sign and its size.
@@ -156,7 +156,7 @@ impl Writable for Whole {
         is_worth(literal, self.negative, self.size)
     }
 
-    fn is_worth(&self, literal: &Literal) -> bool {
+    fn is_worth(&self, _: Style, literal: &Literal) -> bool {
         is_worth(literal, self.negative, self.size)
     }
 }
@@ -214,8 +214,8 @@ impl<F: Float> Writable for Real<F> {
         is_same::<F>(own, literal)
     }
 
-    fn is_worth(&self, _: &Literal) -> bool {
-        false
+    fn is_worth(&self, style: Style, literal: &Literal) -> bool {
+        style.decimals.is_none() && is_float::<F>(literal, self.value)
     }
 }
 
@@ -237,6 +237,17 @@ fn bits_in<F: Float>(literal: &Literal) -> Option<u64>
         ≡ Ok (from_bits (format_of F.DOUBLE) bits)) }
 {
     float_of::<F>(literal)?.bits()
+}
+
+// Returns whether a literal is worth a float, with the same bits.
+fn is_float<F: Float>(literal: &Literal, value: F) -> bool
+    ensures { result ≡ true → float_worth literal.now.kind (format_of F.DOUBLE) (bytes_of literal.now.format) literal.now.literal
+        ≡ Ok (F.value value) }
+{
+    match (bits_in::<F>(literal), value.bits()) {
+        (Some(bits), Some(own)) => bits == own,
+        _ => false,
+    }
 }
 
 // Returns whether two literals are worth the same float.
@@ -285,28 +296,52 @@ impl Writable for Literal<'_> {
         ))
     }
 
-    fn is_plain(&self, syntax: &Syntax, kind: Kind, _: Style, float: bool) -> bool {
+    fn is_plain(&self, syntax: &Syntax, kind: Kind, _style: Style, float: bool) -> bool {
         is_exact(self.kind()) & is_exact(kind) & (self.is_float() | !(float & has_floats(syntax)))
     }
 
     fn is_read_as(&self, style: Style, own: &Literal, literal: &Literal) -> bool {
-        if self.is_worth(literal) {
+        if self.is_worth(style, literal) {
             return true;
         }
-        if whole_worth(self).is_some() {
-            return false;
-        }
-        if is_exact(self.kind()) && style.nearest && style.decimals.is_some() {
-            return is_same::<f64>(own, literal);
-        }
-        (self.is_float() || style.nearest) && is_same::<f64>(self, literal)
+        is_rounded(self, style) && is_same::<f64>(own, literal)
     }
 
-    fn is_worth(&self, literal: &Literal) -> bool {
-        match whole_worth(self) {
-            Some((negative, size)) => is_worth(literal, negative, size),
-            None => is_same_integer(self, literal),
+    fn is_worth(&self, style: Style, literal: &Literal) -> bool {
+        if is_same_whole(self, literal) {
+            return true;
         }
+        is_near(self, style) && is_same::<f64>(self, literal)
+    }
+}
+
+// Returns whether a literal that is no integer of at most 128 bits is written by its nearest float, which is rounded.
+fn is_rounded(literal: &Literal, style: Style) -> bool
+    ensures { result ≡ true → (style.nearest ≡ true) × (is_some style.decimals ≡ true) }
+{
+    style.nearest
+        && style.decimals.is_some()
+        && is_exact(literal.kind())
+        && whole_worth(literal).is_none()
+}
+
+// Returns whether a literal that is no integer of at most 128 bits may be written as its nearest float, which is not rounded.
+fn is_near(literal: &Literal, style: Style) -> bool
+    ensures { result ≡ true → (is_float literal.now.literal ≡ true) ⊎ (style.nearest ≡ true) }
+{
+    if is_rounded(literal, style) || whole_worth(literal).is_some() {
+        return false;
+    }
+    literal.is_float() || style.nearest
+}
+
+// Returns whether two literals are worth the same integer.
+fn is_same_whole(own: &Literal, literal: &Literal) -> bool
+    ensures { result ≡ true → (z : ℤ) × IsWhole z own.now × IsWhole z literal.now }
+{
+    match whole_worth(own) {
+        Some((negative, size)) => is_worth(literal, negative, size),
+        None => is_same_integer(own, literal),
     }
 }
 
@@ -489,7 +524,7 @@ const fn ways(integer: bool, wish: ExponentStyle) -> &'static [Way] {
 /// integers alone. Of each of these turns, an integer is written without a word, if no form does so with one of its
 /// [words][Suffixes::written], with which its token is the number, and else as a float that is this integer.
 /// Where an exponent would make an integer another number, the wish for one is dropped. A float is rounded in the radix
-/// of the form that is asked first. Forms with an opening are not asked yet.
+/// of the form that is asked first.
 ///
 /// # Errors
 ///
@@ -515,10 +550,7 @@ pub fn choose<N: Writable>(
         for way in ways(integer, style.exponent) {
             for (index, form) in forms.as_slice().iter().enumerate() {
                 let syntax = form.syntax();
-                if turn(number.radix(), integer, &syntax) != wanted
-                    || !way.asks(&syntax)
-                    || !form.opening().is_empty()
-                {
+                if turn(number.radix(), integer, &syntax) != wanted || !way.asks(&syntax) {
                     continue;
                 }
                 // A number is rounded in one radix alone and, if there are forms with floats, by these alone.
@@ -613,7 +645,7 @@ fn write_in<N: Writable>(
         return write_words(forms, index, number, style, buffer);
     }
     let style = style_in(whole, number.is_rounded(style), style);
-    let error = match write_by(forms, index, number, style, buffer) {
+    let error = match write_one(forms, index, number, style, buffer) {
         Ok(length) => return Ok(Chosen {
             form: index,
             word: None,
@@ -626,7 +658,7 @@ fn write_in<N: Writable>(
         return Err(error);
     }
     let style = without_wish(style);
-    let length = write_by(forms, index, number, style, buffer)?;
+    let length = write_one(forms, index, number, style, buffer)?;
     Ok(Chosen {
         form: index,
         word: None,
@@ -665,7 +697,7 @@ fn write_words<N: Writable>(
     };
     let style = without_wish(style);
     for word in suffixes.written() {
-        match write_with(forms, index, number, style, word, buffer) {
+        match write_around(forms, index, number, style, Some(word), buffer) {
             Ok(length) => return Ok(Chosen {
                 form: index,
                 word: Some(word),
@@ -679,31 +711,76 @@ fn write_words<N: Writable>(
     Err(WriteError::ReadBack)
 }
 
-// Writes an integer by one form with a word behind it, and returns the length of the text, or why it is not used.
-fn write_with<N: Writable>(
+// Writes a number by one form with its opening, and with a word behind it if there is one, and returns the length of the text, or why it
+// is not used.
+fn write_around<N: Writable>(
     forms: &Forms,
     index: usize,
     number: &N,
     style: Style,
-    word: &[u8],
+    word: Option<&'static &'static [u8]>,
     buffer: &mut [u8],
 ) -> Result<usize, WriteError>
     requires { index < length forms.now.forms }
-    ensures value { IfOk result (λ size. IsTokenOf forms.now word.now (take size buffer.new) (N.is number.now style)) }
+    ensures value { IfOk result (λ size. IsReadWith forms.now word.entry (take size buffer.new) (N.is number.now style)) }
     ensures length { IfOk result (λ size. size ≤ length buffer.new) }
 {
-    let (size, _) = number.write(&forms.as_slice()[index].syntax(), style, buffer)?;
+    let it = &forms.as_slice()[index];
+    let opening = it.opening();
+    let start = put_at(buffer, 0, opening.as_bytes());
+    let least = if start < buffer.len() {
+        start
+    } else {
+        buffer.len()
+    };
+    let (size, _) = number.write(&it.syntax(), style, &mut buffer[least..])?;
+    let end = match word {
+        Some(word) => put_at(buffer, start.saturating_add(size), word),
+        None => start.saturating_add(size),
+    };
     // A text that is longer than a `usize` has the size `usize::MAX`.
-    let end = size.saturating_add(word.len());
     if end == usize::MAX || end > buffer.len() {
         return Err(WriteError::Buffer(end));
     }
-    buffer[size..end].copy_from_slice(word);
-    match forms.token(&buffer[..end]) {
-        Ok(token)
-            if token.rest.is_empty() && token.suffix == word && number.is_worth(&token.literal) =>
-            Ok(end),
-        _ => Err(WriteError::ReadBack),
+    read_around(forms, number, style, word, &buffer[..end])?;
+    Ok(end)
+}
+
+// Writes bytes to a buffer from an index on, as far as it has room, and returns the index behind them.
+fn put_at(buffer: &mut [u8], index: usize, bytes: &[u8]) -> usize
+    ensures { length buffer.new ≡ length buffer.old }
+{
+    let end = index.saturating_add(bytes.len());
+    if end <= buffer.len() {
+        buffer[index..end].copy_from_slice(bytes);
+    }
+    end
+}
+
+// Returns nothing if the list reads a text as the number or, with a word, its token is the number, or why it is not used.
+fn read_around<N: Writable>(
+    forms: &Forms,
+    number: &N,
+    style: Style,
+    word: Option<&'static &'static [u8]>,
+    text: &[u8],
+) -> Result<(), WriteError>
+    ensures { IfOk result (λ _. IsReadWith forms.now word.entry text.now (N.is number.now style)) }
+{
+    let literal = match word {
+        None => match forms.read(text) {
+            Ok(Number::Literal { literal, .. }) => literal,
+            _ => return Err(WriteError::ReadBack),
+        },
+        Some(word) => match forms.token(text) {
+            Ok(token) if token.rest.is_empty() && token.suffix == *word => token.literal,
+            _ => return Err(WriteError::ReadBack),
+        },
+    };
+    if number.is_worth(style, &literal) {
+        Ok(())
+    } else {
+        Err(mismatch(&literal))
     }
 }
 
@@ -713,6 +790,26 @@ const fn is_short(error: WriteError) -> bool {
 }
 
 // Writes a number by one form, and returns the length of the text, or why it is not used.
+#[inline(always)]
+fn write_one<N: Writable>(
+    forms: &Forms,
+    index: usize,
+    number: &N,
+    style: Style,
+    buffer: &mut [u8],
+) -> Result<usize, WriteError>
+    requires { index < length forms.now.forms }
+    ensures value { IfOk result (λ size. IsReadBack forms.now (take size buffer.new) (N.is number.now style)) }
+    ensures length { IfOk result (λ size. size ≤ length buffer.new) }
+{
+    if forms.as_slice()[index].opening().is_empty() {
+        write_by(forms, index, number, style, buffer)
+    } else {
+        write_around(forms, index, number, style, None, buffer)
+    }
+}
+
+// Writes a number by one form without an opening, and returns the length of the text, or why it is not used.
 fn write_by<N: Writable>(
     forms: &Forms,
     index: usize,

@@ -375,7 +375,8 @@ impl<'a> Forms<'a> {
         match literal.other_value() {
             None => {
                 let Chosen { form, word, style, .. } = self.choose_long(literal, style, |chosen, _| chosen)?;
-                Ok(Written { word, ..self[form].syntax().format_literal(literal, style)? })
+                let form = &self[form];
+                Ok(Written { opening: form.opening(), word, ..form.syntax().format_literal(literal, style)? })
             }
             Some(Other::Integer(value)) => self.format_integer(value, style),
             Some(Other::Single(value)) => self.format_value(&Real { value }, Value::of_float(value), style),
@@ -428,8 +429,9 @@ impl<'a> Forms<'a> {
     /// Returns a value, with the text if it is short.
     fn written_value(&self, value: Value, chosen: Chosen, text: [u8; 40]) -> Written<'static> {
         let Chosen { form, word, length, style } = chosen;
-        let syntax = self.as_slice()[form].syntax();
-        Written { text: Text::Value(ValueText { value, syntax, style, text, length }), word }
+        let form = &self.as_slice()[form];
+        let (syntax, opening) = (form.syntax(), form.opening());
+        Written { text: Text::Value(ValueText { value, syntax, style, text, length }), opening, word }
     }
 
     /// Passes how a number is written, and the text, which may have any length that is read back.

@@ -9,19 +9,21 @@ use crate::literal::writer::float_digits::FloatDigits;
 use crate::literal::writer::layout::{Amount, Layout, Style, WriteError};
 use crate::literal::writer::sink::{Sink, Window};
 use crate::literal::writer::{float, literal};
-use crate::literal::Syntax;
+use crate::literal::{Affix, Syntax};
 
 /// A number as a literal of a syntax, or NaN or infinity, which prints the text. Nothing is allocated.
 #[derive(Clone, Copy)]
 pub struct Written<'a> {
     pub(super) text: Text<'a>,
-    /// A word behind the literal.
+    /// The opening before the literal.
+    pub(super) opening: Affix,
+    /// A word behind it.
     pub(super) word: Option<&'static &'static [u8]>,
 }
 
 impl<'a> From<Text<'a>> for Written<'a> {
     fn from(text: Text<'a>) -> Self {
-        Written { text, word: None }
+        Written { text, opening: Affix::NONE, word: None }
     }
 }
 
@@ -96,7 +98,7 @@ impl Text<'_> {
         }
     }
 
-    /// Returns the text of a value, with the word, if it is short.
+    /// Returns the text of a value, with what stands around it, if it is short.
     fn short(&self) -> Option<&[u8]> {
         match self {
             Text::Value(ValueText { text, length, .. }) => text.get(..*length),
@@ -104,7 +106,7 @@ impl Text<'_> {
         }
     }
 
-    /// Writes the text, without the word, to the beginning of a buffer, and returns its length.
+    /// Writes the text, without what stands around it, to the beginning of a buffer, and returns its length.
     fn write(&self, buffer: &mut [u8]) -> usize {
         match self {
             Text::Number(layout) => layout.write(buffer),
@@ -131,8 +133,10 @@ impl Written<'_> {
             buffer[..text.len()].copy_from_slice(text);
             return text.len();
         }
-        let length = self.text.write(buffer);
-        let mut window = Window { bytes: buffer, length };
+        let mut window = Window { bytes: buffer, length: 0 };
+        window.put_all(self.opening.as_bytes());
+        let start = window.length.min(window.bytes.len());
+        window.length = window.length.saturating_add(self.text.write(&mut window.bytes[start..]));
         window.put_all(self.word());
         window.length
     }
@@ -195,6 +199,7 @@ impl Written<'_> {
             return to.write_str(word);
         }
         let mut printer = Printer { f: to, skip: 0, result: Ok(()) };
+        printer.put_all(self.opening.as_bytes());
         if let Some(layout) = self.text.layout(&mut FloatDigits::new()) {
             layout.put(&mut printer);
         }
@@ -228,8 +233,8 @@ impl Written<'_> {
         };
         let fill = f.fill();
         (0..before).try_for_each(|_| f.write_char(fill))?;
-        let bytes = [sign, prefix.map(|_| b'0'), prefix];
-        bytes.into_iter().flatten().try_for_each(|byte| f.write_char(byte.into()))?;
+        let bytes = [sign, prefix.map(|_| b'0'), prefix].into_iter().flatten();
+        self.opening.as_bytes().iter().copied().chain(bytes).try_for_each(|byte| f.write_char(byte.into()))?;
         (0..zeros).try_for_each(|_| f.write_char('0'))?;
         if let Text::Special(_, word) = self.text {
             f.write_str(word)?;

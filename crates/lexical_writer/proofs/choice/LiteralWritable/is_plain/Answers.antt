@@ -12,7 +12,7 @@ parts false b c d e same = absurd (false≢true same)
 pub returns : goal.returns
 returns c equal read kind word float has =
     let all = parts c.is_exact.result c.is_exact-2.result c.is_float.result c.args.float c.has_floats.result equal in
-    plain_number c.args.self.now style c.args.syntax.now read (sym c.kind.ensures ∙ c.is_exact.ensures all.0) (kind ∙ c.is_exact-2.ensures all.1) word
+    plain_number c.args.self.now c.args._style c.args.syntax.now read (sym c.kind.ensures ∙ c.is_exact.ensures all.0) (kind ∙ c.is_exact-2.ensures all.1) word
     (elim all.2 [
       | inl own ↦ inl (sym c.is_float.ensures.value ∙ own)
       | inr none ↦ inr (no_float c.args.syntax.now read _ word c.has_floats.ensures ((λ i. float i && c.has_floats.result) ∙ none))
