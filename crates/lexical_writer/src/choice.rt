@@ -550,7 +550,10 @@ pub fn choose<N: Writable>(
         for way in ways(integer, style.exponent) {
             for (index, form) in forms.as_slice().iter().enumerate() {
                 let syntax = form.syntax();
-                if turn(number.radix(), integer, &syntax) != wanted || !way.asks(&syntax) {
+                if turn(number.radix(), integer, &syntax) != wanted
+                    || !way.asks(&syntax)
+                    || form.is_only_read()
+                {
                     continue;
                 }
                 // A number is rounded in one radix alone and, if there are forms with floats, by these alone.
@@ -711,8 +714,8 @@ fn write_words<N: Writable>(
     Err(WriteError::ReadBack)
 }
 
-// Writes a number by one form with its opening, and with a word behind it if there is one, and returns the length of the text, or why it
-// is not used.
+// Writes a number by one form with its opening and its closing, and a word behind it if there is one, and returns the length of the text, or
+// why it is not used.
 fn write_around<N: Writable>(
     forms: &Forms,
     index: usize,
@@ -726,7 +729,7 @@ fn write_around<N: Writable>(
     ensures length { IfOk result (λ size. size ≤ length buffer.new) }
 {
     let it = &forms.as_slice()[index];
-    let opening = it.opening();
+    let (opening, closing) = (it.opening(), it.closing());
     let start = put_at(buffer, 0, opening.as_bytes());
     let least = if start < buffer.len() {
         start
@@ -734,9 +737,10 @@ fn write_around<N: Writable>(
         buffer.len()
     };
     let (size, _) = number.write(&it.syntax(), style, &mut buffer[least..])?;
+    let end = put_at(buffer, start.saturating_add(size), closing.as_bytes());
     let end = match word {
-        Some(word) => put_at(buffer, start.saturating_add(size), word),
-        None => start.saturating_add(size),
+        Some(word) => put_at(buffer, end, word),
+        None => end,
     };
     // A text that is longer than a `usize` has the size `usize::MAX`.
     if end == usize::MAX || end > buffer.len() {
@@ -802,14 +806,15 @@ fn write_one<N: Writable>(
     ensures value { IfOk result (λ size. IsReadBack forms.now (take size buffer.new) (N.is number.now style)) }
     ensures length { IfOk result (λ size. size ≤ length buffer.new) }
 {
-    if forms.as_slice()[index].opening().is_empty() {
+    let it = &forms.as_slice()[index];
+    if it.opening().is_empty() && it.closing().is_empty() {
         write_by(forms, index, number, style, buffer)
     } else {
         write_around(forms, index, number, style, None, buffer)
     }
 }
 
-// Writes a number by one form without an opening, and returns the length of the text, or why it is not used.
+// Writes a number by one form without an opening and a closing, and returns the length of the text, or why it is not used.
 fn write_by<N: Writable>(
     forms: &Forms,
     index: usize,

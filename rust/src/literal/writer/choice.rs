@@ -400,7 +400,7 @@ pub fn choose<N: Writable + ?Sized>(
         for way in ways(integer, style.exponent) {
             for (index, form) in forms.as_slice().iter().enumerate() {
                 let syntax = form.syntax();
-                if turn(number.radix(), integer, &syntax) != wanted || !way.asks(&syntax) {
+                if turn(number.radix(), integer, &syntax) != wanted || !way.asks(&syntax) || form.is_only_read() {
                     continue;
                 }
                 // A number is rounded in one radix alone and, if there are forms with floats, by these alone.
@@ -518,8 +518,8 @@ fn write_words<N: Writable + ?Sized>(
     Err(WriteError::ReadBack)
 }
 
-// Writes a number by one form with its opening, and with a word behind it if there is one, and returns the length of the text, or why it
-// is not used.
+// Writes a number by one form with its opening and its closing, and a word behind it if there is one, and returns the length of the text, or
+// why it is not used.
 fn write_around<N: Writable + ?Sized>(
     forms: &Forms,
     index: usize,
@@ -529,13 +529,14 @@ fn write_around<N: Writable + ?Sized>(
     buffer: &mut [u8],
 ) -> Result<usize, WriteError> {
     let it = &forms.as_slice()[index];
-    let opening = it.opening();
+    let (opening, closing) = (it.opening(), it.closing());
     let start = put_at(buffer, 0, opening.as_bytes());
     let least = if start < buffer.len() { start } else { buffer.len() };
     let (size, _) = number.write(&it.syntax(), style, &mut buffer[least..])?;
+    let end = put_at(buffer, start.saturating_add(size), closing.as_bytes());
     let end = match word {
-        Some(word) => put_at(buffer, start.saturating_add(size), word),
-        None => start.saturating_add(size),
+        Some(word) => put_at(buffer, end, word),
+        None => end,
     };
     // A text that is longer than a `usize` has the size `usize::MAX`.
     if end == usize::MAX || end > buffer.len() {
@@ -593,14 +594,15 @@ fn write_one<N: Writable + ?Sized>(
     style: Style,
     buffer: &mut [u8],
 ) -> Result<usize, WriteError> {
-    if forms.as_slice()[index].opening().is_empty() {
+    let it = &forms.as_slice()[index];
+    if it.opening().is_empty() && it.closing().is_empty() {
         write_by(forms, index, number, style, buffer)
     } else {
         write_around(forms, index, number, style, None, buffer)
     }
 }
 
-// Writes a number by one form without an opening, and returns the length of the text, or why it is not used.
+// Writes a number by one form without an opening and a closing, and returns the length of the text, or why it is not used.
 fn write_by<N: Writable + ?Sized>(
     forms: &Forms,
     index: usize,

@@ -17,13 +17,15 @@ pub struct Written<'a> {
     pub(super) text: Text<'a>,
     /// The opening before the literal.
     pub(super) opening: Affix,
-    /// A word behind it.
+    /// The closing behind it.
+    pub(super) closing: Affix,
+    /// A word behind this.
     pub(super) word: Option<&'static &'static [u8]>,
 }
 
 impl<'a> From<Text<'a>> for Written<'a> {
     fn from(text: Text<'a>) -> Self {
-        Written { text, opening: Affix::NONE, word: None }
+        Written { text, opening: Affix::NONE, closing: Affix::NONE, word: None }
     }
 }
 
@@ -137,6 +139,7 @@ impl Written<'_> {
         window.put_all(self.opening.as_bytes());
         let start = window.length.min(window.bytes.len());
         window.length = window.length.saturating_add(self.text.write(&mut window.bytes[start..]));
+        window.put_all(self.closing.as_bytes());
         window.put_all(self.word());
         window.length
     }
@@ -203,6 +206,7 @@ impl Written<'_> {
         if let Some(layout) = self.text.layout(&mut FloatDigits::new()) {
             layout.put(&mut printer);
         }
+        printer.put_all(self.closing.as_bytes());
         printer.put_all(self.word());
         printer.result
     }
@@ -242,6 +246,7 @@ impl Written<'_> {
         if let Some(layout) = layout {
             let mut printer = Printer { f, skip: front, result: Ok(()) };
             layout.put(&mut printer);
+            printer.put_all(self.closing.as_bytes());
             printer.put_all(self.word());
             printer.result?;
         }
