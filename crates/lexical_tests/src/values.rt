@@ -93,11 +93,11 @@ fn numbers_are_written(rt: HostRuntime) -> Result<(), Fail> {
     let mut buffer = [0u8; 32];
     let forms = [Form::new("", hexadecimal), Form::new("", decimal)];
     let forms = Forms::new(&forms).ok_or("a list")?;
-    let (form, length, _) = choose(&forms, &literal, NEAREST, &mut buffer)
+    let chosen = choose(&forms, &literal, NEAREST, &mut buffer)
         .ok()
         .ok_or("a form")?;
     // The first form reads `0.1` as another number, and writes it itself.
-    assert!(rt; form == 0 && buffer.get(..length) == Some(b"0.1999999999999A"));
+    assert!(rt; chosen.form == 0 && buffer.get(..chosen.length) == Some(b"0.1999999999999A"));
     Ok(())
 }
 

@@ -205,9 +205,10 @@ impl<F: Float> Writable for Real<F> {
     }
 
     fn is_plain(&self, syntax: &Syntax, kind: Kind, style: Style, float: bool) -> bool {
-        is_nearest(kind, float)
-            && has_floats(syntax)
-            && is_within(self.value, style.decimals, kind.limits())
+        if !has_floats(syntax) {
+            return false;
+        }
+        is_nearest(kind, float) && is_within(self.value, style.decimals, kind.limits())
     }
 
     fn is_read_as(&self, _: Style, own: &Literal, literal: &Literal) -> bool {
@@ -689,7 +690,8 @@ fn write_words<N: Writable>(
     style: Style,
     buffer: &mut [u8],
 ) -> Result<Chosen, WriteError>
-    requires { index < length forms.now.forms }
+    requires index { index < length forms.now.forms }
+    requires integer { N.integer number.now ≡ true }
     ensures value { IfOk result (λ it. IsReadWith forms.now it.word (take it.length buffer.new) (N.is number.now it.style)) }
     ensures length { IfOk result (λ it. it.length ≤ length buffer.new) }
     ensures form { IfOk result (λ it. it.form ≡ index) }
@@ -746,7 +748,11 @@ fn write_around<N: Writable>(
     if end == usize::MAX || end > buffer.len() {
         return Err(WriteError::Buffer(end));
     }
-    read_around(forms, number, style, word, &buffer[..end])?;
+    let text = &buffer[..end];
+    match word {
+        None => read_alone(forms, number, style, text)?,
+        Some(word) => read_token(forms, number, style, word, text)?,
+    }
     Ok(end)
 }
 
@@ -761,31 +767,41 @@ fn put_at(buffer: &mut [u8], index: usize, bytes: &[u8]) -> usize
     end
 }
 
-// Returns nothing if the list reads a text as the number or, with a word, its token is the number, or why it is not used.
-fn read_around<N: Writable>(
+// Returns nothing if the list reads a text as the number, or why it is not used.
+fn read_alone<N: Writable>(
     forms: &Forms,
     number: &N,
     style: Style,
-    word: Option<&'static &'static [u8]>,
     text: &[u8],
 ) -> Result<(), WriteError>
-    ensures { IfOk result (λ _. IsReadWith forms.now word.entry text.now (N.is number.now style)) }
+    ensures { IfOk result (λ _. IsReadBack forms.now text.now (N.is number.now style)) }
 {
-    let literal = match word {
-        None => match forms.read(text) {
-            Ok(Number::Literal { literal, .. }) => literal,
-            _ => return Err(WriteError::ReadBack),
-        },
-        Some(word) => match forms.token(text) {
-            Ok(token) if token.rest.is_empty() && token.suffix == *word => token.literal,
-            _ => return Err(WriteError::ReadBack),
-        },
+    let Ok(Number::Literal { literal, .. }) = forms.read(text) else {
+        return Err(WriteError::ReadBack);
     };
     if number.is_worth(style, &literal) {
-        Ok(())
-    } else {
-        Err(mismatch(&literal))
+        return Ok(());
     }
+    Err(mismatch(&literal))
+}
+
+// Returns nothing if all of a text is a token with this suffix, which is the number, or why it is not used.
+fn read_token<N: Writable>(
+    forms: &Forms,
+    number: &N,
+    style: Style,
+    word: &[u8],
+    text: &[u8],
+) -> Result<(), WriteError>
+    ensures { IfOk result (λ _. IsTokenOf forms.now word.now text.now (N.is number.now style)) }
+{
+    let Ok(token) = forms.token(text) else {
+        return Err(WriteError::ReadBack);
+    };
+    if token.rest.is_empty() && token.suffix == word && number.is_worth(style, &token.literal) {
+        return Ok(());
+    }
+    Err(WriteError::ReadBack)
 }
 
 // Returns whether a text needs a longer buffer.

@@ -129,7 +129,10 @@ impl<F: Float> Writable for Real<F> {
     }
 
     fn is_plain(&self, syntax: &Syntax, kind: Kind, style: Style, float: bool) -> bool {
-        is_nearest(kind, float) && has_floats(syntax) && is_within(self.value, style.decimals, kind.limits())
+        if !has_floats(syntax) {
+            return false;
+        }
+        is_nearest(kind, float) && is_within(self.value, style.decimals, kind.limits())
     }
 
     fn is_read_as(&self, _: Style, own: &Literal, literal: &Literal) -> bool {
@@ -542,7 +545,11 @@ fn write_around<N: Writable + ?Sized>(
     if end == usize::MAX || end > buffer.len() {
         return Err(WriteError::Buffer(end));
     }
-    read_around(forms, number, style, word, &buffer[..end])?;
+    let text = &buffer[..end];
+    match word {
+        None => read_alone(forms, number, style, text)?,
+        Some(word) => read_token(forms, number, style, word, text)?,
+    }
     Ok(end)
 }
 
@@ -555,29 +562,32 @@ fn put_at(buffer: &mut [u8], index: usize, bytes: &[u8]) -> usize {
     end
 }
 
-// Returns nothing if the list reads a text as the number or, with a word, its token is the number, or why it is not used.
-fn read_around<N: Writable + ?Sized>(
+// Returns nothing if the list reads a text as the number, or why it is not used.
+fn read_alone<N: Writable + ?Sized>(forms: &Forms, number: &N, style: Style, text: &[u8]) -> Result<(), WriteError> {
+    let Ok(Number::Literal { literal, .. }) = forms.read(text) else {
+        return Err(WriteError::ReadBack);
+    };
+    if number.is_worth(style, &literal) {
+        return Ok(());
+    }
+    Err(mismatch(&literal))
+}
+
+// Returns nothing if all of a text is a token with this suffix, which is the number, or why it is not used.
+fn read_token<N: Writable + ?Sized>(
     forms: &Forms,
     number: &N,
     style: Style,
-    word: Option<&'static &'static [u8]>,
+    word: &[u8],
     text: &[u8],
 ) -> Result<(), WriteError> {
-    let literal = match word {
-        None => match forms.read(text) {
-            Ok(Number::Literal { literal, .. }) => literal,
-            _ => return Err(WriteError::ReadBack),
-        },
-        Some(word) => match forms.token(text) {
-            Ok(token) if token.rest.is_empty() && token.suffix == *word => token.literal,
-            _ => return Err(WriteError::ReadBack),
-        },
+    let Ok(token) = forms.token(text) else {
+        return Err(WriteError::ReadBack);
     };
-    if number.is_worth(style, &literal) {
-        Ok(())
-    } else {
-        Err(mismatch(&literal))
+    if token.rest.is_empty() && token.suffix == word && number.is_worth(style, &token.literal) {
+        return Ok(());
     }
+    Err(WriteError::ReadBack)
 }
 
 // Returns whether a text needs a longer buffer.
