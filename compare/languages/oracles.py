@@ -151,6 +151,7 @@ LANGUAGES = [
         ROUNDED]),
     Language("ELIXIR", "elixir", "018._exo-+", "_", "1.0e10 1.5e-3", []),
     Language("FORTRAN", "gfortran", "019.edD-+_", "_", "1.0_8 1d3 1.5d300", [
+        suffix("_0*(1|2|4|8|10|16)"), Cause("-", "-(2147483648|9223372036854775808_8)", "the least integer, which the tool refuses"),
         Cause("=", ".*", "a subnormal number, which the tool rounds to zero",
               lambda ours, theirs: theirs == (0.0,) and abs(ours.single) < 2**-126), ROUNDED]),
     Language("GO", "go", "018._exp-+b", "_", "1i 0x1p3i", [

@@ -109,7 +109,7 @@ fn integer_in(forms: &Forms, literal: &Literal, style: Style) -> Option<String> 
                 .suffixes()?
                 .written()
                 .iter()
-                .filter_map(|word| Some(text_of(form, plain)? + str::from_utf8(word).ok()?));
+                .filter_map(|word| Some(text_of(form, plain)? + std::str::from_utf8(word).ok()?));
             texts.find(|text| is_token(text))
         };
         without(false).or_else(|| asked().find_map(with)).or_else(|| without(true))

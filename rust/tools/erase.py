@@ -194,7 +194,6 @@ REPLACED += [
     ("choice.rt", "fn write_around<N: Writable>(", "fn write_around<N: Writable + ?Sized>("),
     ("choice.rt", "fn read_alone<N: Writable>(", "fn read_alone<N: Writable + ?Sized>("),
     ("choice.rt", "fn read_token<N: Writable>(", "fn read_token<N: Writable + ?Sized>("),
-    ("choice.rt", "fn write_one<N: Writable>(", "fn write_one<N: Writable + ?Sized>("),
     ("choice.rt", "fn write_by<N: Writable>(", "fn write_by<N: Writable + ?Sized>("),
     # `Debug` prints the answers.
     ("cause.rt", "#[derive(Debug, Clone, Copy, PartialEq, Eq, Hash)]\npub struct ReadError {", "#[derive(Clone, Copy, PartialEq, Eq, Hash)]\npub struct ReadError {"),

@@ -190,9 +190,9 @@ impl Form {
         self.syntax
     }
 
-    // Returns whether there is an opening or a closing.
+    /// Returns whether there is an opening or a closing.
     #[inline(always)]
-    pub(crate) const fn is_marked(&self) -> bool
+    pub const fn is_marked(&self) -> bool
         ensures { result ≡ (not (self.now.opening.size == 0) || not (self.now.closing.size == 0)) }
     {
         !self.opening.is_empty() || !self.closing.is_empty()

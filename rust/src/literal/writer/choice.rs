@@ -344,36 +344,13 @@ pub struct Chosen {
     pub style: Style,
 }
 
-// The forms of a turn that are asked, one after the other.
-#[derive(Clone, Copy)]
-enum Way {
-    // All forms.
-    All,
-    // Those with literals that have no exponent.
-    Plain,
-    // The same, for literals with a word behind them.
-    Word,
-    // Those whose literals all have an exponent.
-    Exponent,
-}
-
-impl Way {
-    // Returns whether a form with a syntax is asked.
-    fn asks(self, syntax: &Syntax) -> bool {
-        match self {
-            Way::All => true,
-            Way::Plain | Way::Word => !needs_exponent(syntax),
-            Way::Exponent => needs_exponent(syntax),
-        }
-    }
-}
-
-// Returns the ways in which a turn asks for an integer, or another number.
-const fn ways(integer: bool, wish: ExponentStyle) -> &'static [Way] {
-    match (integer, wish) {
-        (false, _) => &[Way::All],
-        (true, ExponentStyle::Always) => &[Way::All, Way::Word],
-        (true, _) => &[Way::Plain, Way::Word, Way::Exponent],
+// Returns whether a form with a syntax is asked in a part of a turn: first each form or, unless `all` is true, each whose literals need no
+// exponent, then the latter with words, and then those that are left.
+fn is_asked(part: u8, all: bool, syntax: &Syntax) -> bool {
+    match part {
+        0 => all || !needs_exponent(syntax),
+        1 => !needs_exponent(syntax),
+        _ => !all && needs_exponent(syntax),
     }
 }
 
@@ -397,13 +374,17 @@ pub fn choose<N: Writable + ?Sized>(
     buffer: &mut [u8],
 ) -> Result<Chosen, WriteError> {
     let integer = number.is_integer();
+    let all = !integer || matches!(style.exponent, ExponentStyle::Always);
     let rounded = number.is_rounded(style);
     let (mut error, mut first, mut floats) = (None, None, false);
     for wanted in 0..if integer { 3 } else { 6 } {
-        for way in ways(integer, style.exponent) {
+        for part in 0..if integer { 3 } else { 1 } {
             for (index, form) in forms.as_slice().iter().enumerate() {
                 let syntax = form.syntax();
-                if turn(number.radix(), integer, &syntax) != wanted || !way.asks(&syntax) || form.is_only_read() {
+                if turn(number.radix(), integer, &syntax) != wanted
+                    || !is_asked(part, all, &syntax)
+                    || form.is_only_read()
+                {
                     continue;
                 }
                 // A number is rounded in one radix alone and, if there are forms with floats, by these alone.
@@ -416,7 +397,7 @@ pub fn choose<N: Writable + ?Sized>(
                     floats |= syntax.options().is_some();
                 }
                 let whole = floats && syntax.options().is_none();
-                match write_in(forms, index, whole, *way, number, style, buffer) {
+                match write_in(forms, index, whole, part == 1, number, style, buffer) {
                     Ok(chosen) => return Ok(chosen),
                     Err(other) if is_short(other) => return Err(other),
                     Err(other) => error = first_reason(error, other),
@@ -467,21 +448,21 @@ const fn style_in(whole: bool, rounded: bool, style: Style) -> Style {
     }
 }
 
-// Writes a number by one form, which does not round if `whole` is true, or returns why it is not used.
+// Writes a number by one form, which does not round if `whole` is true, or with a word if `with` is true, or returns why it is not used.
 fn write_in<N: Writable + ?Sized>(
     forms: &Forms,
     index: usize,
     whole: bool,
-    way: Way,
+    with: bool,
     number: &N,
     style: Style,
     buffer: &mut [u8],
 ) -> Result<Chosen, WriteError> {
-    if number.is_integer() && matches!(way, Way::Word) {
+    if with && number.is_integer() {
         return write_words(forms, index, number, style, buffer);
     }
     let style = style_in(whole, number.is_rounded(style), style);
-    let error = match write_one(forms, index, number, style, buffer) {
+    let error = match write_by(forms, index, number, style, buffer) {
         Ok(length) => return Ok(Chosen { form: index, word: None, length, style }),
         Err(error) => error,
     };
@@ -489,7 +470,7 @@ fn write_in<N: Writable + ?Sized>(
         return Err(error);
     }
     let style = without_wish(style);
-    let length = write_one(forms, index, number, style, buffer)?;
+    let length = write_by(forms, index, number, style, buffer)?;
     Ok(Chosen { form: index, word: None, length, style })
 }
 
@@ -534,7 +515,7 @@ fn write_around<N: Writable + ?Sized>(
     let it = &forms.as_slice()[index];
     let (opening, closing) = (it.opening(), it.closing());
     let start = put_at(buffer, 0, opening.as_bytes());
-    let least = if start < buffer.len() { start } else { buffer.len() };
+    let least = start.min(buffer.len());
     let (size, _) = number.write(&it.syntax(), style, &mut buffer[least..])?;
     let end = put_at(buffer, start.saturating_add(size), closing.as_bytes());
     let end = match word {
@@ -596,23 +577,6 @@ const fn is_short(error: WriteError) -> bool {
 }
 
 // Writes a number by one form, and returns the length of the text, or why it is not used.
-#[inline(always)]
-fn write_one<N: Writable + ?Sized>(
-    forms: &Forms,
-    index: usize,
-    number: &N,
-    style: Style,
-    buffer: &mut [u8],
-) -> Result<usize, WriteError> {
-    let it = &forms.as_slice()[index];
-    if it.opening().is_empty() && it.closing().is_empty() {
-        write_by(forms, index, number, style, buffer)
-    } else {
-        write_around(forms, index, number, style, None, buffer)
-    }
-}
-
-// Writes a number by one form without an opening and a closing, and returns the length of the text, or why it is not used.
 fn write_by<N: Writable + ?Sized>(
     forms: &Forms,
     index: usize,
@@ -621,8 +585,8 @@ fn write_by<N: Writable + ?Sized>(
     buffer: &mut [u8],
 ) -> Result<usize, WriteError> {
     let it = &forms.as_slice()[index];
-    if !it.opening().is_empty() {
-        return Err(WriteError::ReadBack);
+    if it.is_marked() {
+        return write_around(forms, index, number, style, None, buffer);
     }
     let syntax = it.syntax();
     let (size, float) = number.write(&syntax, style, buffer)?;

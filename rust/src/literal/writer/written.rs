@@ -23,8 +23,9 @@ pub struct Written<'a> {
     pub(super) word: Option<&'static &'static [u8]>,
 }
 
-impl<'a> From<Text<'a>> for Written<'a> {
-    fn from(text: Text<'a>) -> Self {
+impl<'a> Written<'a> {
+    /// Returns a text that nothing stands around.
+    pub(super) const fn of(text: Text<'a>) -> Written<'a> {
         Written { text, opening: Affix::NONE, closing: Affix::NONE, word: None }
     }
 }
