@@ -155,6 +155,7 @@ impl Form {
     }
 
     /// Returns whether there is an opening or a closing.
+    #[must_use]
     #[inline(always)]
     pub const fn is_marked(&self) -> bool {
         !self.opening.is_empty() || !self.closing.is_empty()
