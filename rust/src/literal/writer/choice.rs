@@ -83,7 +83,14 @@ impl Writable for Whole {
             return Err(WriteError::Negative);
         }
         let amount = Amount::of_size(self.negative, self.size);
-        Ok(put(&amount.lay_out(syntax, style)?, buffer))
+        Ok(put(
+            &(if cfg!(peltzivar_small) {
+                crate::literal::writer::literal::lay_out(&amount, syntax, style)
+            } else {
+                amount.lay_out(syntax, style)
+            })?,
+            buffer,
+        ))
     }
 
     fn is_plain(&self, syntax: &Syntax, kind: Kind, _: Style, float: bool) -> bool {
