@@ -1,8 +1,8 @@
 -- Several forms: what has been found in the first of them, and what one form more adds.
 use Rattle.lexical_forms.proofs.Common.{ℕ, ◌≡◌, ◌*◌, inl, inr, Bool, true, false, ◌<◌, ◌≤◌, ◌+◌, List, Ok, Option, Some, None, All, IsSomeAnd, []}
 use Rattle.lexical_forms.proofs.Common.{◌∷◌, nat_lt, take, get_or, refl, sym, subst, ap, arith, nat_tests, cases_lt, false≢true, take_all, All-more}
-use Rattle.lexical_forms.proofs.Common.{◌∙◌, length-take-le, slice_get-get_or, Notation, notation_of, common_steps, if◌then◌else◌, length, slice_get}
-use Rattle.lexical_forms.proofs.Common.{IsFurthestForm, sign_size, IsCountedFront, IsStopped, IsValidUpTo, FormList, NoForm, ReadsForm, Reads}
+use Rattle.lexical_forms.proofs.Common.{length-take-le, slice_get-get_or, Notation, notation_of, common_steps, if◌then◌else◌, length, slice_get}
+use Rattle.lexical_forms.proofs.Common.{IsFurthestForm, IsCountedFront, IsStopped, IsValidUpTo, FormList, NoForm, ReadsForm, Reads}
 use Rattle.lexical_forms.proofs.Common.{Read, Found, Stopped, Form}
 use Rattle.lexical_literal.specs.Front.{NoFrontBy}
 use Rattle.lexical_forms.specs.Additions.Forms.{AreBelow, IsFoundForm, IsFoundFrontForm, IsFrontIn, IsLed, IsLeftOut, IsLongestPast, IsLow}

@@ -6,9 +6,9 @@ use Rattle.lexical_forms.proofs.Common.{length-take-le, nat_tests, notation_of, 
 use Rattle.lexical_literal.specs.Cause.{Explained}
 use Rattle.lexical_literal.specs.Additions.Stop.{IsFronted}
 use Rattle.std.proofs.Common.{Err, IfSome, IsNone, IsSomeAnd, Ok, not}
-use Rattle.lexical_literal.specs.Front.{BeginsBy, IsValidBy, NoFrontBy, NoneBy, ReadsFrontBy}
+use Rattle.lexical_literal.specs.Front.{BeginsBy, NoFrontBy, NoneBy, ReadsFrontBy}
 use Rattle.lexical_forms.specs.Additions.Forms.{IsBehind, IsBetween, IsEnding, IsFrontIn, IsLeftOut, IsLow, IsNearSign, IsNoBetter, IsRefusedAt}
-use Rattle.lexical_forms.specs.Additions.Forms.{IsStoppedBefore, IsStoppedBehind, IsUnended, NoFrontPast, NoneOpenedPast, NonePast, PlaysNoRole, sign_size}
+use Rattle.lexical_forms.specs.Additions.Forms.{IsStoppedBefore, IsStoppedBehind, NoFrontPast, NoneOpenedPast, NonePast, PlaysNoRole, sign_size}
 use Rattle.lexical_forms.specs.Affix.{Begins, IsOpened, IsOpenedTo, is_free, spelling, spells}
 use Rattle.lexical_forms.specs.Forms.{GoesTo, IsErrorIn, KeepsError, LacksClosing, OpensIn, Reaches, ReadsIn, behind, reach_in, right_in}
 use Rattle.lexical_forms.specs.declared.list.Furthest.{Furthest}
@@ -18,11 +18,11 @@ use Rattle.lexical_util.specs.declared.feature_format.roles.Role.TheVariants as 
 use Rattle.lexical_util.specs.declared.format_flags.Part.TheVariants as parts
 use Rattle.lexical_literal.proofs.OneCauseLemmas.{one_refusal}
 use Rattle.lexical_forms.proofs.ExcludeLemmas.{near_no_role}
-use Rattle.lexical_forms.proofs.OpeningLemmas.{begins_front, begins_of, behind_take, completed, completed_size, front_before, front_behind, front_byte}
+use Rattle.lexical_forms.proofs.OpeningLemmas.{begins_front, begins_of, behind_take, completed, completed_size, front_behind, front_byte}
 use Rattle.lexical_forms.proofs.OpeningLemmas.{front_opened, none_empty, not_begun, not_longer, not_opened, one_opened, one_size, opened_front}
 use Rattle.lexical_forms.proofs.OpeningLemmas.{past_behind, reach_within, rest_size, spelling_size, spells_own, valid_behind}
 use Rattle.std.proofs.lemmas.List.{append_assoc, drop-drop, drop-take, drop_at, get_or-drop, get_or-take, length-append, length-drop, take-append-drop}
-use Rattle.std.proofs.lemmas.List.{take-append-le, take-take, take_at, drop-append-le}
+use Rattle.std.proofs.lemmas.List.{take-append-le, take-take, take_at}
 use Rattle.std.proofs.Math.Nat.{le_antisymm}
 
 -- The first bytes of a list are its first ones, and then others.

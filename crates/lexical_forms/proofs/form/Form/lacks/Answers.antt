@@ -8,8 +8,8 @@ use Rattle.lexical_forms.proofs.form.Form.lacks.Goals as goal
 pub returns-clause-error : goal.returns-clause-error
 returns-clause-error c =
     let g = c.args.self.now in
-    let lawful : IsSyntax c.syntax-_syntax.result = search rules in
-    let some = subst (λ (g : Grammar). IsFront (notation_of g) []) c.syntax-_syntax.ensures (c.literal_facts.ensures.some c.syntax-_syntax.result lawful) in
+    let lawful : IsSyntax c.syntax-syntax.result = search rules in
+    let some = subst (λ (g : Grammar). IsFront (notation_of g) []) c.syntax-syntax.ensures (c.literal_facts.ensures.some c.syntax-syntax.result lawful) in
     record {
       name = refl;
       refusal = c.requires.error;

@@ -16,8 +16,8 @@ error_of-error-requires-clause-refused c = let plain = no_marks _ _ c.is_marked.
 pub returns-clause-error : goal.returns-clause-error
 returns-clause-error c =
     let g = c.args.self.now in let text = c.args.text.now in
-    let lawful : IsSyntax c.syntax-_syntax.result = search rules in
-    let some = subst (λ (g : Grammar). IsFront (notation_of g) []) c.syntax-_syntax.ensures (c.literal_facts.ensures.some c.syntax-_syntax.result lawful) in
+    let lawful : IsSyntax c.syntax-syntax.result = search rules in
+    let some = subst (λ (g : Grammar). IsFront (notation_of g) []) c.syntax-syntax.ensures (c.literal_facts.ensures.some c.syntax-syntax.result lawful) in
     let plain = no_marks g.opening.size g.closing.size c.is_marked.result c.is_marked.ensures c.if-is_marked.false in
     let is = plain_error g text plain.0 plain.1 (plain_stopped g text c.args.stop plain.0 plain.1 c.requires).1 c.error_of-error.result.refusal
     c.error_of-error.ensures in

@@ -37,8 +37,8 @@ returns-in-Ok-clause-error c =
     let opened = opened_of g text c.args.stop c.requires (omega (arith, c.if-stop-opened.false, size)) in
     let is = subst (λ t. IsEnding g t (Ok error)) (c.split_at.ensures.back ∙ ap (λ k. drop k text) size)
     (subst (IsEnding g c.split_at.result.1.now) c.in-Ok.is c.refusal.ensures) in
-    let lawful : IsSyntax c.syntax-_syntax.result = search rules in
-    let some = subst (λ (g : Grammar). IsFront (notation_of g) []) c.syntax-_syntax.ensures (c.literal_facts.ensures.some c.syntax-_syntax.result lawful) in
+    let lawful : IsSyntax c.syntax-syntax.result = search rules in
+    let some = subst (λ (g : Grammar). IsFront (notation_of g) []) c.syntax-syntax.ensures (c.literal_facts.ensures.some c.syntax-syntax.result lawful) in
     let in_form = subst (λ k. IsErrorIn g text k (Some error.refusal)) (sym size) (kept_in g text opened error is) in
     record { name = refl; refusal = in_form; valid = valid_in g text some c.size-opened.result (Some error.refusal) in_form; unmarked = tt }
 

@@ -1,8 +1,8 @@
 -- Where reading stops is where the error is.
-use Rattle.lexical_forms.proofs.Common.{None, Some, ap, arith, subst, sym, ◌+◌, ◌≤◌, ◌∙◌}
+use Rattle.lexical_forms.proofs.Common.{None, Some, ap, arith, subst, ◌+◌, ◌≤◌, ◌∙◌}
 use Rattle.lexical_forms.specs.Additions.Forms.{IsEnding}
 use Rattle.std.proofs.Common.{Err, Ok}
-use Rattle.lexical_forms.proofs.MarkLemmas.{ended, goes_closing, goes_kept, is_some_size, kept_in, none_is, opening_is, refused_behind, rest_is, unclosed_in}
+use Rattle.lexical_forms.proofs.MarkLemmas.{ended, is_some_size, kept_in, none_is, opening_is, refused_behind, rest_is, unclosed_in}
 use Rattle.lexical_forms.proofs.form.Form.stop.Goals as goal
 
 pub returns-then-is_empty-clause-stop : goal.returns-then-is_empty-clause-stop

@@ -1,5 +1,5 @@
 -- The front has the parts that were counted.
-use Rattle.lexical_forms.proofs.Common.{Form, IsSomeAnd, Some, ap, drop, false≢true, length, slice_get, subst, sym, take, ◌+◌}
+use Rattle.lexical_forms.proofs.Common.{Form, IsSomeAnd, Some, ap, false≢true, length, slice_get, subst, sym, ◌+◌}
 use Rattle.lexical_forms.proofs.Common.{arith, length-take-le, ◌-◌, ◌≡◌, ◌∙◌}
 use Rattle.lexical_literal.specs.Front.{ReadsFrontBy}
 use Rattle.lexical_forms.specs.Additions.Forms.{IsFrontIn}
