@@ -137,11 +137,17 @@ impl Written<'_> {
             return text.len();
         }
         let mut window = Window { bytes: buffer, length: 0 };
-        window.put_all(self.opening.as_bytes());
+        if !self.opening.is_empty() {
+            window.put_all(self.opening.as_bytes());
+        }
         let start = window.length.min(window.bytes.len());
         window.length = window.length.saturating_add(self.text.write(&mut window.bytes[start..]));
-        window.put_all(self.closing.as_bytes());
-        window.put_all(self.word());
+        if !self.closing.is_empty() {
+            window.put_all(self.closing.as_bytes());
+        }
+        if self.word.is_some() {
+            window.put_all(self.word());
+        }
         window.length
     }
 
