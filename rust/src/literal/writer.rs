@@ -376,7 +376,12 @@ impl<'a> Forms<'a> {
             None => {
                 let Chosen { form, word, style, .. } = self.choose_long(literal, style, |chosen, _| chosen)?;
                 let form = &self[form];
-                Ok(Written { opening: form.opening(), word, ..form.syntax().format_literal(literal, style)? })
+                Ok(Written {
+                    opening: form.opening(),
+                    closing: form.closing(),
+                    word,
+                    ..form.syntax().format_literal(literal, style)?
+                })
             }
             Some(Other::Integer(value)) => self.format_integer(value, style),
             Some(Other::Single(value)) => self.format_value(&Real { value }, Value::of_float(value), style),
@@ -430,8 +435,8 @@ impl<'a> Forms<'a> {
     fn written_value(&self, value: Value, chosen: Chosen, text: [u8; 40]) -> Written<'static> {
         let Chosen { form, word, length, style } = chosen;
         let form = &self.as_slice()[form];
-        let (syntax, opening) = (form.syntax(), form.opening());
-        Written { text: Text::Value(ValueText { value, syntax, style, text, length }), opening, word }
+        let (syntax, opening, closing) = (form.syntax(), form.opening(), form.closing());
+        Written { text: Text::Value(ValueText { value, syntax, style, text, length }), opening, closing, word }
     }
 
     /// Passes how a number is written, and the text, which may have any length that is read back.

@@ -17,14 +17,16 @@ pub struct Written<'a> {
     pub(super) text: Text<'a>,
     /// The opening before the literal.
     pub(super) opening: Affix,
-    /// A word behind it.
+    /// The closing behind it.
+    pub(super) closing: Affix,
+    /// A word behind this.
     pub(super) word: Option<&'static &'static [u8]>,
 }
 
 impl<'a> Written<'a> {
     /// Returns a text that nothing stands around.
     pub(super) const fn of(text: Text<'a>) -> Written<'a> {
-        Written { text, opening: Affix::NONE, word: None }
+        Written { text, opening: Affix::NONE, closing: Affix::NONE, word: None }
     }
 }
 
@@ -140,6 +142,9 @@ impl Written<'_> {
         }
         let start = window.length.min(window.bytes.len());
         window.length = window.length.saturating_add(self.text.write(&mut window.bytes[start..]));
+        if !self.closing.is_empty() {
+            window.put_all(self.closing.as_bytes());
+        }
         if self.word.is_some() {
             window.put_all(self.word());
         }
@@ -208,6 +213,7 @@ impl Written<'_> {
         if let Some(layout) = self.text.layout(&mut FloatDigits::new()) {
             layout.put(&mut printer);
         }
+        printer.put_all(self.closing.as_bytes());
         printer.put_all(self.word());
         printer.result
     }
@@ -247,6 +253,7 @@ impl Written<'_> {
         if let Some(layout) = layout {
             let mut printer = Printer { f, skip: front, result: Ok(()) };
             layout.put(&mut printer);
+            printer.put_all(self.closing.as_bytes());
             printer.put_all(self.word());
             printer.result?;
         }
