@@ -159,6 +159,10 @@ REPLACED += [
     ("lexical_literal/src/stop.rt", "self.begin(false, text, true)", "self.begin_any(text, true)"),
     ("token.rt", "it.syntax.begin(false, text, true)", "it.syntax.begin_small(text, true)"),
     ("token.rt", "it.syntax.begin(false, front, true)", "it.syntax.begin_small(front, true)"),
+    # Forms with marks have one copy of what others inline.
+    ("marks.rt", "syntax.begin(false, inside, false)", "syntax.begin_any(inside, false)"),
+    ("marks.rt", "#[inline(always)]\n    pub(crate) const fn front_past(", "#[cfg_attr(not(peltzivar_small), inline(always))]\n    pub(crate) const fn front_past("),
+    ("marks.rt", "#[inline(always)]\n    pub(crate) const fn literal<", "#[cfg_attr(not(peltzivar_small), inline(always))]\n    pub(crate) const fn literal<"),
     # The library for C has one copy of these.
     ("reasons.rt", "#[inline(always)]\n#[tactic(auto, unfolding(lexical_flags::specs::Roles::Disjoint))]\nconst fn clash(", "#[cfg_attr(not(peltzivar_small), inline(always))]\nconst fn clash("),
     ("reasons.rt", "#[inline(always)]\nconst fn reason_for(", "#[cfg_attr(not(peltzivar_small), inline(always))]\nconst fn reason_for("),

@@ -21,7 +21,7 @@ impl Form {
     }
 
     // Returns the literal that `text` is, if it is one.
-    #[inline(always)]
+    #[cfg_attr(not(peltzivar_small), inline(always))]
     pub(crate) const fn literal<'t>(&self, text: &'t [u8]) -> Option<Literal<'t>> {
         let Some(inside) = self.between(text) else {
             return None;
@@ -30,7 +30,7 @@ impl Form {
         if excludes(syntax.as_grammar(), inside, sign_size(inside)) {
             return None;
         }
-        let begun = syntax.begin(false, inside, false);
+        let begun = syntax.begin_any(inside, false);
         if begun.is_whole(syntax, inside) {
             return Some(syntax.literal(inside, begun.counts, begun.sums));
         }
@@ -68,7 +68,7 @@ impl Form {
     }
 
     // Returns the longest front of `text` that is a literal, if it has more than `size` bytes.
-    #[inline(always)]
+    #[cfg_attr(not(peltzivar_small), inline(always))]
     pub(crate) const fn front_past(&self, text: &[u8], size: usize) -> Option<Found> {
         let opened = self.opening.opened(text);
         let (_, rest) = text.split_at(opened);
