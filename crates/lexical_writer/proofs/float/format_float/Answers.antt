@@ -38,4 +38,3 @@ returns-clause-some g c =
     let not_refused = sym c.refusal.ensures ∙ c.in_default-refusal.is in
     IfOk-weaker c.write_amount.result _ _ (λ layout _. (c.in-Some.negative, c.in-Some.ensures.finite, no_fraction _ _ _ _ not_refused))
     c.write_amount.ensures.literal
-
