@@ -37,7 +37,7 @@ pub(crate) struct Shape {
 
 // Returns a fraction, if it has digits, of which there are as many as `places`.
 #[inline(always)]
-const fn fraction_in<'a>(places: usize, fraction: Source<'a>) -> Option<Source<'a>>
+pub(crate) const fn fraction_in<'a>(places: u128, fraction: Source<'a>) -> Option<Source<'a>>
     ensures values { (radix : ℕ) → length (values_of radix fraction.entry) ≡ places
         → values_of radix (unwrap_or result (sources.Number 0)) ≡ values_of radix fraction.entry }
     ensures some { is_some result ≡ nat_lt 0 places }
@@ -77,7 +77,7 @@ pub(crate) fn amount_in<'a>(negative: bool, digits: &'a [u8], form: Shape) -> Am
     Amount {
         negative,
         integer,
-        fraction: fraction_in(form.places, fraction),
+        fraction: fraction_in(form.places as u128, fraction),
         exponent: power_in(form),
     }
 }

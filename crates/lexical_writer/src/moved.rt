@@ -11,6 +11,7 @@ ghost use Rattle.lexical_number.specs.Numeral.{size_of as numeral_size};
 ghost use Rattle.lexical_writer.specs.Digits.{padded_values};
 ghost use Rattle.lexical_writer.specs.Moved.{IsMoved, IsOver, IsEnding, IsSize, can_move, down_of, places_of, too_far, trimmed, up_of};
 
+use crate::form::fraction_in;
 use crate::layout::{Amount, WriteError};
 use crate::literal::is_minus;
 use crate::run::{Padded, Source};
@@ -117,11 +118,7 @@ pub(crate) fn without_exponent<'a>(parts: &Parts<'a>, radix: u32, places: usize)
     Amount {
         negative: is_minus(parts.sign),
         integer: Source::Padded(integer),
-        fraction: if fraction.count(radix) > 0 {
-            Some(Source::Padded(fraction))
-        } else {
-            None
-        },
+        fraction: fraction_in(fraction.count(radix), Source::Padded(fraction)),
         exponent: None,
     }
 }

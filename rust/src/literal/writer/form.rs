@@ -22,7 +22,7 @@ pub(crate) struct Shape {
 
 // Returns a fraction, if it has digits, of which there are as many as `places`.
 #[inline(always)]
-const fn fraction_in<'a>(places: usize, fraction: Source<'a>) -> Option<Source<'a>> {
+pub(crate) const fn fraction_in<'a>(places: u128, fraction: Source<'a>) -> Option<Source<'a>> {
     if places > 0 {
         Some(fraction)
     } else {
@@ -43,7 +43,7 @@ const fn power_in(form: Shape) -> Option<Power<'static>> {
 #[inline(always)]
 pub(crate) fn amount_in<'a>(negative: bool, digits: &'a [u8], form: Shape) -> Amount<'a> {
     let (integer, fraction) = split(digits, form.after, form.places);
-    Amount { negative, integer, fraction: fraction_in(form.places, fraction), exponent: power_in(form) }
+    Amount { negative, integer, fraction: fraction_in(form.places as u128, fraction), exponent: power_in(form) }
 }
 
 // Returns whether an exponent of this size is shown, of a float that is far from 1 or not, and long without an exponent or not.

@@ -8,6 +8,7 @@ use crate::literal::value::number::numeral::{Magnitude, Numeral};
 use crate::literal::value::number::scaling::bits_of;
 use crate::literal::value::number::small::count;
 use crate::literal::value::scaled::raised;
+use crate::literal::writer::form::fraction_in;
 use crate::literal::writer::layout::{Amount, WriteError};
 use crate::literal::writer::literal::is_minus;
 use crate::literal::writer::run::{Padded, Source};
@@ -73,7 +74,7 @@ pub(crate) fn without_exponent<'a>(parts: &Parts<'a>, radix: u32, places: usize)
     Amount {
         negative: is_minus(parts.sign),
         integer: Source::Padded(integer),
-        fraction: if fraction.count(radix) > 0 { Some(Source::Padded(fraction)) } else { None },
+        fraction: fraction_in(fraction.count(radix), Source::Padded(fraction)),
         exponent: None,
     }
 }

@@ -1,12 +1,15 @@
 -- A float is a number if the bits of its size are below those of infinity.
-use Rattle.lexical_writer.proofs.Common.{ap, arith, format_of, nat_le, subst, sym, ◌%◌, ◌*◌, ◌<◌, ◌∙◌, ◌≡◌, ◌≤◌}
+use Rattle.lexical_writer.proofs.Common.{Bool, Option, ap, arith, format_of, nat_le, refl, subst, sym, ℕ, ◌%◌, ◌*◌, ◌<◌, ◌∙◌, ◌≡◌, ◌≤◌}
+use Rattle.std.specs.Prelude.{IfNone}
 use lib.Ieee.{hid, of_bits, ones, top}
 use Rattle.lexical_writer.specs.Amount.{IsFinite}
 use Rattle.lexical_writer.proofs.FloatLemmas.{finite, not_number, special}
 use Rattle.lexical_writer.proofs.float.sign_and_size.Goals as goal
 
 pub returns-in_err-bits-clause-special : goal.returns-in_err-bits-clause-special
-returns-in_err-bits-clause-special g c = not_number (g.F.Float.value c.args.value) (c.in_err-bits.ensures.none.0 tt)
+returns-in_err-bits-clause-special g c =
+    subst (λ (r : Option (Bool × ℕ)). IfNone r ((negative : Bool) → IsFinite (g.F.Float.value c.args.value) negative → ⊥)) (sym c.from_residual.ensures)
+    (not_number (g.F.Float.value c.args.value) (c.in_err-bits.ensures.none.0 refl))
 
 pub returns-then-size-infinity-clause-finite : goal.returns-then-size-infinity-clause-finite
 returns-then-size-infinity-clause-finite g c =

@@ -10,9 +10,9 @@ pub returns-clause-amount : goal.returns-clause-amount
 returns-clause-amount c f x form =
     let s = c.args.syntax.now in
     let radix = (raw s.word).byte layouts.mantissa_radix in
-    let two = (radixes s.word c.lay_out.ensures.lawful.lawful part.Integer).0 in
-    if_numbered s c.args.style c.amount_in.result (λ layout. IsFloatOf f x s c.args.style (literal_of layout)) c.lay_out.result
-    c.lay_out.ensures.parts c.lay_out.ensures.number
+    let two = (radixes s.word c.lay_out-layout.ensures.lawful.lawful part.Integer).0 in
+    if_numbered s c.args.style c.amount_in.result (λ layout. IsFloatOf f x s c.args.style (literal_of layout)) c.lay_out-layout.result
+    c.lay_out-layout.ensures.parts c.lay_out-layout.ensures.number
     (λ layout is has. (
       c.args.negative,
       form.0,

@@ -1,12 +1,14 @@
 -- The digits before and behind the point are worth the number.
 use Rattle.lexical_writer.proofs.Common.{List, Option, Source, [], ap, append-nil, arith, digit_of, digits_in, down_of, drop, filter_map-append, is_minus}
-use Rattle.lexical_writer.proofs.Common.{is_present, is_some, length, nil_from_length, number_from_digits, padded_values, refl, replicate, sym, take, trimmed}
-use Rattle.lexical_writer.proofs.Common.{true, unwrap_or, up_of, values_of, ℕ, ◌*◌, ◌++◌, ◌+◌, ◌-◌, ◌<◌, ◌^◌, ◌∙◌, ◌∷◌, ◌≡◌}
+use Rattle.lexical_writer.proofs.Common.{is_present, length, lt-ltb, nat_lt, number_from_digits, padded_values, refl, replicate, sym, take, trimmed, unwrap_or}
+use Rattle.lexical_writer.proofs.Common.{up_of, values_of, ℕ, ◌*◌, ◌++◌, ◌+◌, ◌-◌, ◌<◌, ◌^◌, ◌∙◌, ◌∷◌, ◌≡◌}
 use Rattle.lexical_writer.specs.declared.run.Source.TheVariants as sources
-use Rattle.lexical_writer.proofs.FloatLemmas.{present}
 use Rattle.lexical_writer.proofs.PlainLemmas.{behind, down, moved_worth, up}
-use Rattle.lexical_writer.proofs.moved.without_exponent.Goals.{else-count-gt0, then-count-gt0}
 use Rattle.lexical_writer.proofs.moved.without_exponent.Goals as goal
+
+some_present : (digits : List ℕ) → nat_lt 0 (length digits) ≡ is_present digits
+some_present [] = refl
+some_present (d ∷ digits) = let some : 0 < length (d ∷ digits) = omega arith in lt-ltb 0 _ some
 
 pub returns-clause-number : goal.returns-clause-number
 returns-clause-number c =
@@ -30,10 +32,8 @@ returns-clause-number c =
     c.trimmed-fraction.ensures.digits ∙ ap trimmed (λ j. replicate (before j) 0 ++ (passed j ++ rest j)) in
     let value = λ (o : Option Source). values_of radix (unwrap_or o (sources.Number 0)) in
     let counts = c.count-2.ensures.count in
-    let given : value c.if-count-gt0.result ≡ trimmed (behind left n i f) = elim c.if-count-gt0.branch [
-      | then-count-gt0 w ↦ ap value w.result-is ∙ fraction
-      | else-count-gt0 w ↦ ap value w.result-is ∙ sym (nil_from_length _ (omega (arith, counts, w.if-count-gt0.false))) ∙ fraction
-    ] in
+    let same = c.fraction_in.ensures.values radix (sym counts) in
+    let given : value c.fraction_in.result ≡ trimmed (behind left n i f) = same ∙ fraction in
     record {
       worth = (λ j. number_from_digits radix ((0 ∷ (kept j ++ (more j ++ replicate (after j) 0))) ++ given j)
           * radix ^ (length f + down_of parts n)) ∙ moved_worth left n i f radix c.requires
@@ -42,10 +42,6 @@ returns-clause-number c =
       integer = refl;
       digits = behind left n i f;
       fraction = given;
-      some = elim c.if-count-gt0.branch [
-        | then-count-gt0 w ↦ ap is_some w.result-is ∙ sym (present _ (omega (arith, counts, w.if-count-gt0.true)))
-            ∙ sym (ap (λ o. is_present (value o)) w.result-is)
-        | else-count-gt0 w ↦ ap is_some w.result-is ∙ sym (ap (λ o. is_present (value o)) w.result-is)
-      ];
+      some = c.fraction_in.ensures.some ∙ ap (nat_lt 0) counts ∙ some_present _ ∙ sym (ap is_present same);
       exponent = refl;
     }
