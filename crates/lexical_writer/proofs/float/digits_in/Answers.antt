@@ -19,4 +19,5 @@ rounded_digits-requires-clause-radix g c =
 pub rounded_digits-requires-clause-places : goal.rounded_digits-requires-clause-places
 rounded_digits-requires-clause-places g c =
     let n = c.in-Some.field-0 in
-    (c.least_places-places.ensures.limit, n, c.in-Some.is, c.least_places-places.ensures.value ∙ decimals_are c.args.syntax.now c.args.style false n c.in-Some.is)
+    let least = c.least_places-places.ensures in
+    (least.limit, n, c.in-Some.is, least.value ∙ decimals_are c.args.syntax.now c.args.style false n c.in-Some.is)

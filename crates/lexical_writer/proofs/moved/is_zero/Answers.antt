@@ -1,5 +1,5 @@
 -- The digits of both pieces represent 0 if they are none without leading zeros.
-use Rattle.lexical_writer.proofs.Common.{[], ap, append-nil, digits_in, filter_map-append, length, number_from_digits, sym, ◌++◌, ◌==◌, ◌∙◌}
+use Rattle.lexical_writer.proofs.Common.{ap, append-nil, digits_in, filter_map-append, length, number_from_digits, sym, ◌++◌, ◌==◌, ◌∙◌}
 use Rattle.lexical_writer.proofs.SizeLemmas.{none_left}
 use Rattle.lexical_writer.proofs.moved.is_zero.Goals as goal
 
