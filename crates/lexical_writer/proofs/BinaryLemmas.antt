@@ -1,9 +1,9 @@
 -- A float as an odd number times a power of two, and its digits in a radix that is a power of two.
 use Rattle.lexical_writer.proofs.Common.{Bool, Grammar, HasUnits, IsExponent, IsWrittenWith, None, Option, Record, Some, Style, ap, arith, cases_lt}
 use Rattle.lexical_writer.proofs.Common.{div-add-mod', effective_exponent_base, eq-zero-or-pos, eq_of_mul-eq-mul_right, false, if◌then◌else◌, inl, inr, is_long}
-use Rattle.lexical_writer.proofs.Common.{is_shown, is_some, lt-ltb, mod-eq_of_lt, mod-lt, mul-le-mul_left, mul-le-mul_right, mul-lt-mul_of_pos_right, mul-pos, nat_le, nat_lt}
-use Rattle.lexical_writer.proofs.Common.{nat_tests, one-le-pow, pow-add, pow-le-pow_right, pow-zero, raised_down, raised_up, raw, refl, rounded, subst, suc}
-use Rattle.lexical_writer.proofs.Common.{sym, true, zero, ℕ, ◌%◌, ◌&&◌, ◌*◌, ◌+◌, ◌-◌, ◌/◌, ◌<◌, ◌^◌, ◌||◌, ◌∙◌, ◌≡◌, ◌≤◌, ◌⊎◌}
+use Rattle.lexical_writer.proofs.Common.{is_shown, is_some, lt-ltb, mod-eq_of_lt, mod-lt, mul-le-mul_left, mul-le-mul_right, mul-lt-mul_of_pos_right, mul-pos}
+use Rattle.lexical_writer.proofs.Common.{nat_le, nat_lt, nat_tests, one-le-pow, pow-add, pow-le-pow_right, pow-zero, raised_down, raised_up, raw, refl, rounded}
+use Rattle.lexical_writer.proofs.Common.{subst, suc, sym, true, zero, ℕ, ◌%◌, ◌&&◌, ◌*◌, ◌+◌, ◌-◌, ◌/◌, ◌<◌, ◌^◌, ◌||◌, ◌∙◌, ◌≡◌, ◌≤◌, ◌⊎◌}
 use Rattle.lexical_util.specs.Layout as layout
 use Rattle.lexical_writer.specs.Amount.{is_far}
 use Rattle.lexical_writer.specs.Layout.{allows_exponent}
@@ -171,7 +171,7 @@ pub exponent_is : (r : Record) (o : Option ℕ) (n k bits places E Z : ℕ) → 
     → (is_some o ≡ true → 0 < n
     → 2 ^ bits * r.byte layout.mantissa_radix ^ places ≤ rounded (n * 2 ^ k * 2 ^ bits * r.byte layout.mantissa_radix ^ places) (2 ^ (E * bits)))
     → ((m : ℕ) → o ≡ Some m → places ≡ m) → IsExponent r o (n * 2 ^ k) (2 ^ 1200) (nat_lt E Z) (size E Z)
-exponent_is r o n k bits places E Z base some whole zero plain below least same = go o refl
+exponent_is r o n k bits places E Z base some all naught plain below least same = go o refl
   where
     B : ℕ
     B = effective_exponent_base r
@@ -180,7 +180,7 @@ exponent_is r o n k bits places E Z base some whole zero plain below least same 
     positive = subst (λ b. 0 < b) (sym base) (one-le-pow bits 2 (omega arith))
 
     high : B ^ Z ≡ 2 ^ 1200
-    high = ap (λ b. b ^ Z) base ∙ pow_twice 2 bits Z ∙ ap (λ e. 2 ^ e) whole
+    high = ap (λ b. b ^ Z) base ∙ pow_twice 2 bits Z ∙ ap (λ e. 2 ^ e) all
 
     low : B ^ E ≡ 2 ^ (E * bits)
     low = ap (λ b. b ^ E) base ∙ pow_twice 2 bits E
@@ -193,7 +193,7 @@ exponent_is r o n k bits places E Z base some whole zero plain below least same 
 
     none : n * 2 ^ k ≡ 0 → E ≡ Z
     none nothing = elim (eq-zero-or-pos n) [
-      | inl z ↦ eq_of_mul-eq-mul_right bits some E Z (zero z ∙ sym whole)
+      | inl z ↦ eq_of_mul-eq-mul_right bits some E Z (naught z ∙ sym all)
       | inr more ↦ absurd (omega (arith, nothing, mul-pos more (one-le-pow k 2 (omega arith))))
     ]
 

@@ -15,7 +15,8 @@ returns-clause-form c =
     let x = it.number * 2 ^ it.power in
     let R = (raw g.word).byte layouts.mantissa_radix in
     let radix = c.requires.radix in
-    let E = c.exponent-exponent.result in
+    let exponent = c.exponent-exponent in
+    let E = exponent.result in
     let Z = 1200 / it.base_bits in
     let all : Z * it.base_bits ≡ 1200 = whole it.base_bits it.radixes.2 it.radixes.3 in
     let plain = c.form-number in
@@ -32,15 +33,16 @@ returns-clause-form c =
           binary_written g style x E Z places units c.is_shown-shown.result c.is_far.result _ shape.negative shape.exponent
           (subst (λ e. HasUnits g style false x (2 ^ 1200) false e places units) plain.ensures.size
           (subst (λ s. HasUnits g style false x (2 ^ 1200) s plain.result.1.exponent places units) plain.ensures.sign plain.ensures.units))
-          (λ allows. exponent_is (raw g.word) style.decimals it.number it.power it.base_bits least E Z c.requires.base it.radixes.2 all c.exponent-exponent.ensures.zero
-          c.exponent-exponent.ensures.plain
-          (λ wish. subst (λ r. rounded (x * unit r) (2 ^ (E * it.base_bits)) < 2 ^ it.base_bits * unit r) (sym radix) (c.exponent-exponent.ensures.below wish))
+          (λ allows. exponent_is (raw g.word) style.decimals it.number it.power it.base_bits least E Z c.requires.base it.radixes.2 all
+          exponent.ensures.zero exponent.ensures.plain
+          (λ wish. subst (λ r. rounded (x * unit r) (2 ^ (E * it.base_bits)) < 2 ^ it.base_bits * unit r) (sym radix) (exponent.ensures.below wish))
           (λ wish some. subst (λ r. 2 ^ it.base_bits * unit r ≤ rounded (x * 2 ^ it.base_bits * unit r) (2 ^ (E * it.base_bits))) (sym radix)
-          (c.exponent-exponent.ensures.least wish some))
+          (exponent.ensures.least wish some))
           (λ m wish. c.least_places.ensures.value ∙ decimals_are g style true m wish ∙ all_decimals g m allows))
           (c.is_far.ensures ∙ ap (λ r. nat_lt 0 x && (nat_lt (x * r ^ 4) (2 ^ 1200) || nat_le (2 ^ 1200 * r ^ 16) x)) (sym radix))
           (ap (λ many. nat_lt 799 places || many) (c.reaches.ensures
           ∙ (λ i. nat_le (sym (ap (λ r. r ^ 800) radix ∙ pow_twice 2 it.bits 800) i) (plain.result.0 * sym radix i ^ plain.result.1.after))))
-          (c.is_shown-shown.ensures ∙ ap (λ s. is_shown g style s c.is_far.result (nat_lt 799 places || c.reaches.result)) (omega (arith, c.abs_diff-size.ensures)))
+          (c.is_shown-shown.ensures
+          ∙ ap (λ s. is_shown g style s c.is_far.result (nat_lt 799 places || c.reaches.result)) (omega (arith, c.abs_diff-size.ensures)))
           made.ensures.sign made.ensures.size),
     )

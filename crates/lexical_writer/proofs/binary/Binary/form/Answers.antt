@@ -44,7 +44,7 @@ below : (E Z P : ℕ) (shown : Bool) → P ≡ (if shown then E else Z) → (nat
 below E Z P true is = (ap (λ p. nat_lt p Z) is, ap (λ p. size p Z) is)
 below E Z P false is = (ap (λ p. nat_lt p Z) is ∙ le-ltb Z Z (omega arith), ap (λ p. size p Z) is ∙ omega arith)
 
-power_is : (c : goal.After-abs_diff) → c.if-shown.power ≡ (if c.args.shown then c.args.exponent else 1200 / c.args.self.now.base_bits)
+power_is : (c : goal.After-form-1) → c.if-shown.power ≡ (if c.args.shown then c.args.exponent else 1200 / c.args.self.now.base_bits)
 power_is c = elim c.if-shown.branch [
   | then-shown w ↦ w.power-is ∙ sym (ap (λ s. if s then c.args.exponent else 1200 / c.args.self.now.base_bits) w.if-shown.true)
   | else-shown w ↦ w.power-is ∙ sym (ap (λ s. if s then c.args.exponent else 1200 / c.args.self.now.base_bits) w.if-shown.false)
