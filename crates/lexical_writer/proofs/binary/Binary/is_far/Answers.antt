@@ -1,5 +1,4 @@
 -- The number is far from 1 if its first bit is.
-use Rattle.lexical_writer.proofs.Common.{arith}
 use Rattle.lexical_writer.proofs.BinaryLemmas.{far_bits}
 use Rattle.lexical_writer.proofs.binary.Binary.is_far.Goals as goal
 

@@ -1,5 +1,5 @@
 -- A number has as many bits as its first one says, and those of the zeros behind it.
-use Rattle.lexical_writer.proofs.Common.{ap, arith, eq-zero-or-pos, inl, inr, le-ltb, lt-leb, lt-ltb, nat_le, nat_lt, one-le-pow, sym, ◌%◌, ◌&&◌, ◌*◌, ◌+◌, ◌-◌}
+use Rattle.lexical_writer.proofs.Common.{ap, arith, eq-zero-or-pos, inl, inr, lt-leb, lt-ltb, nat_le, one-le-pow, sym, ◌%◌, ◌&&◌, ◌*◌, ◌+◌, ◌-◌}
 use Rattle.lexical_writer.proofs.Common.{◌^◌, ◌∙◌, ◌≡◌}
 use lib.Count.{count_leading_zeros, leading_top}
 use Rattle.lexical_writer.proofs.AmountLemmas.{compared}
