@@ -274,9 +274,10 @@ fn forms_write_what_they_read_as_the_same_number() {
 /// What stands around a literal counts for the width, and zeros are inside.
 #[test]
 fn marks_stand_around_what_is_written() {
-    let opening = Affix::new(b"#x").unwrap();
-    let forms = [Form::new("", syntax_of("mantissa_radix=16 exponent_base=2 exponent_radix=10 exponent=94"))
-        .with_opening(opening)];
+    let [opening, closing] = [b"#x", &b"#'"[..]].map(|it| Affix::new(it).unwrap());
+    let syntax = syntax_of("mantissa_radix=16 exponent_base=2 exponent_radix=10 exponent=94");
+    let form = Form::new("", syntax).with_opening(opening);
+    let forms = [form.only_read(true), form.with_closing(closing).unwrap()];
     let forms = Forms::new_or_panic(&forms);
     let long = Language::PYTHON.read("0xFFFFFFFFFFFFFFFFFFFFFFFFFFFFFFFFFFFFFFFFFFFFFFFFF").unwrap().literal().unwrap();
     let written = [
@@ -286,9 +287,9 @@ fn marks_stand_around_what_is_written() {
         Language::JAVA.forms().format_integer(3_000_000_000_u32, Style::PLAIN),
     ];
     for (written, wanted) in written.map(Result::unwrap).iter().zip([
-        "#xFF",
-        "#x-1.8",
-        "#xFFFFFFFFFFFFFFFFFFFFFFFFFFFFFFFFFFFFFFFFFFFFFFFFF",
+        "#xFF#'",
+        "#x-1.8#'",
+        "#xFFFFFFFFFFFFFFFFFFFFFFFFFFFFFFFFFFFFFFFFFFFFFFFFF#'",
         "3000000000L",
     ]) {
         let padded = format!("{written:<60}|{written:^+60}|{written:060}");
@@ -336,15 +337,22 @@ fn languages_read_what_they_write() {
                     assert!(is_same(back), "{language} {text:?} in {target}: {written:?}");
                 }
                 Err(error) => {
-                    let forms = || target.forms().into_iter().filter(|it| it.opening().is_empty());
-                    let texts = forms().map(|it| it.syntax().format_literal(&literal, Style::PLAIN));
-                    let mut texts = texts.filter_map(|text| text.ok().map(|it| it.to_string()));
-                    let is_written = texts.any(|it| is_same(target.read(&it).unwrap().literal().unwrap()));
-                    assert!(!is_written, "{language} {text:?} in {target}: {error}");
+                    let forms = || target.forms().into_iter().filter(|it| !it.is_only_read());
+                    let text_in = |form: &Form| {
+                        let [opening, closing] = [form.opening(), form.closing()]
+                            .map(|it| String::from_utf8_lossy(it.as_bytes()).into_owned());
+                        let written = form.syntax().format_literal(&literal, Style::PLAIN);
+                        written.map(|it| format!("{opening}{it}{closing}"))
+                    };
+                    let is_written = |text: String| is_same(target.read(&text).unwrap().literal().unwrap());
+                    assert!(
+                        !forms().any(|it| text_in(it).is_ok_and(is_written)),
+                        "{language} {text:?} in {target}: {error}"
+                    );
                     let no_floats = |form: &Form| literal.is_float() && form.syntax().point().is_none();
                     let first = forms().min_by_key(|form| (no_floats(form), turn(form))).unwrap();
-                    let wanted = match first.syntax().format_literal(&literal, Style::PLAIN) {
-                        Ok(text) if target.read(&text.to_string()).unwrap().to_f64().is_nan() => WriteError::TooLarge,
+                    let wanted = match text_in(first) {
+                        Ok(text) if target.read(&text).unwrap().to_f64().is_nan() => WriteError::TooLarge,
                         Ok(_) => WriteError::ReadBack,
                         Err(error) => error,
                     };
