@@ -338,7 +338,8 @@ impl<'a> Forms<'a> {
 
     // Returns the form whose error is that of the list, where `text` is no literal.
     #[cold]
-    #[inline(never)]
+    #[cfg_attr(not(peltzivar_small), inline(never))]
+    #[cfg_attr(peltzivar_small, inline(always))]
     const fn furthest(&self, text: &[u8]) -> Furthest {
         let first = self.forms[0].stop(text);
         let mut furthest = Furthest { form: 0, stop: first, settled: false };

@@ -137,6 +137,7 @@ impl Form {
 
     // Returns the same for a form with an opening or a closing.
     #[cold]
+    #[cfg_attr(peltzivar_small, inline(always))]
     const fn is_marked_stray(&self, text: &[u8], stop: Stopped) -> bool {
         let opened = self.opening.size();
         if stop.size < opened {
