@@ -173,6 +173,7 @@ REPLACED += [
     ("list.rt", "Err(stop) => furthest = self.further_on(", "Err(_) if cfg!(peltzivar_small) && self.marked => {}\n Err(stop) => furthest = self.further_on("),
     ("lexical_literal/src/stop.rt", "#[inline(always)]\n    pub(crate) const fn front(", "#[cfg_attr(not(peltzivar_small), inline(always))]\n    pub(crate) const fn front("),
     ("exclude.rt", "pub(crate) const fn is_settled(", "#[cfg_attr(not(peltzivar_small), inline(always))]\npub(crate) const fn is_settled("),
+    ("exclude.rt", "#[inline(always)]\npub(crate) const fn excludes(", "#[cfg_attr(not(peltzivar_small), inline(always))]\npub(crate) const fn excludes("),
     ("exclude.rt", "\nconst fn is_silent_at(", "\n#[inline(always)]\nconst fn is_silent_at("),
     ("exclude.rt", "#[inline(always)]\npub(crate) const fn lacks_longer(", "#[cfg_attr(not(peltzivar_small), inline(always))]\npub(crate) const fn lacks_longer("),
     ("lexical_literal/src/stop.rt", "stop.step(syntax, text, last)", "stop.step_any(syntax, text, last)"),
