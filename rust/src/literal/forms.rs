@@ -70,8 +70,8 @@ impl<'a> Forms<'a> {
         }
     }
 
-    // Returns what a form reads of `text`, and the length of its sign. In the library for C, which has one reader for all lists, that is what
-    // is between the marks of the form, if they are there.
+    // Returns what a form reads of `text`, and the length of its sign. In the library for C, which has one reader for all
+    // lists, that is what is between the marks of the form, if they are there.
     #[inline(always)]
     pub(crate) const fn inside<'t>(&self, text: &'t [u8], sign: usize, form: usize) -> Option<(&'t [u8], usize)> {
         if !cfg!(peltzivar_small) || !self.marked {
