@@ -1712,8 +1712,9 @@ class Forms(_Keyed, _Several, Mapping[str, Syntax]):
 
 
 def _forms_of(listed: Any, more: Dict[str, Any]) -> Forms:
-    """Returns forms of a language."""
-    named = {_shown(name): it for name, *it in listed}
+    """Returns forms of a language. A name that several of them have is followed by the opening, as in `radix in front 16#`."""
+    names = [it[0] for it in listed]
+    named = {_shown(name if names.count(name) == 1 else name + b" " + it[6]): it for name, *it in listed}
     kinds = {name: kind for name, it in named.items() if (kind := Kind._of(*it[1:5])) != Kind()}
     suffixes = {name: Suffixes._of(*it[5]) for name, it in named.items() if it[5]}
     of = {name: Affixes(_shown(it[6]), _shown(it[7]), bool(it[8]), bool(it[9])) for name, it in named.items()}
@@ -1727,8 +1728,9 @@ class _Language(_Several, _Named):
     """How a language, or a file, writes numbers. `languages` is another name of this class.
 
     `read(text)` returns a `Literal` of one of its forms, or a `Special`. Raises LiteralError if the text is neither.
-    `forms` has the same forms, with the syntax of each by its name, and the spellings of NaN and infinity. In the
-    repository, docs/LANGUAGES.md describes each language, with its standard, and what no format can accept.
+    `forms` has the same forms, with the syntax of each by its name, and the spellings of NaN and infinity. If several
+    have one name, the opening is part of it, as in `radix in front 16#`. In the repository, docs/LANGUAGES.md describes
+    each language, with its standard, and what no format can accept.
     `Language("c#")` finds a language by its name or its title, whatever the case of ASCII letters is.
 
     Numbers have a sign in CLOJURE, COMMON_LISP, CSS, CSV_DE, CSV_EN, FORTRAN, JSON, JSON5, NIM, POSTSCRIPT, RUBY, SCHEME,

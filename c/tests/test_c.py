@@ -95,13 +95,13 @@ class Programs(unittest.TestCase):
             "forms_token": 'peltzivar_token it; return !peltzivar_forms_token(FORMS, "1.5;", 4, &it, NULL);',
             "forms_format_f64": "char it[9]; return peltzivar_forms_format_f64(FORMS, 1.5, NULL, it, sizeof it, NULL);",
         }
-        rows = re.findall(r"^\| [^|]+: `peltzivar_(\w+)` \| (`peltzivar_language.*`) \| (\d+) \|", PAGE, re.M)
+        rows = re.findall(r"^\| [^|]+: `peltzivar_(\w+)` \| `(peltzivar_language.*?)`[^|]* \| (\d+) \|", PAGE, re.M)
         self.assertEqual({call for call, *_ in rows}, {*calls})
         for call, forms, size in rows:
             with self.subTest(call, forms=forms):
-                code = calls[call].replace("FORMS", forms.strip("`"))
+                code = calls[call].replace("FORMS", forms)
                 self.assertLessEqual(self.size(code) - self.size("return 0;"), 1000 * int(size))
-        self.assertIn(("parse_f64", "`peltzivar_language_json()`", "62"), rows)
+        self.assertIn(("parse_f64", "peltzivar_language_json()", "62"), rows)
 
     def test_numbers_are_read_with_four_functions_of_libc(self):
         own = "void *memcpy(void *to, const void *from, size_t n) { while (n--) ((char *)to)[n] = ((const char *)from)[n]; return to; }\n"

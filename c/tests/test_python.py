@@ -661,13 +661,17 @@ SYNTAX = Syntax.of(base_prefix="x", base_suffix="h", digit_separator="_", intern
 FIRST = {Forms: {"forms": {"a": SYNTAX}}, Syntax: {"format": SYNTAX.format}}
 NEEDS = {"modulo": {"wraps": 8}, "higher_group_size": {"integer_group_size": 4}}
 SPELLED = dict.fromkeys(("nan", "inf", "infinity"), "x")
-WORDS = dict.fromkeys(("integers", "floats", "any"), "x")
+WORDS = dict.fromkeys(("integers", "floats", "any", "written"), "x")
 CHANGES = {
     Kind: {"at_most": 8, "wraps": 8, "modulo": True, "single": True, "limits": "both"},
     Specials: SPELLED,
     Suffixes: {**WORDS, "kinds": {"x": Kind(8)}, "stops": [("", "x", "")], "either_case": True},
     Tokens: {"forms": Forms({"": SYNTAX}), "following": "x", "gives_points_back": True},
-    Forms: {**SPELLED, "forms": {"b": SYNTAX}, "kinds": {"a": Kind(8)}, "suffixes": {"a": Suffixes("u")}, "tokens": Tokens()},
+    Affixes: {"opening": "o", "closing": "o", "case_sensitive_opening": True, "case_sensitive_closing": True},
+    Forms: {
+        **SPELLED, "forms": {"b": SYNTAX}, "kinds": {"a": Kind(8)}, "suffixes": {"a": Suffixes("u")}, "tokens": Tokens(),
+        "affixes": {"a": Affixes("o")}, "only_read": ("a",),
+    },
     Syntax: {"format": Format(), "exponent": "^", "point": ",", **{it: "size" not in it or 3 for it in peltzivar._CONDITIONS}},
 }
 
