@@ -189,6 +189,7 @@ LANGUAGES = [
         Cause("+", r"(0[\d_]*|\d+_[\d_]*)#\w+", "zeros or separators in a radix")]),
     Language("FORTRAN", "gfortran", "019.edD-+_'Z", "_", "1.0_8 1d3 1.5d300 Z'FF' z\"fF\" O'17' b\"101\" B'12' Z'F Z'F\" Z'' Z'-1' z'FFFFFFFFFFFFFFFFFFFFFFFFFFFFFFFF'", [
         Cause("+", r"[bBoOzZ](['\"])\w{33,}\1", "more than 128 bits, of which the tool takes the last"),
+        suffix("_0*(1|2|4|8|10|16)"), Cause("-", "-(2147483648|9223372036854775808_8)", "the least integer, which the tool refuses"),
         Cause("=", ".*", "a subnormal number, which the tool rounds to zero",
               lambda ours, theirs: theirs == (0.0,) and abs(ours.single) < 2**-126), ROUNDED]),
     Language("GO", "go", "018._exp-+b", "_", "1i 0x1p3i", [

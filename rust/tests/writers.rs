@@ -274,9 +274,10 @@ fn forms_write_what_they_read_as_the_same_number() {
 /// What stands around a literal counts for the width, and zeros are inside.
 #[test]
 fn marks_stand_around_what_is_written() {
-    let opening = Affix::new(b"#x").unwrap();
-    let forms = [Form::new("", syntax_of("mantissa_radix=16 exponent_base=2 exponent_radix=10 exponent=94"))
-        .with_opening(opening)];
+    let [opening, closing] = [b"#x", &b"#'"[..]].map(|it| Affix::new(it).unwrap());
+    let syntax = syntax_of("mantissa_radix=16 exponent_base=2 exponent_radix=10 exponent=94");
+    let form = Form::new("", syntax).with_opening(opening);
+    let forms = [form.only_read(true), form.with_closing(closing).unwrap()];
     let forms = Forms::new_or_panic(&forms);
     let long = Language::PYTHON.read("0xFFFFFFFFFFFFFFFFFFFFFFFFFFFFFFFFFFFFFFFFFFFFFFFFF").unwrap().literal().unwrap();
     let written = [
@@ -286,9 +287,9 @@ fn marks_stand_around_what_is_written() {
         Language::JAVA.forms().format_integer(3_000_000_000_u32, Style::PLAIN),
     ];
     for (written, wanted) in written.map(Result::unwrap).iter().zip([
-        "#xFF",
-        "#x-1.8",
-        "#xFFFFFFFFFFFFFFFFFFFFFFFFFFFFFFFFFFFFFFFFFFFFFFFFF",
+        "#xFF#'",
+        "#x-1.8#'",
+        "#xFFFFFFFFFFFFFFFFFFFFFFFFFFFFFFFFFFFFFFFFFFFFFFFFF#'",
         "3000000000L",
     ]) {
         let padded = format!("{written:<60}|{written:^+60}|{written:060}");

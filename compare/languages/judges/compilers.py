@@ -158,9 +158,11 @@ def tokens(it, folder, texts):
         left = [i for i, text in enumerate(texts) if not re.search(it.several, text)]
         return [left[i] for i in accepted(it, folder, [texts[i] for i in left])]
     left = accepted(it, folder, texts)
+    # gfortran takes blanks around the `_` of a kind.
+    is_kind = lambda i, at: it.signed and "_" in texts[i][at - 1 : at + 1]
     first = {i: 2 if it.signed and texts[i][0] in "+-" else 1 for i in left}
     for is_first in (True, False):
-        split = [(i, at) for i in left for at in range(first[i], len(texts[i])) if (at == first[i]) == is_first]
+        split = [(i, at) for i in left for at in range(first[i], len(texts[i])) if (at == first[i]) == is_first and not is_kind(i, at)]
         phrases = accepted(it, folder, [f"{texts[i][:at]} {texts[i][at:]}" for i, at in split])
         found = {split[phrase][0] for phrase in phrases}
         left = [i for i in left if i not in found]

@@ -1,8 +1,8 @@
 -- Several forms: what has been found in the first of them, and what one form more adds.
 use Rattle.lexical_forms.proofs.Common.{ℕ, ◌≡◌, ◌*◌, inl, inr, Bool, true, false, ◌<◌, ◌≤◌, ◌+◌, List, Ok, Option, Some, None, All, IsSomeAnd, []}
-use Rattle.lexical_forms.proofs.Common.{◌∷◌, take, get_or, refl, sym, subst, ap, arith, nat_tests, cases_lt, false≢true, take_all, All-more}
-use Rattle.lexical_forms.proofs.Common.{◌∙◌, length-take-le, slice_get-get_or, Notation, notation_of, common_steps, if◌then◌else◌, length, slice_get}
-use Rattle.lexical_forms.proofs.Common.{IsFurthestForm, sign_size, IsCountedFront, IsStopped, IsValidUpTo, FormList, NoForm, ReadsForm, Reads}
+use Rattle.lexical_forms.proofs.Common.{◌∷◌, nat_lt, take, get_or, refl, sym, subst, ap, arith, nat_tests, cases_lt, false≢true, take_all, All-more}
+use Rattle.lexical_forms.proofs.Common.{length-take-le, slice_get-get_or, Notation, notation_of, common_steps, if◌then◌else◌, length, slice_get}
+use Rattle.lexical_forms.proofs.Common.{IsFurthestForm, IsCountedFront, IsStopped, IsValidUpTo, FormList, NoForm, ReadsForm, Reads}
 use Rattle.lexical_forms.proofs.Common.{Read, Found, Stopped, Form}
 use Rattle.lexical_literal.specs.Front.{NoFrontBy}
 use Rattle.lexical_forms.specs.Additions.Forms.{AreBelow, IsFoundForm, IsFoundFrontForm, IsFrontIn, IsLed, IsLeftOut, IsLongestPast, IsLow}
@@ -12,7 +12,8 @@ use Rattle.lexical_forms.proofs.MarkLemmas.{front_in, none_empty_in, none_in, on
 use Rattle.lexical_forms.proofs.OpeningLemmas.{bit_within, one_size}
 use Rattle.std.proofs.lemmas.List.{get_or-take}
 use Rattle.std.proofs.lemmas.Option.{slice_get_within}
-use Rattle.lexical_forms.specs.FormList.{ArePlain, have_marks}
+use Rattle.lexical_forms.specs.FormList.{are_marked, have_marks}
+use Rattle.std.proofs.Common.{not, ◌==◌, ◌||◌}
 use Rattle.lexical_forms.specs.declared.list.FormError.{FormError}
 use Rattle.lexical_forms.specs.declared.list.Tokens.{Tokens}
 use Rattle.std.specs.Borrow.{Bor}
@@ -28,7 +29,7 @@ pub inside_of : (P : Form → Type 0) (forms : List Form) (i : ℕ) → IsSomeAn
 inside_of P forms i holds = let some = some_of P (slice_get forms i) holds in slice_get_within forms i some.0 some.1
 
 -- The form at an index, of a list that is the same.
-pub form_at : (P : Form → Type 0) (forms list : List Form) (g : Form) (i : ℕ) → list ≡ forms
+pub form_at : {X : Type 0} (P : X → Type 0) (forms list : List X) (g : X) (i : ℕ) → list ≡ forms
     → IsSomeAnd (slice_get forms i) P → (slice_get forms i ≡ Some (get_or list i g)) × P (get_or list i g)
 form_at P forms list g i same holds = grind (arith, slice_get_within, slice_get-get_or)
 
@@ -39,12 +40,23 @@ all_at P forms i g at all =
     let here = slice_get-get_or forms i g inside in
     let same : get_or forms i g ≡ g = cc in subst P same (all i g inside)
 
-here_at : (P : Form → Type 0) (forms : List Form) (i : ℕ) (d : Form) → IsSomeAnd (slice_get forms i) P → P (get_or forms i d)
+here_at : {X : Type 0} (P : X → Type 0) (forms : List X) (i : ℕ) (d : X) → IsSomeAnd (slice_get forms i) P → P (get_or forms i d)
 here_at P forms i d holds = grind (arith, common_steps, some_of, slice_get-get_or, slice_get_within)
 
-pub at_index : (P : Form → Type 0) (forms list : List Form) (g : Form) (i : ℕ) → list ≡ forms → i < length list → P (get_or list i g)
+pub at_index : {X : Type 0} (P : X → Type 0) (forms list : List X) (g : X) (i : ℕ) → list ≡ forms → i < length list → P (get_or list i g)
     → IsSomeAnd (slice_get forms i) P
 at_index P forms list g i same inside holds = grind (arith, common_steps, slice_get-get_or)
+
+-- What holds of some form follows from what implies it.
+pub each : {X : Type 0} (P Q : X → Type 0) (o : Option X) → ((x : X) → P x → Q x) → IsSomeAnd o P → IsSomeAnd o Q
+each P Q (Some x) follows holds = follows x holds
+each P Q None follows holds = holds
+
+is_less : (a b : ℕ) → nat_lt a b ≡ true → a < b
+is_less a b is = grind (arith, nat_tests)
+
+is_low : (a b : ℕ) → nat_lt a b ≡ false → b ≤ a
+is_low a b is = grind (arith, nat_tests)
 
 -- `Measure X` has what is compared: values with a size. It tells which sizes and values a form has, and whether it has none.
 pub record Measure (X : Type 0) : Type 1 where
@@ -74,16 +86,34 @@ module _ {X : Type 0} (M : Measure X) (forms : List Form) where
 
     -- It has the value `x`, which is greater than those before.
     greatest_yet : (x : X) → M.IsValue g x → All (λ g. (n : ℕ) → M.IsSize g n → n < M.size x) (take i forms) → IsBestOf (i + 1) i x
-    greatest_yet x is less = grind (arith, common_steps, slice_get-get_or)
+    greatest_yet x is less = record {
+      here = at_index (λ g. M.IsValue g x) forms forms d i refl inside is;
+      before = less;
+      others = All-more (λ g. (n : ℕ) → M.IsSize g n → n ≤ M.size x) forms i d inside
+          (λ k e below n other. let low = less k e below n other in omega (arith, low)) (λ n other. M.one g n (M.size x) other (M.sized g x is));
+    }
 
     -- It has the value `x`.
     pub best_more : (x : X) → M.IsValue g x → (best : Option (ℕ × X)) → IsBest i best → IsBest (i + 1) (greater M.size best i x)
     best_more x is None old = greatest_yet x is (λ k e below n other. absurd (M.none _ n (old k e below) other))
-    best_more x is (Some best) old = grind (arith, common_steps, nat_tests, greatest_yet)
+    best_more x is (Some best) old = by (nat_lt (M.size best.1) (M.size x)) refl where
+      by : (b : Bool) → nat_lt (M.size best.1) (M.size x) ≡ b → IsBest (i + 1) (if b then Some (i, x) else Some best)
+      by true longer = greatest_yet x is (λ k e below n other. let most = old.others k e below n other in
+          let less = is_less (M.size best.1) (M.size x) longer in omega (arith, most, less))
+      by false shorter = record {
+        here = old.here;
+        before = old.before;
+        others = All-more (λ g. (n : ℕ) → M.IsSize g n → n ≤ M.size best.1) forms i d inside old.others
+            (λ n other. let most = M.one g n (M.size x) other (M.sized g x is) in let low = is_low (M.size best.1) (M.size x) shorter in omega (arith, most, low));
+      }
 
   -- The best of all forms.
   greatest : (i : ℕ) → length forms ≤ i → (form : ℕ) (x : X) → IsBestOf i form x → IsGreatest M.IsSize forms form (M.size x)
-  greatest i end form x is = grind (arith, take_all)
+  greatest i end form x is = record {
+    here = each (λ g. M.IsValue g x) (λ g. M.IsSize g (M.size x)) (slice_get forms form) (λ g value. M.sized g x value) is.here;
+    before = is.before;
+    others = subst (All (λ g. (n : ℕ) → M.IsSize g n → n ≤ M.size x)) (take_all i forms end) is.others;
+  }
 
 -- How far each form goes.
 abbrev pub goes : List ℕ → Measure Stopped
@@ -100,7 +130,11 @@ goes text = record {
 -- The first form that reads the text.
 pub found_is : (forms : List Form) (text : List ℕ) (i : ℕ) (d : Form) (read : Read) → i < length forms
     → ReadsForm text read (get_or forms i d) → NoForm (take i forms) text → IsFoundForm forms text (Ok (i, read))
-found_is forms text i d read inside is before = grind (arith, slice_get-get_or)
+found_is forms text i d read inside is before = record {
+  found = record { reads = at_index (ReadsForm text read) forms forms d i refl inside is; before = before };
+  none = λ err. absurd (false≢true err);
+  furthest = tt;
+}
 
 -- A literal of another kind is the same literal.
 pub first_of : (forms : List Form) (text : List ℕ) (i : ℕ) (read own : Read) → own.format ≡ read.format → own.literal ≡ read.literal
@@ -122,16 +156,24 @@ number_is list text i read own is format same kind = record {
 }
 
 -- A form of a list without marks has none.
+no_one : (a b : Bool) → (a || b) ≡ false → (a ≡ false) × (b ≡ false)
+no_one false b is = (refl, is)
+no_one true b is = absurd (false≢true (sym is))
+
+unmarked : (a b : Bool) (x y : ℕ) → a ≡ not (x == 0) → b ≡ not (y == 0) → (a || b) ≡ false → (x ≡ 0) × (y ≡ 0)
+unmarked a b x y one two is = let both = no_one a b is in (grind (arith, nat_tests, both.0), grind (arith, nat_tests, both.1))
+
 pub plain_at : (forms : List Form) (i : ℕ) (d : Form) → i < length forms → have_marks forms ≡ false
     → ((get_or forms i d).opening.size ≡ 0) × ((get_or forms i d).closing.size ≡ 0)
 plain_at [] i d inside none = absurd (omega (arith, inside))
-plain_at (form ∷ forms) ℕ.zero d inside none = grind (arith, nat_tests)
-plain_at (form ∷ forms) (ℕ.suc i) d inside none = plain_at forms i d (omega (arith, inside)) (grind (arith, nat_tests))
+plain_at (form ∷ forms) ℕ.zero d inside none =
+    unmarked _ _ form.opening.size form.closing.size refl refl (no_one _ (have_marks forms) none).0
+plain_at (form ∷ forms) (ℕ.suc i) d inside none = plain_at forms i d (omega (arith, inside)) (no_one _ (have_marks forms) none).1
 
--- The forms of a list whose tokens, if there are any, have none either.
-pub plain_forms : (forms : List Form) (t : Option (Bor Tokens)) → ArePlain forms t → have_marks forms ≡ false
+-- The forms of a list, without those of its tokens.
+pub plain_forms : (forms : List Form) (t : Option (Bor Tokens)) → are_marked forms t ≡ false → have_marks forms ≡ false
 plain_forms forms None is = is
-plain_forms forms (Some t) is = is.0
+plain_forms forms (Some t) is = (no_one _ _ is).0
 
 -- All forms have been tried.
 module _ (forms : List Form) (text : List ℕ) (i : ℕ) (end : length forms ≤ i) where
@@ -144,11 +186,6 @@ module _ (forms : List Form) (text : List ℕ) (i : ℕ) (end : length forms ≤
 
   pub all_tried : (P : Form → Type 0) → All P (take i forms) → All P forms
   all_tried P all = subst (All P) (take_all i forms end) all
-
--- What holds of some form follows from what implies it.
-pub each : {X : Type 0} (P Q : X → Type 0) (o : Option X) → ((x : X) → P x → Q x) → IsSomeAnd o P → IsSomeAnd o Q
-each P Q (Some x) follows holds = follows x holds
-each P Q None follows holds = holds
 
 -- Of the first `i` forms, no front has more than `reached` bytes, and the first as many, more than `size`, is `longest`, if there is one.
 module _ (forms : List Form) (text : List ℕ) (size : ℕ) where

@@ -249,6 +249,10 @@ front_before back text form stop size is stop_is gives kept l reads = go (goes (
     ap (λ b. if b then size - 1 else size) (sym kept),
   )
 
+-- A point alone that is given back does not go on.
+no_point : (back is : Bool) (a b : ℕ) → (back && (a == b) && is) ≡ false → back ≡ true → a ≡ b → is ≡ true → ⊥
+no_point back is a b alone given same point = grind (arith, nat_tests)
+
 -- The token of a form that is the first with a literal behind which no literal goes on, or only with a point that is given back.
 module _ (list : FormList) (t : Tokens) (text : List ℕ) (index : ℕ) (form : Form) (counts : List ℕ) (size : ℕ)
     (is : IsLeading list t text index form size)
@@ -351,7 +355,7 @@ module _ (list : FormList) (t : Tokens) (text : List ℕ) (index : ℕ) (form : 
               let one : ahead.size ≡ size + more + 1 = omega (arith, further, low) in
               let at : is_in (notation_of g.syntax).point (slice_get text (size + more)) ≡ true =
               ap (λ n. is_in (notation_of g.syntax).point (slice_get text n)) (let same : size + more ≡ size = omega (arith, none) in same) ∙ given.1 in
-              let alone = ahead.more in let back = given.0 in grind (arith, nat_tests)
+              no_point t.gives_points_back (is_in (notation_of g.syntax).point (slice_get text (size + more))) ahead.size (size + more + 1) ahead.more given.0 one at
         ]
 
     pub leading_token : (token : Token) → token.form ≡ index → ReadsSyntax (take size text) token.literal form

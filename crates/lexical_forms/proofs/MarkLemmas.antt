@@ -4,23 +4,25 @@ use Rattle.lexical_forms.proofs.Common.{Grammar, Literal, NoLiteral, Notation, R
 use Rattle.lexical_forms.proofs.Common.{IsCountedFront, IsFront, IsRefusal, IsStopped, IsValidUpTo, ReadsFront, append-nil, if◌then◌else◌, is_stray, length}
 use Rattle.lexical_forms.proofs.Common.{length-take-le, nat_tests, notation_of, reach, refl, subst, sym, take, take_all, ◌&&◌, ◌||◌, ◌==◌, Role, set_of_role}
 use Rattle.lexical_literal.specs.Cause.{Explained}
-use Rattle.std.proofs.Common.{Err, Ok, not}
-use Rattle.lexical_literal.specs.Front.{BeginsBy, IsValidBy, NoFrontBy, NoneBy, ReadsFrontBy}
+use Rattle.lexical_literal.specs.Additions.Stop.{IsFronted}
+use Rattle.std.proofs.Common.{Err, IfSome, IsNone, IsSomeAnd, Ok, not}
+use Rattle.lexical_literal.specs.Front.{BeginsBy, NoFrontBy, NoneBy, ReadsFrontBy}
 use Rattle.lexical_forms.specs.Additions.Forms.{IsBehind, IsBetween, IsEnding, IsFrontIn, IsLeftOut, IsLow, IsNearSign, IsNoBetter, IsRefusedAt}
-use Rattle.lexical_forms.specs.Additions.Forms.{IsStoppedBefore, IsStoppedBehind, IsUnended, NoFrontPast, NoneOpenedPast, NonePast, PlaysNoRole, sign_size}
+use Rattle.lexical_forms.specs.Additions.Forms.{IsStoppedBefore, IsStoppedBehind, NoFrontPast, NoneOpenedPast, NonePast, PlaysNoRole, sign_size}
 use Rattle.lexical_forms.specs.Affix.{Begins, IsOpened, IsOpenedTo, is_free, spelling, spells}
 use Rattle.lexical_forms.specs.Forms.{GoesTo, IsErrorIn, KeepsError, LacksClosing, OpensIn, Reaches, ReadsIn, behind, reach_in, right_in}
 use Rattle.lexical_forms.specs.declared.list.Furthest.{Furthest}
 use Rattle.lexical_forms.specs.declared.marks.Unclosed.{Unclosed}
 use Rattle.lexical_util.specs.Roles.{other_case, signs}
 use Rattle.lexical_util.specs.declared.feature_format.roles.Role.TheVariants as roles
+use Rattle.lexical_util.specs.declared.format_flags.Part.TheVariants as parts
 use Rattle.lexical_literal.proofs.OneCauseLemmas.{one_refusal}
 use Rattle.lexical_forms.proofs.ExcludeLemmas.{near_no_role}
-use Rattle.lexical_forms.proofs.OpeningLemmas.{begins_front, begins_of, behind_take, completed, completed_size, front_before, front_behind, front_byte}
+use Rattle.lexical_forms.proofs.OpeningLemmas.{begins_front, begins_of, behind_take, completed, completed_size, front_behind, front_byte}
 use Rattle.lexical_forms.proofs.OpeningLemmas.{front_opened, none_empty, not_begun, not_longer, not_opened, one_opened, one_size, opened_front}
-use Rattle.lexical_forms.proofs.OpeningLemmas.{reach_within, rest_size, spelling_size, spells_own, valid_behind}
+use Rattle.lexical_forms.proofs.OpeningLemmas.{past_behind, reach_within, rest_size, spelling_size, spells_own, valid_behind}
 use Rattle.std.proofs.lemmas.List.{append_assoc, drop-drop, drop-take, drop_at, get_or-drop, get_or-take, length-append, length-drop, take-append-drop}
-use Rattle.std.proofs.lemmas.List.{take-append-le, take-take, take_at, drop-append-le}
+use Rattle.std.proofs.lemmas.List.{take-append-le, take-take, take_at}
 use Rattle.std.proofs.Math.Nat.{le_antisymm}
 
 -- The first bytes of a list are its first ones, and then others.
@@ -28,17 +30,81 @@ take_both : (n k : ℕ) (xs : List ℕ) → take (n + k) xs ≡ take n xs ++ tak
 take_both n k xs = sym (take-append-drop n (take (n + k) xs)) ∙ ap (λ ys. ys ++ drop n (take (n + k) xs)) (take-take n (n + k) xs (omega arith))
     ∙ ap (λ ys. take n xs ++ ys) (drop-take n k xs)
 
+-- What is false if no one of many is true, and what is true if both are, or the other is not.
+all_false : (a b c d e f g h i j : Bool)
+    → (not a && not b && not c && not d && not e && not f && not g && not h && not i && not j) ≡ true
+    → (a ≡ false) × (b ≡ false) × (c ≡ false) × (d ≡ false) × (e ≡ false) × (f ≡ false) × (g ≡ false) × (h ≡ false) × (i ≡ false) × (j ≡ false)
+all_false true b c d e f g h i j is = absurd (false≢true is)
+all_false false true c d e f g h i j is = absurd (false≢true is)
+all_false false false true d e f g h i j is = absurd (false≢true is)
+all_false false false false true e f g h i j is = absurd (false≢true is)
+all_false false false false false true f g h i j is = absurd (false≢true is)
+all_false false false false false false true g h i j is = absurd (false≢true is)
+all_false false false false false false false true h i j is = absurd (false≢true is)
+all_false false false false false false false false true i j is = absurd (false≢true is)
+all_false false false false false false false false false true j is = absurd (false≢true is)
+all_false false false false false false false false false false true is = absurd (false≢true is)
+all_false false false false false false false false false false false is = (refl, refl, refl, refl, refl, refl, refl, refl, refl, refl)
+
+both : (a b : Bool) → (a && b) ≡ true → (a ≡ true) × (b ≡ true)
+both true b is = (refl, is)
+both false b is = absurd (false≢true is)
+
+other_of : (a b : Bool) → a ≡ false → (a || b) ≡ true → b ≡ true
+other_of false b fails is = is
+other_of true b fails is = absurd (false≢true (sym fails))
+
+one_of : (a counts b : Bool) → (a || (not counts && b)) ≡ true → (a ≡ true) ⊎ (b ≡ true)
+one_of true counts b is = inl refl
+one_of false true b is = absurd (false≢true is)
+one_of false false b is = inr is
+
+is_number : (a b : ℕ) → (a == b) ≡ true → a ≡ b
+is_number a b is = grind (arith, nat_tests)
+
+is_other : (a b : ℕ) → (a == b) ≡ false → a ≡ b → ⊥
+is_other a b fails same = grind (arith, nat_tests)
+
+some_is : (n : ℕ) → 0 < n → (n == 0) ≡ false
+some_is n some = grind (arith, nat_tests)
+
+pub none_is : (n : ℕ) (empty : Bool) → empty ≡ (n == 0) → empty ≡ true → n ≡ 0
+none_is n empty is holds = grind (arith, nat_tests)
+
+pub is_some_size : (n : ℕ) (empty : Bool) → empty ≡ (n == 0) → empty ≡ false → 0 < n
+is_some_size n empty is fails = grind (arith, nat_tests)
+
+no_sign : (byte : ℕ) → (byte == 43) ≡ false → (byte == 45) ≡ false → signs byte ≡ false
+no_sign byte plus minus = grind (arith, nat_tests)
+
+no_digit : (a b c : Bool) → a ≡ false → b ≡ false → c ≡ false → (a || b || c) ≡ false
+no_digit false false false one two three = refl
+no_digit true b c one two three = absurd (false≢true (sym one))
+no_digit false true c one two three = absurd (false≢true (sym two))
+no_digit false false true one two three = absurd (false≢true (sym three))
+
 -- A byte that is free plays no role.
 free_plays_none : (s : Grammar) (byte : ℕ) → is_free (notation_of s) byte ≡ true → PlaysNoRole (notation_of s) byte
-free_plays_none s byte is = record { not_zero = grind (arith, nat_tests); none = none } where
-  none : (role : Role) → set_of_role (notation_of s) role byte ≡ false
-  none roles.Digit = grind (arith, nat_tests)
-  none roles.Sign = grind (arith, nat_tests)
-  none roles.Separator = grind (arith, nat_tests)
-  none roles.Prefix = grind (arith, nat_tests)
-  none roles.Suffix = grind (arith, nat_tests)
-  none roles.Exponent = grind (arith, nat_tests)
-  none roles.Point = grind (arith, nat_tests)
+free_plays_none s byte is = of_all (all_false (byte == 48) ((notation_of s).digit parts.Integer byte) ((notation_of s).digit parts.Exponent byte) (byte == 43) (byte == 45)
+    ((notation_of s).separator byte) ((notation_of s).prefix byte) ((notation_of s).suffix byte) ((notation_of s).point byte)
+    ((notation_of s).exponent_character byte) is) where
+      of_all : ((byte == 48) ≡ false) × ((notation_of s).digit parts.Integer byte ≡ false) × ((notation_of s).digit parts.Exponent byte ≡ false)
+          × ((byte == 43) ≡ false) × ((byte == 45) ≡ false) × ((notation_of s).separator byte ≡ false) × ((notation_of s).prefix byte ≡ false)
+          × ((notation_of s).suffix byte ≡ false) × ((notation_of s).point byte ≡ false) × ((notation_of s).exponent_character byte ≡ false)
+          → PlaysNoRole (notation_of s) byte
+      of_all all = record { not_zero = is_other byte 48 all.0; none = none } where
+        none : (role : Role) → set_of_role (notation_of s) role byte ≡ false
+        none roles.Digit = no_digit _ _ _ all.1 all.1 all.2
+        none roles.Sign = no_sign byte all.3 all.4
+        none roles.Separator = all.5
+        none roles.Prefix = all.6
+        none roles.Suffix = all.7
+        none roles.Exponent = all.9
+        none roles.Point = all.8
+
+-- What has no marks.
+pub no_marks : (n c : ℕ) (marked : Bool) → marked ≡ (not (n == 0) || not (c == 0)) → marked ≡ false → (n ≡ 0) × (c ≡ 0)
+no_marks n c marked is none = (grind (arith, nat_tests), grind (arith, nat_tests))
 
 module _ (g : Form) where
   abbrev m : Notation
@@ -52,7 +118,13 @@ module _ (g : Form) where
 
   -- The first byte of a closing plays no role in the syntax.
   closing_plays_none : 0 < c → (byte : ℕ) → spells g.closing 0 byte ≡ true → PlaysNoRole m byte
-  closing_plays_none some byte is = let closable = g.closable in free_plays_none g.syntax byte (grind (arith, nat_tests))
+  closing_plays_none some byte is =
+      let first = get_or g.closing.bytes 0 0 in
+      let free = both (is_free m first) (is_free m (other_case first)) (other_of (c == 0) _ (some_is c some) g.closable) in
+      elim (one_of (byte == first) g.closing.case_sensitive (byte == other_case first) is) [
+        | inl same ↦ free_plays_none g.syntax byte (subst (λ b. is_free m b ≡ true) (sym (is_number byte first same)) free.0)
+        | inr same ↦ free_plays_none g.syntax byte (subst (λ b. is_free m b ≡ true) (sym (is_number byte (other_case first) same)) free.1)
+      ]
 
   -- A literal of the form begins with the opening.
   reads_opened : (l : Literal) (text : List ℕ) → ReadsIn g l text → IsOpened g.opening text
@@ -122,15 +194,15 @@ module _ (g : Form) where
         ]
 
     -- A front that begins a literal and ends in its closing, or behind it, has a literal of the syntax before.
-    record EndsAt (more : ℕ) (tail : List ℕ) : Type 0 where
-      end : ℕ
-      least : n ≤ end
-      before : end < more
-      inside : more ≤ length text
-      exact : more + length tail ≡ end + c
-      literal : Literal
-      reads : Reads m literal (take (end - n) rest)
-      closed : Begins g.closing (drop end text) (more - end)
+    pub record EndsAt (more : ℕ) (tail : List ℕ) : Type 0 where
+      pub end : ℕ
+      pub least : n ≤ end
+      pub before : end < more
+      pub inside : more ≤ length text
+      pub exact : more + length tail ≡ end + c
+      pub literal : Literal
+      pub reads : Reads m literal (take (end - n) rest)
+      pub closed : Begins g.closing (drop end text) (more - end)
 
     module _ (more : ℕ) (least : n ≤ more) (inside : more ≤ length text) (is : BeginsBy (ReadsIn g) (take more text)) where
       abbrev all : List ℕ
@@ -178,11 +250,11 @@ module _ (g : Form) where
             ∙ take-take end more text (omega (arith, before))) is.reads.opens
 
     -- Then it ends where the syntax stops.
-    record Closes (size more : ℕ) (tail : List ℕ) : Type 0 where
-      literal : Literal
-      reads : Reads m literal (take size rest)
-      exact : more + length tail ≡ n + size + c
-      closed : Begins g.closing (drop size rest) (more - (n + size))
+    pub record Closes (size more : ℕ) (tail : List ℕ) : Type 0 where
+      pub literal : Literal
+      pub reads : Reads m literal (take size rest)
+      pub exact : more + length tail ≡ n + size + c
+      pub closed : Begins g.closing (drop size rest) (more - (n + size))
 
     module _ (some : 0 < c) (size : ℕ) (valid : IsValidUpTo m rest size) (more : ℕ) where
       module _ (tail : List ℕ) (e : EndsAt more tail) where
@@ -192,12 +264,12 @@ module _ (g : Form) where
         low : e.end - n ≤ size
         low = elim (cases_lt size (e.end - n)) [
           | inl longer ↦ absurd (valid.no_longer (e.end - n) longer
-            (let before = e.before in let inside = e.inside in omega (arith, all_rest, before, inside)) (record {
-              more = [];
-              literal = e.literal;
-              reads = subst (Reads m e.literal) (sym (append-nil (take (e.end - n) rest))) e.reads;
-            }))
-          | inr low ↦ low
+              (let before = e.before in let inside = e.inside in omega (arith, all_rest, before, inside)) (record {
+                more = [];
+                literal = e.literal;
+                reads = subst (Reads m e.literal) (sym (append-nil (take (e.end - n) rest))) e.reads;
+              }))
+          | inr near ↦ near
         ]
 
         first : get_or (drop e.end text) 0 0 ≡ get_or rest (e.end - n) 0
@@ -249,10 +321,10 @@ module _ (g : Form) where
         no_longer = λ more past inside front. elim (cases_lt 0 c) [
           | inl some ↦ none some more front.more past (closes some size valid more past inside front)
           | inr low ↦ (valid_behind text g size opened valid).no_longer more past inside (record {
-              more = front.more;
-              literal = front.literal;
-              reads = opens_of (omega (arith, low)) front.literal (take more text ++ front.more) front.reads;
-            })
+            more = front.more;
+            literal = front.literal;
+            reads = opens_of (omega (arith, low)) front.literal (take more text ++ front.more) front.reads;
+          })
         ];
       }
 
@@ -270,27 +342,27 @@ module _ (g : Form) where
 
       -- or in the closing.
       module _ (size closed : ℕ) (is : LacksClosing g rest size closed) where
-        rest_is : length rest + n ≡ length text
-        rest_is = rest_size text g opened.within
+        rest_length : length rest + n ≡ length text
+        rest_length = rest_size text g opened.within
 
         inside : n + size + closed ≤ length text
-        inside = let within = is.closed.begins.within in let left = length-drop size rest in let low = is.valid.within in
-            omega (arith, rest_is, within, left, low)
+        inside = let within = is.there.begins.within in let left = length-drop size rest in let low = is.valid.within in
+            omega (arith, rest_length, within, left, low)
 
-        before : List ℕ
+        abbrev before : List ℕ
         before = take (n + size) text
 
-        parts : take (n + size + closed) text ≡ before ++ take closed (drop size rest)
-        parts = take_both (n + size) closed text ∙ ap (λ xs. before ++ take closed xs) (sym (drop-drop size n text))
+        front_is : take (n + size + closed) text ≡ before ++ take closed (drop size rest)
+        front_is = take_both (n + size) closed text ∙ ap (λ xs. before ++ take closed xs) (sym (drop-drop size n text))
 
-        left : List ℕ
+        abbrev left : List ℕ
         left = drop closed (spelling g.closing)
 
         before_size : length before ≡ n + size
         before_size = length-take-le (n + size) text (let in_text = inside in omega (arith, in_text))
 
         closing_size : length (take closed (drop size rest) ++ left) ≡ c
-        closing_size = completed_size g.closing (drop size rest) closed is.closed.inside is.closed.begins []
+        closing_size = completed_size g.closing (drop size rest) closed is.there.inside is.there.begins []
 
         literal_before : OpensIn g is.literal before
         literal_before = record {
@@ -311,7 +383,7 @@ module _ (g : Form) where
           closed = subst (IsOpened g.closing) (sym (ap (λ k. drop k (before ++ (take closed (drop size rest) ++ left))) whole_size
               ∙ drop_at before (take closed (drop size rest) ++ left) (n + size) before_size))
               (subst (IsOpened g.closing) (ap (λ xs. take closed (drop size rest) ++ xs) (append-nil left))
-              (completed g.closing (drop size rest) closed is.closed.inside is.closed.begins []));
+              (completed g.closing (drop size rest) closed is.there.inside is.there.begins []));
         }
 
         pub goes_closing : GoesTo text g (n + size + closed)
@@ -320,11 +392,11 @@ module _ (g : Form) where
           front = record {
             more = left;
             literal = is.literal;
-            reads = subst (ReadsIn g is.literal) (sym (ap (λ xs. xs ++ left) parts ∙ append_assoc before (take closed (drop size rest)) left)) closed_literal;
+            reads = subst (ReadsIn g is.literal) (sym (ap (λ xs. xs ++ left) front_is ∙ append_assoc before (take closed (drop size rest)) left)) closed_literal;
           };
           no_longer = λ more past within front.
               let ends = closes is.some size is.valid more (omega (arith, past)) within front in
-              not_begun g.closing (drop size rest) closed (more - (n + size)) is.closed (omega (arith, past))
+              not_begun g.closing (drop size rest) closed (more - (n + size)) is.there (omega (arith, past))
               (let exact = ends.exact in omega (arith, exact)) ends.closed;
         }
 
@@ -347,10 +419,10 @@ module _ (g : Form) where
         };
         no_longer = λ more past inside l reads. elim (cases_lt 0 c) [
           | inl some ↦ (let ends = closes some size (valid some) more (omega (arith, past, same)) inside (record {
-              more = [];
-              literal = l;
-              reads = subst (ReadsIn g l) (sym (append-nil (take more text))) reads;
-            }) in let exact = ends.exact in absurd (omega (arith, exact, past, same)))
+            more = [];
+            literal = l;
+            reads = subst (ReadsIn g l) (sym (append-nil (take more text))) reads;
+          }) in let exact = ends.exact in absurd (omega (arith, exact, past, same)))
           | inr low ↦ front.no_longer more (omega (arith, past, same)) inside l (opens_of (omega (arith, low)) l (take more text) reads)
         ];
       } where
@@ -369,13 +441,13 @@ module _ (g : Form) where
       -- A form whose closing is not behind its longest literal has no front.
       pub past_unclosed : 0 < c → (stop size : ℕ) → IsValidUpTo m rest stop → (l : Literal) → ReadsFront m l rest size
           → ((size ≡ stop) → IsOpened g.closing (drop size rest) → ⊥) → (least : ℕ) → NonePast text least g
-      past_unclosed some stop size valid l is open least more past inside k reads =
+      past_unclosed some stop size valid l is unclosed least more past inside k reads =
           let all = rest_size text g opened.within in let within = valid.within in
           elim (cases_lt size stop) [
             | inl short ↦ is.no_longer stop short within closed.literal closed.reads
-            | inr far ↦ open (omega (arith, far, most)) (subst (λ k. IsOpened g.closing (drop k rest))
-              (let same : stop ≡ size = omega (arith, far, most) in same) (subst (Begins g.closing (drop stop rest))
-              (let exact = closed.exact in let same : more - (n + stop) ≡ c = omega (arith, exact) in same) closed.closed))
+            | inr far ↦ unclosed (omega (arith, far, most)) (subst (λ k. IsOpened g.closing (drop k rest))
+                (let same : stop ≡ size = omega (arith, far, most) in same) (subst (Begins g.closing (drop stop rest))
+                (let exact = closed.exact in let same : more - (n + stop) ≡ c = omega (arith, exact) in same) closed.closed))
           ]
         where
           begins : BeginsBy (ReadsIn g) (take more text)
@@ -394,10 +466,10 @@ module _ (g : Form) where
           most : size ≤ stop
           most = elim (cases_lt stop size) [
             | inl more ↦ absurd (valid.no_longer size more is.within (record {
-                more = [];
-                literal = l;
-                reads = subst (Reads m l) (sym (append-nil (take size rest))) is.reads;
-              }))
+              more = [];
+              literal = l;
+              reads = subst (Reads m l) (sym (append-nil (take size rest))) is.reads;
+            }))
             | inr low ↦ low
           ]
 
@@ -410,8 +482,8 @@ module _ (g : Form) where
   same_end : (rest : List ℕ) (a k b l : ℕ) → LacksClosing g rest a k → LacksClosing g rest b l → a + k ≡ b + l
   same_end rest a k b l is other =
       let same = same_size rest a b is.valid other.valid in
-      let there = subst (λ i. IsOpenedTo g.closing (drop i rest) l) (sym same) other.closed in
-      let one = le_antisymm (one_opened g.closing (drop a rest) k l is.closed there) (one_opened g.closing (drop a rest) l k there is.closed) in
+      let there = subst (λ i. IsOpenedTo g.closing (drop i rest) l) (sym same) other.there in
+      let one = le_antisymm (one_opened g.closing (drop a rest) k l is.there there) (one_opened g.closing (drop a rest) l k there is.there) in
       omega (arith, same, one)
 
   -- An error is that of the syntax, or that the closing is not there, but not both.
@@ -422,7 +494,7 @@ module _ (g : Form) where
         | inl bare ↦ (let some = is.some in omega (arith, bare, some))
         | inr (inl none) ↦ none is.literal (subst (λ k. Reads m is.literal (take k rest)) same is.reads)
         | inr (inr alone) ↦ (let there = subst (λ k. IsOpenedTo g.closing (drop k rest) 0) (sym same) alone.0 in
-            let zero : closed ≡ 0 = let low = one_opened g.closing (drop size rest) closed 0 is.closed there in omega (arith, low) in
+            let zero : closed ≡ 0 = let low = one_opened g.closing (drop size rest) closed 0 is.there there in omega (arith, low) in
             false≢true (sym alone.1 ∙ is.stray zero kept.none error kept.refusal))
       ]
 
@@ -558,10 +630,13 @@ module _ (g : Form) where
     behind_of stop (inr (inr is)) past bare = absurd (let some = is.some in omega (arith, some, bare))
 
     -- Without marks, the syntax stops there.
+    same_stop : (stop : Stopped) → record stop { size = stop.size - 0 } ≡ stop
+    same_stop stop = ap (λ k. record stop { size = k }) (let same : stop.size - 0 ≡ stop.size = omega arith in same)
+
     pub plain_stopped : (stop : Stopped) → n ≡ 0 → c ≡ 0 → IsRefusedAt text stop g → IsStopped m text stop × NoLiteral m text
     plain_stopped stop none bare refused =
         let is = behind_of stop refused (omega (arith, none)) bare in (
-          subst (λ k. IsStopped m (drop k text) (record stop { size = stop.size - k })) none is.stopped,
+          subst (IsStopped m text) (same_stop stop) (subst (λ k. IsStopped m (drop k text) (record stop { size = stop.size - k })) none is.stopped),
           subst (λ k. NoLiteral m (drop k text)) none is.none,
         )
 
@@ -570,9 +645,21 @@ module _ (g : Form) where
       bare = bare;
       opened = record { within = omega (arith, none); each = λ index below. absurd (omega (arith, below, none)) };
       past = omega (arith, none);
-      stopped = subst (λ k. IsStopped m (drop k text) (record stop { size = stop.size - k })) (sym none) stopped;
+      stopped = subst (λ k. IsStopped m (drop k text) (record stop { size = stop.size - k })) (sym none)
+          (subst (IsStopped m text) (sym (same_stop stop)) stopped);
       none = subst (λ k. NoLiteral m (drop k text)) (sym none) refused;
     }))
+
+    pub plain_error : n ≡ 0 → c ≡ 0 → NoLiteral m text → (error : Refusal) → IsRefusal m text error → IsErrorIn g text 0 (Some error)
+    plain_error none bare refused error is = (
+      record { within = omega (arith, none); each = λ index below. absurd (omega (arith, below, none)) },
+      sym none,
+      record {
+        none = subst (λ k. NoLiteral m (drop k text)) (sym none) refused;
+        refusal = subst (λ k. IsRefusal m (drop k text) error) (sym none) is;
+        kept = inl bare;
+      },
+    )
 
     -- What `ending` finds is an error of the form.
     pub kept_in : IsOpened g.opening text → (error : Explained) → IsEnding g (behind g text) (Ok error) → IsErrorIn g text n (Some error.refusal)
@@ -668,4 +755,141 @@ module _ (g : Form) where
             closed = subst (IsOpened g.closing) end_is (subst (Begins g.closing closing)
                 (let most = there.inside in let same : closed ≡ c = omega (arith, most, all) in same) there.begins);
           };
+        }
+
+      -- The same of what the code finds there.
+      pub refused_behind : c ≡ 0 → (inner stop : Stopped) → IsStopped m rest inner → NoneBy (ReadsIn g) text
+          → stop ≡ record inner { size = opened + inner.size } → IsRefusedAt text stop g
+      refused_behind bare inner stop stopped none same =
+          let size : stop.size ≡ opened + inner.size = ap (λ (s : Stopped). s.size) same in
+          inr (inl (record {
+            bare = bare;
+            opened = opening_is;
+            past = omega (arith, size, whole);
+            stopped = subst (IsStopped m (behind g text)) (sym (ap (λ (s : Stopped). record s { size = s.size - n }) same
+                ∙ ap (λ k. record inner { size = k }) (let back : opened + inner.size - n ≡ inner.size = omega (arith, whole) in back)))
+                (subst (λ t. IsStopped m t inner) rest_is stopped);
+            none = λ l reads. none l (reads_of bare l text (record { opened = opening_is; reads = reads }));
+          }))
+
+      pub past_longer : (size most : ℕ) → most ≡ size - c - opened → NoFrontPast m rest most → NonePast text size g
+      past_longer size most same none = past_opened text size (past_behind text g (size - c)
+          (subst (λ t. NoFrontPast m t (size - c - n)) rest_is (subst (NoFrontPast m rest) (let is : most ≡ size - c - n = omega (arith, same, whole) in is) none)))
+
+      pub past_not_closed : 0 < c → (stop size : ℕ) → IsValidUpTo m rest stop → (l : Literal) → ReadsFront m l rest size
+          → ((size ≡ stop) → IsOpened g.closing (drop size rest) → ⊥) → (least : ℕ) → NonePast text least g
+      past_not_closed some stop size valid l is unclosed least = past_unclosed text opening_is some stop size (subst (λ t. IsValidUpTo m t stop) rest_is valid)
+          l (subst (λ t. ReadsFront m l t size) rest_is is) (λ same there. unclosed same (subst (λ t. IsOpened g.closing (drop size t)) (sym rest_is) there)) least
+
+      pub found_in : (inner : Found) → IsCountedFront m rest inner → IsOpened g.closing (drop inner.size rest)
+          → ((0 < c) → IsValidUpTo m rest inner.size) → (found : Found) → found ≡ record { size = opened + inner.size + c; counts = inner.counts }
+          → IsFrontIn text found g
+      found_in inner counted closed ends found is =
+          let size : found.size ≡ opened + inner.size + c = ap (λ (f : Found). f.size) is in
+          let back : found.size - (n + c) ≡ inner.size = omega (arith, size, whole) in
+          record {
+            opened = opening_is;
+            past = omega (arith, size, whole);
+            front = subst (λ t. IsCountedFront m t (record found { size = found.size - (n + c) })) rest_is
+                (subst (IsCountedFront m rest) (sym (ap (λ (f : Found). record f { size = f.size - (n + c) }) is
+                ∙ ap (λ k. record inner { size = k }) (sym (ap (λ (f : Found). f.size - (n + c)) is) ∙ back))) counted);
+            closed = subst (IsOpened g.closing) (ap (drop inner.size) rest_is ∙ drop-drop inner.size n text
+                ∙ ap (λ k. drop k text) (let same : n + inner.size ≡ found.size - c = omega (arith, size, whole) in same)) closed;
+            ends = λ some. subst (IsValidUpTo m (behind g text)) (sym back) (subst (λ t. IsValidUpTo m t inner.size) rest_is (ends some));
+          }
+
+    -- What the code takes out of a front.
+    pub inner_is : (found : Found) → IsFrontIn text found g → (front inside : List ℕ) → front ≡ take found.size text
+        → inside ≡ drop n (take (length front - c) front) → inside ≡ take (found.size - (n + c)) (behind g text)
+    inner_is found is front inside front_is inside_is =
+        let within = (front_in found is).within in let past = is.past in
+        let size : length front ≡ found.size = ap length front_is ∙ length-take-le found.size text within in
+        inside_is ∙ ap (λ k. drop n (take (k - c) front)) size ∙ ap (λ xs. drop n (take (found.size - c) xs)) front_is
+        ∙ ap (drop n) (take-take (found.size - c) found.size text (omega arith)) ∙ behind_take n (found.size - c) text (omega (arith, past))
+        ∙ ap (λ k. take k (behind g text)) (let same : found.size - c - n ≡ found.size - (n + c) = omega arith in same)
+
+    -- The first byte is not that of the opening.
+    pub none_excluded : (byte : ℕ) → byte ≡ get_or text 0 0 → (0 < n) × (spells g.opening 0 byte ≡ false) → NoneBy (ReadsIn g) text
+    none_excluded byte same is l reads = false≢true (sym is.1 ∙ ap (spells g.opening 0) same ∙ (reads_opened l text reads).each 0 is.0)
+
+  kept_reach : (n v : ℕ) (b : Bool) → 2 * n + (2 * v + (if b then 0 else 1)) ≡ 2 * (n + v) + (if b then 0 else 1)
+  kept_reach n v true = omega arith
+  kept_reach n v false = omega arith
+
+  pub reach_kept : (right : ℕ) (error : Refusal) (b : Bool) → b ≡ is_stray error
+      → reach_in right (Some error) ≡ 2 * right_in right (Some error) + (if b then 0 else 1)
+  reach_kept right error b is = subst (λ b. reach_in right (Some error) ≡ 2 * (right + error.valid_up_to) + (if b then 0 else 1)) (sym is)
+      (kept_reach right error.valid_up_to (is_stray error))
+
+  -- WHERE THE SYNTAX STOPS
+
+  module _ (rest : List ℕ) (stop : Stopped) (found : Option Found) (front : IsFronted m rest stop found) where
+    literal_within : (l : Literal) (size : ℕ) → size ≤ length rest → Reads m l (take size rest) → size ≤ stop.size
+    literal_within l size inside reads = elim (cases_lt stop.size size) [
+      | inl more ↦ absurd (front.reached.valid.no_longer size more inside
+          (record { more = []; literal = l; reads = subst (Reads m l) (sym (append-nil (take size rest))) reads }))
+      | inr low ↦ low
+    ]
+
+    -- The longest front that is a literal does not end there.
+    pub not_at : IfSome found (λ it. it.size ≡ stop.size → ⊥) → NoLiteral m (take stop.size rest)
+    not_at other l reads = go found refl other where
+      go : (it : Option Found) → found ≡ it → IfSome it (λ it. it.size ≡ stop.size → ⊥) → ⊥
+      go None is other = front.none (subst IsNone (sym is) refl) stop.size front.reached.valid.within l reads
+      go (Some it) is other =
+          let counted = front.longest it is in
+          let most = literal_within counted.literal it.size counted.reads.within counted.reads.reads in
+          elim (cases_lt it.size stop.size) [
+            | inl short ↦ counted.reads.no_longer stop.size short front.reached.valid.within l reads
+            | inr far ↦ other (omega (arith, most, far))
+          ]
+
+    -- It does.
+    pub at : IsSomeAnd found (λ it. it.size ≡ stop.size) → (l : Literal) × Reads m l (take stop.size rest)
+    at here = go found refl here where
+      go : (it : Option Found) → found ≡ it → IsSomeAnd it (λ it. it.size ≡ stop.size) → (l : Literal) × Reads m l (take stop.size rest)
+      go None is here = absurd here
+      go (Some it) is here = let counted = front.longest it is in
+          (counted.literal, subst (λ k. Reads m counted.literal (take k rest)) here counted.reads.reads)
+
+    pub none_short : stop.size < length rest → NoLiteral m rest
+    none_short short l reads = let most = literal_within l (length rest) (omega arith)
+        (subst (Reads m l) (sym (take_all (length rest) rest (omega arith))) reads) in omega (arith, most, short)
+
+    pub none_not : NoLiteral m (take stop.size rest) → NoLiteral m rest
+    none_not none l reads = elim (cases_lt stop.size (length rest)) [
+      | inl short ↦ none_short short l reads
+      | inr far ↦ none l (subst (Reads m l) (sym (take_all stop.size rest far)) reads)
+    ]
+
+    pub keeps_not : NoLiteral m (take stop.size rest) → (error : Refusal) → IsRefusal m rest error → KeepsError g rest error
+    keeps_not none error refusal = record {
+      none = none_not none;
+      refusal = refusal;
+      kept = inr (inl (subst (λ k. NoLiteral m (take k rest))
+          (same_size rest stop.size error.valid_up_to front.reached.valid refusal.valid_up_to) none));
+    }
+
+    -- The closing is not there.
+    pub lacks_closing : 0 < c → IsSomeAnd found (λ it. it.size ≡ stop.size) → (closed : ℕ) → IsOpenedTo g.closing (drop stop.size rest) closed
+        → ((closed ≡ 0) → NoLiteral m rest → (error : Refusal) → IsRefusal m rest error → is_stray error ≡ true) → LacksClosing g rest stop.size closed
+    lacks_closing some here closed there stray = record {
+      some = some;
+      valid = front.reached.valid;
+      literal = (at here).0;
+      reads = (at here).1;
+      there = there;
+      stray = stray;
+    }
+
+    pub whole_literal : IsSomeAnd found (λ it. it.size ≡ stop.size) → stop.size ≡ length rest → NoLiteral m rest → ⊥
+    whole_literal here all none = none (at here).0 (subst (Reads m (at here).0) (take_all stop.size rest (omega (arith, all))) (at here).1)
+
+    pub not_stray : (error : Refusal) → IsRefusal m rest error → NoLiteral m rest → (closed : ℕ) → closed ≡ 0
+        → IsOpenedTo g.closing (drop stop.size rest) closed → is_stray error ≡ false → KeepsError g rest error
+    not_stray error refusal none closed zero there fails =
+        let same = same_size rest stop.size error.valid_up_to front.reached.valid refusal.valid_up_to in record {
+          none = none;
+          refusal = refusal;
+          kept = inr (inr (subst (λ k. IsOpenedTo g.closing (drop k rest) 0) same (subst (IsOpenedTo g.closing (drop stop.size rest)) zero there), fails));
         }

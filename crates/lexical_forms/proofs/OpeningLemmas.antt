@@ -136,7 +136,7 @@ behind_more n size text more less within =
     let same = length-take-le size text within in
     drop-append-le n (take size text) more (omega (arith, same, less)) ∙ ap (λ xs. xs ++ more) (behind_take n size text less)
 
-reach_within : (error : Refusal) → (2 * error.valid_up_to ≤ reach error) × (reach error ≤ 2 * error.valid_up_to + 1)
+pub reach_within : (error : Refusal) → (2 * error.valid_up_to ≤ reach error) × (reach error ≤ 2 * error.valid_up_to + 1)
 reach_within error = bit_within (2 * error.valid_up_to) 0 1 (is_stray error) (omega arith) (omega arith)
 
 module _ (text : List ℕ) (g : Form) where
@@ -222,8 +222,8 @@ module _ (text : List ℕ) (g : Form) where
           opened = subst (λ t. Begins g.opening t n) (append-nil (take size text)) (begins_front g.opening text n size [] past within opened);
           reads = subst (Reads m l) (sym (behind_take n size text past)) is.reads;
         };
-        no_longer = λ more past inside l reads. is.no_longer (more - n) (omega (arith, past)) (omega (arith, all, inside)) l
-            (subst (Reads m l) (behind_take n more text (omega (arith, past))) reads.reads);
+        no_longer = λ more longer inside l reads. is.no_longer (more - n) (omega (arith, longer, past)) (omega (arith, all, inside)) l
+            (subst (Reads m l) (behind_take n more text (omega (arith, longer, past))) reads.reads);
       }
 
   -- If no longer one is behind the opening, none is a literal.

@@ -1,5 +1,5 @@
 -- The forms of numbers, and the spellings of special values, as contracts see them.
-use Rattle.std.specs.Prelude.{◌≡◌, ◌==◌, ◌||◌, not, Bool, false, List, None, Option, Some}
+use Rattle.std.specs.Prelude.{◌==◌, ◌||◌, not, Bool, List, None, Option, Some}
 use Rattle.std.specs.Borrow.{Bor}
 use Rattle.std.specs.List.{list_any}
 use Rattle.lexical_forms.specs.declared.form.Form.{Form}
@@ -13,11 +13,10 @@ pub record FormList : Type 0 where
   pub specials : Specials
   pub tokens : Option (Bor Tokens)
 
--- `have_marks forms` is true if one of `forms` has an opening or a closing. `ArePlain forms tokens` holds if none of `forms` has one, and none of those
--- of `tokens`, if there are any.
+-- `have_marks forms` is true if one of `forms` has an opening or a closing, and `are_marked forms tokens` if one of them or of those of `tokens` has.
 abbrev pub have_marks : List Form → Bool
 have_marks forms = list_any (λ (form : Form). not (form.opening.size == 0) || not (form.closing.size == 0)) forms
 
-abbrev pub ArePlain : List Form → Option (Bor Tokens) → Type 0
-ArePlain forms None = have_marks forms ≡ false
-ArePlain forms (Some t) = (have_marks forms ≡ false) × (have_marks t.now.forms.now ≡ false)
+abbrev pub are_marked : List Form → Option (Bor Tokens) → Bool
+are_marked forms None = have_marks forms
+are_marked forms (Some t) = have_marks forms || have_marks t.now.forms.now

@@ -46,7 +46,7 @@ pub record LacksClosing (form : Form) (rest : List ℕ) (size closed : ℕ) : Ty
   pub valid : IsValidUpTo (notation_of form.syntax) rest size
   pub literal : Literal
   pub reads : Reads (notation_of form.syntax) literal (take size rest)
-  pub closed : IsOpenedTo form.closing (drop size rest) closed
+  pub there : IsOpenedTo form.closing (drop size rest) closed
   pub stray : (closed ≡ 0) → NoLiteral (notation_of form.syntax) rest → (error : Refusal) → IsRefusal (notation_of form.syntax) rest error
       → is_stray error ≡ true
 

@@ -1,6 +1,6 @@
 //! What stands before and behind the literals of a form, such as `16#` and `#`.
 
-ghost use Rattle.std.specs.Prelude.{◌≤◌, length};
+ghost use Rattle.std.specs.Prelude.{◌≡◌, ◌<◌, ◌≤◌, ◌↔◌, All, length, true};
 
 use lexical_literal::cause::other_case;
 
@@ -34,7 +34,7 @@ pub struct Affix {
 }
 
 impl Affix {
-    ghost use Rattle.std.specs.Prelude.{ℕ, ◌≡◌, ◌==◌, ◌<◌, ◌≤◌, ◌↔◌, All, IfSome, IsSome, IsTrue, false, get_or, length, true};
+    ghost use Rattle.std.specs.Prelude.{ℕ, ◌==◌, IfSome, IsSome, IsTrue, false, get_or};
     ghost use Rattle.lexical_forms.specs.Affix.{IsOpenedTo, spelling, spells};
     ghost use Rattle.lexical_util.specs.Roles.{other_case};
 

@@ -1,6 +1,6 @@
 //! A form of numbers.
 
-ghost use Rattle.std.specs.Prelude.{◌≡◌, ◌==◌, ◌||◌, None, Some, SomeIff, false, not, true};
+ghost use Rattle.std.specs.Prelude.{◌≡◌, ◌==◌, ◌||◌, ◌↔◌, IfSome, IsSome, None, Some, false, not, true};
 ghost use Rattle.lexical_forms.specs.Affix.{may_close};
 ghost use Rattle.lexical_literal.specs.Read.{exact};
 ghost use Rattle.lexical_literal.specs.Notation.{notation_of};
@@ -69,7 +69,11 @@ impl Form {
     /// with its 0 or suffix.
     #[must_use]
     pub const fn with_closing(&self, closing: Affix) -> Option<Form>
-        ensures { SomeIff result (may_close (notation_of self.now.syntax) closing ≡ true) (record self.now { closing = closing }) }
+        ensures some { IsSome result ↔ (may_close (notation_of self.now.syntax) closing ≡ true) }
+        ensures closing { IfSome result (λ form. form.closing ≡ closing) }
+        ensures names { IfSome result (λ form. (form.name ≡ self.now.name) × (form.opening ≡ self.now.opening) × (form.syntax ≡ self.now.syntax)) }
+        ensures others { IfSome result (λ form.
+            (form.suffixes ≡ self.now.suffixes) × (form.kind ≡ self.now.kind) × (form.only_read ≡ self.now.only_read)) }
     {
         if may_close(self.syntax.grammar(), closing) {
             Some(Form {
@@ -89,7 +93,11 @@ impl Form {
     /// Returns the same form with the suffixes that its tokens may have.
     #[must_use]
     pub const fn with_suffixes(&self, suffixes: &'static Suffixes) -> Form
-        ensures { result ≡ record self.now { suffixes = Some suffixes.entry } }
+        ensures suffixes { result.suffixes ≡ Some suffixes.entry }
+        ensures name { result.name ≡ self.now.name }
+        ensures marks { (result.opening ≡ self.now.opening) × (result.closing ≡ self.now.closing) }
+        ensures syntax { result.syntax ≡ self.now.syntax }
+        ensures others { (result.kind ≡ self.now.kind) × (result.only_read ≡ self.now.only_read) }
     {
         Form {
             name: self.name,
@@ -190,9 +198,10 @@ impl Form {
         self.syntax
     }
 
-    // Returns whether there is an opening or a closing.
+    /// Returns whether there is an opening or a closing.
+    #[must_use]
     #[inline(always)]
-    pub(crate) const fn is_marked(&self) -> bool
+    pub const fn is_marked(&self) -> bool
         ensures { result ≡ (not (self.now.opening.size == 0) || not (self.now.closing.size == 0)) }
     {
         !self.opening.is_empty() || !self.closing.is_empty()

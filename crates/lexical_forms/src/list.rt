@@ -1,7 +1,7 @@
 //! Numbers that have several forms, such as `10`, `0x1F` and `0b1`.
 
 ghost use Rattle.std.specs.Prelude.{ℕ, ◌≡◌, ◌<◌, ◌≤◌, ◌+◌, ◌-◌, ◌*◌, IfSome, IsNone, IsSomeAnd, IsTrue, None, Some, SomeIff};
-ghost use Rattle.std.specs.Prelude.{false, if◌then◌else◌, length, slice_get};
+ghost use Rattle.std.specs.Prelude.{false, get_or, if◌then◌else◌, length, slice_get};
 ghost use Rattle.lexical_forms.specs.Additions.Forms.{IsBehind, IsFoundForm, IsFoundFrontForm, IsLed, IsLongestPast, IsRefusedAt};
 ghost use Rattle.lexical_forms.specs.Additions.Forms.{Leads, sign_size};
 ghost use Rattle.lexical_forms.specs.FormList.{have_marks};
@@ -15,7 +15,7 @@ use crate::form::Form;
 use crate::specials::{Special, Specials};
 use lexical_literal::cause::{ReadError, other_case};
 use lexical_literal::literal::Literal;
-use lexical_literal::stop::{Found, Stopped, byte_at};
+use lexical_literal::stop::{Found, Stopped};
 use lexical_literal::syntax::Grammar;
 use std::marker::Model;
 
@@ -83,14 +83,14 @@ pub struct Forms<'a> {
 }
 
 impl<'a> Model for Forms<'a> {
-    ghost use Rattle.std.specs.Prelude.{◌≡◌, ◌<◌, false, length};
-    ghost use Rattle.lexical_forms.specs.FormList.{ArePlain, FormList};
+    ghost use Rattle.std.specs.Prelude.{◌≡◌, ◌<◌, length};
+    ghost use Rattle.lexical_forms.specs.FormList.{FormList, are_marked};
 
     ghost Value = { FormList };
 
     ghost view = { λ it. record { forms = it.forms.now; specials = it.specials; tokens = it.tokens } };
 
-    ghost invariant = { λ it. (0 < length it.forms.now) × (it.marked ≡ false → ArePlain it.forms.now it.tokens) };
+    ghost invariant = { λ it. (0 < length it.forms.now) × (it.marked ≡ are_marked it.forms.now it.tokens) };
 }
 
 /// A number that has one of several forms.
@@ -220,7 +220,7 @@ impl<'a> Forms<'a> {
     pub const fn with_tokens(self, tokens: &'a Tokens) -> Forms<'a>
         ensures { result ≡ record self.entry { tokens = Some tokens.entry } }
     {
-        let marked = self.marked || have_marks(tokens.forms);
+        let marked = have_marks(self.forms) || have_marks(tokens.forms);
         Forms {
             tokens: Some(tokens),
             marked,
@@ -319,9 +319,7 @@ impl<'a> Forms<'a> {
                 let Found { size, counts } = found;
                 let it = &self.as_slice()[form];
                 let (front, rest) = text.split_at(size);
-                let (front, _) = front.split_at(size - it.closing.size());
-                let (_, inside) = front.split_at(it.opening.size());
-                let literal = self.of_form(form, it.syntax.summed(inside, counts));
+                let literal = self.of_form(form, it.syntax.summed(it.inner(front), counts));
                 Ok((Number::Literal { literal, form }, rest))
             }
             Err(error) => Err(error),
@@ -353,18 +351,12 @@ impl<'a> Forms<'a> {
     pub(crate) fn find_marked<'t>(&self, text: &'t [u8]) -> Result<(usize, Literal<'t>), Furthest>
         ensures { IsFoundForm self.now.forms text.now result }
     {
-        let byte = match byte_at(text, 0) {
-            None => 0,
-            Some(byte) => byte,
-        };
+        let byte = first_of(text);
         let other = other_case(byte);
         let mut form = 0;
         while form < self.forms.len() {
-            let it = &self.forms[form];
-            if !it.opening.excludes(byte, other) {
-                if let Some(literal) = it.literal(text) {
-                    return Ok((form, literal));
-                }
+            if let Some(literal) = self.forms[form].literal_from(byte, other, text) {
+                return Ok((form, literal));
             }
             form += 1;
         }
@@ -585,8 +577,18 @@ impl<'a> Forms<'a> {
     }
 }
 
+// Returns the first byte of `text`, or 0 if there is none.
+const fn first_of(text: &[u8]) -> u8
+    ensures { result ≡ get_or text.now 0 0 }
+{
+    match text {
+        [first, ..] => *first,
+        [] => 0,
+    }
+}
+
 // Returns whether a form has an opening or a closing.
-pub(crate) const fn have_marks(forms: &[Form]) -> bool
+const fn have_marks(forms: &[Form]) -> bool
     ensures { result ≡ have_marks forms.now }
 {
     let mut form = 0;

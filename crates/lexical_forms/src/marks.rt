@@ -1,11 +1,13 @@
 //! Forms with an opening and a closing: what a syntax reads between them.
 
-ghost use Rattle.std.specs.Prelude.{ℕ, ◌≡◌, ◌<◌, ◌≤◌, ◌+◌, ◌-◌, ◌*◌, IfSome, IsNone, IsSomeAnd, IsTrue, drop, false, if◌then◌else◌, length};
+ghost use Rattle.std.specs.Prelude.{ℕ, ◌≡◌, ◌<◌, ◌≤◌, ◌+◌, ◌-◌, ◌*◌, IfSome, IsNone, IsSomeAnd, IsTrue, None, drop, false, get_or};
+ghost use Rattle.std.specs.Prelude.{if◌then◌else◌, length, take};
 ghost use Rattle.lexical_forms.specs.Additions.Forms.{IsBetween, IsEnding, IsFrontIn, IsRefusedAt, NonePast};
 ghost use Rattle.lexical_forms.specs.Affix.{IsOpened};
-ghost use Rattle.lexical_forms.specs.Forms.{IsErrorOfForm, IsUnmarked, Reaches, ReadsForm, ReadsIn};
+ghost use Rattle.lexical_forms.specs.Forms.{IsErrorIn, IsErrorOfForm, IsUnmarked, Reaches, ReadsForm, ReadsIn};
 ghost use Rattle.lexical_literal.specs.Additions.Stop.{IsStopped};
-ghost use Rattle.lexical_literal.specs.Cause.{is_stray};
+ghost use Rattle.lexical_literal.specs.Cause.{IsRefusal, is_stray};
+ghost use Rattle.lexical_util.specs.Roles.{other_case};
 ghost use Rattle.lexical_literal.specs.Front.{NoLiteral, NoneBy};
 ghost use Rattle.lexical_literal.specs.Notation.{notation_of};
 
@@ -19,6 +21,25 @@ use lexical_literal::stop::{BEGIN, Found, Stopped, byte_at, tail_at};
 use lexical_literal::syntax::Condition;
 
 impl Form {
+    // Returns the literal that `text` is, if it is one. Its first byte is `byte`, whose other case is `other`.
+    #[inline(always)]
+    pub(crate) fn literal_from<'t>(
+        &self,
+        byte: u8,
+        other: u8,
+        text: &'t [u8],
+    ) -> Option<Literal<'t>>
+        requires byte { byte ≡ get_or text.now 0 0 }
+        requires other { other ≡ other_case byte }
+        ensures none { IsNone result → NoneBy (ReadsIn self.now) text.now }
+        ensures some { IfSome result (λ it. ReadsForm text.now it self.now) }
+    {
+        if self.opening.excludes(byte, other) {
+            return None;
+        }
+        self.literal(text)
+    }
+
     // Returns the literal that `text` is, if it is one.
     #[inline(always)]
     pub(crate) fn literal<'t>(&self, text: &'t [u8]) -> Option<Literal<'t>>
@@ -64,6 +85,17 @@ impl Form {
         Some(inside)
     }
 
+    // Returns what is between the opening and the closing of `text`, which has both.
+    #[inline(always)]
+    pub(crate) fn inner<'t>(&self, text: &'t [u8]) -> &'t [u8]
+        requires { self.now.opening.size + self.now.closing.size ≤ length text.now }
+        ensures { result.now ≡ drop self.now.opening.size (take (length text.now - self.now.closing.size) text.now) }
+    {
+        let (front, _) = text.split_at(text.len() - self.closing.size());
+        let (_, inside) = front.split_at(self.opening.size());
+        inside
+    }
+
     // Returns the longest front of `text` that is a literal, if it has more than `size` bytes.
     #[inline(always)]
     pub(crate) fn front_past(&self, text: &[u8], size: usize) -> Option<Found>
@@ -82,7 +114,10 @@ impl Form {
         let Some(found) = found else {
             return None;
         };
-        if found.size <= least || !self.closes(rest, stop, found) {
+        if found.size <= least {
+            return None;
+        }
+        if !self.closes(rest, stop, found) {
             return None;
         }
         let Found { size, counts } = found;
@@ -174,10 +209,8 @@ impl Form {
         if self.is_marked() {
             return self.refuse_marked(text, form, stop);
         }
-        let syntax = self.syntax();
-        let Err(error) = stop.refuse::<()>(&syntax, text) else {
-            unreachable!()
-        };
+        let error = self.error_of(text, stop);
+        let _syntax = self.syntax();
         literal_facts();
         FormError {
             form,
@@ -195,28 +228,59 @@ impl Form {
         ensures error { IsErrorOfForm text.now result self.now }
     {
         let opened = self.opening.size();
-        let (right, error) = if stop.size < opened {
-            (
-                stop.size,
-                Err(self.unmarked(text, stop.size, Mark::Opening)),
-            )
-        } else {
-            let (_, rest) = text.split_at(opened);
-            match self.refusal(rest, stop.at(stop.size - opened)) {
-                Ok(error) => (opened, Ok(error)),
-                Err(it) => {
-                    let right = opened + it.size + it.closed;
-                    (right, Err(self.unmarked(text, right, self.mark(it.closed))))
+        if stop.size < opened {
+            return self.lacks(text, form, stop.size, Mark::Opening);
+        }
+        let (_, rest) = text.split_at(opened);
+        match self.refusal(rest, stop.at(stop.size - opened)) {
+            Ok(error) => {
+                let _syntax = self.syntax();
+                literal_facts();
+                FormError {
+                    form,
+                    name: self.name,
+                    opened,
+                    error: Ok(error),
                 }
             }
-        };
+            Err(it) => self.lacks(
+                text,
+                form,
+                opened + it.size + it.closed,
+                self.mark(it.closed),
+            ),
+        }
+    }
+
+    // Returns that `mark` is not there behind the first `size` bytes of `text`.
+    fn lacks(&self, text: &[u8], form: usize, size: usize, mark: Mark) -> FormError
+        requires within { size ≤ length text.now }
+        requires error { IsErrorIn self.now text.now size None }
+        ensures form { result.form ≡ form }
+        ensures error { IsErrorOfForm text.now result self.now }
+    {
+        let it = self.unmarked(text, size, mark);
+        let _syntax = self.syntax();
         literal_facts();
         FormError {
             form,
             name: self.name,
-            opened: right,
-            error,
+            opened: size,
+            error: Err(it),
         }
+    }
+
+    // Returns why `text` is not a literal of the syntax, which stops at `stop`.
+    #[inline(always)]
+    fn error_of(&self, text: &[u8], stop: Stopped) -> ReadError
+        requires stopped { IsStopped (notation_of self.now.syntax) text.now stop }
+        requires refused { NoLiteral (notation_of self.now.syntax) text.now }
+        ensures { IsRefusal (notation_of self.now.syntax) text.now result.refusal }
+    {
+        let Err(error) = stop.refuse::<()>(&self.syntax, text) else {
+            unreachable!()
+        };
+        error
     }
 
     // Returns why `rest`, which is behind the opening, is not a literal of the syntax, which stops at `stop` if there is no closing, or where the
@@ -229,10 +293,7 @@ impl Form {
         if !self.closing.is_empty() {
             return self.ending(rest);
         }
-        let Err(error) = stop.refuse::<()>(&self.syntax, rest) else {
-            unreachable!()
-        };
-        Ok(error)
+        Ok(self.error_of(rest, stop))
     }
 
     // Returns the same for a form with a closing. It is not there if what is before is a literal, and the syntax knows no more than that a byte is
@@ -244,20 +305,18 @@ impl Form {
         let (stop, found) = self.syntax.front(rest);
         let size = stop.size;
         if !is_at(found, size) {
-            let Err(error) = stop.refuse::<()>(&self.syntax, rest) else {
-                unreachable!()
-            };
-            return Ok(error);
+            return Ok(self.error_of(rest, stop));
         }
         let (_, closing) = rest.split_at(size);
         let closed = self.closing.opened(closing);
         let unclosed = Unclosed { size, closed };
-        if closed > 0 || closing.is_empty() {
+        if closed > 0 {
             return Err(unclosed);
         }
-        let Err(error) = stop.refuse::<()>(&self.syntax, rest) else {
-            unreachable!()
-        };
+        if size == rest.len() {
+            return Err(unclosed);
+        }
+        let error = self.error_of(rest, stop);
         if is_stray(&error) {
             Err(unclosed)
         } else {

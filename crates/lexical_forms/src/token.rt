@@ -12,7 +12,7 @@ ghost use Rattle.lexical_forms.specs.Additions.Token.{goes_on};
 ghost use Rattle.lexical_forms.specs.Additions.Token.{has_float, suffixed, whole};
 ghost use Rattle.lexical_literal.specs.Cause.{is_in};
 ghost use Rattle.lexical_literal.specs.Notation.{notation_of};
-ghost use Rattle.lexical_forms.specs.FormList.{ArePlain};
+ghost use Rattle.lexical_forms.specs.FormList.{are_marked};
 ghost use Rattle.lexical_forms.specs.Suffix.{is_digit, kind_with, stop_end};
 ghost use Rattle.lexical_forms.specs.Token.{HasNone, IsAhead, IsReadByTokens, IsToken, IsTokenError, IsRefused, IsWordUpTo, NoCandidate, gives_back};
 ghost use Rattle.lexical_forms.specs.Token.{ReadsSyntax, is_shorter};
@@ -118,7 +118,7 @@ impl<'a> Forms<'a> {
     /// or if the word behind the number is not a suffix of its form, returns why.
     pub fn token<'t>(&self, text: &'t [u8]) -> Result<Token<'t>, TokenError>
         // That of a list in which a form has an opening or a closing is not stated.
-        ensures { ArePlain self.now.forms self.now.tokens → IsReadByTokens self.now self.now.tokens text.now result }
+        ensures { are_marked self.now.forms self.now.tokens ≡ false → IsReadByTokens self.now self.now.tokens text.now result }
     {
         let Some(tokens) = self.tokens else {
             return Err(TokenError::NoTokens);
@@ -350,6 +350,7 @@ fn are_past(forms: &[Form], but: usize, back: bool, text: &[u8], size: usize) ->
 pub(crate) const fn larger(one: usize, other: usize) -> usize
     ensures one { one ≤ result }
     ensures other { other ≤ result }
+    ensures least { (n : ℕ) → one ≤ n → other ≤ n → result ≤ n }
 {
     if one < other { other } else { one }
 }

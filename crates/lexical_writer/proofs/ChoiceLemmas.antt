@@ -8,7 +8,7 @@ use Rattle.std.specs.Float.{Float, Format, binary64}
 use Rattle.std.specs.Float.Ieee.{round}
 use Rattle.std.specs.Prelude.{negsuc, option_map, pos}
 use Rattle.std.proofs.lemmas.List.{length-take-le}
-use Rattle.lexical_forms.proofs.OpeningLemmas.{plain_in}
+use Rattle.lexical_forms.proofs.MarkLemmas.{plain_in}
 use Rattle.lexical_forms.specs.Forms.{HasKind, IsFirst, NoForm}
 use Rattle.lexical_literal.specs.Read.{exact, mantissa}
 use Rattle.lexical_value.proofs.KindLemmas.{exact_float, limited_worth}
@@ -148,13 +148,13 @@ kept_whole negative size g read word whole kept has =
 
 -- What is written by the first form of a list is its first literal.
 pub first_reads : (forms : List Form) (form : Form) (text : List ℕ) (l : Literal) (index : ℕ) → slice_get forms index ≡ Some form → index ≡ 0
-    → length form.opening.bytes.now ≡ 0 → Reads (notation_of form.syntax) l text
+    → (form.opening.size ≡ 0) × (form.closing.size ≡ 0) → Reads (notation_of form.syntax) l text
     → IsFirst forms text index (record { format = form.syntax.word; literal = l; kind = form.kind })
     × HasKind forms index (record { format = form.syntax.word; literal = l; kind = form.kind })
 first_reads forms form text l index here first none reads =
     let read : Read = record { format = form.syntax.word; literal = l; kind = form.kind } in (
       record {
-        reads = subst (λ o. IsSomeAnd o (ReadsForm text read)) (sym here) (refl, plain_in text form none l reads);
+        reads = subst (λ o. IsSomeAnd o (ReadsForm text read)) (sym here) (refl, plain_in form text none.0 none.1 l reads);
         before = subst (λ n. NoForm (take n forms) text) (sym first) (λ k d below. absurd (omega (arith, below, length-take-le 0 forms (omega arith))));
       },
       subst (λ o. IsSomeAnd o (λ (form : Form). read.kind ≡ form.kind)) (sym here) refl,

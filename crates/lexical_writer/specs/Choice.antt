@@ -5,7 +5,7 @@ use Rattle.std.specs.Float.{Float, Format, binary64}
 use lib.Ieee.Exact.{HasValue as HasFraction}
 use Rattle.lexical_util.specs.Layout as layout
 use Rattle.lexical_util.specs.Record.{Record, bytes_of, raw}
-use Rattle.lexical_forms.specs.FormList.{FormList}
+use Rattle.lexical_forms.specs.FormList.{FormList, are_marked}
 use Rattle.lexical_forms.specs.Forms.{HasKind, IsFirst}
 use Rattle.lexical_forms.specs.Token.{IsReadByTokens}
 use Rattle.lexical_forms.specs.declared.token.Token.{Token}
@@ -112,9 +112,11 @@ IsStyleOf integer style it = (it ≡ style) ⊎ (((integer ≡ true) × (it ≡ 
 abbrev pub IsReadBack : FormList → List ℕ → (Read → Type 0) → Type 0
 IsReadBack list text P = (read : Read) × (form : ℕ) × IsFirst list.forms text form read × HasKind list.forms form read × P read
 
--- `IsTokenOf list word text P` holds if all of `text` is a token of the list with the suffix `word`, and if `P` holds of its literal.
+-- `IsTokenOf list word text P` holds if all of `text` is a token with the suffix `word`, and if `P` holds of its literal. In a list without openings
+-- and closings, it is the token of the list.
 abbrev pub IsTokenOf : FormList → List ℕ → List ℕ → (Read → Type 0) → Type 0
-IsTokenOf list word text P = (token : Token) × IsReadByTokens list list.tokens text (Ok token) × (token.suffix.now ≡ word)
+IsTokenOf list word text P = (token : Token)
+    × (are_marked list.forms list.tokens ≡ false → IsReadByTokens list list.tokens text (Ok token)) × (token.suffix.now ≡ word)
     × (token.rest.now ≡ []) × P token.literal
 
 -- `IsReadWith list word text P` holds if the list reads `text` as a literal or, with a `word`, as a token that has this suffix, and if `P` holds

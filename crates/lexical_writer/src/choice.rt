@@ -531,6 +531,7 @@ pub fn choose<N: Writable>(
                 let syntax = form.syntax();
                 if turn(number.radix(), integer, &syntax) != wanted
                     || !is_asked(part, all, &syntax)
+                    || form.is_only_read()
                 {
                     continue;
                 }
@@ -693,8 +694,8 @@ fn write_words<N: Writable>(
     Err(WriteError::ReadBack)
 }
 
-// Writes a number by one form with its opening, and with a word behind it if there is one, and returns the length of the text, or why it
-// is not used.
+// Writes a number by one form with its opening and its closing, and a word behind it if there is one, and returns the length of the text, or
+// why it is not used.
 fn write_around<N: Writable>(
     forms: &Forms,
     index: usize,
@@ -708,13 +709,14 @@ fn write_around<N: Writable>(
     ensures length { IfOk result (λ size. size ≤ length buffer.new) }
 {
     let it = &forms.as_slice()[index];
-    let opening = it.opening();
+    let (opening, closing) = (it.opening(), it.closing());
     let start = put_at(buffer, 0, opening.as_bytes());
     let least = start.min(buffer.len());
     let (size, _) = number.write(&it.syntax(), style, &mut buffer[least..])?;
+    let end = put_at(buffer, start.saturating_add(size), closing.as_bytes());
     let end = match word {
-        Some(word) => put_at(buffer, start.saturating_add(size), word),
-        None => start.saturating_add(size),
+        Some(word) => put_at(buffer, end, word),
+        None => end,
     };
     // A text that is longer than a `usize` has the size `usize::MAX`.
     if end == usize::MAX || end > buffer.len() {
@@ -794,7 +796,7 @@ fn write_by<N: Writable>(
     ensures length { IfOk result (λ size. size ≤ length buffer.new) }
 {
     let it = &forms.as_slice()[index];
-    if !it.opening().is_empty() {
+    if it.is_marked() {
         return write_around(forms, index, number, style, None, buffer);
     }
     let syntax = it.syntax();

@@ -154,9 +154,10 @@ impl Form {
         self.syntax
     }
 
-    // Returns whether there is an opening or a closing.
+    /// Returns whether there is an opening or a closing.
+    #[must_use]
     #[inline(always)]
-    pub(crate) const fn is_marked(&self) -> bool {
+    pub const fn is_marked(&self) -> bool {
         !self.opening.is_empty() || !self.closing.is_empty()
     }
 }

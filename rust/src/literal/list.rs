@@ -8,7 +8,7 @@ use crate::literal::exclude::{excludes, has_letter_behind_zero, is_settled, sign
 use crate::literal::form::Form;
 use crate::literal::literal::Literal;
 use crate::literal::specials::{Special, Specials};
-use crate::literal::stop::{byte_at, Found, Stopped};
+use crate::literal::stop::{Found, Stopped};
 use crate::literal::syntax::Grammar;
 
 /// How numbers end in the middle of source text: forms that need a suffix, which no call but [`Forms::token`] takes, words that may
@@ -168,7 +168,7 @@ impl<'a> Forms<'a> {
     /// Returns the same forms with rules for tokens, without which there are none.
     #[must_use]
     pub const fn with_tokens(self, tokens: &'a Tokens) -> Forms<'a> {
-        let marked = self.marked || have_marks(tokens.forms);
+        let marked = have_marks(self.forms) || have_marks(tokens.forms);
         Forms { tokens: Some(tokens), marked, ..self }
     }
 
@@ -242,9 +242,7 @@ impl<'a> Forms<'a> {
                 let Found { size, counts } = found;
                 let it = &self.as_slice()[form];
                 let (front, rest) = text.split_at(size);
-                let (front, _) = front.split_at(size - it.closing.size());
-                let (_, inside) = front.split_at(it.opening.size());
-                let literal = self.of_form(form, it.syntax.summed(inside, counts));
+                let literal = self.of_form(form, it.syntax.summed(it.inner(front), counts));
                 Ok((Number::Literal { literal, form }, rest))
             }
             Err(error) => Err(error),
@@ -267,18 +265,12 @@ impl<'a> Forms<'a> {
     // no literal, all forms are asked again.
     #[inline(never)]
     pub(crate) const fn find_marked<'t>(&self, text: &'t [u8]) -> Result<(usize, Literal<'t>), Furthest> {
-        let byte = match byte_at(text, 0) {
-            None => 0,
-            Some(byte) => byte,
-        };
+        let byte = first_of(text);
         let other = other_case(byte);
         let mut form = 0;
         while form < self.forms.len() {
-            let it = &self.forms[form];
-            if !it.opening.excludes(byte, other) {
-                if let Some(literal) = it.literal(text) {
-                    return Ok((form, literal));
-                }
+            if let Some(literal) = self.forms[form].literal_from(byte, other, text) {
+                return Ok((form, literal));
             }
             form += 1;
         }
@@ -441,8 +433,16 @@ impl<'a> Forms<'a> {
     }
 }
 
+// Returns the first byte of `text`, or 0 if there is none.
+const fn first_of(text: &[u8]) -> u8 {
+    match text {
+        [first, ..] => *first,
+        [] => 0,
+    }
+}
+
 // Returns whether a form has an opening or a closing.
-pub(crate) const fn have_marks(forms: &[Form]) -> bool {
+const fn have_marks(forms: &[Form]) -> bool {
     let mut form = 0;
     while form < forms.len() {
         if forms[form].is_marked() {

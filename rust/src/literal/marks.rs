@@ -11,6 +11,15 @@ use crate::literal::stop::{byte_at, tail_at, Found, Stopped, BEGIN};
 use crate::literal::syntax::Condition;
 
 impl Form {
+    // Returns the literal that `text` is, if it is one. Its first byte is `byte`, whose other case is `other`.
+    #[inline(always)]
+    pub(crate) const fn literal_from<'t>(&self, byte: u8, other: u8, text: &'t [u8]) -> Option<Literal<'t>> {
+        if self.opening.excludes(byte, other) {
+            return None;
+        }
+        self.literal(text)
+    }
+
     // Returns the literal that `text` is, if it is one.
     #[cfg_attr(not(peltzivar_small), inline(always))]
     pub(crate) const fn literal<'t>(&self, text: &'t [u8]) -> Option<Literal<'t>> {
@@ -56,6 +65,14 @@ impl Form {
         Some(inside)
     }
 
+    // Returns what is between the opening and the closing of `text`, which has both.
+    #[inline(always)]
+    pub(crate) const fn inner<'t>(&self, text: &'t [u8]) -> &'t [u8] {
+        let (front, _) = text.split_at(text.len() - self.closing.size());
+        let (_, inside) = front.split_at(self.opening.size());
+        inside
+    }
+
     // Returns the longest front of `text` that is a literal, if it has more than `size` bytes.
     #[cfg_attr(not(peltzivar_small), inline(always))]
     pub(crate) const fn front_past(&self, text: &[u8], size: usize) -> Option<Found> {
@@ -69,7 +86,10 @@ impl Form {
         let Some(found) = found else {
             return None;
         };
-        if found.size <= least || !self.closes(rest, stop, found) {
+        if found.size <= least {
+            return None;
+        }
+        if !self.closes(rest, stop, found) {
             return None;
         }
         let Found { size, counts } = found;
@@ -141,8 +161,8 @@ impl Form {
         if self.is_marked() {
             return self.refuse_marked(text, form, stop);
         }
-        let syntax = self.syntax();
-        let Err(error) = stop.refuse::<()>(&syntax, text) else { unreachable!() };
+        let error = self.error_of(text, stop);
+        let _syntax = self.syntax();
         FormError { form, name: self.name, opened: 0, error: Ok(error) }
     }
 
@@ -150,19 +170,31 @@ impl Form {
     #[cold]
     const fn refuse_marked(&self, text: &[u8], form: usize, stop: Stopped) -> FormError {
         let opened = self.opening.size();
-        let (right, error) = if stop.size < opened {
-            (stop.size, Err(self.unmarked(text, stop.size, Mark::Opening)))
-        } else {
-            let (_, rest) = text.split_at(opened);
-            match self.refusal(rest, stop.at(stop.size - opened)) {
-                Ok(error) => (opened, Ok(error)),
-                Err(it) => {
-                    let right = opened + it.size + it.closed;
-                    (right, Err(self.unmarked(text, right, self.mark(it.closed))))
-                }
+        if stop.size < opened {
+            return self.lacks(text, form, stop.size, Mark::Opening);
+        }
+        let (_, rest) = text.split_at(opened);
+        match self.refusal(rest, stop.at(stop.size - opened)) {
+            Ok(error) => {
+                let _syntax = self.syntax();
+                FormError { form, name: self.name, opened, error: Ok(error) }
             }
-        };
-        FormError { form, name: self.name, opened: right, error }
+            Err(it) => self.lacks(text, form, opened + it.size + it.closed, self.mark(it.closed)),
+        }
+    }
+
+    // Returns that `mark` is not there behind the first `size` bytes of `text`.
+    const fn lacks(&self, text: &[u8], form: usize, size: usize, mark: Mark) -> FormError {
+        let it = self.unmarked(text, size, mark);
+        let _syntax = self.syntax();
+        FormError { form, name: self.name, opened: size, error: Err(it) }
+    }
+
+    // Returns why `text` is not a literal of the syntax, which stops at `stop`.
+    #[inline(always)]
+    const fn error_of(&self, text: &[u8], stop: Stopped) -> ReadError {
+        let Err(error) = stop.refuse::<()>(&self.syntax, text) else { unreachable!() };
+        error
     }
 
     // Returns why `rest`, which is behind the opening, is not a literal of the syntax, which stops at `stop` if there is no closing, or where the
@@ -171,8 +203,7 @@ impl Form {
         if !self.closing.is_empty() {
             return self.ending(rest);
         }
-        let Err(error) = stop.refuse::<()>(&self.syntax, rest) else { unreachable!() };
-        Ok(error)
+        Ok(self.error_of(rest, stop))
     }
 
     // Returns the same for a form with a closing. It is not there if what is before is a literal, and the syntax knows no more than that a byte is
@@ -181,16 +212,18 @@ impl Form {
         let (stop, found) = self.syntax.front(rest);
         let size = stop.size;
         if !is_at(found, size) {
-            let Err(error) = stop.refuse::<()>(&self.syntax, rest) else { unreachable!() };
-            return Ok(error);
+            return Ok(self.error_of(rest, stop));
         }
         let (_, closing) = rest.split_at(size);
         let closed = self.closing.opened(closing);
         let unclosed = Unclosed { size, closed };
-        if closed > 0 || closing.is_empty() {
+        if closed > 0 {
             return Err(unclosed);
         }
-        let Err(error) = stop.refuse::<()>(&self.syntax, rest) else { unreachable!() };
+        if size == rest.len() {
+            return Err(unclosed);
+        }
+        let error = self.error_of(rest, stop);
         if is_stray(&error) {
             Err(unclosed)
         } else {

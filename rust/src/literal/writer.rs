@@ -219,7 +219,7 @@ impl Syntax {
     /// has an exponent.
     #[inline(always)]
     pub fn format_integer<T: WriteInteger>(&self, value: T, style: Style) -> Result<Written<'static>, WriteError> {
-        integer::format_integer(self, value, style).map(|layout| Text::Number(layout).into())
+        integer::format_integer(self, value, style).map(|layout| Written::of(Text::Number(layout)))
     }
 
     /// Returns the value of a float as a literal of this syntax. [Parsing][Syntax::parse] the text returns the same value, also
@@ -248,7 +248,7 @@ impl Syntax {
         let (mut digits, mut text) = (FloatDigits::new(), [0; 40]);
         let length = float::format_float(self, value, style, &mut digits)?.write(&mut text);
         let value = Value::of_float(value);
-        Ok(Text::Value(ValueText { value, syntax: *self, style, text, length }).into())
+        Ok(Written::of(Text::Value(ValueText { value, syntax: *self, style, text, length })))
     }
 
     /// Returns a literal, which may be of another syntax, as a literal of this syntax with the same value.
@@ -278,7 +278,7 @@ impl Syntax {
     pub fn format_literal<'a>(&self, literal: &Literal<'a>, style: Style) -> Result<Written<'a>, WriteError> {
         match literal.other_value() {
             None => match literal::format_literal(literal, self, style) {
-                Ok(layout) => Ok(Text::Number(layout).into()),
+                Ok(layout) => Ok(Written::of(Text::Number(layout))),
                 Err(error) => self.format_float(float_instead::<f64>(literal, style, error)?, style),
             },
             Some(other) => self.format_other(other, style),
@@ -376,7 +376,12 @@ impl<'a> Forms<'a> {
             None => {
                 let Chosen { form, word, style, .. } = self.choose_long(literal, style, |chosen, _| chosen)?;
                 let form = &self[form];
-                Ok(Written { opening: form.opening(), word, ..form.syntax().format_literal(literal, style)? })
+                Ok(Written {
+                    opening: form.opening(),
+                    closing: form.closing(),
+                    word,
+                    ..form.syntax().format_literal(literal, style)?
+                })
             }
             Some(Other::Integer(value)) => self.format_integer(value, style),
             Some(Other::Single(value)) => self.format_value(&Real { value }, Value::of_float(value), style),
@@ -430,8 +435,8 @@ impl<'a> Forms<'a> {
     fn written_value(&self, value: Value, chosen: Chosen, text: [u8; 40]) -> Written<'static> {
         let Chosen { form, word, length, style } = chosen;
         let form = &self.as_slice()[form];
-        let (syntax, opening) = (form.syntax(), form.opening());
-        Written { text: Text::Value(ValueText { value, syntax, style, text, length }), opening, word }
+        let (syntax, opening, closing) = (form.syntax(), form.opening(), form.closing());
+        Written { text: Text::Value(ValueText { value, syntax, style, text, length }), opening, closing, word }
     }
 
     /// Passes how a number is written, and the text, which may have any length that is read back.
@@ -512,7 +517,7 @@ impl<'a> Specials<'a> {
         let text = self.spell(syntax, special).ok_or(WriteError::Special)?;
         let word = str::from_utf8(text.word).map_err(|_| WriteError::Special)?;
         let sign = text.sign.map(|sign| if sign == Sign::Minus { b'-' } else { b'+' });
-        Ok(Text::Special(sign, word).into())
+        Ok(Written::of(Text::Special(sign, word)))
     }
 }
 

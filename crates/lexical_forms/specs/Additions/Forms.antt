@@ -1,14 +1,14 @@
 -- What one pass over several forms finds.
-use Rattle.std.specs.Prelude.{ℕ, ◌≡◌, ◌+◌, ◌-◌, ◌*◌, ◌<◌, ◌≤◌, ◌⊎◌, [], ◌∷◌, false, true, if◌then◌else◌, nat_lt, IfErr, IfOk, IsErr, IsSomeAnd, List, Option, get_or}
+use Rattle.std.specs.Prelude.{ℕ, ◌≡◌, ◌+◌, ◌-◌, ◌*◌, ◌<◌, ◌≤◌, ◌⊎◌, [], ◌∷◌, false, if◌then◌else◌, nat_lt, IfErr, IfOk, IsErr, IsSomeAnd, List, Option, get_or}
 use Rattle.std.specs.Prelude.{Some, None, Result, Ok, Err, All, drop, length, slice_get, take}
 use Rattle.lexical_util.specs.Ascii.{ByteSet}
 use Rattle.lexical_util.specs.Roles.{other_case, signs}
 use Rattle.lexical_util.specs.declared.feature_format.roles.Role.{Role}
 use Rattle.lexical_util.specs.declared.feature_format.roles.Role.TheVariants as roles
 use Rattle.lexical_literal.specs.Additions.Stop.{IsCountedFront, IsStopped}
-use Rattle.lexical_literal.specs.Cause.{IsRefusal, is_stray}
+use Rattle.lexical_literal.specs.Cause.{Explained, IsRefusal}
 use Rattle.lexical_forms.specs.Affix.{IsOpened, IsOpenedTo}
-use Rattle.lexical_forms.specs.Forms.{HasFront, IsFirst, IsFormError, IsGreatest, LacksClosing, NoForm, OpensIn, Reaches, ReadsIn, behind, reach}
+use Rattle.lexical_forms.specs.Forms.{HasFront, IsFirst, IsFormError, IsGreatest, KeepsError, LacksClosing, NoForm, OpensIn, Reaches, ReadsIn, behind, reach}
 use Rattle.lexical_literal.specs.Front.{IsValidUpTo, NoFrontBy, NoLiteral, NoneBy}
 use Rattle.lexical_literal.specs.Literal.{Literal, Reads}
 use Rattle.lexical_literal.specs.Read.{Read}
@@ -91,15 +91,10 @@ pub record IsBetween (g : Form) (text part : List ℕ) : Type 0 where
   pub within : (l : Literal) → ReadsIn g l text → Reads (notation_of g.syntax) l part
   pub around : (l : Literal) → Reads (notation_of g.syntax) l part → ReadsIn g l text
 
--- `IsEnding g rest result` holds if `result` is where the syntax of `g` stops in `rest`, which is behind the opening, if this is an error that is kept, or
+-- `IsEnding g rest result` holds if `result` says why `rest`, which is behind the opening of `g`, is not a literal of the syntax, and keeps this error, or
 -- where the closing is not there.
-pub record IsStopEnding (g : Form) (rest : List ℕ) (stop : Stopped) : Type 0 where
-  pub stopped : IsStopped (notation_of g.syntax) rest stop
-  pub kept : (0 < g.closing.size) → (NoLiteral (notation_of g.syntax) (take stop.size rest) ⊎ (IsOpenedTo g.closing (drop stop.size rest) 0
-      × (stop.size < length rest) × ((error : Refusal) → IsRefusal (notation_of g.syntax) rest error → is_stray error ≡ false)))
-
-abbrev pub IsEnding : Form → List ℕ → Result Stopped Unclosed → Type 0
-IsEnding g rest (Ok stop) = IsStopEnding g rest stop
+abbrev pub IsEnding : Form → List ℕ → Result Explained Unclosed → Type 0
+IsEnding g rest (Ok error) = KeepsError g rest error.refusal
 IsEnding g rest (Err it) = LacksClosing g rest it.size it.closed
 
 -- `IsLow text size g` holds if no error of `text` in the form `g` has a greater reach than one that goes up to `size` and whose cause is a wrong byte.

@@ -83,7 +83,14 @@ impl Writable for Whole {
             return Err(WriteError::Negative);
         }
         let amount = Amount::of_size(self.negative, self.size);
-        Ok(put(&amount.lay_out(syntax, style)?, buffer))
+        Ok(put(
+            &(if cfg!(peltzivar_small) {
+                crate::literal::writer::literal::lay_out(&amount, syntax, style)
+            } else {
+                amount.lay_out(syntax, style)
+            })?,
+            buffer,
+        ))
     }
 
     fn is_plain(&self, syntax: &Syntax, kind: Kind, _: Style, float: bool) -> bool {
@@ -381,7 +388,10 @@ pub fn choose<N: Writable + ?Sized>(
         for part in 0..if integer { 3 } else { 1 } {
             for (index, form) in forms.as_slice().iter().enumerate() {
                 let syntax = form.syntax();
-                if turn(number.radix(), integer, &syntax) != wanted || !is_asked(part, all, &syntax) {
+                if turn(number.radix(), integer, &syntax) != wanted
+                    || !is_asked(part, all, &syntax)
+                    || form.is_only_read()
+                {
                     continue;
                 }
                 // A number is rounded in one radix alone and, if there are forms with floats, by these alone.
@@ -499,8 +509,8 @@ fn write_words<N: Writable + ?Sized>(
     Err(WriteError::ReadBack)
 }
 
-// Writes a number by one form with its opening, and with a word behind it if there is one, and returns the length of the text, or why it
-// is not used.
+// Writes a number by one form with its opening and its closing, and a word behind it if there is one, and returns the length of the text, or
+// why it is not used.
 fn write_around<N: Writable + ?Sized>(
     forms: &Forms,
     index: usize,
@@ -510,13 +520,14 @@ fn write_around<N: Writable + ?Sized>(
     buffer: &mut [u8],
 ) -> Result<usize, WriteError> {
     let it = &forms.as_slice()[index];
-    let opening = it.opening();
+    let (opening, closing) = (it.opening(), it.closing());
     let start = put_at(buffer, 0, opening.as_bytes());
     let least = start.min(buffer.len());
     let (size, _) = number.write(&it.syntax(), style, &mut buffer[least..])?;
+    let end = put_at(buffer, start.saturating_add(size), closing.as_bytes());
     let end = match word {
-        Some(word) => put_at(buffer, start.saturating_add(size), word),
-        None => start.saturating_add(size),
+        Some(word) => put_at(buffer, end, word),
+        None => end,
     };
     // A text that is longer than a `usize` has the size `usize::MAX`.
     if end == usize::MAX || end > buffer.len() {
@@ -581,7 +592,7 @@ fn write_by<N: Writable + ?Sized>(
     buffer: &mut [u8],
 ) -> Result<usize, WriteError> {
     let it = &forms.as_slice()[index];
-    if !it.opening().is_empty() {
+    if it.is_marked() {
         return write_around(forms, index, number, style, None, buffer);
     }
     let syntax = it.syntax();

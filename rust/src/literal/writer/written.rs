@@ -17,13 +17,16 @@ pub struct Written<'a> {
     pub(super) text: Text<'a>,
     /// The opening before the literal.
     pub(super) opening: Affix,
-    /// A word behind it.
+    /// The closing behind it.
+    pub(super) closing: Affix,
+    /// A word behind this.
     pub(super) word: Option<&'static &'static [u8]>,
 }
 
-impl<'a> From<Text<'a>> for Written<'a> {
-    fn from(text: Text<'a>) -> Self {
-        Written { text, opening: Affix::NONE, word: None }
+impl<'a> Written<'a> {
+    /// Returns a text that nothing stands around.
+    pub(super) const fn of(text: Text<'a>) -> Written<'a> {
+        Written { text, opening: Affix::NONE, closing: Affix::NONE, word: None }
     }
 }
 
@@ -134,10 +137,17 @@ impl Written<'_> {
             return text.len();
         }
         let mut window = Window { bytes: buffer, length: 0 };
-        window.put_all(self.opening.as_bytes());
+        if !self.opening.is_empty() {
+            window.put_all(self.opening.as_bytes());
+        }
         let start = window.length.min(window.bytes.len());
         window.length = window.length.saturating_add(self.text.write(&mut window.bytes[start..]));
-        window.put_all(self.word());
+        if !self.closing.is_empty() {
+            window.put_all(self.closing.as_bytes());
+        }
+        if self.word.is_some() {
+            window.put_all(self.word());
+        }
         window.length
     }
 
@@ -203,6 +213,7 @@ impl Written<'_> {
         if let Some(layout) = self.text.layout(&mut FloatDigits::new()) {
             layout.put(&mut printer);
         }
+        printer.put_all(self.closing.as_bytes());
         printer.put_all(self.word());
         printer.result
     }
@@ -242,6 +253,7 @@ impl Written<'_> {
         if let Some(layout) = layout {
             let mut printer = Printer { f, skip: front, result: Ok(()) };
             layout.put(&mut printer);
+            printer.put_all(self.closing.as_bytes());
             printer.put_all(self.word());
             printer.result?;
         }

@@ -1,8 +1,8 @@
 -- The only form of the list reads the text.
-use Rattle.lexical_writer.proofs.Common.{Form, Grammar, IfOk, IsNumber, IsSomeAnd, List, Reads, ReadsForm, [], ap, length, notation_of, slice_get, subst, suc}
+use Rattle.lexical_writer.proofs.Common.{Form, Grammar, IfOk, IsNumber, IsSomeAnd, List, Reads, ReadsForm, [], ap, notation_of, slice_get, subst, suc}
 use Rattle.lexical_writer.proofs.Common.{zero, ℕ}
 use Rattle.lexical_writer.proofs.Common.{◌∙◌, ◌∷◌, ◌≡◌}
-use Rattle.lexical_forms.proofs.OpeningLemmas.{plain_of}
+use Rattle.lexical_forms.proofs.MarkLemmas.{plain_of}
 use Rattle.lexical_forms.specs.FormList.{FormList}
 use Rattle.lexical_writer.proofs.choice.own_literal.Goals as goal
 
@@ -24,5 +24,5 @@ returns-in-Ok-Literal c =
       kind ∙ c.new.ensures.kind,
       by.0 ∙ ap (λ (g : Grammar). g.word) c.new.ensures.syntax,
       subst (λ (g : Grammar). Reads (notation_of g) read.literal c.args.text.now) c.new.ensures.syntax
-          (plain_of c.args.text.now c.new.result (ap length c.new.ensures.opening) read.literal by.1),
+          (plain_of c.new.result c.args.text.now c.new.ensures.opening c.new.ensures.closing read.literal by.1),
     )

@@ -1,31 +1,26 @@
 -- The list reads the text as the number.
-use Rattle.lexical_writer.proofs.Common.{Bool, Form, Grammar, IfOk, true, ◌==◌, IsNumber, IsSomeAnd, IsSyntax, List, Option, Read, Reads, ReadsForm, Some, ap}
+use Rattle.lexical_writer.proofs.Common.{Bool, Form, Grammar, IfOk, ◌==◌, IsNumber, IsSomeAnd, IsSyntax, List, Option, Read, Reads, ReadsForm, Some, ap}
 use Rattle.lexical_writer.proofs.Common.{arith, cases_lt}
 use Rattle.lexical_writer.proofs.Common.{inl, inr, is_float, length, min, nat_tests, notation_of, refl, rules, slice_get, subst, sym, take, text_of, ℕ, ◌-◌}
 use Rattle.lexical_writer.proofs.Common.{◌<◌, ◌^◌, ◌∙◌}
 use Rattle.lexical_writer.proofs.Common.{◌≡◌, ◌≤◌}
 use Rattle.std.proofs.lemmas.Option.{slice_get_read}
 use Rattle.lexical_writer.specs.Buffer.{IsTaken}
-use Rattle.lexical_forms.proofs.OpeningLemmas.{plain_of}
-use Rattle.lexical_forms.specs.declared.affix.Affix.{Affix}
+use Rattle.lexical_forms.proofs.MarkLemmas.{no_marks, plain_of}
 use Rattle.lexical_writer.proofs.ChoiceLemmas.{first_reads}
 use Rattle.lexical_writer.proofs.choice.write_by.Goals as goal
 
 -- A literal of a form is one of its syntax, and has its kind.
 same_form : (g : Grammar) (form : Form) (text : List ℕ) (read : Read) (found : Option Form) → found ≡ Some form → g ≡ form.syntax
-    → length form.opening.bytes.now ≡ 0
+    → (form.opening.size ≡ 0) × (form.closing.size ≡ 0)
     → IsSomeAnd found (ReadsForm text read) → IsSomeAnd found (λ form. read.kind ≡ form.kind)
     → (read.kind ≡ form.kind) × (read.format ≡ g.word) × Reads (notation_of g) read.literal text
 same_form g form text read found here is none reads kinds =
     let by : ReadsForm text read form = subst (λ o. IsSomeAnd o (ReadsForm text read)) here reads in (
       subst (λ o. IsSomeAnd o (λ (form : Form). read.kind ≡ form.kind)) here kinds,
       by.0 ∙ sym (ap (λ (g : Grammar). g.word) is),
-      subst (λ (g : Grammar). Reads (notation_of g) read.literal text) (sym is) (plain_of text form none read.literal by.1),
+      subst (λ (g : Grammar). Reads (notation_of g) read.literal text) (sym is) (plain_of form text none.0 none.1 read.literal by.1),
     )
-
--- What is empty has no bytes.
-is_none : (n : ℕ) (empty : Bool) → empty ≡ (n == 0) → empty ≡ true → n ≡ 0
-is_none n empty is holds = grind (arith, nat_tests)
 
 -- The buffer has the whole text.
 taken : (text old bytes : List ℕ) (size : ℕ) → IsTaken text old bytes size → size ≤ length bytes → size < 2 ^ 64 - 1 → text ≡ take size bytes
@@ -47,8 +42,7 @@ returns-then-index-eq0-clause-value g c =
     let here = ap (λ forms. slice_get forms c.args.index) (sym c.as_slice.ensures.list)
     ∙ slice_get_read c.as_slice.result.now (length c.as_slice.result.now) c.args.index form refl
     (subst (λ (forms : List Form). c.args.index < length forms) (sym c.as_slice.ensures.list) c.requires) c.index-as_slice-index.is in
-    let none = ap (λ (a : Affix). length a.bytes.now) (sym c.opening.ensures)
-    ∙ is_none _ c.is_empty.result c.is_empty.ensures c.if-not-is_empty.false in
+    let none = no_marks _ _ c.is_marked.result c.is_marked.ensures c.if-is_marked.false in
     let first = first_reads c.args.forms.now.forms form text written.0 c.args.index here c.if-index-eq0.true none
     (subst (λ (g : Grammar). Reads (notation_of g) written.0 text) c.syntax-syntax.ensures (subst (Reads (notation_of syntax) written.0) whole written.1)) in (
       record { format = form.syntax.word; literal = written.0; kind = form.kind },
@@ -75,8 +69,7 @@ returns-then-form-index-clause-value g c =
     ∙ ap (λ forms. slice_get forms c.args.index) (sym c.as_slice.ensures.list)
     ∙ slice_get_read c.as_slice.result.now (length c.as_slice.result.now) c.args.index form refl
     (subst (λ (forms : List Form). c.args.index < length forms) (sym c.as_slice.ensures.list) c.requires) c.index-as_slice-index.is in
-    let none = ap (λ (a : Affix). length a.bytes.now) (sym c.opening.ensures)
-    ∙ is_none _ c.is_empty.result c.is_empty.ensures c.if-not-is_empty.false in
+    let none = no_marks _ _ c.is_marked.result c.is_marked.ensures c.if-is_marked.false in
     let by = same_form syntax form text literal (slice_get c.args.forms.now.forms c.in-Ok-Literal.form) here c.syntax-syntax.ensures none
     both.0.reads both.1 in
     let same : written.0 ≡ literal.literal = c.literal_facts.ensures.one_reading syntax lawful written.0 literal.literal text

@@ -1,0 +1,57 @@
+-- The front has the parts that were counted.
+use Rattle.lexical_forms.proofs.Common.{Form, IsSomeAnd, Some, ap, false≢true, length, slice_get, subst, sym, ◌+◌}
+use Rattle.lexical_forms.proofs.Common.{arith, length-take-le, ◌-◌, ◌≡◌, ◌∙◌}
+use Rattle.lexical_literal.specs.Front.{ReadsFrontBy}
+use Rattle.lexical_forms.specs.Additions.Forms.{IsFrontIn}
+use Rattle.lexical_forms.specs.Forms.{ReadsIn, behind}
+use Rattle.lexical_forms.proofs.FormLemmas.{form_at, inside_of}
+use Rattle.lexical_forms.proofs.MarkLemmas.{front_in, inner_is, read_in}
+use Rattle.lexical_literal.proofs.PieceLemmas.{front_cut, front_read}
+use Rattle.lexical_forms.proofs.list.Forms.read_prefix.Goals as goal
+
+pub inner-requires : goal.inner-requires
+inner-requires c =
+    let found = c.in-Ok.found in let text = c.args.text.now in let g = c.index-as_slice-form.result in
+    let is = subst (λ (g : Form). IsFrontIn text found g) (sym c.index-as_slice-form.is) (form_at (IsFrontIn text found) c.args.self.now.forms
+    c.as_slice.result.now c.index-as_slice-form.result c.in-Ok.form c.as_slice.ensures.list c.in-Ok.ensures.found).1 in
+    let size = ap length c.split_at.ensures.front ∙ length-take-le found.size text (front_in g text found is).within in
+    let past = is.past in omega (arith, size, past)
+
+pub summed-requires : goal.summed-requires
+summed-requires c =
+    let found = c.in-Ok.found in let text = c.args.text.now in let g = c.index-as_slice-form.result in
+    let is = subst (λ (g : Form). IsFrontIn text found g) (sym c.index-as_slice-form.is) (form_at (IsFrontIn text found) c.args.self.now.forms
+    c.as_slice.result.now c.index-as_slice-form.result c.in-Ok.form c.as_slice.ensures.list c.in-Ok.ensures.found).1 in
+    front_cut g.syntax (behind g text) c.inner.result.now (found.size - (g.opening.size + g.closing.size)) found.counts
+    (inner_is g text found is c.split_at.result.0.now c.inner.result.now c.split_at.ensures.front c.inner.ensures) is.front
+
+pub of_form-literal-requires : goal.of_form-literal-requires
+of_form-literal-requires c = inside_of _ c.args.self.now.forms c.in-Ok.form c.in-Ok.ensures.found
+
+pub returns-in-Ok : goal.returns-in-Ok
+returns-in-Ok c =
+    let found = c.in-Ok.found in let text = c.args.text.now in let g = c.index-as_slice-form.result in let forms = c.args.self.now.forms in
+    let form = subst (λ (g : Form). (slice_get forms c.in-Ok.form ≡ Some g) × IsFrontIn text found g) (sym c.index-as_slice-form.is)
+    (form_at (IsFrontIn text found) forms c.as_slice.result.now g c.in-Ok.form c.as_slice.ensures.list c.in-Ok.ensures.found) in
+    let read = c.summed.result in
+    let is = front_read g.syntax (behind g text) c.inner.result.now (found.size - (g.opening.size + g.closing.size)) found.counts
+    (inner_is g text found form.1 c.split_at.result.0.now c.inner.result.now c.split_at.ensures.front c.inner.ensures) form.1.front read
+    c.summed.ensures in
+    let own = c.of_form-literal.result in
+    record {
+      found = (
+        found.size,
+        (
+          c.in-Ok.ensures.longest,
+          c.of_form-literal.ensures.kind,
+          subst (λ o. IsSomeAnd o (λ (g : Form). (own.format ≡ g.syntax.word) × ReadsFrontBy (ReadsIn g) own.literal text found.size)) (sym form.0) (
+            c.of_form-literal.ensures.format ∙ is.0,
+            subst (λ l. ReadsFrontBy (ReadsIn g) l text found.size) (sym c.of_form-literal.ensures.literal)
+                (read_in g text found read.literal form.1 is.1),
+          ),
+        ),
+        c.split_at.ensures.back,
+      );
+      none = λ err. absurd (false≢true err);
+      error = tt;
+    }
