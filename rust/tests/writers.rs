@@ -337,15 +337,22 @@ fn languages_read_what_they_write() {
                     assert!(is_same(back), "{language} {text:?} in {target}: {written:?}");
                 }
                 Err(error) => {
-                    let forms = || target.forms().into_iter().filter(|it| it.opening().is_empty());
-                    let texts = forms().map(|it| it.syntax().format_literal(&literal, Style::PLAIN));
-                    let mut texts = texts.filter_map(|text| text.ok().map(|it| it.to_string()));
-                    let is_written = texts.any(|it| is_same(target.read(&it).unwrap().literal().unwrap()));
-                    assert!(!is_written, "{language} {text:?} in {target}: {error}");
+                    let forms = || target.forms().into_iter().filter(|it| !it.is_only_read());
+                    let text_in = |form: &Form| {
+                        let [opening, closing] = [form.opening(), form.closing()]
+                            .map(|it| String::from_utf8_lossy(it.as_bytes()).into_owned());
+                        let written = form.syntax().format_literal(&literal, Style::PLAIN);
+                        written.map(|it| format!("{opening}{it}{closing}"))
+                    };
+                    let is_written = |text: String| is_same(target.read(&text).unwrap().literal().unwrap());
+                    assert!(
+                        !forms().any(|it| text_in(it).is_ok_and(is_written)),
+                        "{language} {text:?} in {target}: {error}"
+                    );
                     let no_floats = |form: &Form| literal.is_float() && form.syntax().point().is_none();
                     let first = forms().min_by_key(|form| (no_floats(form), turn(form))).unwrap();
-                    let wanted = match first.syntax().format_literal(&literal, Style::PLAIN) {
-                        Ok(text) if target.read(&text.to_string()).unwrap().to_f64().is_nan() => WriteError::TooLarge,
+                    let wanted = match text_in(first) {
+                        Ok(text) if target.read(&text).unwrap().to_f64().is_nan() => WriteError::TooLarge,
                         Ok(_) => WriteError::ReadBack,
                         Err(error) => error,
                     };

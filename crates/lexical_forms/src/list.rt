@@ -1,6 +1,6 @@
 //! Numbers that have several forms, such as `10`, `0x1F` and `0b1`.
 
-ghost use Rattle.std.specs.Prelude.{ℕ, ◌≡◌, ◌<◌, ◌≤◌, ◌+◌, ◌-◌, ◌*◌, IfSome, IsNone, IsSomeAnd, IsTrue, None, Some, SomeIff};
+ghost use Rattle.std.specs.Prelude.{ℕ, ◌≡◌, ◌<◌, ◌≤◌, ◌+◌, ◌-◌, ◌*◌, IfSome, IsSome, IsNone, IsSomeAnd, IsTrue, None, Some, SomeIff};
 ghost use Rattle.std.specs.Prelude.{false, get_or, if◌then◌else◌, length, slice_get};
 ghost use Rattle.lexical_forms.specs.Additions.Forms.{IsBehind, IsFoundForm, IsFoundFrontForm, IsLed, IsLongestPast, IsRefusedAt};
 ghost use Rattle.lexical_forms.specs.Additions.Forms.{Leads, sign_size};
@@ -422,7 +422,7 @@ impl<'a> Forms<'a> {
         let mut form = 1;
         while form < self.forms.len() {
             let it = &self.forms[form];
-            if !it.opening.is_empty() || !is_settled(it.syntax.grammar(), text, stop.size) {
+            if it.is_marked() || !is_settled(it.syntax.grammar(), text, stop.size) {
                 return None;
             }
             form += 1;

@@ -323,7 +323,7 @@ impl<'a> Forms<'a> {
         let mut form = 1;
         while form < self.forms.len() {
             let it = &self.forms[form];
-            if !it.opening.is_empty() || !is_settled(it.syntax.as_grammar(), text, stop.size) {
+            if it.is_marked() || !is_settled(it.syntax.as_grammar(), text, stop.size) {
                 return None;
             }
             form += 1;

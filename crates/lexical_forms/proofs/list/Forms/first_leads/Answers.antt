@@ -4,7 +4,7 @@ use Rattle.lexical_forms.proofs.Common.{slice_get, subst, sym}
 use Rattle.lexical_forms.specs.Additions.Forms.{IsLow, IsNoBetter, IsRefusedAt}
 use Rattle.lexical_forms.specs.Forms.{ReadsIn}
 use Rattle.lexical_forms.proofs.FormLemmas.{at_index, first_none, leads_all, leads_first, left_out}
-use Rattle.lexical_forms.proofs.OpeningLemmas.{low_plain, none_plain}
+use Rattle.lexical_forms.proofs.MarkLemmas.{low_plain, none_plain}
 use Rattle.lexical_literal.specs.Front.{NoneBy}
 use Rattle.lexical_forms.proofs.list.Forms.first_leads.Goals as goal
 
@@ -18,10 +18,11 @@ pub loop-form-preserved : goal.loop-form-preserved
 loop-form-preserved c =
     let forms = c.self.inside.forms.now in let text = c.args.text.now in let i = c.loop-form.form in let d = c.index-self-form.result in
     let g = get_or forms i d in let inside = c.loop-form-test.true in let size = c.args.stop.size in
-    let none : length g.opening.bytes.now ≡ 0 = let empty = c.is_empty.ensures in grind (arith, nat_tests) in (
-      All-more (λ g. NoneBy (ReadsIn g) text) forms i d inside c.loop-form.invariant.0 (none_plain text g none
+    let marked = c.is_marked.ensures in let no = c.if-is_marked.false in
+    let none : g.opening.size ≡ 0 = grind (arith, nat_tests) in let bare : g.closing.size ≡ 0 = grind (arith, nat_tests) in (
+      All-more (λ g. NoneBy (ReadsIn g) text) forms i d inside c.loop-form.invariant.0 (none_plain g text none bare
           (subst (λ (g : Grammar). NoLiteral (notation_of g) text) c.grammar.ensures.value (c.is_settled.ensures.none c.if-not-is_settled.false))),
-      left_out forms text i _ c.loop-form.invariant.1 (at_index (IsLow text size) forms forms d i refl inside (low_plain text g none size
+      left_out forms text i _ c.loop-form.invariant.1 (at_index (IsLow text size) forms forms d i refl inside (low_plain g text none bare size
           (subst (λ (g : Grammar). IsNoBetter (notation_of g) text size) c.grammar.ensures.value
           (c.is_settled.ensures.better c.if-not-is_settled.false)))),
     )
