@@ -104,7 +104,8 @@ module _ {X : Type 0} (M : Measure X) (forms : List Form) where
         here = old.here;
         before = old.before;
         others = All-more (λ g. (n : ℕ) → M.IsSize g n → n ≤ M.size best.1) forms i d inside old.others
-            (λ n other. let most = M.one g n (M.size x) other (M.sized g x is) in let low = is_low (M.size best.1) (M.size x) shorter in omega (arith, most, low));
+            (λ n other. let most = M.one g n (M.size x) other (M.sized g x is) in let low = is_low (M.size best.1) (M.size x) shorter in omega
+            (arith, most, low));
       }
 
   -- The best of all forms.

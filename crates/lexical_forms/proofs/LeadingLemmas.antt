@@ -355,7 +355,8 @@ module _ (list : FormList) (t : Tokens) (text : List ℕ) (index : ℕ) (form : 
               let one : ahead.size ≡ size + more + 1 = omega (arith, further, low) in
               let at : is_in (notation_of g.syntax).point (slice_get text (size + more)) ≡ true =
               ap (λ n. is_in (notation_of g.syntax).point (slice_get text n)) (let same : size + more ≡ size = omega (arith, none) in same) ∙ given.1 in
-              no_point t.gives_points_back (is_in (notation_of g.syntax).point (slice_get text (size + more))) ahead.size (size + more + 1) ahead.more given.0 one at
+              no_point t.gives_points_back (is_in (notation_of g.syntax).point (slice_get text (size + more))) ahead.size
+              (size + more + 1) ahead.more given.0 one at
         ]
 
     pub leading_token : (token : Token) → token.form ≡ index → ReadsSyntax (take size text) token.literal form

@@ -85,7 +85,8 @@ no_digit false false true one two three = absurd (false≢true (sym three))
 
 -- A byte that is free plays no role.
 free_plays_none : (s : Grammar) (byte : ℕ) → is_free (notation_of s) byte ≡ true → PlaysNoRole (notation_of s) byte
-free_plays_none s byte is = of_all (all_false (byte == 48) ((notation_of s).digit parts.Integer byte) ((notation_of s).digit parts.Exponent byte) (byte == 43) (byte == 45)
+free_plays_none s byte is = of_all (all_false (byte == 48) ((notation_of s).digit parts.Integer byte) ((notation_of s).digit parts.Exponent byte)
+    (byte == 43) (byte == 45)
     ((notation_of s).separator byte) ((notation_of s).prefix byte) ((notation_of s).suffix byte) ((notation_of s).point byte)
     ((notation_of s).exponent_character byte) is) where
       of_all : ((byte == 48) ≡ false) × ((notation_of s).digit parts.Integer byte ≡ false) × ((notation_of s).digit parts.Exponent byte ≡ false)
@@ -273,7 +274,8 @@ module _ (g : Form) where
         ]
 
         first : get_or (drop e.end text) 0 0 ≡ get_or rest (e.end - n) 0
-        first = get_or-drop e.end text 0 0 ∙ ap (λ k. get_or text k 0) (let least = e.least in let same : e.end + 0 ≡ n + (e.end - n) = omega (arith, least) in same)
+        first = get_or-drop e.end text 0 0 ∙ ap (λ k. get_or text k 0) (let least = e.least in let same : e.end + 0 ≡ n + (e.end - n) = omega (arith, least)
+            in same)
             ∙ sym (get_or-drop n text (e.end - n) 0)
 
         high : size ≤ e.end - n
@@ -299,7 +301,8 @@ module _ (g : Form) where
       closes : n + size < more → more ≤ length text → (is : BeginsBy (ReadsIn g) (take more text)) → Closes size more is.more
       closes past inside is = elim (cases_lt (end more (omega (arith, past)) inside is) more) [
         | inl before ↦ ends is.more (outer more (omega (arith, past)) inside is before)
-        | inr low ↦ absurd (valid.no_longer (more - n) (omega (arith, past)) (let all = rest_size text g (omega (arith, past, inside)) in omega (arith, all, inside))
+        | inr low ↦ absurd (valid.no_longer (more - n) (omega (arith, past)) (let all = rest_size text g (omega (arith, past, inside)) in omega
+            (arith, all, inside))
             (inner more (omega (arith, past)) inside is low))
       ]
 
@@ -314,7 +317,8 @@ module _ (g : Form) where
 
     module _ (opened : IsOpened g.opening text) where
       -- up to where the syntax stops, if no closing begins there behind a literal,
-      pub goes_to : (size : ℕ) → IsValidUpTo m rest size → ((0 < c) → (more : ℕ) (tail : List ℕ) → n + size < more → Closes size more tail → ⊥) → GoesTo text g (n + size)
+      pub goes_to : (size : ℕ) → IsValidUpTo m rest size → ((0 < c) → (more : ℕ) (tail : List ℕ) → n + size < more → Closes size more tail → ⊥)
+          → GoesTo text g (n + size)
       goes_to size valid none = record {
         within = (valid_behind text g size opened valid).within;
         front = begins_closed (take (n + size) text) (valid_behind text g size opened valid).front;
@@ -392,7 +396,8 @@ module _ (g : Form) where
           front = record {
             more = left;
             literal = is.literal;
-            reads = subst (ReadsIn g is.literal) (sym (ap (λ xs. xs ++ left) front_is ∙ append_assoc before (take closed (drop size rest)) left)) closed_literal;
+            reads = subst (ReadsIn g is.literal) (sym (ap (λ xs. xs ++ left) front_is ∙ append_assoc before (take closed
+                (drop size rest)) left)) closed_literal;
           };
           no_longer = λ more past within front.
               let ends = closes is.some size is.valid more (omega (arith, past)) within front in
@@ -515,7 +520,8 @@ module _ (g : Form) where
         (one_opened g.opening text b a other.0 is.0) in omega (arith, one)
     one_reach a b None None (inl is) (inr other) = absurd (not_opened g.opening text a is.0 is.1 other.0)
     one_reach a b None None (inr is) (inl other) = absurd (not_opened g.opening text b other.0 other.1 is.0)
-    one_reach a b None None (inr is) (inr other) = let one = same_end (behind g text) is.1 is.2 other.1 other.2 is.3 other.3 in omega (arith, one, is.4, other.4)
+    one_reach a b None None (inr is) (inr other) = let one = same_end (behind g text) is.1 is.2 other.1 other.2 is.3 other.3 in omega
+        (arith, one, is.4, other.4)
     one_reach a b None (Some y) (inl is) other = absurd (not_opened g.opening text a is.0 is.1 other.0)
     one_reach a b None (Some y) (inr is) other = absurd (not_both (behind g text) is.1 is.2 is.3 y other.2)
     one_reach a b (Some x) None is (inl other) = absurd (not_opened g.opening text b other.0 other.1 is.0)
@@ -605,7 +611,8 @@ module _ (g : Form) where
         → ReadsFrontBy (ReadsIn g) l text found.size
     read_in found l is reads = reads_front text is.opened l (found.size - (n + c)) reads found.size
         (let past = is.past in omega (arith, past))
-        (subst (λ k. IsOpened g.closing (drop k text)) (let past = is.past in let same : found.size - c ≡ n + (found.size - (n + c)) = omega (arith, past) in same)
+        (subst (λ k. IsOpened g.closing (drop k text)) (let past = is.past in let same : found.size - c ≡ n + (found.size - (n + c)) = omega (arith, past)
+        in same)
         is.closed) is.ends
 
     pub front_in : (found : Found) → (is : IsFrontIn text found g) → ReadsFrontBy (ReadsIn g) is.front.literal text found.size
@@ -668,7 +675,8 @@ module _ (g : Form) where
     pub unclosed_in : IsOpened g.opening text → (it : Unclosed) → IsEnding g (behind g text) (Err it) → IsErrorIn g text (n + it.size + it.closed) None
     unclosed_in opened it is = inr (opened, it.size, it.closed, is, refl)
 
-    reach_near : (right : ℕ) (error : Option Refusal) → (2 * right_in right error ≤ reach_in right error) × (reach_in right error ≤ 2 * right_in right error + 1)
+    reach_near : (right : ℕ) (error : Option Refusal) → (2 * right_in right error ≤ reach_in right error) ×
+        (reach_in right error ≤ 2 * right_in right error + 1)
     reach_near right None = (omega arith, omega arith)
     reach_near right (Some error) = let near = reach_within error in (omega (arith, near.0), omega (arith, near.1))
 
@@ -729,7 +737,8 @@ module _ (g : Form) where
           let low = reads.opens.opened.within in let size = length-take-le (length text - c) text (omega arith) in let room = reads.room in
           omega (arith, size_is, low, size, room, short)
 
-      module _ (room : c ≤ length rest) (inside closing : List ℕ) (first : inside ≡ take (length rest - c) rest) (last : closing ≡ drop (length rest - c) rest) where
+      module _ (room : c ≤ length rest) (inside closing : List ℕ) (first : inside ≡ take (length rest - c) rest) (last : closing ≡ drop
+          (length rest - c) rest) where
         end_is : closing ≡ drop (length text - c) text
         end_is = last ∙ ap (λ xs. drop (length rest - c) xs) rest_is ∙ drop-drop (length rest - c) n text
             ∙ ap (λ k. drop k text) (let same : n + (length rest - c) ≡ length text - c = omega (arith, size_is, room) in same)
@@ -774,12 +783,14 @@ module _ (g : Form) where
 
       pub past_longer : (size most : ℕ) → most ≡ size - c - opened → NoFrontPast m rest most → NonePast text size g
       past_longer size most same none = past_opened text size (past_behind text g (size - c)
-          (subst (λ t. NoFrontPast m t (size - c - n)) rest_is (subst (NoFrontPast m rest) (let is : most ≡ size - c - n = omega (arith, same, whole) in is) none)))
+          (subst (λ t. NoFrontPast m t (size - c - n)) rest_is (subst (NoFrontPast m rest) (let is : most ≡ size - c - n = omega (arith, same, whole)
+          in is) none)))
 
       pub past_not_closed : 0 < c → (stop size : ℕ) → IsValidUpTo m rest stop → (l : Literal) → ReadsFront m l rest size
           → ((size ≡ stop) → IsOpened g.closing (drop size rest) → ⊥) → (least : ℕ) → NonePast text least g
       past_not_closed some stop size valid l is unclosed least = past_unclosed text opening_is some stop size (subst (λ t. IsValidUpTo m t stop) rest_is valid)
-          l (subst (λ t. ReadsFront m l t size) rest_is is) (λ same there. unclosed same (subst (λ t. IsOpened g.closing (drop size t)) (sym rest_is) there)) least
+          l (subst (λ t. ReadsFront m l t size) rest_is is) (λ same there. unclosed same (subst (λ t. IsOpened g.closing (drop size t))
+          (sym rest_is) there)) least
 
       pub found_in : (inner : Found) → IsCountedFront m rest inner → IsOpened g.closing (drop inner.size rest)
           → ((0 < c) → IsValidUpTo m rest inner.size) → (found : Found) → found ≡ record { size = opened + inner.size + c; counts = inner.counts }

@@ -1,6 +1,7 @@
 -- What a list reads is the number that a form has written.
 use Rattle.lexical_writer.proofs.Common.{Bool, Err, Form, Grammar, HasValue, IsRounded, IsSomeAnd, IsWhole, Kind, List, Literal, None, Ok, Option, Read, Reads}
-use Rattle.lexical_writer.proofs.Common.{ReadsForm, Record, SameFraction, Some, Style, ap, arith, decimals_in, false, false≢true, if◌then◌else◌, inl, inr, integer_worth}
+use Rattle.lexical_writer.proofs.Common.{ReadsForm, Record, SameFraction, Some, Style, ap, arith, decimals_in, false, false≢true, if◌then◌else◌, inl, inr}
+use Rattle.lexical_writer.proofs.Common.{integer_worth}
 use Rattle.lexical_writer.proofs.Common.{length}
 use Rattle.lexical_writer.proofs.Common.{is_binary, is_decimal, is_exact, is_float, is_minus, is_some, nearest, not, notation_of, ok_or, raw, refl, slice_get}
 use Rattle.lexical_writer.proofs.Common.{subst, suc, sym, take, true, with_sign, worth, zero, ℕ, ℤ, ◌&&◌, ◌||◌, ◌∙◌, ◌≡◌, ◌⊎◌}

@@ -19,6 +19,7 @@ use lib.Pow.{shl_lt}
 use Rattle.lexical_literal.specs.Read.{exponent}
 use Rattle.lexical_util.specs.Layout as layout
 use Rattle.lexical_writer.specs.Amount.{IsBroken, IsFinite, IsTextOf, power_if}
+use Rattle.lexical_writer.specs.Layout.{allows_exponent}
 use Rattle.lexical_writer.specs.Rounded.{HasDecimals}
 use Rattle.lexical_writer.proofs.ConversionLemmas.{size_values, zero_scaled}
 use Rattle.lexical_writer.proofs.DigitLemmas.{zeros_number}
@@ -209,6 +210,13 @@ rescaled (fin t m e) s w l num den p h v = (
 -- The number of decimals is that of the style.
 pub decimals_are : (g : Grammar) (style : Style) (shown : Bool) (n : ℕ) → style.decimals ≡ Some n → least_places g style shown ≡ decimals_in g n
 decimals_are g style shown n wished = ap (λ o. if lacks_options g.options then 0 else wished_places o (style.point || not shown)) wished
+
+pub all_decimals : (g : Grammar) (n : ℕ) → allows_exponent g ≡ true → decimals_in g n ≡ n
+all_decimals g n allows = go (lacks_options g.options) _ allows
+  where
+    go : (absent never : Bool) → not (absent || never) ≡ true → (if absent then 0 else n) ≡ n
+    go true never is = absurd (false≢true is)
+    go false never is = refl
 
 -- A literal that is written for a float that is rounded is rounded.
 pub amount_rounded : (f : Format) (x : Float) (g : Grammar) (style : Style) (n : ℕ) (l : Literal)

@@ -171,7 +171,7 @@ pub short_shape : (g : Grammar) (style : Style) (d up down last e places : ℕ) 
     (d * 10 ^ (if shown then places - last else up + places - down))
 short_shape g style d up down last e places shown far radix base plain is size_is far_is decided most = (
   go shown places most,
-  λ _. record {
+  record {
     places = max down least;
     units = d * 10 ^ (up + max down least - down);
     plain = go false (max down least) refl;

@@ -161,11 +161,10 @@ IsFloatError x g style error = ((error ≡ errors.Special) × ((negative : Bool)
     × ((float_error g style negative fraction ≡ Some error) ⊎ ((float_error g style negative fraction ≡ None) × (is_limit g error ≡ true))))
 
 -- `HasShape g style num den shown negative e places units` holds if `num` over `den` is written in `g` by `style` with these digits, of which
--- `places` are behind the point, and in radix 10 with the exponent `e`, if it is `shown`.
+-- `places` are behind the point, and with the exponent `e`, if it is `shown`.
 abbrev pub HasShape : Grammar → Style → ℕ → ℕ → Bool → Bool → ℕ → ℕ → ℕ → Type 0
 HasShape g style num den shown negative e places units =
-    HasUnits g style shown num den negative e places units
-    × ((raw g.word).byte layout.mantissa_radix ≡ 10 → IsWrittenWith g style num den shown negative e)
+    HasUnits g style shown num den negative e places units × IsWrittenWith g style num den shown negative e
 
 -- `IsAmountOf g style num den amount` holds if `amount` has the size `num` over `den`, as a literal of `g` has it by `style`.
 pub record IsAmountOf (g : Grammar) (style : Style) (num den : ℕ) (amount : Amount) : Type 0 where

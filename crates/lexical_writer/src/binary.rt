@@ -1,9 +1,10 @@
 //! How a float is written in a radix that is a power of two.
 
-ghost use Rattle.std.specs.Prelude.{◌≡◌, ◌+◌, ◌-◌, ◌*◌, ◌/◌, ◌%◌, ◌^◌, ◌<◌, ◌≤◌, ◌||◌, true, is_some, None, IfErr, IfOk, IfSome};
+ghost use Rattle.std.specs.Prelude.{◌≡◌, suc, ◌+◌, ◌-◌, ◌*◌, ◌/◌, ◌%◌, ◌^◌, ◌<◌, ◌≤◌, ◌&&◌, ◌||◌, if◌then◌else◌, nat_le, nat_lt, true, is_some};
+ghost use Rattle.std.specs.Prelude.{None, IfErr, IfOk, IfSome};
 ghost use Rattle.lexical_util.specs.Layout as layout;
 ghost use Rattle.lexical_util.specs.Record.{effective_exponent_base, raw};
-ghost use Rattle.lexical_writer.specs.Amount.{HasUnits, is_limit};
+ghost use Rattle.lexical_writer.specs.Amount.{HasShape, HasUnits, is_limit};
 ghost use Rattle.lexical_writer.specs.Rounded.{rounded};
 
 use crate::checked::Exact;
@@ -81,7 +82,6 @@ impl Binary {
             ≡ self.now.number * 2 ^ self.now.power * (2 ^ self.now.bits) ^ places }
         ensures last { low ≤ self.now.power + self.now.bits * places → self.now.power + self.now.bits * places < low + self.now.bits
             → self.now.number % 2 ≡ 1 → 0 < result.0 * (2 ^ self.now.bits) ^ result.1 % 2 ^ self.now.bits }
-        ensures zeros { low ≡ 1200 → result.0 ≡ 0 → result.1 ≤ places }
         ensures limit { result.1 < 30000 }
     {
         let power = self.power + self.bits * places;
@@ -111,6 +111,7 @@ impl Binary {
 
     // Returns the exponent of two of the first bit.
     fn top(&self) -> u64
+        ensures first { 0 < self.now.number → (2 ^ result ≤ self.now.number * 2 ^ self.now.power) × (self.now.number * 2 ^ self.now.power < 2 ^ suc result) }
         ensures limit { result < 4064 }
         ensures zero { self.now.number ≡ 0 → result ≡ 1200 }
     {
@@ -121,29 +122,46 @@ impl Binary {
         }
     }
 
+    // Returns whether a number with zeros behind its digits has more than so many bits.
+    fn reaches(&self, number: u64, after: u64, bits: u64) -> bool
+        requires { after < 30000 }
+        ensures { result ≡ nat_le (2 ^ bits) (number * (2 ^ self.now.bits) ^ after) }
+    {
+        (number > 0) & (63 - number.leading_zeros() as u64 % 64 + self.bits * after >= bits)
+    }
+
     // Returns the exponent, plus that of which `RAISED` is the power of two.
     fn exponent(&self, style: Style, places: u64) -> u64
         requires { places ≤ 255 }
         ensures limit { result * self.now.base_bits ≤ 4069 }
-        ensures zero { self.now.number ≡ 0 → result * self.now.base_bits ≤ 1200 }
+        ensures zero { self.now.number ≡ 0 → result * self.now.base_bits ≡ 1200 }
+        ensures plain { style.decimals ≡ None → 0 < self.now.number → (2 ^ (result * self.now.base_bits) ≤ self.now.number * 2 ^ self.now.power)
+            × (self.now.number * 2 ^ self.now.power < 2 ^ (result * self.now.base_bits) * 2 ^ self.now.base_bits) }
+        ensures below { is_some style.decimals ≡ true → rounded (self.now.number * 2 ^ self.now.power * (2 ^ self.now.bits) ^ places)
+            (2 ^ (result * self.now.base_bits)) < 2 ^ self.now.base_bits * (2 ^ self.now.bits) ^ places }
+        ensures least { is_some style.decimals ≡ true → 0 < self.now.number → 2 ^ self.now.base_bits * (2 ^ self.now.bits) ^ places
+            ≤ rounded (self.now.number * 2 ^ self.now.power * 2 ^ self.now.base_bits * (2 ^ self.now.bits) ^ places) (2 ^ (result * self.now.base_bits)) }
     {
         let exponent = self.top() / self.base_bits;
-        if style.decimals.is_none() || self.number == 0 {
+        if self.number == 0 {
+            return exponent;
+        }
+        if style.decimals.is_none() {
             return exponent;
         }
         let (units, after) = self.units(places, exponent * self.base_bits);
-        let size = 64 - units.leading_zeros() as u64 % 65 + after * self.bits;
         // The number can be rounded up to the base.
-        exponent + (size > self.base_bits + self.bits * places) as u64
+        exponent + self.reaches(units, after, self.base_bits + self.bits * places) as u64
     }
 
-    // Returns whether the number has more than 800 digits without an exponent.
-    fn is_long(&self, places: u64) -> bool
-        requires { places ≤ 4069 }
+    // Returns whether the number is not 0, and below the radix to the power of -4, or at least that to the power of 16.
+    fn is_far(&self) -> bool
+        ensures { result ≡ (nat_lt 0 (self.now.number * 2 ^ self.now.power)
+            && (nat_lt (self.now.number * 2 ^ self.now.power * (2 ^ self.now.bits) ^ 4) (2 ^ 1200)
+            || nat_le (2 ^ 1200 * (2 ^ self.now.bits) ^ 16) (self.now.number * 2 ^ self.now.power))) }
     {
-        let (units, after) = self.units(places, RAISED);
-        let size = (64 - units.leading_zeros() as u64 % 65).div_ceil(self.bits);
-        places > 799 || size + after > 800
+        let top = self.top();
+        (top + 4 * self.bits < RAISED) | (top >= RAISED + 16 * self.bits)
     }
 
     // Returns the digits of the number, and how they are written with an exponent, or without one.
@@ -152,8 +170,12 @@ impl Binary {
         requires base { effective_exponent_base (raw syntax.now.word) ≡ 2 ^ self.now.base_bits }
         requires exponent { exponent * self.now.base_bits ≤ 4069 }
         requires zero { self.now.number ≡ 0 → exponent * self.now.base_bits ≤ 1200 }
-        ensures { HasUnits syntax.now style result.1.shown (self.now.number * 2 ^ self.now.power) (2 ^ 1200) result.1.negative result.1.exponent
+        ensures units { HasUnits syntax.now style shown (self.now.number * 2 ^ self.now.power) (2 ^ 1200) result.1.negative result.1.exponent
             result.1.places (result.0 * (raw syntax.now.word).byte layout.mantissa_radix ^ result.1.after) }
+        ensures shown { result.1.shown ≡ shown }
+        ensures sign { result.1.negative ≡ (shown && nat_lt exponent (1200 / self.now.base_bits)) }
+        ensures size { result.1.exponent ≡ (if shown then exponent - 1200 / self.now.base_bits + (1200 / self.now.base_bits - exponent) else 0) }
+        ensures after { result.1.after < 30000 }
     {
         let zero = RAISED / self.base_bits;
         let power = if shown { exponent } else { zero };
@@ -174,19 +196,18 @@ impl Binary {
     pub(crate) fn digits(&self, syntax: &Syntax, style: Style) -> Result<(u64, Shape), WriteError>
         requires radix { (raw syntax.now.word).byte layout.mantissa_radix ≡ 2 ^ self.now.bits }
         requires base { effective_exponent_base (raw syntax.now.word) ≡ 2 ^ self.now.base_bits }
-        ensures form { IfOk result (λ it. HasUnits syntax.now style it.1.shown (self.now.number * 2 ^ self.now.power) (2 ^ 1200) it.1.negative it.1.exponent
+        ensures form { IfOk result (λ it. HasShape syntax.now style (self.now.number * 2 ^ self.now.power) (2 ^ 1200) it.1.shown it.1.negative it.1.exponent
             it.1.places (it.0 * (raw syntax.now.word).byte layout.mantissa_radix ^ it.1.after)) }
         ensures limit { IfErr result (λ error. is_limit syntax.now error ≡ true) }
     {
-        let long = self.is_long(self.places(style, least_places(syntax, style, false), RAISED));
+        let (number, plain) = self.form(syntax, style, false, 0);
+        let long = (plain.places > 799) | self.reaches(number, plain.after as u64, 800 * self.bits);
         if long && !allows_exponent(syntax) {
             return Err(WriteError::Long);
         }
-        let top = self.top();
         let exponent = self.exponent(style, least_places(syntax, style, true) as u64);
         let size = exponent.abs_diff(RAISED / self.base_bits);
-        let far = top + 4 * self.bits < RAISED || top >= RAISED + 16 * self.bits;
-        let shown = is_shown(syntax, style, size, far, long);
+        let shown = is_shown(syntax, style, size, self.is_far(), long);
         Ok(self.form(syntax, style, shown, exponent))
     }
 }

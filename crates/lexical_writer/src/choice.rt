@@ -76,7 +76,8 @@ pub trait Writable {
     /// Returns whether a literal of a syntax and a kind, with a decimal point or an exponent or without, is the number if it is
     /// written for it in a style.
     fn is_plain(&self, syntax: &Syntax, kind: Kind, style: Style, float: bool) -> bool
-        ensures { result ≡ true → (read : Read) → read.kind ≡ kind → read.format ≡ syntax.now.word → is_float read.literal ≡ float → has self.now style syntax.now read.literal → is self.now style read };
+        ensures { result ≡ true → (read : Read) → read.kind ≡ kind → read.format ≡ syntax.now.word → is_float read.literal ≡ float
+            → has self.now style syntax.now read.literal → is self.now style read };
 
     /// Returns whether a literal is worth the number in a style, of which `own` is what its form alone reads.
     fn is_read_as(&self, style: Style, own: &Literal, literal: &Literal) -> bool

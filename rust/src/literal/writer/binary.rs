@@ -76,23 +76,29 @@ impl Binary {
         }
     }
 
+    // Returns whether a number with zeros behind its digits has more than so many bits.
+    fn reaches(&self, number: u64, after: u64, bits: u64) -> bool {
+        (number > 0) & (63 - number.leading_zeros() as u64 % 64 + self.bits * after >= bits)
+    }
+
     // Returns the exponent, plus that of which `RAISED` is the power of two.
     fn exponent(&self, style: Style, places: u64) -> u64 {
         let exponent = self.top() / self.base_bits;
-        if style.decimals.is_none() || self.number == 0 {
+        if self.number == 0 {
+            return exponent;
+        }
+        if style.decimals.is_none() {
             return exponent;
         }
         let (units, after) = self.units(places, exponent * self.base_bits);
-        let size = 64 - units.leading_zeros() as u64 % 65 + after * self.bits;
         // The number can be rounded up to the base.
-        exponent + (size > self.base_bits + self.bits * places) as u64
+        exponent + self.reaches(units, after, self.base_bits + self.bits * places) as u64
     }
 
-    // Returns whether the number has more than 800 digits without an exponent.
-    fn is_long(&self, places: u64) -> bool {
-        let (units, after) = self.units(places, RAISED);
-        let size = (64 - units.leading_zeros() as u64 % 65).div_ceil(self.bits);
-        places > 799 || size + after > 800
+    // Returns whether the number is not 0, and below the radix to the power of -4, or at least that to the power of 16.
+    fn is_far(&self) -> bool {
+        let top = self.top();
+        (top + 4 * self.bits < RAISED) | (top >= RAISED + 16 * self.bits)
     }
 
     // Returns the digits of the number, and how they are written with an exponent, or without one.
@@ -114,15 +120,14 @@ impl Binary {
 
     // Returns the digits of a float, and how they are written.
     pub(crate) fn digits(&self, syntax: &Syntax, style: Style) -> Result<(u64, Shape), WriteError> {
-        let long = self.is_long(self.places(style, least_places(syntax, style, false), RAISED));
+        let (number, plain) = self.form(syntax, style, false, 0);
+        let long = (plain.places > 799) | self.reaches(number, plain.after as u64, 800 * self.bits);
         if long && !allows_exponent(syntax) {
             return Err(WriteError::Long);
         }
-        let top = self.top();
         let exponent = self.exponent(style, least_places(syntax, style, true) as u64);
         let size = exponent.abs_diff(RAISED / self.base_bits);
-        let far = top + 4 * self.bits < RAISED || top >= RAISED + 16 * self.bits;
-        let shown = is_shown(syntax, style, size, far, long);
+        let shown = is_shown(syntax, style, size, self.is_far(), long);
         Ok(self.form(syntax, style, shown, exponent))
     }
 }

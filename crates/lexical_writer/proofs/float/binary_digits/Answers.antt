@@ -1,5 +1,5 @@
 -- The digits are those of the float, which has the value of its bits.
-use Rattle.lexical_writer.proofs.Common.{HasUnits, ap, arith, digits_in, digits_of, format_of, inl, length, number, number_digits_of, number_from_digits}
+use Rattle.lexical_writer.proofs.Common.{HasShape, ap, arith, digits_in, digits_of, format_of, inl, length, number, number_digits_of, number_from_digits}
 use Rattle.lexical_writer.proofs.Common.{one-le-pow, places, raw, refl, round_same, subst, sym, ℕ, ◌*◌, ◌^◌, ◌∙◌, ◌≡◌, ◌≤◌}
 use Rattle.lexical_util.specs.Layout as layouts
 use Rattle.lexical_writer.proofs.FloatLemmas.{rescaled, twos}
@@ -37,9 +37,6 @@ returns-clause-form g c =
         exact = inl (rescaled (g.F.Float.value c.args.value) c.args.negative (exact.number * 2 ^ exact.up) (2 ^ exact.down) num den some (sym c.exact.ensures)
             (c.if-not-is_exact.ensures.value refl));
       },
-      (
-        subst (HasUnits s c.args.style form.shown num den form.negative form.exponent form.places) (sym units) c.in_ok-number.ensures.form,
-        λ ten. absurd (c.requires.radix ten),
-      ),
+      subst (HasShape s c.args.style num den form.shown form.negative form.exponent form.places) (sym units) c.in_ok-number.ensures.form,
       subst (λ r. places r bytes ≡ length bytes) radix c.put_word-bytes.ensures.places,
     )

@@ -4,11 +4,6 @@ use Rattle.lexical_util.specs.Layout as layouts
 use Rattle.lexical_writer.proofs.FloatLemmas.{base_ten, decimals_are}
 use Rattle.lexical_writer.proofs.float.digits_in.Goals as goal
 
-pub binary_digits-requires-clause-radix : goal.binary_digits-requires-clause-radix
-binary_digits-requires-clause-radix g c ten =
-    let word = c.view.ensures.word ∙ c.format.ensures.word in
-    c.if-mantissa_radix-ne10.true (c.mantissa_radix.ensures.value ∙ ap (λ w. (raw w).byte layouts.mantissa_radix) word ∙ ten)
-
 pub decimal_digits-requires-clause-radix : goal.decimal_digits-requires-clause-radix
 decimal_digits-requires-clause-radix g c =
     let word = c.view.ensures.word ∙ c.format.ensures.word in

@@ -9,7 +9,8 @@ pub returns-then-is_empty-clause-stop : goal.returns-then-is_empty-clause-stop
 returns-then-is_empty-clause-stop c none =
     refused_behind c.args.self.now c.args.text.now c.opened-opened.result c.split_at.result.1.now c.opened-opened.ensures
     (omega (arith, c.if-opened-size.false, c.size.ensures)) c.split_at.ensures.back
-    (none_is _ c.is_empty.result c.is_empty.ensures c.if-is_empty.true) c.stop-stop.result c.at-then-is_empty.result c.stop-stop.ensures none c.at-then-is_empty.ensures
+    (none_is _ c.is_empty.result c.is_empty.ensures c.if-is_empty.true) c.stop-stop.result c.at-then-is_empty.result
+    c.stop-stop.ensures none c.at-then-is_empty.ensures
 
 pub ending-requires : goal.ending-requires
 ending-requires c = is_some_size _ c.is_empty.result c.is_empty.ensures c.if-is_empty.false

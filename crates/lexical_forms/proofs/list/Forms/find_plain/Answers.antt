@@ -19,7 +19,8 @@ loop-form-init c =
     elim c.match-stop.branch [
       | in-Some w ↦
           let here = subst (λ (l : FormList). IsSomeAnd (slice_get l.forms 0) (IsRefusedAt text w.in-Some.stop)) (sym c.self.view_is)
-          (subst (λ (o : Option Stopped). IfSome o (λ stop. IsSomeAnd (slice_get c.args.self.now.forms 0) (IsRefusedAt text stop))) w.in-Some.is c.requires.stop) in
+          (subst (λ (o : Option Stopped). IfSome o (λ stop. IsSomeAnd (slice_get c.args.self.now.forms 0) (IsRefusedAt text stop)))
+          w.in-Some.is c.requires.stop) in
           begun c.match-stop.form 1 c.match-stop.furthest _ w.form-is w.furthest-is (first_none c.self.inside.forms.now text w.in-Some.stop here)
           (leads_first c.self.inside.forms.now text 0 w.in-Some.stop here (λ k d low below. absurd (omega (arith, below))))
       | in_default w ↦ begun c.match-stop.form 0 c.match-stop.furthest None w.form-is w.furthest-is

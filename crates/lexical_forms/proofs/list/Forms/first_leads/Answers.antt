@@ -1,9 +1,9 @@
 -- No form but the first has to be asked.
-use Rattle.lexical_forms.proofs.Common.{◌≡◌, All-more, FormList, Grammar, IsSomeAnd, NoLiteral, arith, get_or, length, nat_tests, notation_of, refl}
-use Rattle.lexical_forms.proofs.Common.{slice_get, subst, sym}
+use Rattle.lexical_forms.proofs.Common.{◌≡◌, All-more, FormList, Grammar, IsSomeAnd, NoLiteral, arith, get_or, nat_tests, notation_of, refl}
+use Rattle.lexical_forms.proofs.Common.{NoForm, slice_get, subst, sym}
 use Rattle.lexical_forms.specs.Additions.Forms.{IsLow, IsNoBetter, IsRefusedAt}
 use Rattle.lexical_forms.specs.Forms.{ReadsIn}
-use Rattle.lexical_forms.proofs.FormLemmas.{at_index, first_none, leads_all, leads_first, left_out}
+use Rattle.lexical_forms.proofs.FormLemmas.{all_tried, at_index, first_none, leads_all, leads_first, left_out}
 use Rattle.lexical_forms.proofs.MarkLemmas.{low_plain, none_plain}
 use Rattle.lexical_literal.specs.Front.{NoneBy}
 use Rattle.lexical_forms.proofs.list.Forms.first_leads.Goals as goal
@@ -26,6 +26,11 @@ loop-form-preserved c =
           (subst (λ (g : Grammar). IsNoBetter (notation_of g) text size) c.grammar.ensures.value
           (c.is_settled.ensures.better c.if-not-is_settled.false)))),
     )
+
+pub returns-clause-none : goal.returns-clause-none
+returns-clause-none c = λ _. subst (λ (l : FormList). NoForm l.forms c.args.text.now) c.self.view_is
+    (all_tried c.self.inside.forms.now c.args.text.now c.loop-form.form c.loop-form-test.false (λ g. NoneBy (ReadsIn g) c.args.text.now)
+    c.loop-form.invariant.0)
 
 pub returns-clause-leads : goal.returns-clause-leads
 returns-clause-leads c = rw (← c.self.view_is) (leads_all c.self.inside.forms.now c.args.text.now c.loop-form.form c.loop-form-test.false _

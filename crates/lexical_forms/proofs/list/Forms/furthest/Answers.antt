@@ -12,7 +12,8 @@ loop-form-init c =
     let text = c.args.text.now in
     let d = c.index-self-0.result in
     leads_first forms text 0 c.stop-first.result (at_index (IsRefusedAt text c.stop-first.result) forms forms d 0 refl c.self.invariant.0
-    (c.stop-first.ensures.stop (subst (λ (l : FormList). NoForm l.forms text) (sym c.self.view_is) c.requires 0 d c.self.invariant.0))) (λ k d low below. absurd (omega (arith, below)))
+    (c.stop-first.ensures.stop (subst (λ (l : FormList). NoForm l.forms text) (sym c.self.view_is) c.requires 0 d c.self.invariant.0)))
+    (λ k d low below. absurd (omega (arith, below)))
 
 pub further-furthest-requires-clause-refused : goal.further-furthest-requires-clause-refused
 further-furthest-requires-clause-refused c =
@@ -35,7 +36,8 @@ loop-form-preserved c =
           (subst (λ (l : FormList). Leads l.forms text (i + 1) w.further-furthest.result) (sym c.self.view_is) w.further-furthest.ensures)
       | else-is_marked+else-not-is_settled w ↦ subst (Leads forms text (i + 1)) (sym w.furthest-is) (left_out forms text i best c.loop-form.invariant
           (at_index (IsLow text best.stop.size) forms forms c.index-self-form.result i refl c.loop-form-test.true
-          (low_plain (get_or forms i c.index-self-form.result) text (let marked = c.is_marked.ensures in let no = w.if-is_marked.false in grind (arith, nat_tests))
+          (low_plain (get_or forms i c.index-self-form.result) text
+          (let marked = c.is_marked.ensures in let no = w.if-is_marked.false in grind (arith, nat_tests))
           (let marked = c.is_marked.ensures in let no = w.if-is_marked.false in grind (arith, nat_tests)) best.stop.size
           (subst (λ (g : Grammar). IsNoBetter (notation_of g) text best.stop.size) w.grammar.ensures.value
           (w.is_settled.ensures.better w.if-not-is_settled.false)))))

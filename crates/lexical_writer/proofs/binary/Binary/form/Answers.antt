@@ -1,14 +1,14 @@
 -- The digits are those of the number over the power of its exponent.
 use Rattle.lexical_writer.proofs.Common.{HasUnits, ap, arith, effective_exponent_base, least_places, nat_lt, one-le-pow, raw, subst, sym, ◌*◌, ◌/◌, ◌<◌, ◌^◌}
-use Rattle.lexical_writer.proofs.Common.{◌∙◌, ◌≡◌, ◌≤◌}
+use Rattle.lexical_writer.proofs.Common.{Bool, false, if◌then◌else◌, le-ltb, true, ℕ, ◌&&◌, ◌∙◌, ◌≡◌, ◌≤◌}
 use Rattle.lexical_util.specs.Layout as layouts
 use Rattle.lexical_writer.proofs.AmountLemmas.{size}
 use Rattle.lexical_writer.proofs.BinaryLemmas.{last_bits, over_exponent, whole}
 use Rattle.lexical_writer.proofs.binary.Binary.form.Goals.{else-shown, then-shown}
 use Rattle.lexical_writer.proofs.binary.Binary.form.Goals as goal
 
-pub returns : goal.returns
-returns c =
+pub returns-clause-units : goal.returns-clause-units
+returns-clause-units c =
     let it = c.args.self.now in
     let g = c.args.syntax.now in
     let style = c.args.style in
@@ -39,3 +39,20 @@ returns c =
           c.places-places.ensures.exact (λ least less odd. rw radix (made.last least less odd));
     } in
     subst (λ e. HasUnits g style c.args.shown num (2 ^ 1200) (nat_lt E Z) e places U) (sym e) units
+
+below : (E Z P : ℕ) (shown : Bool) → P ≡ (if shown then E else Z) → (nat_lt P Z ≡ (shown && nat_lt E Z)) × (size P Z ≡ (if shown then size E Z else 0))
+below E Z P true is = (ap (λ p. nat_lt p Z) is, ap (λ p. size p Z) is)
+below E Z P false is = (ap (λ p. nat_lt p Z) is ∙ le-ltb Z Z (omega arith), ap (λ p. size p Z) is ∙ omega arith)
+
+power_is : (c : goal.After-form-1) → c.if-shown.power ≡ (if c.args.shown then c.args.exponent else 1200 / c.args.self.now.base_bits)
+power_is c = elim c.if-shown.branch [
+  | then-shown w ↦ w.power-is ∙ sym (ap (λ s. if s then c.args.exponent else 1200 / c.args.self.now.base_bits) w.if-shown.true)
+  | else-shown w ↦ w.power-is ∙ sym (ap (λ s. if s then c.args.exponent else 1200 / c.args.self.now.base_bits) w.if-shown.false)
+]
+
+pub returns-clause-sign : goal.returns-clause-sign
+returns-clause-sign c = (below c.args.exponent (1200 / c.args.self.now.base_bits) c.if-shown.power c.args.shown (power_is c)).0
+
+pub returns-clause-size : goal.returns-clause-size
+returns-clause-size c = omega (arith, c.abs_diff.ensures)
+    ∙ (below c.args.exponent (1200 / c.args.self.now.base_bits) c.if-shown.power c.args.shown (power_is c)).1
