@@ -25,7 +25,7 @@ class Offers(Walk):
             for start in (it for it in buttons if it.startswith("start from ")):
                 self.click("#read .use", start)
                 title = self.run_script("return find('language').selectedOptions[0].textContent")
-                self.assertRegex(f"start from {advice}", f"^{re.escape(start)}(,| and| reads)", title)
+                self.assertRegex(advice, rf"(^|\. ){re.escape(title)}(,| and| reads)")
                 self.assertEqual(start, f"start from {title}")
             if isinstance(meant, str):
                 self.assertEqual((meant in advice, meant in sentence), (True, True), text)
