@@ -174,7 +174,7 @@ fn told_apart(
             let types = [discriminant(&values[0]), discriminant(&values[1])];
             let cause = Cause::Values([number.form(), other.form()], types);
             let has_value = |it: &Value| !matches!(it, Value::Unknown(_) | Value::Refused(_));
-            (values[0] != values[1] && values.iter().any(has_value)).then_some((cause, Ok(values)))
+            (!values[0].is_same(values[1]) && values.iter().any(has_value)).then_some((cause, Ok(values)))
         }
     }
 }
