@@ -148,31 +148,40 @@ unsafe fn write<'a>(
     }
 }
 
-/// Writes a number, or the value of a literal, by forms, and the size that is enough.
+/// What passes forms to a call.
+type Read = unsafe fn(*const Forms, &mut dyn FnMut(Given<'_>));
+
+/// Passes the forms of floats, which are written without words.
+#[inline(never)]
+unsafe fn of_floats(forms: *const Forms, then: &mut dyn FnMut(Given<'_>)) {
+    by(forms, then);
+}
+
+/// Passes the forms of integers.
+unsafe fn of_integers(forms: *const Forms, then: &mut dyn FnMut(Given<'_>)) {
+    if has_written(forms) {
+        with_tokens(forms, then);
+    } else {
+        of_floats(forms, then);
+    }
+}
+
+/// Writes a number by forms, and the size that is enough. A program that writes floats has no code for tokens.
 #[inline(never)]
 unsafe fn write_number(
+    read: Read,
     (forms, style): (*const Forms, Option<&Style>),
     to: (*mut u8, usize, Out<usize>),
-    number: Result<&dyn Writable, literal::Literal>,
+    number: Result<&dyn Writable, WriteError>,
 ) -> WriteStatus {
-    let is_integer = number.map_or_else(|literal| !literal.is_float(), Writable::is_integer);
     let mut status = ARGUMENT;
-    let write: &mut dyn FnMut(Given<'_>) = &mut |forms| {
+    read(forms, &mut |forms| {
         let (Ok(forms), Some(style)) = (forms, wishes(style)) else { return };
         if forms.as_slice().iter().all(|it| has_radixes(&it.syntax())) {
             let print = |written: &[u8]| finish(to, |text| text.write_str(str::from_utf8_unchecked(written)));
-            let written = match number {
-                Ok(number) => forms.written(number, style, print),
-                Err(literal) => forms.written_literal(&literal, style, print),
-            };
-            status = written.unwrap_or_else(status_of);
+            status = number.and_then(|it| forms.written(it, style, print)).unwrap_or_else(status_of);
         }
-    };
-    if is_integer && has_written(forms) {
-        with_tokens(forms, write);
-    } else {
-        by(forms, write);
-    }
+    });
     status
 }
 
@@ -251,25 +260,25 @@ calls! {
     fn peltzivar_forms_format_i64(
         forms: *const Forms, value: i64, style: Option<&Style>, text: *mut u8, len: usize, needed: Out<usize>
     ) -> WriteStatus {
-        write_number((forms, style), (text, len, needed), Ok(&Whole::of(i128::from(value))))
+        write_number(of_integers, (forms, style), (text, len, needed), Ok(&Whole::of(i128::from(value))))
     }
 
     fn peltzivar_forms_format_u64(
         forms: *const Forms, value: u64, style: Option<&Style>, text: *mut u8, len: usize, needed: Out<usize>
     ) -> WriteStatus {
-        write_number((forms, style), (text, len, needed), Ok(&Whole::of(i128::from(value))))
+        write_number(of_integers, (forms, style), (text, len, needed), Ok(&Whole::of(i128::from(value))))
     }
 
     fn peltzivar_forms_format_i128(
         forms: *const Forms, value: I128, style: Option<&Style>, text: *mut u8, len: usize, needed: Out<usize>
     ) -> WriteStatus {
-        write_number((forms, style), (text, len, needed), Ok(&Whole::of(i128::from(value))))
+        write_number(of_integers, (forms, style), (text, len, needed), Ok(&Whole::of(i128::from(value))))
     }
 
     fn peltzivar_forms_format_f64(
         forms: *const Forms, value: f64, style: Option<&Style>, text: *mut u8, len: usize, needed: Out<usize>
     ) -> WriteStatus {
-        match write_number((forms, style), (text, len, needed), Ok(&Real { value })) {
+        match write_number(of_floats, (forms, style), (text, len, needed), Ok(&Real { value })) {
             SPECIAL => write_special(forms, (text, len, needed), value),
             status => status,
         }
@@ -279,7 +288,8 @@ calls! {
         forms: *const Forms, literal: &Literal, style: Option<&Style>, text: *mut u8, len: usize, needed: Out<usize>
     ) -> WriteStatus {
         let Some(literal) = literal.value() else { return ARGUMENT };
-        write_number((forms, style), (text, len, needed), Err(*literal))
+        let read = if literal.is_float() { of_floats } else { of_integers };
+        literal.with_number(|number| write_number(read, (forms, style), (text, len, needed), number))
     }
 
     fn peltzivar_write_description(status: WriteStatus) -> *const u8 { at(DESCRIPTIONS, status) }

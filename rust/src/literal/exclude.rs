@@ -11,7 +11,7 @@ use crate::word::{base_prefix, base_suffix, digit_separator, Part};
 
 // Returns whether the first bytes behind the sign, which has this length, exclude that `text` is a literal: there is not the prefix
 // that is required, or the second plays no role. Then no literal begins with both.
-#[inline(always)]
+#[cfg_attr(not(peltzivar_small), inline(always))]
 pub(crate) const fn excludes(grammar: Grammar, text: &[u8], sign: usize) -> bool {
     let is_long = sign + 1 < text.len();
     if grammar.conditions.has(Condition::BasePrefix) {

@@ -2,14 +2,14 @@
 
 use core::{fmt, ops, ops::Range, slice, str};
 
-use crate::literal::exclude::has_letter_behind_zero;
+use crate::literal::exclude::{has_letter_behind_zero, sign_size};
 use crate::literal::list::{Furthest, Mark, Unmarked};
 use crate::literal::sentence::{first_character, unexpected};
 use crate::literal::stop::Stopped;
 use crate::literal::value::Decimal;
 use crate::literal::{
     Form, FormError, Forms, FromLiteral, IntegerKind, Literal, Number, ParseError, ReadError, ReadErrorKind, Special,
-    Specials, Syntax, ValueError,
+    Specials, Syntax, TokenError, ValueError,
 };
 
 impl<'a> Forms<'a> {
@@ -58,6 +58,29 @@ impl<'a> Forms<'a> {
             }
         }
         self.read_behind(text, stop)
+    }
+
+    // Returns why `word`, up to `end`, is not a token, as the library for C reads all texts.
+    #[cold]
+    pub(crate) const fn fault(&self, word: &[u8], end: usize) -> TokenError {
+        let specials = Specials { nan: None, inf: None, infinity: None };
+        match self.with_specials(specials).read_behind(word, None) {
+            Err(error) => TokenError::Literal(error),
+            Ok(_) => TokenError::NotAToken { end },
+        }
+    }
+
+    // Returns what a form reads of `text`, and the length of its sign. In the library for C, which has one reader for all
+    // lists, that is what is between the marks of the form, if they are there.
+    #[inline(always)]
+    pub(crate) const fn inside<'t>(&self, text: &'t [u8], sign: usize, form: usize) -> Option<(&'t [u8], usize)> {
+        if !cfg!(peltzivar_small) || !self.marked {
+            return Some((text, sign));
+        }
+        match self.as_slice()[form].between(text) {
+            Some(inside) => Some((inside, sign_size(inside))),
+            None => None,
+        }
     }
 
     // Returns whether the first form is asked before all, whose literal is the number. Texts such as `0x1F` are most often none.
@@ -236,6 +259,20 @@ impl fmt::Display for Number<'_> {
 impl fmt::Display for Special {
     fn fmt(&self, f: &mut fmt::Formatter<'_>) -> fmt::Result {
         self.to_f64().fmt(f)
+    }
+}
+
+impl Form {
+    // Returns the literal that `text` is, with parts of these lengths. The library for C does not read it again.
+    #[inline(always)]
+    pub(crate) const fn literal_of<'t>(&self, text: &'t [u8], counts: [usize; 9]) -> Option<Literal<'t>> {
+        if !cfg!(peltzivar_small) {
+            return self.literal(text);
+        }
+        match self.between(text) {
+            Some(inside) => Some(self.syntax.summed(inside, counts)),
+            None => None,
+        }
     }
 }
 

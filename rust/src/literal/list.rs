@@ -204,7 +204,7 @@ impl<'a> Forms<'a> {
     // Returns what `read` returns, where the first form stops at `stop`, if it has been asked.
     #[inline(never)]
     pub(crate) const fn read_behind<'t>(&self, text: &'t [u8], stop: Option<Stopped>) -> Result<Number<'t>, FormError> {
-        if self.marked {
+        if !cfg!(peltzivar_small) && self.marked {
             self.number(text, self.find_marked(text))
         } else {
             self.number(text, self.find_plain(text, stop))
@@ -293,14 +293,19 @@ impl<'a> Forms<'a> {
             form = 1;
         }
         while form < self.forms.len() {
+            let Some((text, sign)) = self.inside(text, sign, form) else {
+                form += 1;
+                continue;
+            };
             let syntax = &self.forms[form].syntax;
             if !is_behind(syntax.as_grammar(), text, sign, furthest) {
-                let begun = syntax.begin(false, text, false);
+                let begun = syntax.begin_small(text, false);
                 if begun.is_whole(syntax, text) {
                     return Ok((form, syntax.literal(text, begun.counts, begun.sums)));
                 }
                 match begun.lengths(syntax, text) {
                     Ok(counts) => return Ok((form, syntax.summed(text, counts))),
+                    Err(_) if cfg!(peltzivar_small) && self.marked => {}
                     Err(stop) => furthest = self.further_on(text, sign, furthest, form, stop),
                 }
             }
@@ -333,7 +338,8 @@ impl<'a> Forms<'a> {
 
     // Returns the form whose error is that of the list, where `text` is no literal.
     #[cold]
-    #[inline(never)]
+    #[cfg_attr(not(peltzivar_small), inline(never))]
+    #[cfg_attr(peltzivar_small, inline(always))]
     const fn furthest(&self, text: &[u8]) -> Furthest {
         let first = self.forms[0].stop(text);
         let mut furthest = Furthest { form: 0, stop: first, settled: false };

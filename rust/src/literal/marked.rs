@@ -79,6 +79,9 @@ impl<'a> Forms<'a> {
         let (_, rest) = text.split_at(size);
         let end = size + word_size(rest);
         let (word, _) = text.split_at(end);
+        if cfg!(peltzivar_small) {
+            return self.fault(word, end);
+        }
         match self.find_marked(word) {
             Err(furthest) => TokenError::Literal(self.error_at(word, furthest)),
             Ok(_) => TokenError::NotAToken { end },
@@ -117,7 +120,7 @@ impl Form {
         let (front, behind) = text.split_at(size);
         let (suffix, rest) = behind.split_at(end - size);
         let kind = kind_with(self.suffixes, suffix, self.kind);
-        match self.literal(front) {
+        match self.literal_of(front, candidate.counts) {
             None => None,
             Some(literal) => {
                 Some(Token { literal: literal.with_kind(kind).behind(self.opening.size()), form, suffix, rest })

@@ -21,7 +21,7 @@ impl Form {
     }
 
     // Returns the literal that `text` is, if it is one.
-    #[cfg_attr(not(peltzivar_small), inline(always))]
+    #[inline(always)]
     pub(crate) const fn literal<'t>(&self, text: &'t [u8]) -> Option<Literal<'t>> {
         let Some(inside) = self.between(text) else {
             return None;
@@ -29,12 +29,6 @@ impl Form {
         let syntax = &self.syntax;
         if excludes(syntax.as_grammar(), inside, sign_size(inside)) {
             return None;
-        }
-        if cfg!(peltzivar_small) {
-            return match syntax.read_generally(inside) {
-                Ok(literal) => Some(literal),
-                Err(_) => None,
-            };
         }
         let begun = syntax.begin(false, inside, false);
         if begun.is_whole(syntax, inside) {
@@ -48,7 +42,7 @@ impl Form {
 
     // Returns what is between the opening and the closing of `text`, if both are there.
     #[inline(always)]
-    const fn between<'t>(&self, text: &'t [u8]) -> Option<&'t [u8]> {
+    pub(crate) const fn between<'t>(&self, text: &'t [u8]) -> Option<&'t [u8]> {
         let opened = self.opening.opened(text);
         if opened < self.opening.size() {
             return None;
@@ -143,6 +137,7 @@ impl Form {
 
     // Returns the same for a form with an opening or a closing.
     #[cold]
+    #[cfg_attr(peltzivar_small, inline(always))]
     const fn is_marked_stray(&self, text: &[u8], stop: Stopped) -> bool {
         let opened = self.opening.size();
         if stop.size < opened {

@@ -96,6 +96,7 @@ impl Stopped {
 
     // Returns where reading `text` stops for good, step by step.
     #[cold]
+    #[cfg_attr(peltzivar_small, inline(always))]
     pub(crate) const fn walk(self, syntax: &Syntax, text: &[u8], group: Group) -> Stopped {
         let mut stop = self;
         let mut last = group;

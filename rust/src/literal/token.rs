@@ -112,6 +112,7 @@ impl<'a> Forms<'a> {
         let reached = if has_letter_behind_zero(text) { sign + 1 } else { sign };
         match self.leading(tokens, text, reached) {
             Some(token) => Ok(token),
+            None if cfg!(peltzivar_small) => self.token_marked(tokens, text),
             None => self.token_of(tokens, text),
         }
     }

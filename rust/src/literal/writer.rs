@@ -471,24 +471,17 @@ impl<'a> Forms<'a> {
             Err(error) => Err(error),
         }
     }
+}
 
-    /// Does the same for the value of a literal.
-    ///
-    /// # Errors
-    ///
-    /// As those of the other calls.
+impl Literal<'_> {
+    /// Passes the number that forms write for the literal, or why they write none.
     #[doc(hidden)]
-    pub fn written_literal<R>(
-        &self,
-        literal: &Literal,
-        style: Style,
-        then: impl FnOnce(&[u8]) -> R,
-    ) -> Result<R, WriteError> {
-        match literal.other_value() {
-            None => self.written(literal, style, then),
-            Some(Other::Integer(value)) => self.written(&Whole::of(value), style, then),
-            Some(Other::Single(value)) => self.written(&Real { value }, style, then),
-            Some(Other::TooLarge) => Err(WriteError::TooLarge),
+    pub fn with_number<R>(&self, then: impl FnOnce(Result<&dyn Writable, WriteError>) -> R) -> R {
+        match self.other_value() {
+            None => then(Ok(self)),
+            Some(Other::Integer(value)) => then(Ok(&Whole::of(value))),
+            Some(Other::Single(value)) => then(Ok(&Real { value })),
+            Some(Other::TooLarge) => then(Err(WriteError::TooLarge)),
         }
     }
 }

@@ -7,6 +7,7 @@ use crate::literal::kind::{FloatKind, FloatLimits, IntegerKind, Kind};
 use crate::literal::list::{Forms, Number};
 use crate::literal::literal::Literal;
 use crate::literal::syntax::{Condition, Syntax};
+use crate::literal::token::Token;
 use crate::literal::value::float::{supports_floats, to_float};
 use crate::literal::value::integer::own_numeral;
 use crate::literal::value::number::float::Float;
@@ -22,6 +23,10 @@ use crate::literal::writer::near::format_near;
 pub trait Writable {
     /// Returns the radix of the forms that are asked first.
     fn radix(&self) -> u32;
+    /// Returns the token that `text` begins with. Only integers are written with words.
+    fn token<'t>(&self, _: &Forms, _: &'t [u8]) -> Option<Token<'t>> {
+        None
+    }
 
     /// Returns whether the number is an integer.
     fn is_integer(&self) -> bool;
@@ -65,6 +70,10 @@ impl Whole {
 }
 
 impl Writable for Whole {
+    fn token<'t>(&self, forms: &Forms, text: &'t [u8]) -> Option<Token<'t>> {
+        forms.token(text).ok()
+    }
+
     fn radix(&self) -> u32 {
         10
     }
@@ -182,6 +191,10 @@ fn is_same<F: Float>(own: &Literal, literal: &Literal) -> bool {
 }
 
 impl Writable for Literal<'_> {
+    fn token<'t>(&self, forms: &Forms, text: &'t [u8]) -> Option<Token<'t>> {
+        forms.token(text).ok()
+    }
+
     fn radix(&self) -> u32 {
         self.format().mantissa_radix()
     }
@@ -569,7 +582,7 @@ fn read_token<N: Writable + ?Sized>(
     word: &[u8],
     text: &[u8],
 ) -> Result<(), WriteError> {
-    let Ok(token) = forms.token(text) else {
+    let Some(token) = number.token(forms, text) else {
         return Err(WriteError::ReadBack);
     };
     if token.rest.is_empty() && token.suffix == word && number.is_worth(style, &token.literal) {
