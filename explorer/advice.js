@@ -2,8 +2,8 @@
 const PREFIXED = /^[+-]?(?:(?:[#&][hox]|\d+#|\d\dr|\d*'s?[hdob]|x')[\da-f]|[#\p{Sc}]\d*[a-f])[\da-f_]*['#]?(?:e[+-]?\d+)?$/iu;
 /* Texts that no format has: a pattern, and the row of what no format can express, or words. */
 const IMPOSSIBLE = [
-    [PREFIXED, 0],
-    [/^[+-]?\d+(?:[/\u2044]\d+|(?::\d+)+)$/, 3],
+    [PREFIXED, 1],
+    [/^[+-]?\d+(?:[/\u2044]\d+|(?::\d+)+)$/, 4],
     [/^[+-]?0(?:[by][01]*[2-9]|[oq][0-7]*[89])\d*$/i, "has a digit that its prefix does not allow: binary digits are 0 and 1, octal ones 0 to 7."],
     [/^(?!\d{1,3}(?:\.\d{3})+$)\d+(?:\.\d+){2,}$/, "has several numbers, as a version has: read each by itself."],
     [/^[+-]?[\d.]+\s*(?:\^|\*\*?|x\s*10\^|[\u00d7\u00b7+-])\s*[\d.]+/i,

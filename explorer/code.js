@@ -123,7 +123,7 @@ ${this.rustTest(tests)}`;
         const kinds = `IntegerKind::${integers}${bits && `(${bits})`}, FloatKind::${single ? "Single" : "Nearest"}`;
         const limited = limits && `.with_limits(FloatLimits::${limits === "both" ? "Both" : "Largest"})`;
         const kind = bits || single || limits ? `\n        .with_kind(Kind::new(${kinds}).unwrap()${limited})` : "";
-        const affix = (it) => form[it] && `\n        .with_${it}(Affix::new(b${rustText(form[it])}).unwrap())`;
+        const affix = (it) => form[it] && `\n        .with_${it}(Affix::new(b${JSON.stringify(form[it])}).unwrap())`;
         const affixes = affix("opening") + affix("closing") + (form.closing && ".unwrap()");
         const whole = `Form::new(${rustText(name)}, Syntax::${syntax})${set})${kind}${affixes}`;
         return `    // ${wordText(form.word)}\n    ${whole},\n`;

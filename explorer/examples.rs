@@ -24,10 +24,10 @@ const PARTS: [&[&str]; 6] = [
 /// How many parts of a text are not the usual ones.
 const MOST_UNUSUAL: usize = 3;
 
-/// Returns the text of these parts, if the state has all of its bytes and they are visible.
-fn text_of(state: State, parts: [&str; 6]) -> Option<Vec<u8>> {
+/// Returns the text of an example, if the state has all of its bytes and they are visible.
+fn text_of(state: State, example: &str) -> Option<Vec<u8>> {
     let visible = |byte: &u8| matches!(byte, b' '..=b'~');
-    parts.iter().flat_map(|part| part.bytes()).map(|byte| Some(byte_for(state, byte)).filter(visible)).collect()
+    example.bytes().map(|byte| Some(byte_for(state, byte)).filter(visible)).collect()
 }
 
 /// Returns the byte of a state that a byte of an example stands for. It is 0 if the state lacks it.
@@ -45,29 +45,29 @@ fn byte_for(state: State, byte: u8) -> u8 {
     }
 }
 
-/// Returns the parts of the texts that are tried.
-fn parts() -> Vec<[&'static str; 6]> {
-    let all = PARTS.iter().map(|parts| parts.len()).product();
-    let parts = (0..all).filter_map(|mut number: usize| {
+/// Calls `each` with the texts of these parts that have the bytes of a state.
+fn try_parts(state: State, each: &mut dyn FnMut(Vec<u8>)) {
+    let places = PARTS.map(|parts| parts.iter().filter_map(|part| text_of(state, part)).collect::<Vec<_>>());
+    for mut number in 0..places.iter().map(Vec::len).product() {
         let mut unusual = 0;
-        let parts = PARTS.map(|parts| {
+        let parts = places.each_ref().map(|parts| {
             let index = number % parts.len();
             number /= parts.len();
             unusual += usize::from(index > 0);
-            parts[index]
+            &parts[index][..]
         });
-        (unusual <= MOST_UNUSUAL).then_some(parts)
-    });
-    parts.collect()
+        if unusual <= MOST_UNUSUAL {
+            each(parts.concat());
+        }
+    }
 }
 
 /// Calls `each` with the texts that are tried for two lists, in the bytes of their forms.
 fn try_texts(forms: &List, others: &List, each: &mut dyn FnMut(Vec<u8>)) {
     let states = || forms.states.iter().chain(&others.states).copied();
-    let parts = parts();
     for state in states() {
         let each = &mut |text: Vec<u8>| each([state.opening.as_bytes(), &text, state.closing.as_bytes()].concat());
-        parts.iter().filter_map(|&parts| text_of(state, parts)).for_each(&mut *each);
+        try_parts(state, each);
         states().for_each(|it| try_integers(state, it.kind.integers(), each));
         if states().any(|it| it.kind.limits() != FloatLimits::None) {
             try_far_floats(state, each);
@@ -92,8 +92,7 @@ fn try_integers(state: State, kind: IntegerKind, each: &mut dyn FnMut(Vec<u8>)) 
     }
     digits.reverse();
     for (before, behind) in [("", ""), ("0x", ""), ("", "h"), ("0", "h")] {
-        let end = |part| text_of(state, [part, "", "", "", "", ""]);
-        if let (Some(before), Some(behind)) = (end(before), end(behind)) {
+        if let (Some(before), Some(behind)) = (text_of(state, before), text_of(state, behind)) {
             each([&before[..], &digits, &behind].concat());
         }
     }
@@ -103,7 +102,7 @@ fn try_integers(state: State, kind: IntegerKind, each: &mut dyn FnMut(Vec<u8>)) 
 fn try_far_floats(state: State, each: &mut dyn FnMut(Vec<u8>)) {
     for (prefix, fraction) in [("", ""), ("0x", ""), ("", ".1"), ("0x", ".1")] {
         for exponent in ["e1", "e-1"] {
-            if let Some(text) = text_of(state, ["", prefix, "1", fraction, exponent, ""]) {
+            if let Some(text) = text_of(state, &[prefix, "1", fraction, exponent].concat()) {
                 each([&text[..], b"1111111111111"].concat());
             }
         }
@@ -112,7 +111,7 @@ fn try_far_floats(state: State, each: &mut dyn FnMut(Vec<u8>)) {
 
 /// Calls `each` with the special values of a state in three cases, also with a sign or a separator.
 fn try_specials(state: State, each: &mut dyn FnMut(Vec<u8>)) {
-    let mark = text_of(state, ["_", "", "", "", "", ""]).unwrap_or_default();
+    let mark = text_of(state, "_").unwrap_or_default();
     for word in [state.specials.nan, state.specials.inf, state.specials.infinity].into_iter().flatten() {
         for word in [word.to_vec(), word.to_ascii_lowercase(), word.to_ascii_uppercase()] {
             let (first, rest) = word.split_at(word.len().min(1));
@@ -175,7 +174,7 @@ fn told_apart(
             let types = [discriminant(&values[0]), discriminant(&values[1])];
             let cause = Cause::Values([number.form(), other.form()], types);
             let has_value = |it: &Value| !matches!(it, Value::Unknown(_) | Value::Refused(_));
-            (values[0] != values[1] && values.iter().any(has_value)).then_some((cause, Ok(values)))
+            (!values[0].is_same(values[1]) && values.iter().any(has_value)).then_some((cause, Ok(values)))
         }
     }
 }

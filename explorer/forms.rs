@@ -117,6 +117,21 @@ pub enum Value {
     Refused(ValueError),
 }
 
+impl Value {
+    /// Returns whether both are the same number, also as an integer and a float.
+    pub fn is_same(self, other: Self) -> bool {
+        match (self, other) {
+            (Value::Integer(is_negative, size), Value::Float(bits))
+            | (Value::Float(bits), Value::Integer(is_negative, size)) => {
+                let float = f64::from_bits(bits);
+                let is_integer = float.abs() == size as f64 && float.abs() as u128 == size;
+                is_integer && float.is_sign_negative() == is_negative
+            }
+            _ => self == other,
+        }
+    }
+}
+
 pub fn value_of(number: Number<'_>) -> Value {
     let literal = match number {
         Number::Special(special) => return Value::Float(special.to_f64().to_bits()),

@@ -170,10 +170,12 @@ class Page {
         return this.data.languages.find((it) => it.name === language && (isOrigin || isSame(it.forms, forms)));
     }
 
-    /* Returns the list, in which each form has a name of its own if there are several. */
+    /* Returns the list, in which each form has a name of its own if there are several: its opening if others have its name. */
     listOf({ forms, language }) {
         const usual = (form) => (forms.length > 1 ? (RADIXES[this.library.value(form, "mantissa_radix")] ?? "form") : "");
-        const names = forms.map((form) => form.name || usual(form));
+        const told = forms.map((form) => form.name || usual(form));
+        const shared = new Set(told.filter((name, index) => told.indexOf(name) < index));
+        const names = told.map((name, index) => (shared.has(name) && forms[index].opening) || name);
         const own = names.map((name, index) => (names.indexOf(name) < index ? `${name} (${index + 1})` : name));
         const all = forms.map((form, index) => ({ ...this.library.explain(form), ...form, name: own[index] }));
         return { forms: all, specials: this.languageOf({ language, forms }, true)?.specials };

@@ -114,6 +114,12 @@ impl State {
         read.map_err(Some)
     }
 
+    /// Returns why what is between the opening and the closing of a text is not a literal, which shows the flags to blame.
+    fn read_inside(self, text: &[u8]) -> Option<FormError> {
+        let inside = text.strip_prefix(self.opening.as_bytes())?.strip_suffix(self.closing.as_bytes())?;
+        Self { opening: Affix::NONE, closing: Affix::NONE, ..self }.read(inside).err()?
+    }
+
     fn refuses(self, text: &[u8]) -> bool {
         matches!(self.read(text), Err(Some(_)))
     }
@@ -189,7 +195,7 @@ pub fn offers(state: State, lines: &[Line<'_>], line: Line<'_>) -> Vec<State> {
         }
     }
     let mut offered: Vec<State> = Vec::new();
-    found.into_iter().for_each(|it| {
+    found.into_iter().map(|it| without_needless(it, state, line)).for_each(|it| {
         if !offered.contains(&it) {
             offered.push(it)
         }
@@ -212,8 +218,7 @@ fn refusing(state: State, line: Line<'_>, lines: &[Line<'_>]) -> Vec<State> {
     });
     let refuses = |it: &State| it.refuses(line.text);
     let best = |&it: &Condition| State::first_best(state.with_numbers(it).filter(refuses), lines);
-    let flags = flags.filter(refuses).map(|it| without_needless(it, state, line));
-    flags.chain(Condition::ALL.iter().filter_map(best)).collect()
+    flags.filter(refuses).chain(Condition::ALL.iter().filter_map(best)).collect()
 }
 
 /// Returns a state in which a line is as expected with the flags of another one that need no change for this. Those of
@@ -275,13 +280,15 @@ fn settled(before: State, line: Line<'_>) -> Result<State, usize> {
         state.word |= SEPARATORS;
     }
     while let Err(error) = state.read(text) {
+        let (error, at) =
+            state.read_inside(text).map_or((error, 0), |error| (Some(error), state.opening.as_bytes().len()));
         match error.and_then(|it| it.error()) {
             Some(error) if matches!(error.kind(), ReadErrorKind::Requirement | ReadErrorKind::Case) => {
                 state.word &= !error.mask();
                 let unmet = Condition::ALL.iter().filter(|&&it| error.conditions().has(it));
                 state.conditions = unmet.fold(state.conditions, |all, &it| all.with(it, 0));
             }
-            _ => return Err(error.map_or(text.len(), |it| it.valid_up_to())),
+            _ => return Err(error.map_or(text.len(), |it| at + it.valid_up_to())),
         }
     }
     Ok(without_needless(state, before, line))

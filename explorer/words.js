@@ -66,7 +66,7 @@ function numberWords(library, form, answers) {
     const mark = String.fromCharCode(answers[0].mark);
     const wordsOf = (kind) => {
         if (kind === "digits") return separatorWords(mark, parts);
-        const part = parts.find((it) => it.kind === kind && it.text !== ".");
+        const part = parts.find((it) => it.kind === kind && (kind !== "point" || it.text !== "."));
         return part && (kind === "sign" ? PART_WORDS.sign : `${PART_WORDS[kind]} \`${visible(part.text)}\``);
     };
     const all = Object.keys(PART_WORDS).map(wordsOf).filter(Boolean);

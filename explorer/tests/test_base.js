@@ -42,6 +42,9 @@ const formOf = (...settings) => page.library.read(["#", ...settings].join("\n"))
 /* Returns the form of a word with its options, as of `STATES`. */
 const stateOfWord = ([word, exponent, point]) => ({ ...page.library.usual, word: BigInt(word), exponent, point });
 
+/* Returns the forms of a language, of those with the same name, which differ in the radix, the last one. */
+const unlike = (forms) => [...new Map(forms.map((form) => [form.name, form])).values()];
+
 /* Returns the texts of what a selector finds in a node. */
 const textsOf = (selector, node = document) => [...node.querySelectorAll(selector)].map((it) => it.textContent);
 

@@ -11,11 +11,11 @@ function test_the_sentence_the_grammar_and_the_expression_are_those_of_all_forms
         const answers = library.call("numbers", { forms, specials: ["", "", ""] }, texts.join("\n"));
         const count = forms.length;
         const isShown = (form, at) => {
-            const told = library.explain(form);
+            const [told, { name }] = [library.explain(form), page.list.forms[at]];
             const [opening, closing] = [["behind", form.opening], ["before", form.closing]].map(([place, it]) => it && `, ${place} ${it}`);
-            const head = `Numbers${count > 1 ? ` of the form ${form.name}` : ""}${opening}${closing}${opening + closing && ","}`;
+            const head = `Numbers${count > 1 ? ` of the form ${name}` : ""}${opening}${closing}${opening + closing && ","}`;
             const sentence = `${head} are ${told.sentence.replaceAll("`", "")}.`;
-            return grammar.includes(told.grammar) && (count < 2 || grammar.includes(`/* ${form.name} */\n`)) && sentences[at] === sentence;
+            return grammar.includes(told.grammar) && (count < 2 || grammar.includes(`/* ${name} */\n`)) && sentences[at] === sentence;
         };
         const hasSpecials = library.call("numbers", { forms, specials }, specials.join("\n")).some((it) => it.is === "special value");
         const apart = find("apart").textContent;
@@ -37,12 +37,13 @@ function test_settings_are_those_of_the_forms(_, shown) {
     return [...lists, ...languages.map(({ forms }) => forms)].flatMap((forms) => [[library.usual, "\n"], [other, "\r\n"]].flatMap(([before, end]) => {
         show(forms);
         const settings = codeOf("settings");
+        const names = page.list.forms.map((it) => it.name);
         const nearest = /nearest one, (0x\w+)/.exec(settings)?.[1];
         show([before]);
         const clipboardData = new DataTransfer();
         clipboardData.setData("text", settings.replaceAll("\n", end));
         find("word").dispatchEvent(new ClipboardEvent("paste", { clipboardData, cancelable: true }));
-        const wanted = forms.map((form) => ({ ...form, word: nearest ? BigInt(nearest) : form.word, name: forms[1] ? form.name : "" }));
+        const wanted = forms.map((form, at) => ({ ...form, word: nearest ? BigInt(nearest) : form.word, name: forms[1] ? names[at] : "" }));
         return isSame(wanted, page.state.forms) ? [] : [settings];
     }));
 }
@@ -65,8 +66,9 @@ function shownTab(id) {
     return [focused, stops.join(), find(id).querySelector("[aria-selected=true]").id, shown.getAttribute("aria-labelledby"), text];
 }
 
-/* Returns all texts that are tried and, for the states, the last one with each condition that fits and with all, and each form
- * of a language: its link, that of the page, its normal form, the code in three languages, and what is told of each text. */
+/* Returns all texts that are tried and, for the states, the last one with each condition that fits and with all, each language,
+ * and each form of one, the last of those with the same name: its link, that of the page, its normal form, the code in three
+ * languages, and what is told of each text. */
 function shown(tried, shown) {
     const { library, trial, data: { languages } } = page;
     const states = shown.map(stateOfWord);
@@ -75,7 +77,7 @@ function shown(tried, shown) {
     const all = [...library.conditions.map((it) => set(states.at(-1), it)), library.conditions.reduce(set, states.at(-1))].filter(isRight);
     const names = ['"', "\\", "*/?", "\u05d0'", "%s:{}", "??=??/??'??(??)??!??<??>??-", ""];
     const named = states.map((form, index) => ({ ...form, name: names.at(index % 7) })).filter(isRight);
-    const ofLanguages = languages.flatMap(({ name, forms }) => [[forms, name], [forms, ""], ...forms.map((form) => [[form], name])]);
+    const ofLanguages = languages.flatMap(({ name, forms }) => [[forms, name], [forms, ""], ...unlike(forms).map((form) => [[form], name])]);
     const texts = textsAndNumbers(tried);
     return [texts, [...states.filter(isRight).map((form) => [[form], ""]), [named, ""], ...all.map((form) => [[form], ""]), ...ofLanguages].map(([forms, language]) => {
         page.change({ forms, at: forms.length - 1, language, numbers: "1_0 %&\n!+" });

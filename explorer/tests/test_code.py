@@ -60,13 +60,13 @@ def show(forms, read):
 def is_same(told, printed):
     """Returns whether a program prints what the page tells of a text: its value, a number without one, or a refusal."""
     value = told.partition(" = ")[2].partition(",")[0]
+    # C has no integers from 2^127 on, which are floats then, or singles by their kind, and none if that has no infinity.
+    singles = [repr(ctypes.c_float(float(value)).value)] if value.isdigit() and int(value) >= 2**127 else []
     if not value or printed in ("none", "refused"):
-        return not value and told.startswith("accepted") == (printed != "refused")
+        return printed == "none" if "inf" in singles else not value and told.startswith("accepted") == (printed != "refused")
     if re.fullmatch(r"-?\d+ (-?\d+|0x\w+)", f"{value} {printed}"):
         return (int(value) - int(printed, 0)) % 2**128 == 0
-    # C has no integers from 2^127 on, which are floats then, or singles by their kind.
-    floats = [float(value), *([ctypes.c_float(float(value)).value] if value.isdigit() and int(value) >= 2**127 else [])]
-    return repr(float(printed)) in map(repr, floats)
+    return repr(float(printed)) in [repr(float(value)), *singles]
 
 
 class Code(Walk):

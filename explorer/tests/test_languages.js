@@ -50,7 +50,7 @@ function shownLanguages() {
         page.change({ numbers: "" });
         choose("language", name);
         const codes = ["rust", "c", "python"].map(codeOf);
-        const forms = page.state.forms.map((it) => it.name);
+        const forms = [...new Set(page.state.forms.map((it) => it.name))];
         const wrong = [find("verdict").textContent, ...textsOf("#read .unexpected")].filter(Boolean);
         return [name, [codes, find("about").textContent, forms, find("literal").value.split("\n"), wrong, title]];
     });

@@ -167,11 +167,11 @@ function test_offers_lead_to_what_they_tell() {
             const [label, words] = [item.querySelector(".name"), button].map((it) => it.textContent);
             const isAdded = words.endsWith(" a form of its own");
             const isSecond = button.previousSibling;
-            const from = forms[page.trial.answers[0].form];
+            const [from, own] = [forms, page.trial.forms].map((all) => all[page.trial.answers[0].form]);
             button.click();
             const changes = page.library.differences(page.form, from).map((it) => it.text);
             const inOrder = changes.toSorted((a, b) => label.indexOf(a) - label.indexOf(b)).join(", ");
-            const isPlaced = isAdded || words.endsWith(forms.length > 1 ? ` in ${from.name}` : "");
+            const isPlaced = isAdded || words.endsWith(forms.length > 1 ? ` in ${own.name}` : "");
             const isNamed = isSecond || (label === inOrder && words.length > 3 && isPlaced);
             const kept = forms.filter((form, at) => isSame([form], [page.state.forms[at]])).length;
             const isTold = find("read").querySelector("p").textContent.startsWith(then.replace(", the new form", ""));

@@ -25,7 +25,7 @@ class Offers(Walk):
             for start in (it for it in buttons if it.startswith("start from ")):
                 self.click("#read .use", start)
                 title = self.run_script("return find('language').selectedOptions[0].textContent")
-                self.assertRegex(f"start from {advice}", f"^{re.escape(start)}(,| and| reads)", title)
+                self.assertRegex(advice, rf"(^|\. ){re.escape(title)}(,| and| reads)")
                 self.assertEqual(start, f"start from {title}")
             if isinstance(meant, str):
                 self.assertEqual((meant in advice, meant in sentence), (True, True), text)
@@ -37,7 +37,7 @@ class Offers(Walk):
 
     def test_prefixes_of_other_languages_are_told_as_format_tells_them(self):
         rows = (TOP / "docs/FORMAT.md").read_text().partition("## What a format cannot express")[2]
-        cannot, _, instead = re.sub(r"\[([^\]]*)\]\([^)]*\)", r"\1", rows.split("\n| ")[2]).split(" | ")
+        cannot, _, instead = re.sub(r"\[([^\]]*)\]\([^)]*\)", r"\1", rows.split("\n| ")[3]).split(" | ")
         instead = instead.removesuffix(" |").replace("`", "")
         texts = ["16#FF#E2", "-$FF"]
         told = f"A format cannot {cannot.replace('`', '')}. Instead, {instead}.What a format cannot express"
