@@ -199,13 +199,21 @@ static bool is_made(Reader *self) {
     return self->state;
 }
 
-/* Calls a function for doubles (d), floats (f), or integers (q, Q), that parses a text, or a column of texts. */
-#define PARSE(format, of, ...) \
-    (format == 'd' ? peltzivar_parse_f64##of(__VA_ARGS__) : format == 'f' ? peltzivar_parse_f32##of(__VA_ARGS__) \
-        : format == 'q' ? peltzivar_parse_i64##of(__VA_ARGS__) : peltzivar_parse_u64##of(__VA_ARGS__))
+/* Parses a column of texts as doubles (d), floats (f), or integers (q, Q), and writes the status of each. */
+static void parse_column(char format, const peltzivar_forms *by, const char *data, const int64_t *offsets, size_t count,
+    void *values, uint8_t *status) {
+    if (format == 'd') (void)peltzivar_parse_f64_column(by, data, offsets, count, values, status);
+    else if (format == 'f') (void)peltzivar_parse_f32_column(by, data, offsets, count, values, status);
+    else if (format == 'q') (void)peltzivar_parse_i64_column(by, data, offsets, count, values, status);
+    else (void)peltzivar_parse_u64_column(by, data, offsets, count, values, status);
+}
 
+/* Parses a text as a column, which is faster than the call for one text. */
 static peltzivar_value_status parse_as(char format, const peltzivar_forms *by, const Text *text, void *out) {
-    return PARSE(format, , by, text->bytes, (size_t)text->size, out, NULL);
+    const int64_t offsets[] = {0, text->size};
+    uint8_t status;
+    parse_column(format, by, text->bytes, offsets, 1, out, &status);
+    return status;
 }
 
 /* Parses a text, or each text of a column, as its value times a power of ten. */
@@ -450,7 +458,7 @@ static PyObject *reader_column(PyObject *self, PyObject *given) {
         Py_BEGIN_ALLOW_THREADS
         if (scale >= 0)
             parse_scaled_column(by->forms, data.buf, offsets.buf, count, (uint8_t)scale, values.buf, statuses);
-        else (void)PARSE(format, _column, by->forms, data.buf, offsets.buf, (size_t)count, values.buf, statuses);
+        else parse_column((char)format, by->forms, data.buf, offsets.buf, (size_t)count, values.buf, statuses);
         Py_END_ALLOW_THREADS
     }
     for (Py_ssize_t i = 0; i < of_texts && !kind; i++) {

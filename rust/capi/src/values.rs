@@ -1,6 +1,6 @@
 //! Calls that make the value of a literal, of a text, or of each text of a column.
 
-use crate::arguments::{write_text, Out};
+use crate::arguments::{input, write_text, Out};
 use crate::languages::{by, Forms, Given};
 use crate::literals::{whole, Literal, ReadError};
 use crate::names::{at, texts};
@@ -86,6 +86,12 @@ unsafe fn parse<T: FromLiteral>(
     }
 }
 
+/// Returns the literal of the first form that a text is, if this is known at once.
+#[inline(never)]
+unsafe fn decimal<'a>(forms: Given<'_>, text: *const u8, len: usize) -> Option<literal::Literal<'a>> {
+    forms.ok()?.first_decimal(input(text, len)?)
+}
+
 /// Writes the value of each text, and whether it has one, and returns how many have none.
 unsafe fn parse_column<T: FromLiteral>(
     (forms, bytes): (Given<'_>, *const u8),
@@ -101,7 +107,11 @@ unsafe fn parse_column<T: FromLiteral>(
         let (start, end) = (offset(index), offset(index + 1));
         // No text has so many bytes.
         let len = if first <= start && start <= end && end <= last { (end - start) as usize } else { usize::MAX };
-        let found = parse((forms, bytes.wrapping_offset(start as isize), len), values.at(index), Out::NULL);
+        let text = bytes.wrapping_offset(start as isize);
+        let found = match decimal(forms, text, len) {
+            Some(literal) => write(&literal, values.at(index)),
+            None => parse((forms, text, len), values.at(index), Out::NULL),
+        };
         status.at(index).write(found);
         usize::from(found != 0)
     };

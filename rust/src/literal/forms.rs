@@ -90,6 +90,18 @@ impl<'a> Forms<'a> {
         !cfg!(peltzivar_small) && !self.marked && (self.as_slice().len() == 1 || !has_letter_behind_zero(text))
     }
 
+    /// Returns the literal of the first form that `text` is, if this is known at once, as of most decimal ones.
+    #[doc(hidden)]
+    #[must_use]
+    pub fn first_decimal<'t>(&self, text: &'t [u8]) -> Option<Literal<'t>> {
+        let Form { syntax, kind, .. } = self.as_slice()[0];
+        if self.marked || !syntax.is_decimal() {
+            return None;
+        }
+        let begun = syntax.begin(true, text, false);
+        begun.is_whole(&syntax, text).then(|| syntax.literal(text, begun.counts, begun.sums).with_kind(kind))
+    }
+
     /// Returns the longest literal of any form that `text` begins with, and the rest of `text`, which may be anything.
     /// [`token`][Self::token] finds where a number ends in source text.
     ///
