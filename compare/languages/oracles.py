@@ -227,7 +227,7 @@ LANGUAGES = [
         Cause("=", "0.*[pP].*", "a fraction of more than 52 bits, of which the tool drops the rest", lambda ours, theirs: theirs < ours.double),
         doubles(2**63)]),
     Language("PHP", "php", "018._exo-b", "_", "0o17 0O17 0b1", [doubles(2**63)]),
-    Language("POSTSCRIPT", "ghostscript", "0169.#eFz+-", "", "16#FFFFFFFFFFFFFFFF 16#FFFFFFFFFFFFFFFFF 36#zZ 2#101 2#12 37#1 016#FF 16# 16#-F 16#F.8 7#1e1 -.5", [
+    Language("POSTSCRIPT", "ghostscript", "0169.#eFz+-", "", "16#FF 16#FFFFFFFFFFFFFFFF 16#FFFFFFFFFFFFFFFFF 36#zZ 2#101 2#12 37#1 016#FF 16# 16#-F 16#F.8 7#1e1 -.5", [
         Cause("+", r"0*(3[0-6]|[12]\d|[1-9])#", "a radix without digits"), Cause("+", r"0\d+#[\da-zA-Z]+", "a zero before a radix"),
         Cause("=", "-.*", "a negative zero, which the tool does not have", lambda _, theirs: theirs == (0,)), out_of_range(2**127),
         Cause("+", r"[+-]?\d{19,}", "an integer from 2^63 on, which is a real to the tool"),
@@ -242,7 +242,8 @@ LANGUAGES = [
         doubles(2**53)]),
     Language("RAKU", "rakudo", "018._ex:<F>", "_", ":16<FF> :16<F.8> :16<F_F> :36<zZ> :2<101> :2<12> :37<1> :016<F> :16<0xF> :16<F.8*16**2> :3<1.1> 1i :16<F", [
         Cause("+", "Inf|NaN", "a name"), Cause("+", ":.*<0[a-z].*>", "a prefix behind a radix"), Cause("+", ":0.*", "a zero before a radix"),
-        Cause("+", r":.*\*.*", "a power of a radix"), RADIX, ROUNDED]),
+        Cause("+", r":.*\*.*", "a power of a radix"), Cause("-", "0_.*[eE].*", "a fault of the tool, which drops a zero before a separator"),
+        RADIX, ROUNDED]),
     Language("RUBY", "ruby", "018._exr-+b", "_", "1r 1i 1ri 0d10", [suffix("ri?|i")]),
     Language("RUST", "rustc", "018._exo-u", "_", "1u8 1.5f32 1_i64 0x1z", [
         suffix("([ui](8|16|32|64|128|size)|f32|f64)")]),

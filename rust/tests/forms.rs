@@ -68,16 +68,24 @@ fn amount_in(language: Language, digits: &str) -> String {
 #[test]
 fn amounts_are_rounded_as_std_rounds_them() {
     let state = &mut Random::new(20_261_201);
-    // Bash has no floats, and PostScript singles alone.
-    let has_doubles = |it: &Form| it.syntax().point().is_some() && it.kind().floats() == FloatKind::Nearest;
-    let with_floats = Language::ALL.iter().filter(|it| it.forms().into_iter().any(has_doubles));
-    for (language, index) in with_floats.flat_map(|language| (0..1000).map(move |index| (*language, index))) {
+    let has = |language: &Language, floats| {
+        language.forms().into_iter().any(|it| it.syntax().point().is_some() && it.kind().floats() == floats)
+    };
+    for (language, index) in Language::ALL.iter().flat_map(|language| (0..1000).map(move |index| (*language, index))) {
         let amount = state.below(10_000_000) as f64 / if index % 4 == 0 { -1000.0 } else { 1000.0 };
         for places in 0..=6 {
-            let written = language.forms().format_float(amount, Style::PLAIN.decimals(places));
+            let (style, size) = (Style::PLAIN.decimals(places), usize::from(places));
+            // Bash has no floats, and PostScript singles alone.
+            let (written, digits) = if has(&language, FloatKind::Nearest) {
+                (language.forms().format_float(amount, style), format!("{amount:.size$}"))
+            } else if has(&language, FloatKind::Single) {
+                (language.forms().format_float(amount as f32, style), format!("{:.size$}", amount as f32))
+            } else {
+                continue;
+            };
             let wanted = match is_unsigned(language.forms(), amount) {
                 true => Err(WriteError::Negative),
-                false => Ok(amount_in(language, &format!("{amount:.*}", usize::from(places)))),
+                false => Ok(amount_in(language, &digits)),
             };
             assert_eq!(written.map(|text| text.to_string()), wanted, "{language}");
         }

@@ -277,8 +277,8 @@ fn has_value(number: Number<'_>, value: &str) -> bool {
     }
 }
 
-/// Each text of literals.txt, and of what the tools of languages answered, with its value by its kind if the tool printed one. Each form, or
-/// one of those that differ in their radix alone, gives one of the numbers, and of one of the refused texts, it reads as much as any form, but not all.
+/// Each text of literals.txt, and of what the tools of languages answered, with its value by its kind if the tool printed one. Each form
+/// gives one of the numbers, and of one of the refused texts, it reads as much as any form, but not all.
 #[test]
 fn languages_answer_as_their_grammars_and_tools_do() {
     assert!(Language::ALL.is_sorted_by_key(Language::name));
@@ -303,15 +303,15 @@ fn languages_answer_as_their_grammars_and_tools_do() {
             let alone = Forms::new_or_panic(slice::from_ref(form));
             let is_refused = alone.read(text).is_err_and(|it| is_furthest(it.valid_up_to()));
             let is_given = result.is_ok_and(|it| it.form() == Some(index));
-            seen.extend((is_refused || is_given).then_some((language, form.name(), is_given)));
+            seen.extend((is_refused || is_given).then_some((language, index, is_given)));
         }
         if let (Ok(number), "+", Some(value)) = (result, cells[1], cells.get(3)) {
             assert!(has_value(number, value), "{row}: not {number:?}");
         }
     }
-    let forms = Language::ALL.iter().flat_map(|it| it.forms().into_iter().map(move |form| (it, form.name())));
+    let forms = Language::ALL.iter().flat_map(|it| (0..it.forms().as_slice().len()).map(move |form| (it, form)));
     let wanted = forms.flat_map(|(it, form)| [(it, form, true), (it, form, false)]);
-    let missing = wanted.filter(|it| !seen.contains(it));
+    let missing = wanted.filter(|it| !seen.contains(it)).map(|it| (it.0, it.0.forms()[it.1].opening(), it.2));
     assert_eq!(Vec::from_iter(missing), [], "forms without a row that is a number of theirs, or that is none");
 }
 
