@@ -714,10 +714,6 @@ module _ (g : Form) where
 
     -- BETWEEN THE MARKS
 
-    -- The opening is not there.
-    pub none_opened : (opened : ℕ) → IsOpenedTo g.opening text opened → opened < n → NoneBy (ReadsIn g) text
-    none_opened opened is short l reads = not_opened g.opening text opened is short (reads_opened l text reads)
-
     -- It is, and `rest` is behind it.
     module _ (opened : ℕ) (rest : List ℕ) (is : IsOpenedTo g.opening text opened) (least : n ≤ opened) (at : rest ≡ drop opened text) where
       whole : opened ≡ n
@@ -732,11 +728,6 @@ module _ (g : Form) where
       size_is : length rest + n ≡ length text
       size_is = ap (λ xs. length xs + n) rest_is ∙ rest_size text g opening_is.within
 
-      pub none_room : length rest < c → NoneBy (ReadsIn g) text
-      none_room short l reads =
-          let low = reads.opens.opened.within in let size = length-take-le (length text - c) text (omega arith) in let room = reads.room in
-          omega (arith, size_is, low, size, room, short)
-
       module _ (room : c ≤ length rest) (inside closing : List ℕ) (first : inside ≡ take (length rest - c) rest) (last : closing ≡ drop
           (length rest - c) rest) where
         end_is : closing ≡ drop (length text - c) text
@@ -747,9 +738,6 @@ module _ (g : Form) where
         inside_is = first ∙ ap (λ xs. take (length rest - c) xs) rest_is
             ∙ ap (λ k. take k (drop n text)) (let same : length rest - c ≡ length text - c - n = omega (arith, size_is) in same)
             ∙ sym (behind_take n (length text - c) text (omega (arith, size_is, room)))
-
-        pub none_closed : (closed : ℕ) → IsOpenedTo g.closing closing closed → closed < c → NoneBy (ReadsIn g) text
-        none_closed closed there short l reads = not_opened g.closing closing closed there short (subst (IsOpened g.closing) (sym end_is) reads.closed)
 
         pub between_is : (closed : ℕ) → IsOpenedTo g.closing closing closed → c ≤ closed → IsBetween g text inside
         between_is closed there all = record {

@@ -255,9 +255,3 @@ module _ (text : List ℕ) (g : Form) where
     -- What is read there.
     pub read_behind : (l : Literal) → Reads m l part → OpensIn g l text
     read_behind l reads = record { opened = is_opened; reads = subst (Reads m l) part_is reads }
-
-    pub none_behind : NoneBy (OpensIn g) text → NoLiteral m part
-    none_behind none l reads = none l (read_behind l reads)
-
-    pub none_before : NoLiteral m part → NoneBy (OpensIn g) text
-    none_before none l reads = none l (subst (Reads m l) (sym part_is) reads.reads)
