@@ -214,8 +214,9 @@ LANGUAGES = [
         Cause("+", r"[\w.]+(\._+([eEpP][+-]?[\d_]*)?|[eEpP][+-]?_+)|0[a-zA-Z]_+\.[\w.]*([pP][+-]?[\d_]*)?", "a part of separators alone"),
         ROUNDED, Cause("=", ".*", "an infinite value, which the tool makes NaN",
                        lambda ours, theirs: ours.double == math.inf and math.isnan(theirs))]),
-    Language("NIM", "nim", "018._exo-b", "_", "1'i8 1'u64 1i8 1u 1.5f32 1d -1.5e3 0xFF'u8 1'x 0c17 -9223372036854775808", [
-        suffix("'?([iI](8|16|32|64)|[uU](8|16|32|64)?|[fF](32|64)?|[dD])"), Cause("+", r"-?0[cC][0-7_]+\w*", "the prefix 0c, beside the manual")]),
+    Language("NIM", "nim", "018._exo-b", "_", "1'i8 1'u64 1i8 1u 1.5f32 1d -1.5e3 0xFF'u8 1'x 0c17 0e1000 -9223372036854775808", [
+        suffix("'?([iI](8|16|32|64)|[uU](8|16|32|64)?|[fF](32|64)?|[dD])"), Cause("+", r"-?0[cC][0-7_]+\w*", "the prefix 0c, beside the manual"),
+        Cause("=", r"-?[0_.]+[eE]\+?[\d_]{4,}", "a zero with a large exponent, which the tool makes infinite", lambda _, theirs: math.isinf(theirs))]),
     Language("OCAML", "ocaml", "018._exp-+b", "_", "1l 1n 1L 1z", [
         suffix("[lLn]"), Cause("+", r"\w+\._+([eEpP][+-]?\d[\d_]*)?", "a fraction of separators alone"),
         Cause("+", r"[\d_]+", "the least integer without its sign", lambda _, theirs: theirs == -2**62)]),
@@ -240,8 +241,9 @@ LANGUAGES = [
     Language("R", "r", "018.aexp-L", "_", "1L 1i 0x1.8p3", [
         suffix("[Li]"), Cause("+", "NaN|Inf", "a name"), ROUNDED, Cause("+", r"0[xX]\.[pP][+-]?\d+[Li]?", "no digits behind a prefix"),
         doubles(2**53)]),
-    Language("RAKU", "rakudo", "018._ex:<F>", "_", ":16<FF> :16<F.8> :16<F_F> :36<zZ> :2<101> :2<12> :37<1> :016<F> 0_0e0 :16<0xF> :16<F.8*16**2> :3<1.1> 1i :16<F", [
-        Cause("+", "Inf|NaN", "a name"), Cause("+", ":.*<0[a-z].*>", "a prefix behind a radix"), Cause("+", ":0.*", "a zero before a radix"),
+    Language("RAKU", "rakudo", "018._ex:<F>", "_", ":16<FF> :16<F.8> :16<F_F> :36<zZ> :2<101> :2<12> :37<1> :016<F> 0_0e0 :16<0xF> :16<0b1> :16<0bF> :16<F.8*16**2> :3<1.1> 1i :16<F", [
+        Cause("+", "Inf|NaN", "a name"), *(Cause(mark, ":.*<0[bdox].*>", "a prefix behind a radix") for mark in "+-="),
+        Cause("+", ":0.*", "a zero before a radix"),
         Cause("+", r":.*\*.*", "a power of a radix"), RADIX, ROUNDED,
         Cause("-", r"0_[\d_]*(\.[\d_]+)?[eE][+-]?[\d_]+", "a separator behind the first zero of a float, for which the tool has a fault")]),
     Language("RUBY", "ruby", "018._exr-+b", "_", "1r 1i 1ri 0d10", [suffix("ri?|i")]),

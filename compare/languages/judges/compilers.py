@@ -134,7 +134,10 @@ def values(it, folder, texts):
     if isinstance(it.printing, str):
         left = accepted(it, folder, texts)
         lines = subprocess.run(it.printing.split(), cwd=folder, capture_output=True, text=True).stdout
-        found = re.findall(r"number(\d+) = (\S+?)[dl]?;", lines)
+        found = re.findall(r"number(\d+) = (\S+?)([dl]?);", lines)
+        # An unsigned constant is shown as a signed one.
+        unsigned = {str(i) for i in left if re.search("[uU]L?$", texts[i])}
+        found = [(i, int(value) % 2 ** (64 if size else 32) if i in unsigned else value) for i, value, size in found]
     else:
         left = accepted(it, folder, texts, it.printing)
         lines = subprocess.run(it.run.split(), cwd=folder, capture_output=True, text=True, check=True).stdout.splitlines() if left else []

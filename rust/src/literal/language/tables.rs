@@ -902,7 +902,7 @@ languages! {
 
     /// Raku's integers, rationals and floats (Raku Documentation 2022.12, Number literals). Digits of another radix from 2 to 36 are as in
     /// `:36<ZZ>` and `:16<F.8>`, but a fraction in a radix such as 3 has no `f64`. A format cannot accept `:16<0xFF>` and
-    /// `:16<F.8*16**2>`.
+    /// `:16<F.8*16**2>`, or refuse `:16<0b1>`, which is 1 to Raku.
     RAKU: "Raku" = {
         "decimal": decimal(separated(b'_').required_fraction_digits(true)) => RAKU_WORDS, // rejects `1.`, not `.5`
         "hexadecimal": prefixed(b'x', 16, RAKU_PREFIXED) => RAKU_WORDS,
