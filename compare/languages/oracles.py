@@ -91,7 +91,9 @@ def number(text):
     try:
         return int(text, 8 if re.fullmatch("0[0-7]+", text) else 0)
     except ValueError:
-        return fractions.Fraction(text) if re.fullmatch(r"[+-]?(\d+\.?\d*|\.\d+)(e[+-]?\d+)?", text) else None
+        match = re.fullmatch(r"([+-]?(?:\d+\.?\d*|\.\d+))(e[+-]?\d+)?", text)
+        # The power of a zero may be one that no machine has room for.
+        return match and fractions.Fraction(text if fractions.Fraction(match[1]) else match[1])
 
 
 def nearest(text):
@@ -228,9 +230,11 @@ LANGUAGES = [
         Cause("=", "0.*[pP].*", "a fraction of more than 52 bits, of which the tool drops the rest", lambda ours, theirs: theirs < ours.double),
         doubles(2**63)]),
     Language("PHP", "php", "018._exo-b", "_", "0o17 0O17 0b1", [doubles(2**63)]),
-    Language("POSTSCRIPT", "ghostscript", "0169.#eFz+-", "", "16#FFFFFFFFFFFFFFFF 16#FFFFFFFFFFFFFFFFF 36#zZ 2#101 2#12 37#1 016#FF 16# 16#-F 16#F.8 7#1e1 -.5", [
+    Language("POSTSCRIPT", "ghostscript", "0169.#eFz+-", "", "16#FFFFFFFFFFFFFFFF 16#FFFFFFFFFFFFFFFFF 36#zZ 2#101 2#12 37#1 016#FF 16# 16#-F "
+             "16#F.8 7#1e1 0e1000 -.5", [
         Cause("+", r"0*(3[0-6]|[12]\d|[1-9])#", "a radix without digits"), Cause("+", r"0\d+#[\da-zA-Z]+", "a zero before a radix"),
         Cause("=", "-.*", "a negative zero, which the tool does not have", lambda _, theirs: theirs == (0,)), out_of_range(2**127),
+        Cause("-", r"[+-]?[0.]+[eE][+-]?\d{4,}", "a zero with an exponent of four digits, which the tool refuses"),
         Cause("+", r"[+-]?\d{19,}", "an integer from 2^63 on, which is a real to the tool"),
         *(Cause(mark, r"\d+#\w{13,}", "an integer of more than 64 bits, of which the tool refuses some") for mark in "+-")]),
     Language("PROLOG", "prolog", "0168._e'Fxz", "_", "16'FF 36'zZ 2'101 2'12 37'1 016'FF 16'F_F 16' 0'a 1r3 1.5Inf 1.5NaN 1_0.5 1_0e5 16'F.8 7'1e1", [
@@ -241,7 +245,8 @@ LANGUAGES = [
     Language("R", "r", "018.aexp-L", "_", "1L 1i 0x1.8p3", [
         suffix("[Li]"), Cause("+", "NaN|Inf", "a name"), ROUNDED, Cause("+", r"0[xX]\.[pP][+-]?\d+[Li]?", "no digits behind a prefix"),
         doubles(2**53)]),
-    Language("RAKU", "rakudo", "018._ex:<F>", "_", ":16<FF> :16<F.8> :16<F_F> :36<zZ> :2<101> :2<12> :37<1> :016<F> 0_0e0 :16<0xF> :16<0b1> :16<0bF> :16<F.8*16**2> :3<1.1> 1i :16<F", [
+    Language("RAKU", "rakudo", "018._ex:<F>", "_", ":16<FF> :16<F.8> :16<F_F> :36<zZ> :2<101> :2<12> :37<1> :016<F> 0_0e0 :16<0xF> :16<0b1> "
+             ":16<0bF> :16<F.8*16**2> :3<1.1> 1i :16<F", [
         Cause("+", "Inf|NaN", "a name"), *(Cause(mark, ":.*<0[bdox].*>", "a prefix behind a radix") for mark in "+-="),
         Cause("+", ":0.*", "a zero before a radix"),
         Cause("+", r":.*\*.*", "a power of a radix"), RADIX, ROUNDED,
