@@ -91,7 +91,9 @@ def number(text):
     try:
         return int(text, 8 if re.fullmatch("0[0-7]+", text) else 0)
     except ValueError:
-        return fractions.Fraction(text) if re.fullmatch(r"[+-]?(\d+\.?\d*|\.\d+)(e[+-]?\d+)?", text) else None
+        match = re.fullmatch(r"([+-]?(?:\d+\.?\d*|\.\d+))(e[+-]?\d+)?", text)
+        # The power of a zero may be one that no machine has room for.
+        return match and fractions.Fraction(text if fractions.Fraction(match[1]) else match[1])
 
 
 def nearest(text):
@@ -155,11 +157,11 @@ Language = collections.namedtuple("Language", "name tool alphabet separator seed
 QUESTIONS = ["007", "0x1F", "1_000", "1'000", ".5e3", "0b12", "1.5e"]
 LANGUAGES = [
     Language("ADA", "gnat", "019._eEF+-#", "_", "16#FF# 2#1.1# 2#1.1#e3 1E-3 16#F.8#E1 16#F_F# 16:FF: 016#FF# 1_6#FF# 3#1.1# 17#1# 2#12# 16#F", [
-        *BASED, out_of_range(2**127), ROUNDED]),
+        *BASED, ROUNDED]),
     Language("BASH", "bash", "0189#xaZ", "", "16#ff 16#FF 2#101 36#Zz 8#17 3#12 37#a 64#_ 16# 65#1 1#0 02#1", [
         Cause("+", "0[xX]", "no digits behind a prefix"), Cause("+", r"(3[7-9]|[45]\d|6[0-4])#[\w@]+", "a radix above 36")]),
     Language("C", "gcc", "018.'exp-b", "'", "1u 1UL 1.0f 0x1p3L 10wb", [
-        suffix("([uU]|ll?|LL?|wb|WB)+|[fFlL]|[dD][fFdDlL]"), Cause("+", r"[\d']+[fF]", "a float by its suffix alone")]),
+        suffix("([uU]|ll?|LL?|wb|WB)+|[fFlL]|[dD][fFdDlL]")]),
     Language("CLOJURE", "clojure", "018.rexN-", "", "16rFF -16rFF 2r101 36rZz 1N 1M 1.5M 08M 017N 0xFFN 1/2 3r12 1r0 37r1 02r1", [
         suffix("[NM]"), Cause("+", r"[+-]?\d+M", "a decimal by its suffix alone"), Cause("+", r"[+-]\d+[rR]\w+", "a sign before a radix"),
         Cause("+", r"[+-]?\d+/\d+", "a ratio")]),
@@ -172,7 +174,7 @@ LANGUAGES = [
     Language("CSV_DE", "calc 1031", "0125.,-e", ".", "1.234,50 1.234.567,25 12.34 0,50 1.2345,0", CELLS),
     Language("CSV_EN", "calc 1033", "0125.,-e", ",", "1,234.50 1,234,567.25 12,34 0.50 1,2345.0", CELLS),
     Language("C_PLUS_PLUS", "g++", "018.'exp-b", "'", "1u 1UL 1.0f 0x1p3L", [
-        suffix("([uU]|ll?|LL?)+|[fFlL]")]),
+        suffix("([uU]|ll?|LL?)+|[fFlL]|[dhy]|min|[mun]?s|i[fl]?")]),
     # mcs has faults with separators, so it gets none.
     Language("C_SHARP", "mcs", "0189.exf-+b", "", "1m 1f 1UL", [
         suffix("[uUlL]+|[fFdDmM]"), ROUNDED,
@@ -214,12 +216,13 @@ LANGUAGES = [
         Cause("+", r"[\w.]+(\._+([eEpP][+-]?[\d_]*)?|[eEpP][+-]?_+)|0[a-zA-Z]_+\.[\w.]*([pP][+-]?[\d_]*)?", "a part of separators alone"),
         ROUNDED, Cause("=", ".*", "an infinite value, which the tool makes NaN",
                        lambda ours, theirs: ours.double == math.inf and math.isnan(theirs))]),
-    Language("NIM", "nim", "018._exo-b", "_", "1'i8 1'u64 1i8 1u 1.5f32 1d -1.5e3 0xFF'u8 1'x 0c17 -9223372036854775808", [
-        suffix("'?([iI](8|16|32|64)|[uU](8|16|32|64)?|[fF](32|64)?|[dD])"), Cause("+", r"-?0[cC][0-7_]+\w*", "the prefix 0c, beside the manual")]),
+    Language("NIM", "nim", "018._exo-b", "_", "1'i8 1'u64 1i8 1u 1.5f32 1d -1.5e3 0xFF'u8 1'x 0c17 0e1000 -9223372036854775808", [
+        suffix("'?([iI](8|16|32|64)|[uU](8|16|32|64)?|[fF](32|64)?|[dD])"), Cause("+", r"-?0[cC][0-7_]+\w*", "the prefix 0c, beside the manual"),
+        Cause("=", r"-?[0_.]+[eE]\+?[\d_]{4,}", "a zero with a large exponent, which the tool makes infinite", lambda _, theirs: math.isinf(theirs))]),
     Language("OCAML", "ocaml", "018._exp-+b", "_", "1l 1n 1L 1z", [
         suffix("[lLn]"), Cause("+", r"\w+\._+([eEpP][+-]?\d[\d_]*)?", "a fraction of separators alone"),
         Cause("+", r"[\d_]+", "the least integer without its sign", lambda _, theirs: theirs == -2**62)]),
-    Language("PASCAL", "fpc", "018.$%&e-", "", "$FF $ff $-F -$F %101 &17 $FFFFFFFFFFFFFFFF $10000000000000000 %2 &8 1.5e300", [
+    Language("PASCAL", "fpc", "018.$%&eF+-", "", "$FF $ff $-F -$F %101 &17 $FFFFFFFFFFFFFFFF $10000000000000000 %2 &8 1.5e300", [
         Cause("+", r"(\d+|\$[\da-fA-F]+|&[0-7]+|%[01]+)\.(&?[eE][+-]?\d+)?", "no digits behind a point, beside the guide"), doubles(2**64), ROUNDED]),
     Language("PERL", "perl", "018._exp-o", "_", "01.4p0 0o1.4p0 0b1.1p0 07_7 1.2.3", [
         Cause("-", "0_[0-7_]+(\\.[0-7_]*)?([pP][+-]?[\\d_]+)?", "a separator behind the first zero, of which the tool warns"),
@@ -227,9 +230,11 @@ LANGUAGES = [
         Cause("=", "0.*[pP].*", "a fraction of more than 52 bits, of which the tool drops the rest", lambda ours, theirs: theirs < ours.double),
         doubles(2**63)]),
     Language("PHP", "php", "018._exo-b", "_", "0o17 0O17 0b1", [doubles(2**63)]),
-    Language("POSTSCRIPT", "ghostscript", "0169.#eFz+-", "", "16#FF 16#FFFFFFFFFFFFFFFF 16#FFFFFFFFFFFFFFFFF 36#zZ 2#101 2#12 37#1 016#FF 16# 16#-F 16#F.8 7#1e1 -.5", [
+    Language("POSTSCRIPT", "ghostscript", "0169.#eFz+-", "", "16#FF 16#FFFFFFFFFFFFFFFF 16#FFFFFFFFFFFFFFFFF 36#zZ 2#101 2#12 37#1 016#FF 16# 16#-F "
+             "16#F.8 7#1e1 0e1000 -.5", [
         Cause("+", r"0*(3[0-6]|[12]\d|[1-9])#", "a radix without digits"), Cause("+", r"0\d+#[\da-zA-Z]+", "a zero before a radix"),
         Cause("=", "-.*", "a negative zero, which the tool does not have", lambda _, theirs: theirs == (0,)), out_of_range(2**127),
+        Cause("-", r"[+-]?[0.]+[eE][+-]?\d{4,}", "a zero with an exponent of four digits, which the tool refuses"),
         Cause("+", r"[+-]?\d{19,}", "an integer from 2^63 on, which is a real to the tool"),
         *(Cause(mark, r"\d+#\w{13,}", "an integer of more than 64 bits, of which the tool refuses some") for mark in "+-")]),
     Language("PROLOG", "prolog", "0168._e'Fxz", "_", "16'FF 36'zZ 2'101 2'12 37'1 016'FF 16'F_F 16' 0'a 1r3 1.5Inf 1.5NaN 1_0.5 1_0e5 16'F.8 7'1e1", [
@@ -240,17 +245,19 @@ LANGUAGES = [
     Language("R", "r", "018.aexp-L", "_", "1L 1i 0x1.8p3", [
         suffix("[Li]"), Cause("+", "NaN|Inf", "a name"), ROUNDED, Cause("+", r"0[xX]\.[pP][+-]?\d+[Li]?", "no digits behind a prefix"),
         doubles(2**53)]),
-    Language("RAKU", "rakudo", "018._ex:<F>", "_", ":16<FF> :16<F.8> :16<F_F> :36<zZ> :2<101> :2<12> :37<1> :016<F> :16<0xF> :16<F.8*16**2> :3<1.1> 1i :16<F", [
-        Cause("+", "Inf|NaN", "a name"), Cause("+", ":.*<0[a-z].*>", "a prefix behind a radix"), Cause("+", ":0.*", "a zero before a radix"),
-        Cause("+", r":.*\*.*", "a power of a radix"), Cause("-", "0_.*[eE].*", "a fault of the tool, which drops a zero before a separator"),
-        RADIX, ROUNDED]),
+    Language("RAKU", "rakudo", "018._ex:<F>", "_", ":16<FF> :16<F.8> :16<F_F> :36<zZ> :2<101> :2<12> :37<1> :016<F> 0_0e0 :16<0xF> :16<0b1> "
+             ":16<0bF> :16<F.8*16**2> :3<1.1> 1i :16<F", [
+        Cause("+", "Inf|NaN", "a name"), *(Cause(mark, ":.*<0[bdox].*>", "a prefix behind a radix") for mark in "+-="),
+        Cause("+", ":0.*", "a zero before a radix"),
+        Cause("+", r":.*\*.*", "a power of a radix"), RADIX, ROUNDED,
+        Cause("-", r"0_[\d_]*(\.[\d_]+)?[eE][+-]?[\d_]+", "a separator behind the first zero of a float, for which the tool has a fault")]),
     Language("RUBY", "ruby", "018._exr-+b", "_", "1r 1i 1ri 0d10", [suffix("ri?|i")]),
     Language("RUST", "rustc", "018._exo-u", "_", "1u8 1.5f32 1_i64 0x1z", [
         suffix("([ui](8|16|32|64|128|size)|f32|f64)")]),
     # Debian's compiler, 2.11, has no separators, so it gets none.
     Language("SCALA", "scala", "0189.exf-+", "", "1L 1f 08f 08.5 1d", [
         suffix("[lLfFdD]"), Cause("+", "[0-9]*[fFdD]", "a float by its suffix alone")]),
-    Language("SCHEME", "guile", "01.e-#xd/", "", "#xFF #x-FF #X+ff #o17 #b101 #d1.5 #D-.5e3 #e1.5 #i1 1# 1/2 #x1/2 1+2i 1@2 +i +inf.0 -nan.0 1d3 1s3", [
+    Language("SCHEME", "guile", "01.e-#xd/", "", "#xFF #x-FF #X+ff #o17 #b101 #d1.5 #D-.5e3 #e1.5 #i1 1e-3100 1# 1/2 #x1/2 1+2i 1@2 +i +inf.0 -nan.0 1d3 1s3", [
         Cause("+", ".*/.*", "a ratio"), Cause("+", ".*[iI@].*", "a complex or an inexact number"), Cause("+", "#([eE].*|.#[eE].*)", "an exact number"),
         Cause("+", r"(#[bBdDoOxX])?[\w.+-]+#.*", "a digit that is not known"), Cause("+", r"(#[dD])?[+-]?[\d.]+[sSfFdDlL][+-]?\d+", "the size of a float"),
         Cause("+", "[+-](inf|nan).0", "a special value"),

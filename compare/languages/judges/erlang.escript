@@ -1,15 +1,27 @@
 %% The judge of Erlang: its scanner. Reads texts on standard input, and prints `-`, or the length of the number that each begins with,
-%% and its value.
+%% and its value. With the argument `files`, it reads the paths of files, and prints the length of each number of a file and the line
+%% from there, or `-` and the path of a wrong file.
 -mode(compile).
 
-main(_) ->
+main(Words) ->
     ok = io:setopts([{encoding, latin1}]),
-    judge(io:get_line("")).
+    judge(case Words of [] -> fun answer/1; _ -> fun numbers/1 end, io:get_line("")).
 
-judge(eof) -> ok;
-judge(Line) ->
-    io:put_chars([answer(lists:droplast(Line)), "\n"]),
-    judge(io:get_line("")).
+judge(_, eof) -> ok;
+judge(Answer, Line) ->
+    io:put_chars([Answer(lists:droplast(Line)), "\n"]),
+    judge(Answer, io:get_line("")).
+
+numbers(Path) ->
+    {ok, Bytes} = file:read_file(Path),
+    Lines = list_to_tuple(string:split(binary_to_list(Bytes), "\n", all)),
+    case erl_scan:string(binary_to_list(Bytes), {1, 1}, [text]) of
+        {ok, Tokens, _} -> lists:join("\n", [[length_of(About), line(Lines, erl_anno:location(About))]
+                                             || {Kind, About, _} <- Tokens, Kind == integer orelse Kind == float]);
+        _ -> ["- ", Path]
+    end.
+
+line(Lines, {Line, Column}) -> lists:nthtail(Column - 1, element(Line, Lines)).
 
 answer(Text) ->
     case erl_scan:string(Text, {1, 1}, [text]) of

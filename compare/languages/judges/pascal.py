@@ -28,10 +28,9 @@ def compile(folder, source, *options):
 
 def accepted_of(texts):
     """Returns the texts that are the value of a constant. An error may be found at the next token, `const`."""
-    found, start, is_ended = set(), 0, True
+    found, start = set(), 0
     with tempfile.TemporaryDirectory() as folder:
-        while is_ended:
-            rest = texts[start:]
+        while rest := texts[start : start + 100]:
             units = "".join(f"const\nx{i} =\n{text}\n;\n" for i, text in enumerate(rest))
             lines, is_ended = compile(pathlib.Path(folder), f"{units}begin end.\n", "-s")
             wrong = [min((line - 2) // 4, len(rest) - 1) for line in lines]

@@ -1,6 +1,7 @@
 <?php
 // The judge of PHP: its scanner and compiler. Reads texts on standard input, and prints `-`, or the length of the number that each
-// begins with, and its value, or `-` if the compiler refuses it.
+// begins with, and its value, or `-` if the compiler refuses it. With the argument `files`, it reads the paths of files, and prints the
+// length of each number of a file and the line from there, or `-` and the path of a wrong file.
 function judge(string $text): string
 {
     $token = PhpToken::tokenize("<?php $text")[1] ?? null;
@@ -16,6 +17,19 @@ function judge(string $text): string
     return is_int($value) ? "$size $value" : "$size d" . bin2hex(pack("E", $value));
 }
 
+function numbers(string $path): string
+{
+    $text = file_get_contents($path);
+    try {
+        $tokens = PhpToken::tokenize($text, TOKEN_PARSE);
+    } catch (ParseError) {
+        return "- $path";
+    }
+    $found = array_filter($tokens, fn($it) => $it->is([T_LNUMBER, T_DNUMBER]));
+    return implode("\n", array_map(fn($it) => strlen($it->text) . " " . strtok(substr($text, $it->pos), "\n"), $found));
+}
+
 while (($text = fgets(STDIN)) !== false) {
-    echo judge(rtrim($text, "\n")), "\n";
+    $text = rtrim($text, "\n");
+    echo isset($argv[1]) ? numbers($text) : judge($text), "\n";
 }

@@ -226,10 +226,10 @@ const DEFAULT: Kind = finite(Kind::new(IntegerKind::AtMost(31), FloatKind::Singl
 /// The suffix of a float of 32 bits, of C and of Kotlin.
 const FLOAT: &[(&[u8], Kind)] = &[(b"f", SINGLE), (b"F", SINGLE)];
 
-/// What goes on a number of Ada: `16#FF#`, `16:FF:` and `1.x`, but not `1..2`.
+/// What goes on a number of Ada: `16#FF#`, `16:FF:` and `1.x`, but not `1..2`; and on one of VHDL: `1\a\`.
 const ADA_WORDS: Suffixes = Suffixes::new(&[], &[], ADA_STOPS);
 const ADA_STOPS: &[Stop] = &[
-    Stop::new(b"", b"#", b""),
+    Stop::new(b"", b"#\\", b""),
     Stop::new(b"", b":", b"0123456789ABCDEFabcdef"),
     Stop::new(b"", b".", &NO_NAME),
     Stop::new(b"", b".", &LETTERS),
@@ -871,7 +871,7 @@ languages! {
     } radixes "" "#" { integers(2, TOKENS, UNSIGNED) => POSTSCRIPT_WORDS; WRAPS_64 } => Tokens::new(&[], &[]);
 
     /// Prolog's integers and floats (SWI-Prolog 9 Reference Manual, 5.10 and 2.15.1.6). Digits of another radix from 2 to 36 are as in
-    /// `36'ZZ`. A format cannot accept characters, such as `0'a`, which is 97, the rationals `1r3`, and `1.0Inf` and `1.5NaN`.
+    /// `36'ZZ`. A format cannot accept characters, such as `0'a`, which is 97, the rationals `1r3`, `1 000`, and `1.0Inf` and `1.5NaN`.
     PROLOG: "Prolog" = {
         "decimal": decimal(TOKENS.required_digits(true)) => PROLOG_WORDS; finite(Kind::EXACT), // rejects `.5`, `1.`, `1e` and `.`
         "decimal, with separators": integers(10, separated(b'_'), UNSIGNED) => PROLOG_WORDS, // accepts `1_000`
@@ -902,7 +902,7 @@ languages! {
 
     /// Raku's integers, rationals and floats (Raku Documentation 2022.12, Number literals). Digits of another radix from 2 to 36 are as in
     /// `:36<ZZ>` and `:16<F.8>`, but a fraction in a radix such as 3 has no `f64`. A format cannot accept `:16<0xFF>` and
-    /// `:16<F.8*16**2>`.
+    /// `:16<F.8*16**2>`, or refuse `:16<0b1>`, which is 1 to Raku.
     RAKU: "Raku" = {
         "decimal": decimal(separated(b'_').required_fraction_digits(true)) => RAKU_WORDS, // rejects `1.`, not `.5`
         "hexadecimal": prefixed(b'x', 16, RAKU_PREFIXED) => RAKU_WORDS,
@@ -1030,7 +1030,7 @@ languages! {
             .no_exponent_without_fraction(true) // rejects `1e3`, not `1.0e3`
         ) => ADA_WORDS; finite(AT_MOST_63),
         "integer with an exponent": decimal(separated(b'_').required_digits(true)) => ADA_WORDS; finite(AT_MOST_63),
-    } radixes "" "#" before "#" to 16 { based(separated(b'_')); finite(AT_MOST_63) } => Tokens::new(&[], &[]);
+    } radixes "" "#" before "#" to 16 { based(separated(b'_')) => ADA_WORDS; finite(AT_MOST_63) } => Tokens::new(&[], &[]);
 
     /// The decimals of XML Schema, with signs (XML Schema 1.1, Part 2, 3.3.3).
     XML_SCHEMA: "XML Schema" = { "decimal": numbers(b'e', b'.', NumberFormatBuilder::new()
