@@ -87,7 +87,8 @@ function shown(tried, shown) {
         const after = json([page.state.forms, page.state.at]);
         const again = after === before ? page.fragment() : after;
         const answers = trial.read(texts.map((text, place) => ({ text, place })));
-        const told = answers.map((answer) => trial.told(answer));
+        const kindOf = ({ form }) => ["single", "largest"].map((it) => library.value(trial.forms[form], it));
+        const told = answers.map((answer) => [trial.told(answer), kindOf(answer)]);
         const tests = answers.map(({ text, error }) => ({ text, isRefused: Boolean(error) }));
         const codes = ["rust", "c", "python"].map((tab) => ((trial.answers = tests), codeOf(tab)));
         const names = trial.forms.map(({ name }) => name).join("|");
