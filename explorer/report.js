@@ -31,8 +31,8 @@ function compare(library, list) {
         });
         return rows.length ? [element("h3", {}, `${titles[index]}, such as`), element("ul", {}, rows)] : [];
     }));
-    const [forms, others] = [list, other].map((it) => it.forms.map(stateOf));
-    const none = isSame(forms, others) ? "Same format." : "None of the texts that were tried tells them apart.";
+    const [forms, others] = [list, other].map((it) => passed({ forms: it.forms }));
+    const none = forms === others ? "Same format." : "None of the texts that were tried tells them apart.";
     setText(find("same"), value && !lists.flat().length ? none : "");
 }
 

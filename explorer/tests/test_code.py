@@ -8,7 +8,7 @@ import sys
 import tempfile
 import unittest
 
-from test_base import Walk, Keys, TOP, MIXED, MIXED_FORM, STATES, TEXTS, has, run
+from test_base import Walk, Keys, PAGE, TOP, MIXED, MIXED_FORM, STATES, TEXTS, has, run
 
 # Where the library of C is built.
 BUILD = TOP / "rust/target/make"
@@ -129,3 +129,13 @@ class Code(Walk):
         (folder / "main.py").write_text(PYTHON + "".join(f"{code}show(forms, read)\ntest_numbers()\n" for code in codes))
         variables = {"PYTHONPATH": str(TOP / "c"), "PYTHONDONTWRITEBYTECODE": "1"}
         return run(sys.executable, "main.py", cwd=folder, env={**os.environ, **variables})
+
+
+class Sources(unittest.TestCase):
+    def test_index_is_up_to_date(self):
+        run(sys.executable, PAGE.parent / "build", "--check")
+
+    @unittest.skipUnless(has("node"), "no node")
+    def test_scripts_have_no_errors(self):
+        for path in PAGE.parent.rglob("*.js"):
+            run("node", "--check", path)

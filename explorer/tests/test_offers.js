@@ -57,12 +57,12 @@ function test_words_of_a_change_tell_its_direction() {
     }).map(({ name }) => name);
 }
 
-/* Returns what is offered and advised for a number of the usual form, and the sentence. */
+/* Returns what is offered for a number of the usual form, what is advised, each with the text of its button, and the sentence. */
 function offeredFor(text) {
     show([page.library.usual], text);
-    const items = [...find("read").querySelectorAll("li li")];
-    const advice = items.filter((it) => !it.querySelector(".then")).map((it) => it.firstChild.textContent);
-    return [textsOf("#read .then")[0], advice.join(" "), find("summary").textContent, textsOf("#read .use, #read .link")];
+    const items = [...find("read").querySelectorAll("li li")].filter((it) => !it.querySelector(".then"));
+    const advice = items.map((it) => [it.firstChild.textContent, textsOf("button", it).join()]);
+    return [textsOf("#read .then")[0], advice, find("summary").textContent];
 }
 
 /* What no format has, in words of the advice, and what its button makes of texts. */
@@ -94,7 +94,7 @@ function test_what_no_format_has_is_replaced() {
     return Object.entries(REPLACED).flatMap(([words, rows]) => Object.entries(rows).filter(([text, other]) => {
         const [, advice] = offeredFor(text);
         [...find("read").querySelectorAll(".use")].find((it) => it.textContent === `try ${other}`)?.click();
-        return !advice.includes(words) || find("literal").value !== other;
+        return !advice.some(([told]) => told.includes(words)) || find("literal").value !== other;
     }));
 }
 
