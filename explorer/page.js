@@ -310,16 +310,17 @@ class Page {
      * numbers, above which nothing changes. */
     show(key = "") {
         const focused = document.activeElement;
-        const top = () => focused.getBoundingClientRect().top;
+        const isMoved = ![document.body, find("literal")].includes(focused);
+        const top = () => isMoved && focused.getBoundingClientRect().top;
         const before = top();
         this.showAll();
         if (!key && this.tab === "edit") {
             this.showWord();
             this.controls.fill();
         }
-        if ([document.body, find("literal")].includes(focused)) return;
-        const scroller = getComputedStyle(find("panes")).position === "sticky" ? document.scrollingElement : focused.closest("#trial, #pane");
-        if (document.activeElement === focused) scroller?.scrollBy(0, top() - before);
+        if (!isMoved || document.activeElement !== focused) return;
+        const isSticky = getComputedStyle(find("panes")).position === "sticky";
+        (isSticky ? document.scrollingElement : focused.closest("#trial, #pane"))?.scrollBy(0, top() - before);
     }
 
     showAll() {

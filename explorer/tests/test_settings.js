@@ -96,22 +96,18 @@ function test_each_choice_lands_in_the_state_the_link_and_the_code() {
 
 /* A click on the box of a group that is partly set clears it and tells so, and the next one sets it. Other boxes tell nothing. */
 function test_a_group_that_is_partly_set_is_cleared_first() {
-    const boxes = page.library.conditions.filter(({ isNumber, name }) => {
-        show([page.library.with(page.library.usual, name, 1)]);
-        page.chooseTab("edit");
-        if (!isNumber) find(name).click();
-        return find("told").textContent;
-    });
-    return [...boxes, ...page.library.groups.filter(({ name, mask }) => {
-        show([{ ...page.library.usual, word: (page.library.usual.word & ~mask) | (mask & -mask) }]);
+    const { usual, groups, conditions } = page.library;
+    return [...groups, ...conditions.filter(({ isNumber }) => !isNumber)].filter(({ name, holder, mask }) => {
+        const isGroup = holder === "word";
+        show([{ ...usual, [holder]: (usual[holder] & ~mask) | (isGroup ? mask & -mask : mask) }]);
         page.chooseTab("edit");
         const isMixed = find(name).indeterminate;
         const [[cleared, isTold], [set, isToldAgain]] = [1, 2].map(() => {
             find(name).click();
-            return [page.form.word & mask, find("told").textContent.includes("Undo brings them back")];
+            return [page.form[holder] & mask, find("told").textContent.includes("Undo brings them back")];
         });
-        return !isMixed || cleared !== 0n || set !== mask || !isTold || isToldAgain;
-    })].map(({ name }) => name);
+        return isMixed !== isGroup || cleared !== 0n || set !== mask || isTold !== isGroup || isToldAgain;
+    }).map(({ name }) => name);
 }
 
 /* Each byte and option refuses texts below it, without a change, and takes the names of bytes that cannot be seen. */

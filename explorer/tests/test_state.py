@@ -31,9 +31,8 @@ class State(Walk):
         self.click("#no_exponent_notation")
         self.assertFalse(self.find("#redo").is_enabled())
         self.wait(lambda: self.run_script("return location.hash === page.fragment()"))
-        self.refresh()
-        self.assertTrue(self.is_checked("#no_exponent_notation"))
-        lead([undo, undo], states[-2:-4:-1])
+        changed = state()
+        lead([lambda: (self.driver.refresh(), self.wait_until_ready()), undo, undo], [changed, *states[-2:-4:-1]])
         self.load("#numbers=1_0&tab=edit")
         before = state()
         for enter in (lambda: self.select("#language", "JSON"), lambda: self.click("#read .use")):
