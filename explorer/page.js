@@ -7,6 +7,13 @@ const INNER = {
     code: { group: "tabs", text: "code", tabs: { rust: "Rust", c: "C", python: "Python", settings: "As text" } },
     words: { group: "notations", text: "notation", tabs: { sentence: "Sentence", grammar: "Grammar", regex: "Regular expression" } },
 };
+/* The choices of each select before the languages. The first one of `language` is only shown. */
+const STANDARD = ["standard", "the standard format"];
+const CHOICES = {
+    language: [["own", "your own format"], ["", STANDARD[1]]],
+    compare: [["", "nothing"], STANDARD],
+    add: [["", "Add a form"], ["copy", "a copy of this one"], STANDARD],
+};
 /* The milliseconds between two fragments that are written, the changes that can be undone after a reload, the parts of a
  * fragment, and the example. */
 const [PAUSE, MOST_UNDONE] = [150, 30];
@@ -27,11 +34,17 @@ class Page {
         this.trial = new Trial(library, this);
         this.code = new Code(library);
         setText(find("version"), data.version);
-        const own = element("option", { value: "own", hidden: "" }, "your own format");
-        find("language").append(own, ...choices([["", "the standard format"]], library.languages));
-        find("compare").append(...choices([["", "nothing"], STANDARD], library.languages));
-        find("add").append(...choices([["", "Add a form"], ["copy", "a copy of this one"], STANDARD], library.languages));
-        this.makeTabs();
+        const languages = library.languages.map(({ name, title }) => [name, title]);
+        for (const [id, own] of Object.entries(CHOICES)) {
+            find(id).append(...[...own, ...languages].map(([value, title]) => element("option", { value }, title)));
+        }
+        find("language").firstChild.hidden = true;
+        for (const { group, tabs, text } of [{ group: "panes", tabs: PANES }, ...Object.values(INNER)]) {
+            find(group).append(...Object.entries(tabs).map(([name, title]) => {
+                const attributes = { id: `tab-${name}`, role: "tab", "aria-controls": text ?? `pane-${name}` };
+                return button("", title, () => this.open(name), attributes);
+            }));
+        }
         find("parts").append(...[...document.querySelectorAll("#controls h3, #word-title")].map((it) => {
             return button("link rover", it.textContent, () => (it.scrollIntoView(), it.focus({ preventScroll: true })));
         }));
@@ -119,15 +132,6 @@ class Page {
         [this.state, this.key] = [from.pop(), ""];
         setText(find("told"), "");
         this.show();
-    }
-
-    makeTabs() {
-        for (const { group, tabs, text } of [{ group: "panes", tabs: PANES }, ...Object.values(INNER)]) {
-            find(group).append(...Object.entries(tabs).map(([name, title]) => {
-                const attributes = { id: `tab-${name}`, role: "tab", "aria-controls": text ?? `pane-${name}` };
-                return button("", title, () => this.open(name), attributes);
-            }));
-        }
     }
 
     /* Shows a tab, and on a narrow screen brings it into view. */

@@ -1,7 +1,5 @@
 /* The report on a form: its reasons and its notes. The comparison of a list with another one. */
 
-const STANDARD = ["standard", "the standard format"];
-
 /* Shows the reasons and the notes of a form, each with buttons that lead to the fields that it blames. Reserved bits have none. */
 function showReport({ problems, notes }) {
     find("report").hidden = !problems.length && !notes.length;
@@ -34,8 +32,4 @@ function compare(library, list) {
     const [forms, others] = [list, other].map((it) => passed({ forms: it.forms }));
     const none = forms === others ? "Same format." : "None of the texts that were tried tells them apart.";
     setText(find("same"), value && !lists.flat().length ? none : "");
-}
-
-function choices(own, languages) {
-    return [...own, ...languages.map(({ name, title }) => [name, title])].map(([value, title]) => element("option", { value }, title));
 }

@@ -46,14 +46,16 @@ function test_sizes_of_groups_are_offered() {
     });
 }
 
-/* The words of a change tell whether it refuses or allows texts: for each flag and condition, set and not set. */
+/* The words of a change tell whether it refuses or allows texts, for each flag and condition, and of no two that are set they are the same. */
 function test_words_of_a_change_tell_its_direction() {
     const { library, library: { usual, flags, conditions } } = page;
-    return [...flags, ...conditions].filter(({ isNumber, isOfForm }) => !isNumber && !isOfForm).filter(({ name, part }) => {
-        const states = [0, 1].map((it) => library.with(usual, name, it));
+    const seen = new Set();
+    return [...flags, ...conditions].filter(({ isOfForm }) => !isOfForm).filter(({ name, part, isNumber }) => {
+        const states = [0, isNumber ? 3 : 1].map((it) => library.with(usual, name, it));
         const words = states.map((it, index) => changeWords(library, it, library.differences(it, states[1 - index])));
         const [without, set] = part === "separator" ? words.toReversed() : words;
-        return !/^allow |is optional$/.test(without) || !/^(refuse|require) /.test(set);
+        const isSeen = seen.size === seen.add(set).size;
+        return isSeen || (!isNumber && (!/^allow |is optional$/.test(without) || !/^(refuse|require) /.test(set)));
     }).map(({ name }) => name);
 }
 

@@ -64,6 +64,8 @@ class State(Walk):
         self.click("#no_special")
         self.type("#literal", "1_0 %&")
         self.wait(lambda: self.run_script("return location.hash === page.fragment()"))
+        self.load(self.run_script("return location.hash"))
+        self.assertEqual((self.value("#compare"), self.value("#literal")), ("JSON", "1_0 %&"))
         for link, word, tab in (("#numbers=1", STANDARD, "Languages"), ("#language=JSON&amp;tab=c", "0x0A0A0A0000000000000000000000341F", "Code")):
             self.load(link)
             self.assertEqual((self.text("#panes [aria-selected=true]"), self.value(), self.text("#told")), (tab, word, ""))
