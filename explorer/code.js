@@ -10,6 +10,16 @@ const READERS = {
     python: (name) => `peltzivar.languages.${name}`,
 };
 
+/* Kinds in Rust, C and Python, where % stands for the bits. */
+const KIND_CODE = {
+    at_most: ["IntegerKind::AtMost(%)", ".integer_kind = PELTZIVAR_INTEGERS_AT_MOST, .integer_bits = %", "at_most=%"],
+    wraps: ["IntegerKind::Wraps(%)", ".integer_kind = PELTZIVAR_INTEGERS_WRAP, .integer_bits = %", "wraps=%"],
+    wraps_modulo: ["IntegerKind::WrapsModulo(%)", ".integer_kind = PELTZIVAR_INTEGERS_WRAP_MODULO, .integer_bits = %", "modulo=True, wraps=%"],
+    single: ["FloatKind::Single", ".float_kind = PELTZIVAR_FLOATS_SINGLE", "single=True"],
+    vanishing: [".with_limits(FloatLimits::Both)", ".float_limits = PELTZIVAR_LIMITS_BOTH", 'limits="both"'],
+    largest: [".with_limits(FloatLimits::Largest)", ".float_limits = PELTZIVAR_LIMITS_LARGEST", 'limits="largest"'],
+};
+
 /* What the code in Rust can use of the module `literal`. */
 const LITERAL = "Affix Conditions FloatKind FloatLimits Form FormError Forms IntegerKind Kind Number Specials Syntax";
 
@@ -37,7 +47,7 @@ class Code {
     text(tab, { forms, specials = SPECIALS }, answers, language) {
         const bad = forms.find(({ problems }) => problems.length);
         const quoted = this.hasSpecials(forms) ? specials.map((it) => JSON.stringify(it)) : [];
-        // The normal form is the same format, and a builder makes it.
+        /* The normal form is the same format, and a builder makes it. */
         const built = forms.map((form) => ({ ...form, word: form.isBuilt ? form.word : form.normal }));
         if (tab === "settings") return forms.map((form) => this.settings(form)).join("\n");
         if (bad) return `Nothing can be read: ${bad.problems[0].text}.`;
@@ -68,20 +78,27 @@ class Code {
     }
 
     grammar(forms) {
-        const texts = (text) => text && JSON.stringify(text);
-        return forms.map(({ name, grammar, opening, closing }) => {
-            const all = ["Number   ::=", texts(opening), "Literal", texts(closing)].filter(Boolean).join(" ");
-            const whole = opening + closing && `${all}\n`;
-            return (name && `/* ${name.replaceAll("*/", "")} */\n`) + whole + grammar;
+        return forms.map((form) => {
+            const [opening, closing] = this.spelled(form, (it) => ` ${JSON.stringify(it)}`, (it) => ` ${it}`);
+            const whole = opening + closing && `Number   ::=${opening} Literal${closing}\n`;
+            return (form.name && `/* ${form.name.replaceAll("*/", "")} */\n`) + whole + form.grammar;
         }).join("\n\n");
     }
 
     regex(forms) {
-        const either = (it) => `[${it.toUpperCase()}${it.toLowerCase()}]`;
-        const escaped = (it) => (/[a-z]/i.test(it) ? either(it) : `\\x${it.charCodeAt().toString(16)}`);
-        const ofAffix = (text) => text.replace(/\D/g, escaped);
-        const all = forms.map(({ regex, opening, closing }) => ofAffix(opening) + regex + ofAffix(closing));
+        const escaped = (text) => text.replace(/\W/g, (it) => `\\x${it.charCodeAt().toString(16)}`);
+        const all = forms.map((form) => this.spelled(form, escaped, (it) => it).join(form.regex));
         return all.length > 1 ? `(?:${all.join("|")})` : all[0];
+    }
+
+    /* Returns the opening and the closing of a form in a notation, which is that of texts and, if their case does not matter, of letters. */
+    spelled(form, ofText, ofLetter) {
+        return AFFIXES.map(({ name }) => {
+            const parts = this.library.value(form, `case_sensitive_${name}`) ? [form[name]] : form[name].split(/([a-z])/i);
+            return parts.map((it, index) => {
+                return index % 2 ? ofLetter(`[${it.toUpperCase()}${it.toLowerCase()}]`) : it && ofText(it);
+            }).join("");
+        });
     }
 
     rust(forms, specials, tests) {
@@ -107,25 +124,29 @@ ${this.rustTest(tests)}`;
     rustForm(form) {
         const { name, exponent, point } = form;
         const changes = this.library.differences(form);
-        const calls = changes.filter(({ holder }) => holder === "word").map(({ name, isByte, isNumber, value }) => {
+        const edits = changes.filter(({ holder }) => holder === "word").map(({ name, isByte, isNumber, value }) => {
             const byte = isNumber ? String(value) : character(value, "b");
             const optional = value ? `NonZeroU8::new(${byte})` : "None";
             return `.${name}(${!isByte ? Boolean(value) : name === "mantissa_radix" ? byte : optional})`;
         });
-        const format = ["NumberFormatBuilder::new()", ...calls, ".build_format_or_panic()"].join("\n            ");
+        const format = ["NumberFormatBuilder::new()", ...edits, ".build_format_or_panic()"].join("\n            ");
         const options = [exponent, point].map((it) => `, ${character(it, "b")}`).join("");
         const syntax = exponent || point ? `new_or_panic(\n        ${format}${options}` : `integers(\n        ${format}`;
         const conditions = changes.filter(({ holder, isOfForm }) => holder === "conditions" && !isOfForm).map(({ name, isNumber, value }) => {
             return `\n            .${name}(${isNumber ? `Some(${value})` : "true"})`;
         });
         const set = conditions.length ? `\n        .with_conditions_or_panic(Conditions::NONE${conditions.join("")})` : "";
-        const [integers, bits, single, limits] = this.kind(form, ["Exact", "AtMost", "Wraps", "WrapsModulo"]);
-        const kinds = `IntegerKind::${integers}${bits && `(${bits})`}, FloatKind::${single ? "Single" : "Nearest"}`;
-        const limited = limits && `.with_limits(FloatLimits::${limits === "both" ? "Both" : "Largest"})`;
-        const kind = bits || single || limits ? `\n        .with_kind(Kind::new(${kinds}).unwrap()${limited})` : "";
-        const affix = (it) => form[it] && `\n        .with_${it}(Affix::new(b${JSON.stringify(form[it])}).unwrap())`;
-        const affixes = affix("opening") + affix("closing") + (form.closing && ".unwrap()");
-        const whole = `Form::new(${rustText(name)}, Syntax::${syntax})${set})${kind}${affixes}`;
+        const beside = this.beside(form, 0, ({ name, isText, value }) => {
+            if (!isText) return name === "only_read" ? ".only_read(true)" : "";
+            const isSensitive = this.library.value(form, `case_sensitive_${name}`);
+            const affix = `Affix::new(b${JSON.stringify(value)}).unwrap()${isSensitive ? ".case_sensitive(true)" : ""}`;
+            return `.with_${name}(${affix})${name === "closing" ? ".unwrap()" : ""}`;
+        });
+        const [kinds, calls] = [true, false].map((is) => beside.filter(({ name }) => name in KIND_CODE === is).map(({ code }) => code));
+        const of = (start, usual = "") => kinds.find((it) => it.startsWith(start)) ?? usual;
+        const kind = `.with_kind(Kind::new(${of("IntegerKind", "IntegerKind::Exact")}, ${of("FloatKind", "FloatKind::Nearest")}).unwrap()${of(".")})`;
+        const lines = [kinds.length && kind, ...calls].filter(Boolean).map((it) => `\n        ${it}`).join("");
+        const whole = `Form::new(${rustText(name)}, Syntax::${syntax})${set})${lines}`;
         return `    // ${wordText(form.word)}\n    ${whole},\n`;
     }
 
@@ -139,14 +160,10 @@ ${this.rustTest(tests)}`;
     c(forms, specials, tests) {
         const settings = (form) => this.lines(form).map((line) => `\n    ${JSON.stringify(`${line}\n`)}`).join("") || '\n    ""';
         const all = forms.map((form) => `    /* ${wordText(form.word)} */${settings(form)},\n`).join("");
-        const kind = (form) => {
-            const [integers, bits, single, limits] = this.kind(form, ["", "AT_MOST", "WRAP", "WRAP_MODULO"]);
-            const ofIntegers = bits && `, .integer_kind = PELTZIVAR_INTEGERS_${integers}, .integer_bits = ${bits}`;
-            const ofFloats = single ? ", .float_kind = PELTZIVAR_FLOATS_SINGLE" : "";
-            return ofIntegers + ofFloats + (limits && `, .float_limits = PELTZIVAR_LIMITS_${limits.toUpperCase()}`);
-        };
-        const affixes = (form) => AFFIXES.map(({ name }) => form[name] && `, .${name} = ${cText(form[name])}`).join("");
-        const names = forms.map((form) => `\n    {.name = ${cText(form.name)}${kind(form)}${affixes(form)}},`).join("");
+        const beside = (form) => this.beside(form, 1, ({ name, isText, value }) => `.${name} = ${isText ? cText(value) : true}`);
+        const names = forms.map((form) => {
+            return `\n    {${[`.name = ${cText(form.name)}`, ...beside(form).map(({ code }) => code)].join(", ")}},`;
+        }).join("");
         const spelled = specials.length ? `, .specials = {${specials.join(", ")}}` : "";
         return `#include "peltzivar.h"
 #include <string.h>
@@ -199,15 +216,13 @@ bool test_numbers(void) {
     python(forms, specials, tests) {
         const settings = (form) => this.lines(form).map((line) => `\n        ${JSON.stringify(line)},`).join("") + (this.lines(form).length ? "\n    " : "");
         const one = (form) => `    # ${wordText(form.word)}\n    (${pythonText(form.name)}, Syntax.of(${settings(form)})),\n`;
-        const ofKind = (form) => {
-            const [integers, bits, single, limits] = this.kind(form, ["", "at_most", "wraps", "modulo=True, wraps"]);
-            const all = [bits && `${integers}=${bits}`, single && "single=True", limits && `limits="${limits}"`].filter(Boolean).join(", ");
-            return all && `${pythonText(form.name)}: Kind(${all})`;
-        };
-        const ofAffixes = ({ name, opening, closing }) => {
-            return opening + closing && `${pythonText(name)}: Affixes(${pythonText(opening)}, ${pythonText(closing)})`;
-        };
-        const [kinds, affixes] = [ofKind, ofAffixes].map((of) => forms.map(of).filter(Boolean).join(", "));
+        const beside = (form) => this.beside(form, 2, ({ name, isText, value }) => `${name}=${isText ? pythonText(value) : "True"}`);
+        const byName = (call, isOf) => forms.flatMap((form) => {
+            const codes = beside(form).filter(isOf).map(({ code }) => code).join(", ");
+            return codes ? [`${pythonText(form.name)}: ${call}(${codes})`] : [];
+        }).join(", ");
+        const [kinds, affixes] = [byName("Kind", ({ name }) => name in KIND_CODE), byName("Affixes", ({ part }) => part === "base")];
+        const read = forms.filter((form) => this.library.value(form, "only_read")).map(({ name }) => pythonText(name)).join(", ");
         const spelled = specials.map((it, index) => (it === '""' ? "" : `, ${["nan", "inf", "infinity"][index]}=${it}`)).join("");
         const [accepted, refused] = tested(tests, pythonText);
         const lines = (texts, body) => texts && `    for text in [${texts}]:\n        ${body}\n`;
@@ -223,15 +238,15 @@ def read(text):
 
 
 forms = Forms([
-${forms.map(one).join("")}]${kinds && `, kinds={${kinds}}`}${affixes && `, affixes={${affixes}}`}${spelled})
+${forms.map(one).join("")}]${kinds && `, kinds={${kinds}}`}${affixes && `, affixes={${affixes}}`}${read && `, only_read=[${read}]`}${spelled})
 ${tests.length ? test : ""}`;
     }
 
-    /* Returns the kind of a form: one of four names and the bits of its integers, whether its floats are single, and their limits. */
-    kind(form, names) {
-        const numbers = KINDS.map(({ name }) => this.library.value(form, name));
-        const place = numbers.slice(0, 3).findIndex(Boolean);
-        return [names[place + 1], numbers[place] ?? "", numbers[3], numbers[5] ? "both" : numbers[4] ? "largest" : ""];
+    /* Returns what a form has beside its syntax, each with its code in a language of `KIND_CODE`, or by `codeOf`. */
+    beside(form, language, codeOf) {
+        const isLeft = ({ name }) => name === "largest" && this.library.value(form, "vanishing");
+        return this.library.differences(form).filter((it) => it.isOfForm && !isLeft(it))
+            .map((it) => ({ ...it, code: KIND_CODE[it.name]?.[language].replace("%", it.value) ?? codeOf(it) }));
     }
 
     /* Returns the settings of the syntax of a form that are not the usual ones. */

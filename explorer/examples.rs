@@ -66,7 +66,12 @@ fn try_parts(state: State, each: &mut dyn FnMut(Vec<u8>)) {
 fn try_texts(forms: &List, others: &List, each: &mut dyn FnMut(Vec<u8>)) {
     let states = || forms.states.iter().chain(&others.states).copied();
     for state in states() {
-        let each = &mut |text: Vec<u8>| each([state.opening.as_bytes(), &text, state.closing.as_bytes()].concat());
+        let (opening, closing) = (state.opening.as_bytes(), state.closing.as_bytes());
+        for in_case in [<[u8]>::to_ascii_lowercase, <[u8]>::to_ascii_uppercase] {
+            each([&in_case(opening), &b"1"[..], closing].concat());
+            each([opening, b"1", &in_case(closing)].concat());
+        }
+        let each = &mut |text: Vec<u8>| each([opening, &text, closing].concat());
         try_parts(state, each);
         states().for_each(|it| try_integers(state, it.kind.integers(), each));
         if states().any(|it| it.kind.limits() != FloatLimits::None) {
@@ -100,12 +105,8 @@ fn try_integers(state: State, kind: IntegerKind, each: &mut dyn FnMut(Vec<u8>)) 
 
 /// Calls `each` with floats that are too large or vanish, whatever the radix of the exponent is, also with the prefix or a fraction.
 fn try_far_floats(state: State, each: &mut dyn FnMut(Vec<u8>)) {
-    for (prefix, fraction) in [("", ""), ("0x", ""), ("", ".1"), ("0x", ".1")] {
-        for exponent in ["e1", "e-1"] {
-            if let Some(text) = text_of(state, &[prefix, "1", fraction, exponent].concat()) {
-                each([&text[..], b"1111111111111"].concat());
-            }
-        }
+    for text in ["1e1", "1e-1", "1.1e1", "1.1e-1", "0x1e1", "0x1e-1", "0x1.1e1", "0x1.1e-1"] {
+        text_of(state, text).into_iter().for_each(|text| each([&text[..], b"1111111111111"].concat()));
     }
 }
 

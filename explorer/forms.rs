@@ -1,6 +1,7 @@
 //! The forms of the numbers that are read, such as decimal and hexadecimal, and the values of numbers.
 
 use alloc::vec::Vec;
+use core::array;
 use core::str::FromStr;
 
 use peltzivar::literal::{
@@ -17,12 +18,9 @@ pub struct List {
 }
 
 impl List {
-    /// Reads states as [`states_of`] does. Returns `None` if a state is not a syntax.
-    pub fn new(line: &'static str) -> Option<Self> {
-        Self::of(states_of(line).collect())
-    }
-
-    fn of(states: Vec<State>) -> Option<Self> {
+    /// Returns the list of states, or `None` if one is not a form.
+    pub fn of(states: impl IntoIterator<Item = State>) -> Option<Self> {
+        let states: Vec<_> = states.into_iter().collect();
         let forms: Vec<_> = states.iter().map(|it| it.form()).collect::<Option<_>>()?;
         Forms::new(&forms)?;
         Some(Self { states, forms })
@@ -32,24 +30,17 @@ impl List {
         Forms::new_or_panic(&self.forms).with_specials(self.states[0].specials)
     }
 
-    /// Returns the list with another state of a form, or without the form.
-    pub fn with(&self, form: usize, state: Option<State>) -> Option<Self> {
-        let mut states = self.states.clone();
-        states.splice(form..=form, state);
-        Self::of(states)
-    }
-
     /// Returns lines, each with whether a form other than this one reads its text.
     pub fn lines<'a>(&self, form: usize, text: &'a [u8]) -> Vec<Line<'a>> {
-        let others = self.with(form, None);
+        let others = Self::of([&self.states[..form], &self.states[form + 1..]].concat());
         let is_read = |text| others.as_ref().is_some_and(|it| it.forms().read(text).is_ok());
         lines_of(text).map(|line| Line { is_read: is_read(line.text), ..line }).collect()
     }
 }
 
 /// Reads the states of a line. Each is numbers between colons: its word, then bytes, from the lowest the exponent character,
-/// the decimal point, the number of each condition, and those of the kind, and then the bytes of the opening and the closing.
-/// The first one has the spellings of special values, which are behind tabs.
+/// the decimal point, the number of each condition, and those of [`numbers_of`], and then the bytes of the opening and the
+/// closing. The first one has the spellings of special values, which are behind tabs.
 pub fn states_of(line: &'static str) -> impl Iterator<Item = State> {
     let mut parts = line.split('\t');
     let states = parts.next().unwrap_or("").split(' ');
@@ -58,53 +49,54 @@ pub fn states_of(line: &'static str) -> impl Iterator<Item = State> {
         let mut parts = state.split(':').map(|it| u128::from_str(it).unwrap_or(0));
         let [word, options, opening, closing] = [(); 4].map(|()| parts.next().unwrap_or(0));
         let [exponent, point, numbers @ ..] = options.to_le_bytes();
-        let (numbers, kind) = numbers.split_at(Condition::ALL.len());
+        let (numbers, of_form) = numbers.split_at(Condition::ALL.len());
+        let [single, largest, vanishing, opening_case, closing_case, only_read] =
+            array::from_fn(|bit| of_form[KINDS.len()] >> bit & 1 == 1);
+        let integers = KINDS.iter().zip(of_form).find(|it| *it.1 > 0);
+        let integers = integers.map_or(IntegerKind::Exact, |(kind, &bits)| kind(bits));
+        let floats = if single { FloatKind::Single } else { FloatKind::Nearest };
+        let limits = match (largest, vanishing) {
+            (_, true) => FloatLimits::Both,
+            (true, _) => FloatLimits::Largest,
+            _ => FloatLimits::None,
+        };
+        let kind = Kind::new(integers, floats).unwrap_or(Kind::EXACT).with_limits(limits);
         let conditions =
             Condition::ALL.iter().zip(numbers).fold(Conditions::NONE, |all, (&it, &number)| all.with(it, number));
         let specials = if form == 0 { Specials { nan, inf, infinity } } else { Specials::default() };
-        let [opening, closing] = [opening, closing].map(affix_of);
-        State { word, exponent, point, conditions, kind: kind_of(kind), opening, closing, specials }
+        let [opening, closing] = [(opening, opening_case), (closing, closing_case)].map(affix_of);
+        State { word, exponent, point, conditions, kind, opening, closing, only_read, specials }
     })
 }
 
-/// Returns the affix with the bytes of a number, from the lowest.
-fn affix_of(number: u128) -> Affix {
-    let bytes = number.to_le_bytes();
-    let size = bytes.iter().position(|&byte| byte == 0).unwrap_or(bytes.len());
-    Affix::new(&bytes[..size]).unwrap_or(Affix::NONE)
+/// Returns the affix with the bytes of a number, from the lowest, and whether it is case-sensitive.
+fn affix_of((number, sensitive): (u128, bool)) -> Affix {
+    let affix = number.to_le_bytes().split(|&byte| byte == 0).next().and_then(Affix::new);
+    affix.unwrap_or(Affix::NONE).case_sensitive(sensitive)
 }
 
 pub fn state_of(form: &Form) -> State {
     let (syntax, kind) = (form.syntax(), form.kind());
     let [exponent, point] = [syntax.exponent(), syntax.point()].map(Option::unwrap_or_default);
     let (word, conditions) = (syntax.format().word(), syntax.conditions());
-    let (opening, closing, specials) = (form.opening(), form.closing(), Specials::default());
-    State { word, exponent, point, conditions, kind, opening, closing, specials }
+    let (opening, closing, only_read) = (form.opening(), form.closing(), form.is_only_read());
+    State { word, exponent, point, conditions, kind, opening, closing, only_read, specials: Specials::default() }
 }
 
 /// The kinds of integers, each with its bits.
 const KINDS: [fn(u8) -> IntegerKind; 3] = [IntegerKind::AtMost, IntegerKind::Wraps, IntegerKind::WrapsModulo];
 
-/// Returns the kind of numbers: the bits of each kind of integers, of which one is not 0, whether floats are single, and whether those
-/// that are too large, or that vanish, are errors.
-fn kind_of(numbers: &[u8]) -> Kind {
-    let integers = KINDS.iter().zip(numbers).find(|it| *it.1 > 0).map_or(IntegerKind::Exact, |(kind, &it)| kind(it));
-    let floats = if numbers[KINDS.len()] > 0 { FloatKind::Single } else { FloatKind::Nearest };
-    let limits = match numbers[KINDS.len() + 1..] {
-        [0, 0, ..] => FloatLimits::None,
-        [_, 0, ..] => FloatLimits::Largest,
-        _ => FloatLimits::Both,
-    };
-    Kind::new(integers, floats).unwrap_or(Kind::EXACT).with_limits(limits)
-}
-
-/// Returns the numbers of which [`kind_of`] makes the kind.
-pub fn numbers_of(kind: Kind) -> [u8; 8] {
+/// Returns what a form has beside its syntax as numbers: the bits of each kind of integers, of which one is not 0, and the
+/// bits that are set if floats are single, too large ones are errors, vanishing ones are, the opening and the closing are
+/// case-sensitive, and the form is only read.
+pub fn numbers_of(State { kind, opening, closing, only_read, .. }: State) -> [u8; KINDS.len() + 1] {
     let bits = |make: fn(u8) -> IntegerKind| (1..=128).find(|&bits| make(bits) == kind.integers()).unwrap_or(0);
     let [at_most, wraps, modulo] = KINDS.map(bits);
     let (single, limits) = (kind.floats() == FloatKind::Single, kind.limits());
-    let [single, largest, vanishing] = [single, limits != FloatLimits::None, limits == FloatLimits::Both].map(u8::from);
-    [at_most, wraps, modulo, single, largest, vanishing, 0, 0]
+    let cases = [opening, closing].map(|it| it.is_case_sensitive());
+    let limits = [limits != FloatLimits::None, limits == FloatLimits::Both];
+    let flags = [single, limits[0], limits[1], cases[0], cases[1], only_read];
+    [at_most, wraps, modulo, flags.iter().rev().fold(0, |all, &it| all << 1 | u8::from(it))]
 }
 
 /// The value of a number: an integer by its sign and size, and a float by its bits. A number that is too large for its kind

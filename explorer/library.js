@@ -18,14 +18,17 @@ const AFFIXES = [["opening", "before", "`16#`"], ["closing", "behind", "last `#`
     return { name, title: name, part: "base", isText: true, isOfForm: true, meaning };
 });
 const AFFIX = /^[ -~]{0,8}$/;
-/* The kind of a form, as numbers behind those of the conditions. Of those of integers, one is set. */
-const KINDS = [
+/* What else a form has beside its syntax, as numbers and then bits behind those of the conditions. Of the first three, one is set. */
+const OF_FORM = [
     { name: "at_most", meaning: "Bits that an integer has at most", limits: [1, 128] },
     { name: "wraps", meaning: "Bits that an integer has at most, the highest of which makes it negative", limits: [1, 64] },
     { name: "wraps_modulo", meaning: "Lowest bits of an integer, which count, the highest of which makes it negative", limits: [1, 64] },
     { name: "single", meaning: "Floats have 32 bits" },
     { name: "largest", meaning: "Floats that are too large are errors" },
     { name: "vanishing", meaning: "So are those, and floats that are not 0 and vanish" },
+    { name: "case_sensitive_opening", part: "base", meaning: "Letters of the opening have only this case" },
+    { name: "case_sensitive_closing", part: "base", meaning: "Letters of the closing have only this case" },
+    { name: "only_read", meaning: "Numbers are written in other forms" },
 ];
 const SPECIALS = ["NaN", "inf", "infinity"];
 
@@ -34,18 +37,21 @@ class Library {
         Object.assign(this, { calls, answers: new Map(), answered: 0 });
         const facts = this.call("facts");
         this.languages = facts.languages.map((it) => ({ ...it, ...languages[it.name] }));
-        const maskOf = (bits) => bits.reduce((mask, bit) => mask | (1n << BigInt(bit)), 0n);
-        const masked = (all) => all.map((it) => ({ ...it, holder: "word", mask: maskOf(it.bits) }));
-        [this.flags, this.groups] = [masked(flags), masked(groups)];
+        [this.flags, this.groups] = [flags, groups].map((all) => all.map((it) => {
+            return { ...it, holder: "word", mask: it.bits.reduce((mask, bit) => mask | (1n << BigInt(bit)), 0n) };
+        }));
         const byteAt = (bit) => ({ mask: 255n << BigInt(bit), shift: BigInt(bit) });
-        this.bytes = bytes.map((it) => ({ ...it, holder: "word", isByte: true, ...byteAt(it.bit) }));
+        this.bytes = bytes.map((it) => ({ ...it, holder: "word", isByte: true, isNumber: /_(base|radix)$/.test(it.name), ...byteAt(it.bits[0]) }));
         /* The conditions are the bytes of a number. Those of integers of a kind exclude each other. */
-        const limited = conditions.map((it, index) => (it.isNumber ? { ...it, limits: facts.limits[index] } : it));
-        const kinds = KINDS.map((it) => ({ ...it, isOfForm: true, isNumber: Boolean(it.limits) }));
+        const limited = conditions.map((it, index) => ({ ...it, limits: facts.limits[index] }));
         const ofIntegers = 0xffffffn << BigInt(8 * conditions.length);
-        this.conditions = [...limited, ...kinds].map((it, index) => {
-            const byte = byteAt(8 * index);
-            return { ...it, ...byte, part: "option", holder: "conditions", clears: byte.mask & ofIntegers ? ofIntegers : byte.mask };
+        let end = 0;
+        this.conditions = [...limited, ...OF_FORM.map((it) => ({ ...it, isOfForm: true }))].map((it, index) => {
+            const isNumber = it.limits?.[1] > 1;
+            const place = isNumber ? byteAt(end) : { mask: 1n << BigInt(end) };
+            end += it.limits ? 8 : 1;
+            const clears = place.mask & ofIntegers ? ofIntegers : place.mask;
+            return { ...it, part: it.part || "option", holder: "conditions", isNumber, clears, ...place };
         });
         /* The fields in the order of their bits, all that differs in states, and all that can be set by its name. */
         this.fields = [...this.flags, ...this.bytes];
@@ -133,11 +139,6 @@ class Library {
         return error ? { error } : { value: this.value({ word }, name) };
     }
 
-    /* Returns the byte, or the mantissa radix in place of an absent exponent byte. */
-    effective(state, name) {
-        return this.value(state, name) || this.value(state, /^exponent_/.test(name) ? "mantissa_radix" : name);
-    }
-
     /* Returns the value of an option, an affix or a condition in a setting: of an option, a byte or its character. */
     number({ isByte, isText, limits: [least, most] = [1, 1] }, value) {
         if (isText) return AFFIX.exec(value.replace(/^'(.*)'$/, "$1"))?.[0];
@@ -202,10 +203,6 @@ function passed({ forms, specials = SPECIALS }) {
     const numbers = (form) => [form.word, options(form), bytes(form.opening), bytes(form.closing)].join(":");
     return [forms.map(numbers).join(" "), ...specials].join("\t");
 }
-
-const stateOf = ({ word, exponent, point, opening, closing, conditions }) => {
-    return { word, exponent, point, opening, closing, conditions };
-};
 
 /* Returns whether two lists have the same forms with the same names. */
 function isSame(forms, others) {

@@ -166,18 +166,11 @@ fn reason_of(error: FormError) -> String {
     error.error().map_or_else(|| quoted(error), |it| quoted(it.full_text().as_str()))
 }
 
-/// Returns for each line and each language the form of a literal, and the value, or why the line is no number, and its
-/// suffix if it is a token.
+/// Returns for each line and each language what the line is, as `told` does, and its suffix if it is a token.
 fn readers(lines: &[u8]) -> String {
-    let reader = |line: &[u8], language: &Language| match language.read(line) {
-        Ok(number) => {
-            let form = number.form().map_or(String::new(), |form| format!(r#""form":{form},"#));
-            format!("{{{form}{}}}", value(value_of(number)))
-        }
-        Err(it) => {
-            let suffix = quoted(suffix_of(language, line).unwrap_or_default());
-            format!(r#"{{"error":{},"suffix":{suffix}}}"#, reason_of(it))
-        }
+    let reader = |text, language: &Language| {
+        let suffix = quoted(suffix_of(language, text).unwrap_or_default());
+        format!(r#"{{{},"suffix":{suffix}}}"#, told(language.read(text), text))
     };
     list(lines_of(lines).map(|line| list(Language::ALL.iter().map(|language| reader(line.text, language)))))
 }
@@ -192,10 +185,10 @@ fn suffix_of<'a>(language: &Language, text: &'a [u8]) -> Option<&'a str> {
 }
 
 /// Returns the parts of an object with a state.
-fn parts_of(State { word: format, exponent, point, conditions, kind, opening, closing, .. }: State) -> String {
-    let kind = u128::from(u64::from_le_bytes(numbers_of(kind)));
-    let numbers = Condition::ALL.iter().rev().fold(kind, |all, &it| all << 8 | u128::from(conditions.number(it)));
-    let (format, conditions) = (word(format), word(numbers));
+fn parts_of(state: State) -> String {
+    let State { word: format, exponent, point, opening, closing, .. } = state;
+    let numbers = Condition::ALL.iter().map(|&it| state.conditions.number(it)).chain(numbers_of(state));
+    let (format, conditions) = (word(format), word(numbers.rev().fold(0, |all, it| all << 8 | u128::from(it))));
     let [opening, closing] = [opening, closing].map(|it| quoted(utf8(it.as_bytes())));
     let options = format!(r#""exponent":{exponent},"point":{point},"opening":{opening},"closing":{closing}"#);
     format!(r#""word":{format},{options},"conditions":{conditions}"#)
@@ -203,7 +196,7 @@ fn parts_of(State { word: format, exponent, point, conditions, kind, opening, cl
 
 /// Returns an object for each line, as `reading` does. If a word is not lawful, returns an empty array.
 fn numbers(states: &'static str, lines: &[u8]) -> String {
-    let forms = List::new(states);
+    let forms = List::of(states_of(states));
     let readings = |all| lines_of(lines).map(move |line| format!("{{{}}}", reading(List::forms(all), line.text)));
     list(forms.iter().flat_map(readings))
 }
@@ -211,22 +204,22 @@ fn numbers(states: &'static str, lines: &[u8]) -> String {
 /// Returns the states that are offered of the form of a line that is not as expected, which is the first one, and again
 /// among the others.
 fn offered(states: &'static str, lines: &[u8]) -> String {
-    let (Some(all), Some(line)) = (List::new(states), lines_of(lines).next()) else { return "[]".to_string() };
+    let (Some(all), Some(line)) = (List::of(states_of(states)), lines_of(lines).next()) else { return "[]".into() };
     let lines = &lines[line.text.len() + usize::from(line.is_refused)..];
     let form = all.forms().read(line.text).map_or_else(|error| error.form(), |number| number.form().unwrap_or(0));
     let offers = offers(all.states[form], &all.lines(form, lines), line);
     list(offers.into_iter().map(|state| format!("{{{}}}", parts_of(state))))
 }
 
-/// Returns what a text is, its value and its parts; or the parts of its longest front that is a number, why and where it is
-/// refused, in UTF-16, and the flags to blame; and the form that accepts it, or to which it is nearest.
+/// Returns the parts of a text, or of its longest front that is a number, and what `told` does.
 fn reading(forms: Forms<'_>, text: &[u8]) -> String {
     let part = |(kind, text): (&str, &[u8])| format!(r#"{{"kind":"{kind}","text":{}}}"#, quoted(utf8(text)));
+    let all = |parts: &mut dyn Iterator<Item = _>| list(parts.filter(|it: &(_, &[u8])| !it.1.is_empty()).map(part));
     let read = forms.read(text);
     let parts = match read {
         Ok(Number::Special(Special { sign, .. })) => {
             let (sign, rest) = text.split_at(sign.map_or(0, |_| 1));
-            list([("sign", sign), ("special", rest)].into_iter().filter(|it| !it.1.is_empty()).map(part))
+            all(&mut [("sign", sign), ("special", rest)].into_iter())
         }
         _ => {
             let front = forms.read_prefix(text).ok().and_then(|(number, rest)| {
@@ -234,12 +227,18 @@ fn reading(forms: Forms<'_>, text: &[u8]) -> String {
                 let whole = &text[..text.len() - rest.len()];
                 let opening = ("opening", &whole[..form.opening().as_bytes().len()]);
                 let closing = ("closing", &whole[whole.len() - form.closing().as_bytes().len()..]);
-                Some([opening].into_iter().chain(literal.parts()).chain([closing]).filter(|it| !it.1.is_empty()))
+                Some([opening].into_iter().chain(literal.parts()).chain([closing]))
             });
-            list(front.into_iter().flatten().map(part))
+            all(&mut front.into_iter().flatten())
         }
     };
-    let told = match read {
+    format!(r#""parts":{parts},{}"#, told(read, text))
+}
+
+/// Returns what a text is, and its value; or why and where it is refused, in UTF-16, and the flags to blame; and the form that
+/// accepts it, or to which it is nearest.
+fn told(read: Result<Number<'_>, FormError>, text: &[u8]) -> String {
+    match read {
         Ok(number) => {
             let is_float = number.literal().map(|it| it.is_float());
             let is = is_float.map_or("special value", |is_float| if is_float { "float" } else { "integer" });
@@ -250,14 +249,13 @@ fn reading(forms: Forms<'_>, text: &[u8]) -> String {
             let (end, error) = (start + utf8(&text[start..end]).encode_utf16().count(), reason_of(it));
             format!(r#""form":{form},"error":{error},"mask":{mask},"start":{start},"end":{end}"#)
         }
-    };
-    format!(r#""parts":{parts},{told}"#)
+    }
 }
 
 /// Returns texts that tell the forms of two lines apart: those that the second ones refuse, those that the first ones refuse,
 /// and those to which they give different values. If a word is not lawful, returns an empty array.
 fn differ(first: &'static str, second: &'static str) -> String {
-    let (Some(first), Some(second)) = (List::new(first), List::new(second)) else { return "[]".to_string() };
+    let [Some(first), Some(second)] = [first, second].map(|it| List::of(states_of(it))) else { return "[]".into() };
     let line = |Example { text, told, .. }: &Example| {
         let text = quoted(utf8(text));
         match told.map(|values| values.map(value)) {

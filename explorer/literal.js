@@ -7,8 +7,6 @@ const [MOST_LINES, MOST_OPEN, MOST_READ, MOST_CHARACTERS] = [100, 4, 20, 1000];
 const BUTTON = ": a button below changes that.";
 const WELCOME = "Type numbers of your language or file: the page finds their format, and the code that reads them.";
 
-/* Returns the line of a number, which has a `!` if it must be refused. */
-const lineOf = ({ isRefused, text }) => (isRefused ? "!" : "") + text;
 const titlesOf = (languages) => named(languages.map(({ title }) => title));
 const inCode = ({ text }) => `\`${visible(text.slice(0, 40))}\``;
 
@@ -44,14 +42,15 @@ class Trial {
     read(lines = this.lines, list = this.list) {
         const answers = this.library.call("numbers", list, lines.map(({ text }) => text).join("\n"));
         return answers.map((answer, index) => {
-            const isRefused = lines[index].text.startsWith("!");
-            const text = lines[index].text.slice(Number(isRefused));
+            const { text: line, place } = lines[index];
+            const isRefused = line.startsWith("!");
+            const text = line.slice(Number(isRefused));
             const isExpected = isRefused === Boolean(answer.error ?? answer.refused);
             const mark = this.library.value(list.forms[answer.form], "digit_separator");
             const separators = new RegExp(`(\\x${mark.toString(16).padStart(2, "0")}+)`);
             const runsOf = ({ kind, text }) => (DIGITS.includes(kind) ? text.split(separators) : [text]);
             const parts = answer.parts.map((part) => ({ ...part, runs: runsOf(part) }));
-            return { ...answer, parts, mark, text, place: lines[index].place, isRefused, isExpected };
+            return { ...answer, parts, mark, line, text, place, isRefused, isExpected };
         });
     }
 
@@ -59,7 +58,7 @@ class Trial {
     withOffers(answer) {
         const isRead = answer.isExpected && !answer.isRefused;
         if (answer.isExpected || answer.refused) return { ...answer, offers: [], advice: isRead ? this.starts(answer, true) : [] };
-        const lines = [answer, ...this.answers].map(lineOf).join("\n");
+        const lines = [answer, ...this.answers].map(({ line }) => line).join("\n");
         const offered = this.library.call("offered", this.list, lines).map((it) => this.worded(answer, it));
         const all = offered.toSorted((a, b) => Boolean(a.lost) - Boolean(b.lost));
         const most = Math.max(...all.map(({ rank }) => rank));
@@ -75,9 +74,9 @@ class Trial {
         const differences = (it) => library.differences(it, forms[at]).sort((a, b) => isFlag(a) - isFlag(b));
         const changes = differences(offer);
         const affixes = changes.filter(({ name, value }) => value && name.startsWith("base_"));
-        const own = affixes.reduce((all, { name }) => library.with(all, `required_${name}`, 1), stateOf(offer));
+        const own = affixes.reduce((all, { name }) => library.with(all, `required_${name}`, 1), offer);
         const changed = (form) => changes.reduce((all, { name, value }) => library.with(all, name, value), form);
-        const [single, every] = [forms.with(at, { ...forms[at], ...stateOf(offer) }), forms.map(changed)].map((all) => ({ at, forms: all }));
+        const [single, every] = [forms.with(at, { ...forms[at], ...offer }), forms.map(changed)].map((all) => ({ at, forms: all }));
         const other = { at: forms.length, forms: [...forms, { ...own, name: "" }] };
         const readings = (part) => this.read(this.lines, { ...this.list, ...part });
         const reading = (all) => all.find((it) => it.place === answer.place);
@@ -143,8 +142,8 @@ class Trial {
 
     /* Shows a row for each number, the old one if it is the same. Those opened last or not as expected have details. */
     showRows(message) {
-        const ranks = this.answers.map((it) => [this.opened.indexOf(it.text) < 0 ? (it.isExpected ? 2 : 1) : 0, it]);
-        const open = new Set(ranks.toSorted(([a], [b]) => a - b).slice(0, MOST_OPEN).map(([, it]) => it));
+        const rank = (it) => (this.opened.includes(it.text) ? 0 : it.isExpected ? 2 : 1);
+        const open = new Set(this.answers.toSorted((a, b) => rank(a) - rank(b)).slice(0, MOST_OPEN));
         const old = this.rows;
         this.rows = new Map();
         const nodes = this.answers.map((answer) => {
@@ -238,12 +237,11 @@ class Trial {
 
     /* Returns answers, each with the readings of its text by the languages that read it, as a token, and not at all. */
     withReaders(answers) {
-        const found = this.library.call("readers", answers.map(lineOf).join("\n"));
+        const found = this.library.call("readers", answers.map(({ text, line = text }) => line).join("\n"));
         return answers.map((it, index) => {
             const all = found[index].map((it, language) => ({ ...this.languages[language], ...it, language }));
-            const [readers, refused] = [all.filter(({ error }) => !error), all.filter(({ error }) => error)];
-            const [tokens, others] = [refused.filter(({ suffix }) => suffix), refused.filter(({ suffix }) => !suffix)];
-            return { ...it, readers, tokens, others };
+            const groups = Object.groupBy(all, ({ error, suffix }) => (!error ? "readers" : suffix ? "tokens" : "others"));
+            return { ...it, readers: [], tokens: [], others: [], ...groups };
         });
     }
 
@@ -275,7 +273,7 @@ class Trial {
         const first = [...(all.length < this.answers.length ? [line(cut, [])] : []),
             ...(common.length ? [line(`All ${all.length}, as expected:`, common)] : [])];
         const nodes = all.flatMap(({ text, readers, tokens, others }) => {
-            const name = ({ forms, form }) => forms[form]?.name ?? "special value";
+            const name = ({ forms, form, is }) => (is === "special value" ? is : forms[form].name);
             const title = (it) => `${it.refused ? "refused, " : ""}${valueText(it)}, ${name(it)}:`;
             const [good, refused] = [false, true].map((isRefused) => readers.filter((it) => Boolean(it.refused) === isRefused));
             const count = `Read by formats of ${good.length || "none"} of ${languages.length} languages`;

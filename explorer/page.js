@@ -7,8 +7,16 @@ const INNER = {
     code: { group: "tabs", text: "code", tabs: { rust: "Rust", c: "C", python: "Python", settings: "As text" } },
     words: { group: "notations", text: "notation", tabs: { sentence: "Sentence", grammar: "Grammar", regex: "Regular expression" } },
 };
-/* The milliseconds between two fragments that are written, the parts of a fragment, and the example. */
-const PAUSE = 150;
+/* The choices of each select before the languages. The first one of `language` is only shown. */
+const STANDARD = ["standard", "the standard format"];
+const CHOICES = {
+    language: [["own", "your own format"], ["", STANDARD[1]]],
+    compare: [["", "nothing"], STANDARD],
+    add: [["", "Add a form"], ["copy", "a copy of this one"], STANDARD],
+};
+/* The milliseconds between two fragments that are written, the changes that can be undone after a reload, the parts of a
+ * fragment, and the example. */
+const [PAUSE, MOST_UNDONE] = [150, 30];
 const LINK = ["language", "forms", "at", "numbers", "compare", "tab"];
 const EXAMPLE = "1_000.5\n0x1F\n-2e-3\n!1__0";
 /* A link that is pasted, what is told of one from a file, which others cannot open, and how many characters of numbers it has. */
@@ -20,16 +28,23 @@ const RADIXES = { 2: "binary", 8: "octal", 10: "decimal", 16: "hexadecimal" };
 
 class Page {
     constructor(library, data) {
-        Object.assign(this, { library, data: { ...data, languages: library.languages }, past: [], future: [], chosen: {}, saved: 0 });
+        Object.assign(this, { library, data: { ...data, languages: library.languages }, saved: 0 });
+        this.chosen = { code: "rust", words: "sentence" };
         this.controls = new Controls(library, this);
         this.trial = new Trial(library, this);
         this.code = new Code(library);
         setText(find("version"), data.version);
-        const own = element("option", { value: "own", hidden: "" }, "your own format");
-        find("language").append(own, ...choices([["", "the standard format"]], library.languages));
-        find("compare").append(...choices([["", "nothing"], STANDARD], library.languages));
-        find("add").append(...choices([["", "Add a form"], ["copy", "a copy of this one"], STANDARD], library.languages));
-        this.makeTabs();
+        const languages = library.languages.map(({ name, title }) => [name, title]);
+        for (const [id, own] of Object.entries(CHOICES)) {
+            find(id).append(...[...own, ...languages].map(([value, title]) => element("option", { value }, title)));
+        }
+        find("language").firstChild.hidden = true;
+        for (const { group, tabs, text } of [{ group: "panes", tabs: PANES }, ...Object.values(INNER)]) {
+            find(group).append(...Object.entries(tabs).map(([name, title]) => {
+                const attributes = { id: `tab-${name}`, role: "tab", "aria-controls": text ?? `pane-${name}` };
+                return button("", title, () => this.open(name), attributes);
+            }));
+        }
         find("parts").append(...[...document.querySelectorAll("#controls h3, #word-title")].map((it) => {
             return button("link rover", it.textContent, () => (it.scrollIntoView(), it.focus({ preventScroll: true })));
         }));
@@ -45,8 +60,18 @@ class Page {
             redo: () => this.travel(this.future, this.past),
             clear: () => type(""),
             example: () => type(EXAMPLE),
-            verdict: () => this.goToProblem(),
-            remove: () => this.remove(),
+            /* Shows why the shown form, or else the first with a problem, is not valid. */
+            verdict: () => {
+                if (!this.shown.problems.length) this.change({ at: this.list.forms.findIndex(({ problems }) => problems.length) });
+                this.open("edit");
+                find("report-title").focus();
+            },
+            /* The button keeps the focus if it can. */
+            remove: () => {
+                const { forms, at } = this.state;
+                this.change({ forms: forms.toSpliced(at, 1), at: Math.max(at - 1, 0) });
+                [find("remove"), find("add")].find((it) => it.checkVisibility()).focus();
+            },
             "copy-link": () => this.copyLink(),
         };
         for (const [id, click] of Object.entries(clicks)) find(id).addEventListener("click", click);
@@ -85,20 +110,6 @@ class Page {
         if (await copy(find("copy-link"), link, find("told"))) setText(find("told"), cut + (isFile ? OF_FILE : ""));
     }
 
-    /* Shows why the shown form, or else the first with a problem, is not valid. */
-    goToProblem() {
-        if (!this.shown.problems.length) this.change({ at: this.list.forms.findIndex(({ problems }) => problems.length) });
-        this.open("edit");
-        find("report-title").focus();
-    }
-
-    /* Removes the shown form by its button, which keeps the focus if it can. */
-    remove() {
-        const { forms, at } = this.state;
-        this.change({ forms: forms.toSpliced(at, 1), at: Math.max(at - 1, 0) });
-        [find("remove"), find("add")].find((it) => it.checkVisibility()).focus();
-    }
-
     /* Takes typed numbers, or a link in their place. */
     type(numbers) {
         const [, link] = PASTED.exec(numbers) ?? [];
@@ -120,17 +131,7 @@ class Page {
         to.push(this.state);
         [this.state, this.key] = [from.pop(), ""];
         setText(find("told"), "");
-        this.showAnew();
-    }
-
-    makeTabs() {
-        for (const { group, tabs, text } of [{ group: "panes", tabs: PANES }, ...Object.values(INNER)]) {
-            find(group).append(...Object.entries(tabs).map(([name, title]) => {
-                const attributes = { id: `tab-${name}`, role: "tab", "aria-controls": text ?? `pane-${name}` };
-                return button("", title, () => this.open(name), attributes);
-            }));
-        }
-        for (const { tabs } of Object.values(INNER)) this.chooseTab(Object.keys(tabs)[0]);
+        this.show();
     }
 
     /* Shows a tab, and on a narrow screen brings it into view. */
@@ -244,8 +245,7 @@ class Page {
             if (!key || key !== this.key) this.past.push(this.state);
             [this.future, this.key, this.state] = [[], key, state];
         }
-        if (key) this.show();
-        else this.showAnew();
+        this.show(key);
     }
 
     /* Changes the state, from which the browser goes back to the present one. */
@@ -253,13 +253,6 @@ class Page {
         this.save();
         this.change(part);
         if (location.hash !== this.fragment()) history.pushState(null, "", this.fragment());
-    }
-
-    showAnew() {
-        this.show();
-        if (this.tab !== "edit") return;
-        this.showWord();
-        for (const name of this.controls.inputs.keys()) this.controls.fill(name);
     }
 
     fragment() {
@@ -280,7 +273,7 @@ class Page {
     save() {
         clearTimeout(this.timer);
         this.saved = Date.now();
-        history.replaceState(null, "", this.fragment());
+        history.replaceState({ past: this.past.slice(-MOST_UNDONE), future: this.future }, "", this.fragment());
     }
 
     /* Reads the state from the fragment. A part that is missing has its default. If one is invalid, the page says so. */
@@ -294,20 +287,19 @@ class Page {
         };
         const language = languages.find(({ name }) => name === parts.language);
         const lines = (parts.forms ?? "").split("\n").filter(Boolean);
-        const read = lines.map((line) => library.form(line));
-        lost.push(...lines.filter((_, index) => !read[index]).map((line) => `forms=${line.slice(0, 40)}`));
-        const own = read.filter(Boolean);
+        const own = lines.flatMap((line) => library.form(line) ?? (lost.push(`forms=${line.slice(0, 40)}`), []));
         const forms = own.length ? own : language?.forms ?? [library.usual];
         const numbers = parts.numbers ?? (parts.forms ? "" : language?.numbers) ?? "";
         find("compare").value = parts.compare ?? "";
         part("compare", find("compare").value);
         const usualTab = parts.compare ? "compare" : parts.language ? "rust" : "languages";
-        [this.past, this.future] = [this.state ? [...this.past, this.state] : [], []];
+        /* After a reload, changes can be undone as before it. */
+        const { past = [], future = [] } = this.state ? { past: [...this.past, this.state] } : history.state ?? {};
         const at = Number(part("at", Number(parts.at) in forms, 0));
         this.state = { forms, at, language: part("language", language, ""), numbers: numbers.replace(/\r\n?/g, "\n") };
-        this.key = "";
+        Object.assign(this, { past, future, key: "" });
         this.chooseTab(part("tab", find(`tab-${parts.tab}`), usualTab));
-        this.showAnew();
+        this.show();
         const told = `The page cannot read this of the link, and shows what is usual in its place: ${lost.join(", ")}.`;
         setText(find("told"), lost.length ? told : "");
     }
@@ -318,15 +310,21 @@ class Page {
         tell(find("word"), "");
     }
 
-    /* Shows the state. What has the focus stays at its place on the screen, but for the numbers, above which nothing changes. */
-    show() {
+    /* Shows the state, anew if no control is typed into. What has the focus stays at its place on the screen, but for the
+     * numbers, above which nothing changes. */
+    show(key = "") {
         const focused = document.activeElement;
-        if ([document.body, find("literal")].includes(focused)) return this.showAll();
-        const top = () => focused.getBoundingClientRect().top;
+        const isMoved = ![document.body, find("literal")].includes(focused);
+        const top = () => isMoved && focused.getBoundingClientRect().top;
         const before = top();
         this.showAll();
-        const scroller = getComputedStyle(find("panes")).position === "sticky" ? document.scrollingElement : focused.closest("#trial, #pane");
-        if (document.activeElement === focused) scroller?.scrollBy(0, top() - before);
+        if (!key && this.tab === "edit") {
+            this.showWord();
+            this.controls.fill();
+        }
+        if (!isMoved || document.activeElement !== focused) return;
+        const isSticky = getComputedStyle(find("panes")).position === "sticky";
+        (isSticky ? document.scrollingElement : focused.closest("#trial, #pane"))?.scrollBy(0, top() - before);
     }
 
     showAll() {
@@ -334,7 +332,7 @@ class Page {
         this.shown = this.list.forms[this.state.at];
         this.showLanguage();
         [find("undo").disabled, find("redo").disabled] = [!this.past.length, !this.future.length];
-        // A disabled button with the focus would take no keys.
+        /* A disabled button with the focus would take no keys. */
         if (document.activeElement.disabled) document.activeElement.blur();
         const { problems: { length } } = this.shown;
         const bad = length ? `${length} reason${length > 1 ? "s" : ""}` : this.list.forms.find((it) => it.problems.length)?.name;

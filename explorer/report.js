@@ -1,7 +1,5 @@
 /* The report on a form: its reasons and its notes. The comparison of a list with another one. */
 
-const STANDARD = ["standard", "the standard format"];
-
 /* Shows the reasons and the notes of a form, each with buttons that lead to the fields that it blames. Reserved bits have none. */
 function showReport({ problems, notes }) {
     find("report").hidden = !problems.length && !notes.length;
@@ -31,11 +29,7 @@ function compare(library, list) {
         });
         return rows.length ? [element("h3", {}, `${titles[index]}, such as`), element("ul", {}, rows)] : [];
     }));
-    const [forms, others] = [list, other].map((it) => it.forms.map(stateOf));
-    const none = isSame(forms, others) ? "Same format." : "None of the texts that were tried tells them apart.";
+    const [forms, others] = [list, other].map((it) => passed({ forms: it.forms }));
+    const none = forms === others ? "Same format." : "None of the texts that were tried tells them apart.";
     setText(find("same"), value && !lists.flat().length ? none : "");
-}
-
-function choices(own, languages) {
-    return [...own, ...languages.map(({ name, title }) => [name, title])].map(([value, title]) => element("option", { value }, title));
 }

@@ -30,8 +30,9 @@ const RESERVED: u128 = Rule::ReservedBitsAreZero.mask();
 /// The usual size of groups of digits.
 const USUAL_SIZE: u8 = 3;
 
-/// A form of numbers: a format word, the options of a parser, the conditions, the kind, the opening, the closing, and the
-/// spellings of special values, which the first form of a list has. If both options are 0, numbers are integers alone.
+/// A form of numbers: a format word, the options of a parser, the conditions, the kind, the opening, the closing, whether it is
+/// only read, and the spellings of special values, which the first form of a list has. If both options are 0, numbers are
+/// integers alone.
 #[derive(Clone, Copy, Debug, PartialEq, Eq)]
 pub struct State {
     pub word: u128,
@@ -41,6 +42,7 @@ pub struct State {
     pub kind: Kind,
     pub opening: Affix,
     pub closing: Affix,
+    pub only_read: bool,
     pub specials: Specials<'static>,
 }
 
@@ -60,7 +62,8 @@ impl State {
 
     /// Returns the form, without a name, if the syntax has no role for the first byte of the closing.
     pub fn form(self) -> Option<Form> {
-        Form::new("", self.syntax()?).with_kind(self.kind).with_opening(self.opening).with_closing(self.closing)
+        let form = Form::new("", self.syntax()?).with_kind(self.kind).only_read(self.only_read);
+        form.with_opening(self.opening).with_closing(self.closing)
     }
 
     fn with_condition(self, condition: Condition, number: u8) -> Self {

@@ -105,11 +105,7 @@ class Walk(unittest.TestCase):
         """Loads the page from the disk, as from a link."""
         self.driver.get("about:blank")
         self.driver.get(PAGE.as_uri() + fragment)
-        self.wait(lambda: self.run_script("return document.documentElement.dataset.ready"))
-
-    def refresh(self):
-        self.driver.refresh()
-        self.wait(lambda: self.run_script("return document.documentElement.dataset.ready"))
+        self.wait_until_ready()
 
     def links(self):
         """Follows each of LINKS, shows each tab, opens all that is closed, and returns the link."""
@@ -119,6 +115,9 @@ class Walk(unittest.TestCase):
             for tab in ("languages", "rust", "compare", "edit", "grammar"):
                 self.run_script("page.chooseTab(arguments[0]); document.querySelectorAll('details').forEach((it) => { it.open = true; })", tab)
                 yield f"{link}&tab={tab}"
+
+    def wait_until_ready(self):
+        self.wait(lambda: self.run_script("return document.documentElement.dataset.ready"))
 
     def wait(self, condition):
         WebDriverWait(self.driver, 60, 0.02).until(lambda _: condition())
@@ -152,10 +151,6 @@ class Walk(unittest.TestCase):
         self.open(selector)
         return self.find(selector).get_property("value")
 
-    def is_checked(self, selector):
-        self.open(selector)
-        return self.find(selector).is_selected()
-
     def focused(self):
         return self.run_script("return document.activeElement.id")
 
@@ -180,15 +175,11 @@ class Walk(unittest.TestCase):
 
     def screens(self, *sizes):
         """Shows the page on each of these screens, by default those of a laptop and a phone, and returns its width."""
-        for width, height in sizes or ((1280, 720), (360, 700)):
-            self.emulate(width, height)
-            yield width
-
-    def emulate(self, width, height):
-        """Shows the page from now on as on a screen of this size. Narrow ones are those of phones."""
-        metrics = {"width": width, "height": height, "deviceScaleFactor": 1, "mobile": width < 500}
-        self.driver.execute_cdp_cmd("Emulation.setDeviceMetricsOverride", metrics)
         self.addCleanup(self.driver.execute_cdp_cmd, "Emulation.clearDeviceMetricsOverride", {})
+        for width, height in sizes or ((1280, 720), (360, 700)):
+            metrics = {"width": width, "height": height, "deviceScaleFactor": 1, "mobile": width < 500}
+            self.driver.execute_cdp_cmd("Emulation.setDeviceMetricsOverride", metrics)
+            yield width
 
     def media(self, media="", **features):
         """Shows the page from now on in a medium with these features."""

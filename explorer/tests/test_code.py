@@ -8,7 +8,7 @@ import sys
 import tempfile
 import unittest
 
-from test_base import Walk, Keys, TOP, MIXED, MIXED_FORM, STATES, TEXTS, has, run
+from test_base import Walk, Keys, PAGE, TOP, MIXED, MIXED_FORM, STATES, TEXTS, has, run
 
 # Where the library of C is built.
 BUILD = TOP / "rust/target/make"
@@ -57,16 +57,20 @@ def show(forms, read):
 """
 
 
-def is_same(told, printed):
-    """Returns whether a program prints what the page tells of a text: its value, a number without one, or a refusal."""
+def is_same(told, kind, printed, is_c):
+    """Returns whether a program prints what the page tells of a text: its value, a number without one, or a refusal.
+
+    C has no type for integers from 2^127 on, which are floats there by their kind: singles or not, with a limit or not."""
     value = told.partition(" = ")[2].partition(",")[0]
-    # C has no integers from 2^127 on, which are floats then, or singles by their kind, and none if that has no infinity.
-    singles = [repr(ctypes.c_float(float(value)).value)] if value.isdigit() and int(value) >= 2**127 else []
+    if is_c and value.isdigit() and int(value) >= 2**127:
+        is_single, is_limited = kind
+        number = ctypes.c_float(float(value)).value if is_single else float(value)
+        return printed == "none" if is_limited and number == float("inf") else repr(float(printed)) == repr(number)
     if not value or printed in ("none", "refused"):
-        return printed == "none" if "inf" in singles else not value and told.startswith("accepted") == (printed != "refused")
+        return not value and told.startswith("accepted") == (printed != "refused")
     if re.fullmatch(r"-?\d+ (-?\d+|0x\w+)", f"{value} {printed}"):
         return (int(value) - int(printed, 0)) % 2**128 == 0
-    return repr(float(printed)) in [repr(float(value)), *singles]
+    return repr(float(printed)) == repr(float(value))
 
 
 class Code(Walk):
@@ -80,8 +84,8 @@ class Code(Walk):
             lines = iter(program(folder, [codes[language] for *_, codes, _ in states]).splitlines())
             for link, again, word, names, _, told in states:
                 self.assertEqual((again, next(lines), next(lines)), (link, word, names))
-                for text, wanted, value in zip(tried, told, lines):
-                    self.assertTrue(is_same(wanted, value), (program, link, text, wanted, value))
+                for text, (wanted, kind), value in zip(tried, told, lines):
+                    self.assertTrue(is_same(wanted, kind, value, program == self.c), (program, link, text, wanted, kind, value))
 
     def test_each_tab_shows_what_it_names(self):
         """By its button, and by keys in both directions. The link that the page makes shows it again."""
@@ -125,3 +129,13 @@ class Code(Walk):
         (folder / "main.py").write_text(PYTHON + "".join(f"{code}show(forms, read)\ntest_numbers()\n" for code in codes))
         variables = {"PYTHONPATH": str(TOP / "c"), "PYTHONDONTWRITEBYTECODE": "1"}
         return run(sys.executable, "main.py", cwd=folder, env={**os.environ, **variables})
+
+
+class Sources(unittest.TestCase):
+    def test_index_is_up_to_date(self):
+        run(sys.executable, PAGE.parent / "build", "--check")
+
+    @unittest.skipUnless(has("node"), "no node")
+    def test_scripts_have_no_errors(self):
+        for path in PAGE.parent.rglob("*.js"):
+            run("node", "--check", path)

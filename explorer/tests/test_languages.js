@@ -65,16 +65,17 @@ function test_each_language_is_below_what_it_reads() {
     return ["010", "0x1F", "1_0", "NaN", "1e5", "1.5f", "-5", "2147483648", "0xffffffff", "9223372036854775808"].flatMap((first) => {
         const numbers = ["1", first];
         page.change({ numbers: numbers.join("\n") });
-        const lines = [...find("readers").querySelectorAll("h3, p:has(button)")].map((it) => {
-            const titles = [...it.querySelectorAll("button")].map((button) => button.textContent);
-            return it.tagName === "H3" ? it.textContent : titles.map((title) => `${it.firstChild.textContent} ${title}`);
-        }).flat();
+        const lines = [...find("readers").querySelectorAll("h3, summary, p:has(button)")].flatMap((it) => {
+            return it.tagName === "P" ? textsOf("button", it).map((title) => `${it.firstChild.textContent} ${title}`) : it.textContent;
+        });
         const hasAll = (list) => numbers.map((text) => reads(list, text)).every(({ error, refused }) => !error && !refused);
         const wanted = [...languages.filter(hasAll).map(({ title }) => `All 2, as expected: ${title}`), ...numbers.flatMap((text) => {
             const told = languages.map((list) => [list, reads(list, text)]);
             const readers = told.filter(([, it]) => !it.error && !it.refused).length;
             const tokens = page.library.call("readers", text)[0].map(({ suffix }) => suffix);
-            return [`${text} Read by formats of ${readers || "none"} of ${languages.length} languages`, ...told.map(([list, it], index) => {
+            const refused = told.filter(([, it], index) => it.error && !tokens[index]).length;
+            const counts = [`${text} Read by formats of ${readers || "none"} of ${languages.length} languages`, ...(refused ? [`Refused by ${refused}`] : [])];
+            return [...counts, ...told.map(([list, it], index) => {
                 if (tokens[index]) return `with the suffix ${tokens[index]}, as a token: ${list.title}`;
                 const form = it.parts.some(({ kind }) => kind === "special") ? "special value" : list.forms[it.form].name;
                 return it.error ? `${it.error}: ${list.title}` : `${it.refused ? "refused, " : ""}${valueText(it)}, ${form}: ${list.title}`;

@@ -26,28 +26,21 @@ function test_separators_are_those_of_the_form_that_reads() {
 
 /* A clause for each form has the parts that its numbers have, no others, and the languages that read all of them. */
 function test_the_sentence_tells_what_the_numbers_are() {
-    const { library, data: { languages } } = page;
     const names = { float: " float", prefix: "the prefix", exponent_character: "an exponent behind", suffix: "the suffix", sign: "a sign", runs: " digits",
         opening: "the opening", closing: "the closing" };
-    return languages.flatMap(({ name, forms, numbers }) => {
+    return page.data.languages.flatMap(({ name, title, forms, numbers }) => {
         show(forms, numbers.replace(/^!.*$/gm, ""), name);
-        const answers = page.trial.answers.map((it) => ({ ...it, readers: readersOf(it.text) }));
         const clauses = textsOf("#summary p");
-        const places = [...new Set(answers.map((it) => (it.is === "special value" ? forms.length : it.form)))].sort((a, b) => a - b);
-        return places.flatMap((place, index) => {
-            const group = answers.filter((it) => (it.is === "special value" ? forms.length : it.form) === place);
-            const readingOf = (it, at) => it.readers.find(({ language, refused }) => language === at && !refused);
-            const readings = languages.map((_, at) => group.map((it) => readingOf(it, at)));
-            const values = (all) => String(all.map((it) => Number(valueText(it))));
-            const reads = languages.filter((it, at) => it.name !== name && readings[at].every(Boolean));
-            const others = reads.map(({ title }) => title);
-            const placeOf = (title) => languages.findIndex((it) => it.title === title);
-            const isOther = (title) => values(readings[placeOf(title)]) !== values(group);
+        const groups = Map.groupBy(page.trial.answers, (it) => (it.is === "special value" ? forms.length : it.form));
+        return [...groups].sort(([a], [b]) => a - b).flatMap(([place, group], index) => {
+            const read = group.map(({ text }) => new Map(readersOf(text).filter(({ refused }) => !refused).map((it) => [it.title, valueText(it)])));
+            const titles = page.data.languages.map((it) => it.title).filter((it) => it !== title && read.every((all) => all.has(it)));
+            const values = (texts) => String(texts.map(Number));
+            const isSame = (it) => values(read.map((all) => all.get(it))) === values(group.map(valueText));
+            const [same, others] = [[title, ...titles.filter(isSame)], titles.filter((it) => !isSame(it))];
             const [what, end] = group.length > 1 ? ["them", " other values"] : ["it", " another value"];
             const does = (all, verb) => `${named(all)} ${verb}${all.length > 1 ? "" : "s"} ${what}`;
-            const same = [languages.find((it) => it.name === name).title, ...others.filter((it) => !isOther(it))];
-            const different = others.filter(isOther);
-            const ends = `: ${does(same, "read")}${different.length ? `; ${does(different, "give")}${end}` : ""}.`;
+            const ends = `: ${does(same, "read")}${others.length ? `; ${does(others, "give")}${end}` : ""}.`;
             const has = (kind) => group.some(({ is, parts }) => is === kind || parts.some((it) => it.kind === kind || (it.runs[1] && kind === "runs")));
             const isTold = ([kind, words]) => place === forms.length || has(kind) === clauses[index].toLowerCase().includes(words);
             const isNamed = group.length > 1 || clauses[index].startsWith(`${group[0].text} is a`);

@@ -46,23 +46,25 @@ function test_sizes_of_groups_are_offered() {
     });
 }
 
-/* The words of a change tell whether it refuses or allows texts: for each flag and condition, set and not set. */
+/* The words of a change tell whether it refuses or allows texts, for each flag and condition, and of no two that are set they are the same. */
 function test_words_of_a_change_tell_its_direction() {
     const { library, library: { usual, flags, conditions } } = page;
-    return [...flags, ...conditions].filter(({ isNumber, isOfForm }) => !isNumber && !isOfForm).filter(({ name, part }) => {
-        const states = [0, 1].map((it) => library.with(usual, name, it));
+    const seen = new Set();
+    return [...flags, ...conditions].filter(({ isOfForm }) => !isOfForm).filter(({ name, part, isNumber }) => {
+        const states = [0, isNumber ? 3 : 1].map((it) => library.with(usual, name, it));
         const words = states.map((it, index) => changeWords(library, it, library.differences(it, states[1 - index])));
         const [without, set] = part === "separator" ? words.toReversed() : words;
-        return !/^allow |is optional$/.test(without) || !/^(refuse|require) /.test(set);
+        const isSeen = seen.size === seen.add(set).size;
+        return isSeen || (!isNumber && (!/^allow |is optional$/.test(without) || !/^(refuse|require) /.test(set)));
     }).map(({ name }) => name);
 }
 
-/* Returns what is offered and advised for a number of the usual form, and the sentence. */
+/* Returns what is offered for a number of the usual form, what is advised, each with the text of its button, and the sentence. */
 function offeredFor(text) {
     show([page.library.usual], text);
-    const items = [...find("read").querySelectorAll("li li")];
-    const advice = items.filter((it) => !it.querySelector(".then")).map((it) => it.firstChild.textContent);
-    return [textsOf("#read .then")[0], advice.join(" "), find("summary").textContent, textsOf("#read .use, #read .link")];
+    const items = [...find("read").querySelectorAll("li li")].filter((it) => !it.querySelector(".then"));
+    const advice = items.map((it) => [it.firstChild.textContent, textsOf("button", it).join()]);
+    return [textsOf("#read .then")[0], advice, find("summary").textContent];
 }
 
 /* What no format has, in words of the advice, and what its button makes of texts. */
@@ -94,7 +96,7 @@ function test_what_no_format_has_is_replaced() {
     return Object.entries(REPLACED).flatMap(([words, rows]) => Object.entries(rows).filter(([text, other]) => {
         const [, advice] = offeredFor(text);
         [...find("read").querySelectorAll(".use")].find((it) => it.textContent === `try ${other}`)?.click();
-        return !advice.includes(words) || find("literal").value !== other;
+        return !advice.some(([told]) => told.includes(words)) || find("literal").value !== other;
     }));
 }
 

@@ -21,15 +21,18 @@ class Offers(Walk):
         """And so is the sentence, which tells what no format has. They change nothing that is read of other numbers."""
         self.assertEqual(self.call("lostByOffers", [*SAMPLES]), [])
         for text, meant in SAMPLES.items():
-            offer, advice, sentence, buttons = self.call("offeredFor", text)
-            for start in (it for it in buttons if it.startswith("start from ")):
+            offer, advised, sentence = self.call("offeredFor", text)
+            advice = " ".join(words for words, _ in advised)
+            starts = [it for it in advised if it[1].startswith("start from ")]
+            for words, start in starts:
                 self.click("#read .use", start)
                 title = self.run_script("return find('language').selectedOptions[0].textContent")
-                self.assertRegex(advice, rf"(^|\. ){re.escape(title)}(,| and| reads)")
+                self.assertRegex(words, rf"^{re.escape(title)}(,| and| reads)")
                 self.assertEqual(start, f"start from {title}")
             if isinstance(meant, str):
-                self.assertEqual((meant in advice, meant in sentence), (True, True), text)
+                self.assertEqual((meant in advised[0][0], meant in sentence), (True, True), text)
             else:
+                self.assertEqual(advised[:len(starts)], starts, text)
                 self.assertEqual(float(offer.partition(" = ")[2] or "nan") if meant else None, meant, text)
                 self.assertTrue(advice or "a button below" in sentence or not offer, text)
                 if re.match(r"0[a-z]|[\d_.,' ]+$", text, re.I):

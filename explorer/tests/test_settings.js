@@ -1,13 +1,16 @@
 /* Functions of test_settings.py, which run in the page. */
 "use strict";
 
+/* Each kind and each case of an opening and a closing gives texts another value, or refuses them. What is only read does not. */
 function test_kinds_are_told_apart() {
     const { library } = page;
+    const marked = formOf("opening=x'", "closing='h'");
     const differ = (...lists) => library.call("differ", ...lists.map((form) => ({ forms: [form] }))).flat().length;
-    const kinds = library.conditions.filter(({ isOfForm }) => isOfForm);
     const bits = ([least, most]) => range(least, Math.min(most, 127)); // No type has an integer of more than 128 bits.
-    const forms = kinds.flatMap(({ name, limits = [1, 1] }) => bits(limits).map((it) => library.with(library.usual, name, it)));
-    return forms.filter((it) => !differ(library.usual, it) || !differ(it, library.usual)).map((it) => library.formText(it));
+    const forms = library.conditions.filter(({ isOfForm }) => isOfForm)
+        .flatMap(({ name, limits = [1, 1] }) => bits(limits).map((it) => library.with(marked, name, it)));
+    const isTold = (it) => (library.value(it, "only_read") ? !differ(marked, it) : differ(marked, it) && differ(it, marked));
+    return forms.filter((it) => !isTold(it)).map((it) => library.formText(it));
 }
 
 function test_numbers_beyond_the_limits_of_a_condition_are_told() {
@@ -16,11 +19,13 @@ function test_numbers_beyond_the_limits_of_a_condition_are_told() {
     return settings.filter((it) => !page.library.read(it).error?.includes(it));
 }
 
-function test_separators_are_in_their_rows_and_columns() {
-    return [...document.querySelectorAll("#separators td input")].filter((it) => {
-        const [row, column] = [it.closest("tr").cells[0], find("separators").rows[0].cells[it.closest("td").cellIndex]];
-        return it.id !== `${row.textContent}_${column.textContent}_digit_separator`;
-    }).map(({ id }) => id);
+function test_fields_are_in_the_sections_of_their_parts() {
+    const words = ["all", "integer", "fraction", "exponent", "special"];
+    const ofSeparators = Object.fromEntries([...document.querySelectorAll("#separators input")].map((it) => [it.id, it.closest("fieldset").firstChild.textContent]));
+    return [...page.library.groups, ...page.library.flags].filter(({ name }) => {
+        const word = words.find((it) => name.startsWith(`${it}_`)) ?? "all";
+        return name.includes("digit_separator") ? !ofSeparators[name]?.split(" ").includes(word) : name in ofSeparators;
+    }).map(({ name }) => name);
 }
 
 /* Returns each flag, group, byte and condition: its name, its bits, and what is told and shown of it. */
@@ -36,7 +41,7 @@ function shownFields() {
  * that a link has, and in the code. */
 function test_each_choice_lands_in_the_state_the_link_and_the_code() {
     const { library } = page;
-    const whole = ["digit_separator_flags=true", "digit_separator='_'", "base_prefix='x'", "base_suffix='h'"];
+    const whole = ["digit_separator_flags=true", "digit_separator='_'", "base_prefix='x'", "base_suffix='h'", "opening=x'", "closing='"];
     const kinds = {
         at_most: ["::AtMost(%)", "_AT_MOST, .integer_bits = %}", "(at_most=%)"],
         wraps: ["::Wraps(%)", "_WRAP, .integer_bits = %}", "(wraps=%)"],
@@ -44,8 +49,11 @@ function test_each_choice_lands_in_the_state_the_link_and_the_code() {
         single: ["::Single", "_FLOATS_SINGLE", "(single=True)"],
         largest: ["::Largest", "_LIMITS_LARGEST", '(limits="largest")'],
         vanishing: ["::Both", "_LIMITS_BOTH", '(limits="both")'],
-        opening: ['.with_opening(Affix::new(b"%").unwrap())', ', .opening = "%"', 'Affixes("%", "")'],
-        closing: ['.with_closing(Affix::new(b"%").unwrap()).unwrap()', ', .closing = "%"', 'Affixes("", "%")'],
+        opening: ['.with_opening(Affix::new(b"%").unwrap())', ', .opening = "%"', 'Affixes(opening="%", '],
+        closing: ['.with_closing(Affix::new(b"%").unwrap()).unwrap()', ', .closing = "%"', 'closing="%")'],
+        case_sensitive_opening: ['b"x\'").unwrap().case_sensitive(true))', ", .case_sensitive_opening = true", ", case_sensitive_opening=True)"],
+        case_sensitive_closing: ['b"\'").unwrap().case_sensitive(true)).unwrap()', ", .case_sensitive_closing = true", ", case_sensitive_closing=True)"],
+        only_read: [".only_read(true)", ", .only_read = true", 'only_read=[""]'],
     };
     const start = (name) => {
         show([formOf(...whole, name === "higher_group_size" ? "integer_group_size=3" : "")]);
@@ -86,17 +94,19 @@ function test_each_choice_lands_in_the_state_the_link_and_the_code() {
     });
 }
 
-/* A click on the box of a group that is partly set clears it and tells so, and the next one sets it. */
+/* A click on the box of a group that is partly set clears it and tells so, and the next one sets it. Other boxes tell nothing. */
 function test_a_group_that_is_partly_set_is_cleared_first() {
-    return page.library.groups.filter(({ name, mask }) => {
-        show([{ ...page.library.usual, word: (page.library.usual.word & ~mask) | (mask & -mask) }]);
+    const { usual, groups, conditions } = page.library;
+    return [...groups, ...conditions.filter(({ isNumber }) => !isNumber)].filter(({ name, holder, mask }) => {
+        const isGroup = holder === "word";
+        show([{ ...usual, [holder]: (usual[holder] & ~mask) | (isGroup ? mask & -mask : mask) }]);
         page.chooseTab("edit");
         const isMixed = find(name).indeterminate;
         const [[cleared, isTold], [set, isToldAgain]] = [1, 2].map(() => {
             find(name).click();
-            return [page.form.word & mask, find("told").textContent.includes("Undo brings them back")];
+            return [page.form[holder] & mask, find("told").textContent.includes("Undo brings them back")];
         });
-        return !isMixed || cleared !== 0n || set !== mask || !isTold || isToldAgain;
+        return isMixed !== isGroup || cleared !== 0n || set !== mask || isTold !== isGroup || isToldAgain;
     }).map(({ name }) => name);
 }
 
@@ -125,4 +135,64 @@ function test_integers_alone_have_no_options() {
     page.chooseTab("edit");
     const steps = [["exponent", "", 0, 0], ["exponent", "p", 112, 46], ["point", ",", 112, 44], ["exponent", "", 0, 0], ["exponent", "^", 94, 44]];
     return steps.filter(([name, text, ...wanted]) => (type(name, text), json([page.form.exponent, page.form.point]) !== json(wanted)));
+}
+
+/* Each choice adds the forms that it names behind the last one. */
+function test_forms_are_added() {
+    const usual = { ...page.library.usual, name: "a" };
+    const own = { ...usual, exponent: 112 };
+    return [...find("add").options].slice(1).map(({ value }) => value).filter((value) => {
+        show([own, usual]);
+        choose("add", value);
+        const all = page.data.languages.find((it) => it.name === value)?.forms ?? [page.library.usual];
+        const added = value === "copy" ? [{ ...own, name: "" }] : all;
+        return !isSame(page.state.forms, [own, usual, ...added]) || page.state.at !== 2 || find("add").value !== "";
+    });
+}
+
+/* The form before a removed one is shown, also in the code, and a button has the focus. */
+function test_forms_are_removed() {
+    const { library } = page;
+    const forms = [10, 16, 2].map((radix, at) => ({ ...library.with(library.usual, "mantissa_radix", radix), exponent: 112, name: "abc"[at] }));
+    const code = () => page.code.text("python", page.list, []);
+    const shown = () => json([textsOf("#forms button"), textsOf("#forms [aria-pressed=true]"), find("word").value, code().match(/(?<=\(")\w/g)]);
+    const shows = (all, at) => shown() === json([all.map((it) => it.name), [all[at].name], wordText(all[at].word), all.map((it) => it.name)]);
+    page.chooseTab("edit");
+    const lost = forms.filter((_, at) => {
+        show(forms);
+        page.change({ at });
+        find("remove").click();
+        const isRemoved = document.activeElement.id === "remove" && shows(forms.toSpliced(at, 1), Math.max(at - 1, 0));
+        find("undo").click();
+        return !isRemoved || !shows(forms, at);
+    });
+    const focused = ["remove", "add"].filter((id) => (find("remove").click(), document.activeElement.id !== id));
+    return [...lost, ...focused];
+}
+
+function test_a_changed_language_keeps_its_special_values() {
+    const told = () => page.trial.answers.map(({ text, error, float }) => `${text} ${error ?? float}`).join();
+    return page.data.languages.filter(({ name, forms, specials }) => {
+        show(forms, [...new Set([...specials, ...SPECIALS])].join("\n"), name);
+        const before = told();
+        page.change({ forms: forms.with(0, { ...forms[0], name: "other" }) });
+        const changed = told();
+        follow(page.fragment());
+        return changed !== before || told() !== before;
+    }).map(({ name }) => name);
+}
+
+/* If another form reads a number after the shown one is changed, its name is told. */
+function test_a_number_that_another_form_still_reads_is_told() {
+    const read = (forms, text) => page.library.call("numbers", { forms, specials: ["", "", ""] }, text)[0];
+    const edits = [["digit_separator_flags", 0, "1_000"], ["digit_separator_flags", 0, "0x1_F"], ["required_exponent_notation", 1, "1"]];
+    return page.data.languages.flatMap(({ name, forms }) => unlike(forms).flatMap((form) => edits.filter(([field, value, text]) => {
+        const at = forms.indexOf(form);
+        show(forms, text, name);
+        page.change({ at });
+        page.edit(field, value);
+        const [before, after = before] = [forms, page.state.forms].map((it) => read(it, text));
+        const isMoved = !before.error && before.form === at && !after.error && after.form !== at;
+        return find("told").textContent.includes(`is still read, by the form ${forms[after.form].name}.`) !== isMoved;
+    }).map((edit) => [name, form.name, ...edit])));
 }

@@ -72,3 +72,13 @@ class Settings(Walk):
         texts = re.sub(r"\[([^\]]*)\]\([^)]*\)", r"\1", "\n".join(limits[:1] + limits[2:]))
         cells = [it.strip() for line in texts.splitlines() for it in line.strip("|").split(" | ")]
         self.assertEqual(self.run_script("return [...find('limits').querySelectorAll('th, td')].map((it) => it.textContent)"), cells)
+
+    def test_all_forms_are_changed_at_once(self):
+        """By a box of the settings, and by an offer if several forms read a number."""
+        self.load("#language=RUST&tab=edit&numbers=1_000%0A0x1_0%0A0b1__0")
+        self.click("#all")
+        self.click("#digit_separator_flags")
+        self.assertEqual(self.text("#count"), "0 of 3 as expected")
+        self.load("#language=RUST&numbers=!1_000")
+        self.click("#read .use", "refuse _ between digits in all forms")
+        self.assertEqual(self.text("#count"), "1 of 1 as expected")

@@ -31,8 +31,8 @@ class State(Walk):
         self.click("#no_exponent_notation")
         self.assertFalse(self.find("#redo").is_enabled())
         self.wait(lambda: self.run_script("return location.hash === page.fragment()"))
-        self.refresh()
-        self.assertTrue(self.is_checked("#no_exponent_notation"))
+        changed = state()
+        lead([lambda: (self.driver.refresh(), self.wait_until_ready()), undo, undo], [changed, *states[-2:-4:-1]])
         self.load("#numbers=1_0&tab=edit")
         before = state()
         for enter in (lambda: self.select("#language", "JSON"), lambda: self.click("#read .use")):
@@ -64,6 +64,8 @@ class State(Walk):
         self.click("#no_special")
         self.type("#literal", "1_0 %&")
         self.wait(lambda: self.run_script("return location.hash === page.fragment()"))
+        self.load(self.run_script("return location.hash"))
+        self.assertEqual((self.value("#compare"), self.value("#literal")), ("JSON", "1_0 %&"))
         for link, word, tab in (("#numbers=1", STANDARD, "Languages"), ("#language=JSON&amp;tab=c", "0x0A0A0A0000000000000000000000341F", "Code")):
             self.load(link)
             self.assertEqual((self.text("#panes [aria-selected=true]"), self.value(), self.text("#told")), (tab, word, ""))

@@ -22,8 +22,8 @@ fn state(settings: &str, exponent: u8, point: u8) -> State {
     let edits = edits.split(" groups=").next().unwrap_or_default();
     let builder: Result<NumberFormatBuilder, _> = edits.split_whitespace().map(str::parse::<Edit>).collect();
     let word = builder.expect(settings).build_unchecked();
-    let none = Affix::NONE;
-    State { word, exponent, point, conditions, kind: Kind::EXACT, opening: none, closing: none, specials: SPECIALS }
+    let (kind, opening, closing) = (Kind::EXACT, Affix::NONE, Affix::NONE);
+    State { word, exponent, point, conditions, kind, opening, closing, only_read: false, specials: SPECIALS }
 }
 
 /// Returns what is offered for the first of the lines.
