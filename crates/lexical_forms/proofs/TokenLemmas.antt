@@ -13,6 +13,7 @@ use Rattle.lexical_forms.specs.Suffix.{is_digit, is_stopped, is_word_byte, kind_
 use Rattle.lexical_forms.specs.Token.{gives_back, is_shorter}
 use Rattle.lexical_forms.specs.Forms.{ReadsIn}
 use Rattle.lexical_literal.specs.Front.{NoneBy}
+use Rattle.lexical_forms.specs.declared.list.PointsBack.{PointsBack}
 use Rattle.lexical_forms.specs.declared.list.Tokens.{Tokens}
 use Rattle.lexical_forms.specs.declared.token.Token.{Token}
 use Rattle.lexical_forms.specs.declared.token.TokenError.{TokenError}
@@ -39,7 +40,7 @@ pub float_is : (l : Literal) (counts : List ℕ) → HasLengths l (cuts_of count
 float_is l counts is = λ j. present _ _ is.point j || present _ _ is.exponent_character j
 
 -- A form has one candidate.
-module _ (back needs : Bool) (text : List ℕ) (form : Form) (c : Candidate) (made : IsMade back needs text form c) (s e : ℕ)
+module _ (back : PointsBack) (needs : Bool) (text : List ℕ) (form : Form) (c : Candidate) (made : IsMade back needs text form c) (s e : ℕ)
     (other : IsCandidate back needs text form s e) where
   same_longest : other.longest ≡ made.candidate.longest
   same_longest =
@@ -96,7 +97,7 @@ more_than_none true n s off on = grind (arith, nat_tests)
 more_than_none false n s off on = grind arith
 
 -- The front of `text` that is left if its point is given back.
-module _ (back : Bool) (m : Notation) (text : List ℕ) (found : Found) (is : IsCountedFront m text found) where
+module _ (back : PointsBack) (m : Notation) (text : List ℕ) (found : Found) (is : IsCountedFront m text found) where
   pub kept : gives_back back m text found.size ≡ false → IsOwn back m text found.size found
   kept off = record {
     within = is.reads.within;
@@ -150,7 +151,7 @@ module _ (back : Bool) (m : Notation) (text : List ℕ) (found : Found) (is : Is
           front.reads.no_longer (length shorter) apart (omega arith) l read
 
 -- A form has a candidate, or none.
-module _ (back needs : Bool) (text : List ℕ) (form : Form) (found : Found) (is : IsCountedFront (notation_of form.syntax) text found) where
+module _ (back : PointsBack) (needs : Bool) (text : List ℕ) (form : Form) (found : Found) (is : IsCountedFront (notation_of form.syntax) text found) where
   longest_is : (s e : ℕ) → (other : IsCandidate back needs text form s e) → other.longest ≡ found.size
   longest_is s e other =
       let up = one_front (Reads (notation_of form.syntax)) text is.literal other.front.0 found.size other.longest is.reads other.front.1 in
@@ -217,7 +218,7 @@ module _ (back needs : Bool) (text : List ℕ) (form : Form) (found : Found) (is
           let longer = other.suffixed needed.0 in omega (arith, longer, at.0, at.1, needed.1)
       go false off none = no_some _ (sym none)
 
-module _ (back needs : Bool) (forms : List Form) (text : List ℕ) where
+module _ (back : PointsBack) (needs : Bool) (forms : List Form) (text : List ℕ) where
   -- `IsBestYet i best` holds if `best` is the best candidate of the first `i` forms.
   pub record IsYet (i index : ℕ) (c : Candidate) : Type 0 where
     pub here : IsSomeAnd (slice_get forms index) (λ form. IsMade back needs text form c)
@@ -296,7 +297,7 @@ module _ (back needs : Bool) (forms : List Form) (text : List ℕ) where
     go (Some form) made = made.candidate
 
 -- Whether a form goes on behind `end`.
-module _ (back : Bool) (text : List ℕ) (end : ℕ) (form : Form) (stop : ℕ) (valid : IsValidUpTo (notation_of form.syntax) text stop) where
+module _ (back : PointsBack) (text : List ℕ) (end : ℕ) (form : Form) (stop : ℕ) (valid : IsValidUpTo (notation_of form.syntax) text stop) where
   pub ahead : goes_on back (notation_of form.syntax) text end stop ≡ true → IsAhead back text end form
   ahead on = record { size = stop; valid = valid; further = grind (arith, nat_tests); more = grind (arith, nat_tests) }
 
@@ -366,7 +367,7 @@ module _ (list : FormList) (t : Tokens) (text : List ℕ) where
     pub token_is : (token : Token) → token.form ≡ index → ReadsSyntax (take c.size text) token.literal form
         → token.literal.kind ≡ kind_with form.suffixes token.suffix.now form.kind → token.suffix.now ≡ take (c.end - c.size) (drop c.size text)
         → token.rest.now ≡ drop c.end text
-        → IsFollowed list t text c.end ⊎ (IsOver list t text c.end × (is_stopped form.suffixes text c.end ≡ false)) → IsToken list t text token
+        → IsFollowed list t text c.end ⊎ (IsOver list t text c.end × (is_stopped t.any_word_follows form.suffixes text c.end ≡ false)) → IsToken list t text token
     token_is token same literal kind suffix rest ended = record {
       form = form;
       size = c.size;
@@ -391,7 +392,7 @@ module _ (list : FormList) (t : Tokens) (text : List ℕ) where
         ahead = ahead;
       }))
 
-      module _ (over : IsOver list t text c.end) (stopped : is_stopped form.suffixes text c.end ≡ true) where
+      module _ (over : IsOver list t text c.end) (stopped : is_stopped t.any_word_follows form.suffixes text c.end ≡ true) where
         pub before_digit : ((c.size == c.end) && is_in is_digit (slice_get text c.size)) ≡ true → IsRefused list t text
         before_digit digit = inr (inr (record {
           index = index;

@@ -37,18 +37,19 @@ pub struct Suffixes {
     stops: *const Stop,
     stop_count: usize,
     either_case: u8,
-    reserved: [u8; 15],
+    whole_words: u8,
+    reserved: [u8; 14],
 }
 
-/// The rules for the tokens of a list.
+/// The rules for the tokens of a list, with whether points are given back, to letters alone, and any word may follow.
 #[repr(C)]
 #[derive(Clone, Copy)]
 pub struct Tokens {
     pub(crate) forms: *const Form,
     pub(crate) count: usize,
     pub(crate) following: *const u8,
-    pub(crate) gives_points_back: u8,
-    pub(crate) reserved: [u8; 7],
+    pub(crate) flags: [u8; 3],
+    pub(crate) reserved: [u8; 5],
 }
 
 // SAFETY: the pointers of constants point to constants.
@@ -160,7 +161,7 @@ impl Reader {
         }
         if self.suffixes.len == 0 || !ptr::eq(given, self.last) {
             let it = given.read_unaligned();
-            if it.reserved != [0; 15] {
+            if it.reserved != [0; 14] {
                 return None;
             }
             let [integers, floats] = [self.words(it.words[0])?, self.words(it.words[1])?];
@@ -175,7 +176,7 @@ impl Reader {
                 self.stops.push(Some(stop).filter(|_| reserved == [0; 8])?)?;
             }
             let made = literal::Suffixes::new(integers, floats, self.stops.since(stops));
-            let made = made.either_case(it.either_case != 0).any_word(string(it.any));
+            let made = made.either_case(it.either_case != 0).whole_words(it.whole_words != 0).any_word(string(it.any));
             let made = made.with_written(self.words(it.written)?);
             self.suffixes.push(made.with_kinds(self.kinds.since(kinds)))?;
             self.last = given;
@@ -233,7 +234,8 @@ impl Laid {
         stops: ptr::null(),
         stop_count: 0,
         either_case: 0,
-        reserved: [0; 15],
+        whole_words: 0,
+        reserved: [0; 14],
     };
 
     /// Lays out the suffixes of forms, where the strings, kinds and stops begin at these addresses.
@@ -307,7 +309,7 @@ impl Laid {
         (base, kinds, stops): (*const u8, *const SuffixKind, *const Stop),
     ) -> usize {
         let (start, kind, stop) = (self.size, self.kind_count, self.stop_count);
-        let ((either_case, any, own_kinds, own_stops), [integers, floats]) = (it.rules(), it.words());
+        let (([either_case, whole_words], any, own_kinds, own_stops), [integers, floats]) = (it.rules(), it.words());
         let words = [self.put(integers, base), self.put(floats, base)];
         let (any, written) = (self.put(&[any], base), self.put(it.written(), base));
         while self.kind_count - kind < own_kinds.len() {
@@ -331,6 +333,7 @@ impl Laid {
             stops: if own_stops.is_empty() { ptr::null() } else { stops.wrapping_add(stop) },
             stop_count: own_stops.len(),
             either_case: either_case as u8,
+            whole_words: whole_words as u8,
             ..Laid::NONE
         };
         self.starts[self.count] = start;
@@ -355,6 +358,7 @@ impl Laid {
             || first.kind_count != second.kind_count
             || first.stop_count != second.stop_count
             || first.either_case != second.either_case
+            || first.whole_words != second.whole_words
         {
             return false;
         }
