@@ -276,7 +276,8 @@ fn token(case: &Case, text: &[u8]) -> Ended {
         right > end && !(*back != Back::Never && (right == end + 1 || name) && is_point(form, text, end))
     };
     let follows = word(behind);
-    let stops = follows > 0 && (!any_word_follows || behind[0].is_ascii_digit());
+    let may = *any_word_follows && !text[..end].ends_with(b".");
+    let stops = follows > 0 && (!may || behind[0].is_ascii_digit());
     if FOLLOWING.contains(&&behind[..follows]) || !(list.into_iter().any(goes_on) || stops) {
         Ok((index, size, end))
     } else if list.into_iter().any(goes_on) || (size == end && behind[0].is_ascii_digit()) {

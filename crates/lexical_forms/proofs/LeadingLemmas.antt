@@ -15,7 +15,9 @@ use Rattle.std.proofs.lemmas.List.{drop-take, get_or-take, get_or_append_left, l
 use Rattle.std.proofs.lemmas.Option.{slice_get_within}
 use Rattle.lexical_literal.specs.Additions.GroupSize.{goes}
 use Rattle.lexical_literal.specs.Cause.{is_in}
-use Rattle.lexical_forms.specs.Suffix.{any_word_size, begins, byte_before, if_whole, is_digit, is_stopped, is_word_byte, kind_with, longest_word, suffix_size, word_size}
+use Rattle.lexical_forms.specs.Suffix.{any_word_size, begins, byte_before, if_whole, is_digit, is_point, is_stopped, is_word_byte, kind_with, longest_word, meets, stops_of}
+use Rattle.lexical_forms.specs.Suffix.{suffix_size, word_size}
+use Rattle.std.specs.List.{list_any}
 use Rattle.lexical_forms.specs.declared.list.PointsBack.{PointsBack}
 use Rattle.lexical_forms.specs.declared.list.PointsBack.TheVariants as points
 use Rattle.lexical_forms.specs.declared.list.Tokens.{Tokens}
@@ -181,9 +183,11 @@ digit_of digit true stops less none = absurd (false≢true (sym none))
 
 stopped_less : (words : Bool) (suffixes : Option (Bor Suffixes)) (text : List ℕ) (end : ℕ) → is_stopped false suffixes text end ≡ false
     → is_stopped words suffixes text end ≡ false
-stopped_less true suffixes text end none =
-    digit_of (is_in is_digit (slice_get text end)) (is_in is_word_byte (slice_get text end)) _ (no_digit_of (slice_get text end)) none
-stopped_less false suffixes text end none = none
+stopped_less words suffixes text end none = go (words && not (is_in is_point (byte_before text end))) where
+  go : (b : Bool) → (is_in (if b then is_digit else is_word_byte) (slice_get text end) || list_any (meets text end) (stops_of suffixes)) ≡ false
+  go true =
+      digit_of (is_in is_digit (slice_get text end)) (is_in is_word_byte (slice_get text end)) _ (no_digit_of (slice_get text end)) none
+  go false = none
 
 -- No literal goes on behind more bytes.
 pub within_more : (m : Notation) (text : List ℕ) (a b : ℕ) → a ≤ b → IsWithin m text a → IsWithin m text b

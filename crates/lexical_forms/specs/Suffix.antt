@@ -19,6 +19,10 @@ is_word_byte byte =
 abbrev pub is_digit : ByteSet
 is_digit byte = nat_le 48 byte && nat_le byte 57
 
+-- `is_point byte` is true if `byte` is `.`.
+abbrev pub is_point : ByteSet
+is_point byte = byte == 46
+
 -- `is_letter byte` is true if `byte` is a letter of ASCII.
 abbrev pub is_letter : ByteSet
 is_letter byte = (nat_le 65 byte && nat_le byte 90) || (nat_le 97 byte && nat_le byte 122)
@@ -106,7 +110,7 @@ stops_of None = []
 stops_of (Some it) = it.now.stops.now
 
 -- `is_stopped words suffixes text end` is true if what is behind the number that ends at `end` of `text` may not follow it: a byte of a
--- word, or a digit alone if any word may follow, as `words` tells, or a stop of the form.
+-- word, or a digit alone if any word may follow, as `words` tells, a number that does not end in a point, or a stop of the form.
 abbrev pub is_stopped : Bool → Option (Bor Suffixes) → List ℕ → ℕ → Bool
 is_stopped words suffixes text end =
-    is_in (if words then is_digit else is_word_byte) (slice_get text end) || list_any (meets text end) (stops_of suffixes)
+    is_in (if words && not (is_in is_point (byte_before text end)) then is_digit else is_word_byte) (slice_get text end) || list_any (meets text end) (stops_of suffixes)

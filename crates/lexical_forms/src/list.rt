@@ -85,7 +85,8 @@ impl Tokens {
         }
     }
 
-    /// Sets whether any word that does not begin with a digit may follow a number directly, as in `2x`, a product in Julia.
+    /// Sets whether any word that does not begin with a digit may follow a number directly that does not end in a point, as in `2x`, a
+    /// product in Julia.
     #[must_use]
     pub const fn any_word_follows(self, follows: bool) -> Tokens
         ensures { result ≡ record self { any_word_follows = follows } }

@@ -4,7 +4,7 @@ ghost use Rattle.std.specs.Prelude.{◌≡◌, ◌==◌, [], ◌+◌, ◌≤◌,
 ghost use Rattle.std.specs.Char.{eq_ignore_ascii_case};
 ghost use Rattle.std.specs.List.{list_any};
 ghost use Rattle.lexical_literal.specs.Cause.{is_in};
-ghost use Rattle.lexical_forms.specs.Suffix.{admits, any_word_size, begins, byte_before, is_digit, is_followed, is_letter, is_stopped, is_word_byte, kind_among, kind_with};
+ghost use Rattle.lexical_forms.specs.Suffix.{admits, any_word_size, begins, byte_before, is_digit, is_followed, is_letter, is_point, is_stopped, is_word_byte, kind_among, kind_with};
 ghost use Rattle.lexical_forms.specs.Suffix.{longest_word, meets, suffix_size, suffix_words, word_size};
 
 use lexical_literal::kind::Kind;
@@ -266,7 +266,8 @@ const fn kind_among(either: bool, kinds: &[(&[u8], Kind)], word: &[u8], kind: Ki
     }
 }
 
-// Returns whether what is behind the number that ends at `end` may not follow it, where any word may follow or none.
+// Returns whether what is behind the number that ends at `end` may not follow it, where any word may follow or none. None may follow a
+// point.
 #[inline(always)]
 pub(crate) const fn is_stopped(
     words: bool,
@@ -276,7 +277,11 @@ pub(crate) const fn is_stopped(
 ) -> bool
     ensures { result ≡ is_stopped words suffixes.entry text.now end }
 {
-    (if words { has_digit_at(text, end) } else { has_word_byte(text, end) })
+    (if words && !has_point(byte_before(text, end)) {
+        has_digit_at(text, end)
+    } else {
+        has_word_byte(text, end)
+    })
         || match suffixes {
             None => false,
             Some(suffixes) => is_one_met(suffixes.stops, text, end),
@@ -291,6 +296,16 @@ pub(crate) const fn has_word_byte(text: &[u8], index: usize) -> bool
     match byte_at(text, index) {
         None => false,
         Some(byte) => is_word_byte(byte),
+    }
+}
+
+// Returns whether `byte` is a point.
+const fn has_point(byte: Option<u8>) -> bool
+    ensures { result ≡ is_in is_point byte }
+{
+    match byte {
+        None => false,
+        Some(byte) => byte == b'.',
     }
 }
 

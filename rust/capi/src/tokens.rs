@@ -276,7 +276,8 @@ impl Laid {
         laid
     }
 
-    /// Adds words with spaces between them, and returns where they are, or null if there are none.
+    /// Adds words with spaces between them, and returns where they are, or null if there are none. For many bytes that these suffixes
+    /// have already, one stands that is in no word.
     const fn put(&mut self, words: &[&[u8]], base: *const u8) -> *const u8 {
         let (start, mut word) = (self.size, 0);
         while word < words.len() {
@@ -292,14 +293,34 @@ impl Laid {
                 self.size += 1;
             }
         }
-        let is_none = self.size == start;
+        let len = self.size - start;
         self.text[self.size] = 0;
         self.size += 1;
-        if is_none {
+        let mut at = if len < 64 { start } else { self.starts[self.count] };
+        while at < start && !self.has_again(at, start, len + 1) {
+            at += 1;
+        }
+        if at < start {
+            self.text[start] = 1;
+            self.size = start + 1;
+        }
+        if len == 0 {
             ptr::null()
         } else {
-            base.wrapping_add(start)
+            base.wrapping_add(at)
         }
+    }
+
+    /// Returns whether the bytes from two indexes on are the same.
+    const fn has_again(&self, one: usize, other: usize, len: usize) -> bool {
+        let mut index = 0;
+        while index < len {
+            if self.text[one + index] != self.text[other + index] {
+                return false;
+            }
+            index += 1;
+        }
+        true
     }
 
     /// Adds suffixes, unless there are the same, and returns their index.
@@ -362,18 +383,15 @@ impl Laid {
         {
             return false;
         }
-        let (mut at, mut before, mut index) = (0, 0, 0);
-        while at < size {
-            if self.text[self.starts[one] + at] != self.text[self.starts[other] + at] {
-                return false;
-            }
-            at += 1;
+        let (mut before, mut index) = (0, 0);
+        if !self.has_again(self.starts[one], self.starts[other], size) {
+            return false;
         }
         while index < one {
             before += self.suffixes[index].kind_count;
             index += 1;
         }
-        at = 0;
+        let mut at = 0;
         while at < first.kind_count {
             if !self.kinds[before + at].kind.is_same(self.kinds[kind + at].kind) {
                 return false;

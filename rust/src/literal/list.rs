@@ -52,7 +52,8 @@ impl Tokens {
         Tokens { gives_points_back: PointsBack::ToLetters, ..self }
     }
 
-    /// Sets whether any word that does not begin with a digit may follow a number directly, as in `2x`, a product in Julia.
+    /// Sets whether any word that does not begin with a digit may follow a number directly that does not end in a point, as in `2x`, a
+    /// product in Julia.
     #[must_use]
     pub const fn any_word_follows(self, follows: bool) -> Tokens {
         Tokens { any_word_follows: follows, ..self }

@@ -382,11 +382,10 @@ const SCALA_FLOATS: Suffixes = JAVA_FLOATS.with_kinds(&[(b"f", finite(SINGLE)), 
 /// The suffix of big integers of JavaScript. A name, which `$` and `\\` may begin, does not follow a number.
 const BIG: Suffixes = Suffixes::new(&[b"n"], &[], &[Stop::new(b"", b"$\\", b"")]);
 
-/// A second point of Julia, Lua and NASM: `1..2` is no number, and no range. In Julia, `1.x` is no product.
-const JULIA_WORDS: Suffixes =
-    Suffixes::new(&[], &[], &[Stop::new(b"", b".", b""), Stop::new(b".", &LETTERS, b"")]);
-const LUA_WORDS: Suffixes = Suffixes::new(&[], &[], &[Stop::new(b"", b".", b"")]);
-const NASM_WORDS: Suffixes = LUA_WORDS;
+/// A second point of Julia, Lua and NASM: `1..2` is no number, and no range.
+const JULIA_WORDS: Suffixes = Suffixes::new(&[], &[], &[Stop::new(b"", b".", b"")]);
+const LUA_WORDS: Suffixes = JULIA_WORDS;
+const NASM_WORDS: Suffixes = JULIA_WORDS;
 
 /// Suffixes of Kotlin.
 const KOTLIN_INTEGERS: &[&[u8]] = &[b"u", b"U", b"L", b"uL", b"UL"];
