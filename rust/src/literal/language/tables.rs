@@ -652,8 +652,9 @@ languages! {
     /// Fortran's signed integers and reals (ISO/IEC 1539-1:2018, 7.4.3). Binary, octal and hexadecimal
     /// constants, such as `Z'FF'`, have no type of their own: here, they have at most 128 bits, and are not written.
     /// Integers have at most 31 bits, and `0.1`, but not `0.1d0`, is an `f32`. The suffix of a token is its
-    /// kind: `0.1_8` is no `f32`. Of a named kind, such as `_dp`, neither the name nor the value is known.
-    /// `-2147483648`, which compilers refuse, is read, and written.
+    /// kind: `0.1_8` is no `f32`. Of a named kind, such as `_dp`, neither the name nor the value is known, nor is that of
+    /// `_08`. gfortran also accepts `1q5`, and reads `1.q5` as one number. `-2147483648`, which compilers refuse, is read,
+    /// and written.
     FORTRAN: "Fortran" = {
         "decimal": numbers(b'e', b'.', NumberFormatBuilder::new().no_special(true)) => FORTRAN_WORDS; DEFAULT, // rejects `NaN` and `inf`
         "double precision": numbers(b'd', b'.', NumberFormatBuilder::new()
