@@ -15,7 +15,7 @@ ghost use Rattle.lexical_literal.specs.Notation.{notation_of};
 ghost use Rattle.lexical_forms.specs.FormList.{are_marked};
 ghost use Rattle.lexical_forms.specs.Suffix.{is_digit, kind_with, stop_end};
 ghost use Rattle.lexical_forms.specs.Token.{HasNone, IsAhead, IsReadByTokens, IsToken, IsTokenError, IsRefused, IsWordUpTo, NoCandidate, gives_back};
-ghost use Rattle.lexical_forms.specs.Token.{ReadsSyntax, is_shorter};
+ghost use Rattle.lexical_forms.specs.Token.{ReadsSyntax, begins_name, is_alone, is_shorter, takes_point};
 ghost use Rattle.lexical_util.specs.Record.{raw};
 
 use crate::exclude::{has_letter_behind_zero, is_over, lacks_longer, sign_size};
