@@ -15,8 +15,8 @@ use Rattle.std.proofs.lemmas.List.{drop-take, get_or-take, get_or_append_left, l
 use Rattle.std.proofs.lemmas.Option.{slice_get_within}
 use Rattle.lexical_literal.specs.Additions.GroupSize.{goes}
 use Rattle.lexical_literal.specs.Cause.{is_in}
-use Rattle.lexical_forms.specs.Suffix.{any_word_size, begins, byte_before, if_whole, is_digit, is_point, is_stopped, is_word_byte, kind_with, longest_word, meets, stops_of}
-use Rattle.lexical_forms.specs.Suffix.{suffix_size, word_size}
+use Rattle.lexical_forms.specs.Suffix.{any_word_size, begins, byte_before, if_whole, is_digit, is_point, is_stopped, is_word_byte, kind_with}
+use Rattle.lexical_forms.specs.Suffix.{longest_word, meets, stops_of, suffix_size, word_size}
 use Rattle.std.specs.List.{list_any}
 use Rattle.lexical_forms.specs.declared.list.PointsBack.{PointsBack}
 use Rattle.lexical_forms.specs.declared.list.PointsBack.TheVariants as points

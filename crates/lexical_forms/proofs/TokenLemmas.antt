@@ -367,7 +367,8 @@ module _ (list : FormList) (t : Tokens) (text : List ℕ) where
     pub token_is : (token : Token) → token.form ≡ index → ReadsSyntax (take c.size text) token.literal form
         → token.literal.kind ≡ kind_with form.suffixes token.suffix.now form.kind → token.suffix.now ≡ take (c.end - c.size) (drop c.size text)
         → token.rest.now ≡ drop c.end text
-        → IsFollowed list t text c.end ⊎ (IsOver list t text c.end × (is_stopped t.any_word_follows form.suffixes text c.end ≡ false)) → IsToken list t text token
+        → IsFollowed list t text c.end ⊎ (IsOver list t text c.end × (is_stopped t.any_word_follows form.suffixes text c.end ≡ false))
+        → IsToken list t text token
     token_is token same literal kind suffix rest ended = record {
       form = form;
       size = c.size;

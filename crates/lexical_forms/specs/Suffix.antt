@@ -113,4 +113,5 @@ stops_of (Some it) = it.now.stops.now
 -- word, or a digit alone if any word may follow, as `words` tells, a number that does not end in a point, or a stop of the form.
 abbrev pub is_stopped : Bool → Option (Bor Suffixes) → List ℕ → ℕ → Bool
 is_stopped words suffixes text end =
-    is_in (if words && not (is_in is_point (byte_before text end)) then is_digit else is_word_byte) (slice_get text end) || list_any (meets text end) (stops_of suffixes)
+    is_in (if words && not (is_in is_point (byte_before text end)) then is_digit else is_word_byte) (slice_get text end)
+    || list_any (meets text end) (stops_of suffixes)

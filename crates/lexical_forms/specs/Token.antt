@@ -11,7 +11,8 @@ use Rattle.lexical_literal.specs.Front.{IsValidUpTo, ReadsFront}
 use Rattle.lexical_literal.specs.Read.{Read}
 use Rattle.lexical_literal.specs.Literal.{Literal, Reads, is_float}
 use Rattle.lexical_literal.specs.Notation.{Notation, notation_of}
-use Rattle.lexical_forms.specs.Suffix.{byte_before, is_digit, is_followed, is_letter, is_stopped, is_word_byte, kind_with, stop_end, suffix_size, suffix_words, word_size}
+use Rattle.lexical_forms.specs.Suffix.{byte_before, is_digit, is_followed, is_letter, is_stopped, is_word_byte, kind_with, stop_end, suffix_size, suffix_words}
+use Rattle.lexical_forms.specs.Suffix.{word_size}
 use Rattle.lexical_forms.specs.declared.form.Form.{Form}
 use Rattle.lexical_forms.specs.declared.list.PointsBack.{PointsBack}
 use Rattle.lexical_forms.specs.declared.list.PointsBack.TheVariants as points

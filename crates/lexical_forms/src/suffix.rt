@@ -4,8 +4,8 @@ ghost use Rattle.std.specs.Prelude.{◌≡◌, ◌==◌, [], ◌+◌, ◌≤◌,
 ghost use Rattle.std.specs.Char.{eq_ignore_ascii_case};
 ghost use Rattle.std.specs.List.{list_any};
 ghost use Rattle.lexical_literal.specs.Cause.{is_in};
-ghost use Rattle.lexical_forms.specs.Suffix.{admits, any_word_size, begins, byte_before, is_digit, is_followed, is_letter, is_point, is_stopped, is_word_byte, kind_among, kind_with};
-ghost use Rattle.lexical_forms.specs.Suffix.{longest_word, meets, suffix_size, suffix_words, word_size};
+ghost use Rattle.lexical_forms.specs.Suffix.{admits, any_word_size, begins, byte_before, is_digit, is_followed, is_letter, is_point};
+ghost use Rattle.lexical_forms.specs.Suffix.{is_stopped, is_word_byte, kind_among, kind_with, longest_word, meets, suffix_size, suffix_words, word_size};
 
 use lexical_literal::kind::Kind;
 use lexical_literal::stop::byte_at;
@@ -281,11 +281,10 @@ pub(crate) const fn is_stopped(
         has_digit_at(text, end)
     } else {
         has_word_byte(text, end)
-    })
-        || match suffixes {
-            None => false,
-            Some(suffixes) => is_one_met(suffixes.stops, text, end),
-        }
+    }) || match suffixes {
+        None => false,
+        Some(suffixes) => is_one_met(suffixes.stops, text, end),
+    }
 }
 
 // Returns whether the byte at `index` is one of a word.

@@ -22,8 +22,8 @@ use crate::exclude::{has_letter_behind_zero, is_over, lacks_longer, sign_size};
 use crate::form::Form;
 use crate::list::{FormError, Forms, PointsBack, Tokens};
 use crate::suffix::{
-    byte_after, byte_before, has_digit_at, has_word_byte, is_followed, is_letter, is_stopped, is_word_byte, kind_with, suffix_size,
-    suffix_words, word_size,
+    byte_after, byte_before, has_digit_at, has_word_byte, is_followed, is_letter, is_stopped,
+    is_word_byte, kind_with, suffix_size, suffix_words, word_size,
 };
 use lexical_literal::literal::Literal;
 use lexical_literal::step::is_point;
@@ -446,7 +446,13 @@ impl Form {
 
     // Returns the candidate of which `found` is the longest front, if there is one.
     #[inline(always)]
-    fn candidate_of(&self, back: PointsBack, needs: bool, text: &[u8], found: Found) -> Option<Candidate>
+    fn candidate_of(
+        &self,
+        back: PointsBack,
+        needs: bool,
+        text: &[u8],
+        found: Found,
+    ) -> Option<Candidate>
         requires { IsCountedFront (notation_of self.now.syntax) text.now found }
         ensures some { ForSome result (IsMade back needs text.now self.now) }
         ensures none { IsNone result → NoCandidate back needs text.now self.now }
@@ -663,7 +669,13 @@ fn is_one_ahead(forms: &[Form], back: PointsBack, text: &[u8], end: usize) -> bo
 }
 
 // Returns whether a literal that goes up to `stop` goes on behind `end`.
-pub(crate) fn goes_on(syntax: Syntax, back: PointsBack, text: &[u8], end: usize, stop: usize) -> bool
+pub(crate) fn goes_on(
+    syntax: Syntax,
+    back: PointsBack,
+    text: &[u8],
+    end: usize,
+    stop: usize,
+) -> bool
     ensures { result ≡ goes_on back (notation_of syntax) text.now end stop }
 {
     end < stop && !(is_alone(back, text, end, stop) && is_one(syntax, byte_at(text, end)))
