@@ -27,6 +27,7 @@ use Rattle.lexical_forms.specs.declared.suffix.Suffixes.{Suffixes}
 use Rattle.lexical_literal.specs.declared.syntax.Condition.TheVariants as conditions
 use Rattle.lexical_forms.specs.declared.token.Token.{Token}
 use Rattle.lexical_forms.proofs.ExcludeLemmas.{BeginsPrefixed, no_role_excludes, prefix_begins}
+use Rattle.lexical_forms.proofs.OpeningLemmas.{begins_whole, both}
 use Rattle.lexical_forms.proofs.TokenLemmas.{float_is, some_is, token_is}
 
 -- A suffix is in the word with which the text begins.
@@ -85,9 +86,6 @@ front_sign [] rest more within some = omega (arith, within, some)
 front_sign (byte ∷ text) rest ℕ.zero within some = omega (arith, some)
 front_sign (byte ∷ text) rest (ℕ.suc more) within some = refl
 
-as_front : (m : Notation) (text : List ℕ) (l : Literal) → Reads m l text → IsFront m text
-as_front m text l reads = record { more = []; literal = l; reads = record { whole = append-nil text ∙ reads.whole; literal = reads.literal } }
-
 module _ (m : Notation) (text : List ℕ) where
   -- No literal goes on behind a byte that plays no role.
   over : (size : ℕ) → size < length text → PlaysNoRole m (get_or text size 0) → IsWithin m text size
@@ -124,11 +122,11 @@ module _ (m : Notation) (text : List ℕ) where
         let inside = begins.inside in let size = length-take-le n text within in
         let sign : sign_size (take n text) ≡ sign_size text =
         ap sign_size (sym (append-nil (take n text))) ∙ front_sign text [] n within (omega (arith, inside, size)) in
-        lacking_within n (omega (arith, inside, size, sign)) within (as_front m (take n text) l reads)
+        lacking_within n (omega (arith, inside, size, sign)) within (begins_whole (Reads m) (take n text) l reads)
 
 -- A form of which no literal goes on behind `size` bytes has no longer front.
 pub no_front_past : (m : Notation) (text : List ℕ) (size : ℕ) → IsWithin m text size → NoFrontPast m text size
-no_front_past m text size is more past inside l reads = is more past inside (as_front m (take more text) l reads)
+no_front_past m text size is more past inside l reads = is more past inside (begins_whole (Reads m) (take more text) l reads)
 
 pub fronts_past : (text : List ℕ) (size : ℕ) (form : Form) → NoFrontPast (notation_of form.syntax) text size → FrontsWithin text size form
 fronts_past text size form is n front = elim (cases_lt size n) [
@@ -159,7 +157,7 @@ pub fronts_more : (forms : List Form) (text : List ℕ) (i : ℕ) (d : Form) (ol
 fronts_more forms text i d old new inside less before own = All-more (FrontsWithin text new) forms i d inside
     (λ k e below. more_within text (get_or (take i forms) k e) old new less (before k e below)) own
 
-less_or_same : (b : Bool) (n : ℕ) → (if b then n - 1 else n) ≤ n
+pub less_or_same : (b : Bool) (n : ℕ) → (if b then n - 1 else n) ≤ n
 less_or_same true n = omega arith
 less_or_same false n = omega arith
 
@@ -200,10 +198,6 @@ without_point false n size s is low given = elim (cases_lt size n) [
   | inl below ↦ absurd (false≢true (given (omega (arith, below, low))))
   | inr near ↦ omega (arith, is, near)
 ]
-
-both : (a b : Bool) → (a && b) ≡ true → (a ≡ true) × (b ≡ true)
-both true b is = (refl, is)
-both false b is = absurd (false≢true is)
 
 -- The byte before the one behind is the byte.
 byte_behind : (text : List ℕ) (size : ℕ) → byte_before text (size + 1) ≡ slice_get text size
@@ -247,7 +241,7 @@ front_of text form size within l reads is = (
   record {
     within = within;
     reads = reads;
-    no_longer = λ n past inside l reads. is n past inside (as_front (notation_of form.syntax) (take n text) l reads);
+    no_longer = λ n past inside l reads. is n past inside (begins_whole (Reads (notation_of form.syntax)) (take n text) l reads);
   },
 )
 
@@ -275,7 +269,7 @@ front_before back text form stop size is stop_is gives kept l reads = go (goes (
         within = let within = is.valid.within in omega (arith, within, stop_is);
         reads = reads;
         no_longer = λ n past inside l reads. elim (cases_lt stop.size n) [
-          | inl beyond ↦ is.valid.no_longer n beyond inside (as_front (notation_of form.syntax) (take n text) l reads)
+          | inl beyond ↦ is.valid.no_longer n beyond inside (begins_whole (Reads (notation_of form.syntax)) (take n text) l reads)
           | inr near ↦ is.incomplete off l
               (subst (λ n. Reads (notation_of form.syntax) l (take n text)) (let same : n ≡ stop.size = omega (arith, past, near, stop_is) in same) reads)
         ];
@@ -355,9 +349,9 @@ module _ (list : FormList) (t : Tokens) (text : List ℕ) (index : ℕ) (form : 
 
     picked : IsPicked list t text index form found
     picked = record {
-      chosen = inl (record {
-        at = is.at;
-        best = record {
+      chosen = inl (
+        is.at,
+        record {
           here = subst (λ o. IsSomeAnd o (λ form. IsCandidate t.gives_points_back false text form size (size + more))) (sym is.at) candidate;
           before = λ k d below s e other.
               let less = is.before.1 in
@@ -367,11 +361,11 @@ module _ (list : FormList) (t : Tokens) (text : List ℕ) (index : ℕ) (form : 
           others = λ k d below s e other.
               let low = size_within false (get_or list.forms k d) (near k d below) s e other in
               no_longer s e size (size + more) low (end_within false (get_or list.forms k d) s e low other);
-        };
-        others = λ k d below s e other.
+        },
+        λ k d below s e other.
             let low = size_within true (get_or t.forms.now k d) (near_behind k d below) s e other in
-            no_longer s e size (size + more) low (end_within true (get_or t.forms.now k d) s e low other);
-      });
+            no_longer s e size (size + more) low (end_within true (get_or t.forms.now k d) s e low other),
+      );
       measured = measured;
       order = omega arith;
       within = inside;

@@ -327,7 +327,7 @@ module _ (list : FormList) (t : Tokens) (text : List ℕ) where
         let made = made_of false list.forms i form c at is in
         let end = made.candidate.end_is in
         record {
-          chosen = inl (record { at = at; best = is.best; others = others });
+          chosen = inl (at, is.best, others);
           measured = made.measured;
           order = omega (arith, end);
           within = made.within;
@@ -348,7 +348,7 @@ module _ (list : FormList) (t : Tokens) (text : List ℕ) where
         let made = made_of true t.forms.now j form o at is in
         let end = made.candidate.end_is in
         record {
-          chosen = inr (record { behind = j; index_is = refl; at = at; best = is.best; others = others });
+          chosen = inr (j, refl, at, is.best, others);
           measured = made.measured;
           order = omega (arith, end);
           within = made.within;
@@ -383,56 +383,42 @@ module _ (list : FormList) (t : Tokens) (text : List ℕ) where
 
     module _ (apart : IsFollowed list t text c.end → ⊥) where
       pub gone_on : (i : ℕ) × IsSomeAnd (slice_get list.forms i) (IsAhead t.gives_points_back text c.end) → IsRefused list t text
-      gone_on ahead = inr (inl (record {
-        index = index;
-        form = form;
-        size = c.size;
-        end = c.end;
-        chosen = is.chosen;
-        not_followed = apart;
-        ahead = ahead;
-      }))
+      gone_on ahead = inr (index, form, c.size, c.end, inr (is.chosen, apart, ahead.0, ahead.1))
 
       module _ (over : IsOver list t text c.end) (stopped : is_stopped t.any_word_follows form.suffixes text c.end ≡ true) where
+        cut : (digit : Bool) → ((c.size == c.end) && is_in is_digit (slice_get text c.size)) ≡ digit → IsCut list t text index form c.size c.end digit
+        cut digit same = record { chosen = is.chosen; not_followed = apart; over = over; stopped = stopped; digit_is = same }
+
         pub before_digit : ((c.size == c.end) && is_in is_digit (slice_get text c.size)) ≡ true → IsRefused list t text
-        before_digit digit = inr (inr (record {
-          index = index;
-          form = form;
-          size = c.size;
-          end = c.end;
-          chosen = is.chosen;
-          not_followed = apart;
-          over = over;
-          stopped = stopped;
-          digit = digit;
-        }))
+        before_digit digit = inr (index, form, c.size, c.end, inl (cut true digit))
 
         module _ (other : ((c.size == c.end) && is_in is_digit (slice_get text c.size)) ≡ false) where
-          cut : IsCut list t text index form c.size c.end
-          cut = record { chosen = is.chosen; not_followed = apart; over = over; stopped = stopped; no_digit = other }
-
           pub ended : (error : TokenError) → IsEnd form text index c error → IsTokenError list t text error
           ended (errors.UnknownSuffix i start end suffixes) e =
               let l = is.measured.literal.0 in
               let reads = is.measured.literal.1 in
-              let here = sym e.2 in record {
-                form = form;
-                behind = c.end;
-                cut = subst (λ n. IsCut list t text n form start c.end) (sym e.1) (subst (λ n. IsCut list t text index form n c.end) here cut);
-                word = e.0;
-                end_is = e.3;
-                literal = l;
-                reads = subst (λ n. Reads (notation_of form.syntax) l (take n text)) here reads;
-                words_are = e.4 ∙ ap (suffix_words form.suffixes) (float_is l c.counts (is.measured.counted l reads));
-              }
+              let here = sym e.2 in (
+                form,
+                c.end,
+                subst (λ n. IsCut list t text n form start c.end false) (sym e.1)
+                    (subst (λ n. IsCut list t text index form n c.end false) here (cut false other)),
+                e.0,
+                e.3,
+                (
+                  l,
+                  subst (λ n. Reads (notation_of form.syntax) l (take n text)) here reads,
+                  e.4 ∙ ap (suffix_words form.suffixes) (float_is l c.counts (is.measured.counted l reads)),
+                ),
+              )
           ended (errors.Stopped i start end) e =
-              let here = sym e.2 in record {
-                form = form;
-                size = c.size;
-                cut = subst (λ n. IsCut list t text n form c.size start) (sym e.1) (subst (λ n. IsCut list t text index form c.size n) here cut);
-                no_word = subst (λ n. is_in is_word_byte (slice_get text n) ≡ false) here e.0;
-                end_is = subst (λ n. end ≡ stop_end text n) here e.3;
-              }
+              let here = sym e.2 in (
+                form,
+                c.size,
+                subst (λ n. IsCut list t text n form c.size start false) (sym e.1)
+                    (subst (λ n. IsCut list t text index form c.size n false) here (cut false other)),
+                subst (λ n. is_in is_word_byte (slice_get text n) ≡ false) here e.0,
+                subst (λ n. end ≡ stop_end text n) here e.3,
+              )
           ended errors.NoTokens e = absurd e
           ended (errors.Literal error) e = absurd e
           ended (errors.NotAToken end) e = absurd e

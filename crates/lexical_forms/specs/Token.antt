@@ -1,7 +1,6 @@
 -- Tokens: numbers that a text begins with, each with its suffix, and whatever follows.
 use Rattle.std.specs.Prelude.{ℕ, ◌≡◌, ◌+◌, ◌-◌, ◌==◌, ◌&&◌, ◌||◌, ◌<◌, ◌⊎◌, Bool, true, false, if◌then◌else◌, nat_lt, IsTrue, IsSomeAnd, List, Option, Some}
-use Rattle.std.specs.Prelude.{None}
-use Rattle.std.specs.Prelude.{All, Result, Ok, Err, drop, length, slice_get, take}
+use Rattle.std.specs.Prelude.{None, All, Result, Ok, Err, drop, length, slice_get, take}
 use Rattle.std.specs.Borrow.{Bor}
 use Rattle.lexical_util.specs.Ascii.{ByteSet}
 use Rattle.lexical_literal.specs.Cause.{is_in}
@@ -95,25 +94,14 @@ pub record IsAhead (back : PointsBack) (text : List ℕ) (end : ℕ) (form : For
 
 -- Forms of a list, and those that need a suffix, whose indexes are behind.
 module _ (list : FormList) (t : Tokens) (text : List ℕ) where
-  -- `IsPlain index form size end` holds if `form`, with this index in the list, has the best candidate of the list, and no form that
-  -- needs a suffix has a longer one.
-  pub record IsPlain (index : ℕ) (form : Form) (size end : ℕ) : Type 0 where
-    pub at : slice_get list.forms index ≡ Some form
-    pub best : IsBest t.gives_points_back false list.forms text index size end
-    pub others : All (NoLonger t.gives_points_back true text size end) t.forms.now
-
-  -- `IsSuffixed index form size end` holds if `form`, which needs a suffix, has the best candidate of such forms, and a longer one than
-  -- those of the list.
-  pub record IsSuffixed (index : ℕ) (form : Form) (size end : ℕ) : Type 0 where
-    pub behind : ℕ
-    pub index_is : index ≡ length list.forms + behind
-    pub at : slice_get t.forms.now behind ≡ Some form
-    pub best : IsBest t.gives_points_back true t.forms.now text behind size end
-    pub others : All (AllShorter t.gives_points_back false text size end) list.forms
-
-  -- `IsChosen index form size end` holds if `form`, with this index, has the longest candidate.
+  -- `IsChosen index form size end` holds if `form`, with this index, has the longest candidate: the best of the list, and no form that needs a suffix
+  -- has a longer one, or the best of those, and a longer one than the forms of the list.
   abbrev pub IsChosen : ℕ → Form → ℕ → ℕ → Type 0
-  IsChosen index form size end = IsPlain index form size end ⊎ IsSuffixed index form size end
+  IsChosen index form size end =
+      ((slice_get list.forms index ≡ Some form) × IsBest t.gives_points_back false list.forms text index size end
+      × All (NoLonger t.gives_points_back true text size end) t.forms.now)
+      ⊎ ((behind : ℕ) × (index ≡ length list.forms + behind) × (slice_get t.forms.now behind ≡ Some form)
+      × IsBest t.gives_points_back true t.forms.now text behind size end × All (AllShorter t.gives_points_back false text size end) list.forms)
 
   -- `IsFollowed end` holds if a word that may follow a number is behind `end`.
   abbrev pub IsFollowed : ℕ → Type 0
@@ -136,82 +124,40 @@ module _ (list : FormList) (t : Tokens) (text : List ℕ) where
     pub rest : token.rest.now ≡ drop end text
     pub ended : IsFollowed end ⊎ (IsOver end × (is_stopped t.any_word_follows form.suffixes text end ≡ false))
 
-  -- `HasNone` holds if no form has a candidate, `HasGoneOn` if a literal goes on behind the longest, and `HasDigit` if a digit is directly
-  -- behind its literal, which has no suffix. Then a form is to blame.
-  pub record HasNone : Type 0 where
-    pub plain : All (NoCandidate t.gives_points_back false text) list.forms
-    pub suffixed : All (NoCandidate t.gives_points_back true text) t.forms.now
-
-  pub record HasGoneOn : Type 0 where
-    pub index : ℕ
-    pub form : Form
-    pub size : ℕ
-    pub end : ℕ
-    pub chosen : IsChosen index form size end
-    pub not_followed : IsFollowed end → ⊥
-    pub ahead : (i : ℕ) × IsSomeAnd (slice_get list.forms i) (IsAhead t.gives_points_back text end)
-
-  pub record HasDigit : Type 0 where
-    pub index : ℕ
-    pub form : Form
-    pub size : ℕ
-    pub end : ℕ
+  -- `IsCut index form size end digit` holds if `form`, with this index, has the longest candidate, no word that may follow is behind it and no literal
+  -- goes on, and what follows may not: directly behind a literal without a suffix a digit, if `digit` is true, or something else.
+  pub record IsCut (index : ℕ) (form : Form) (size end : ℕ) (digit : Bool) : Type 0 where
     pub chosen : IsChosen index form size end
     pub not_followed : IsFollowed end → ⊥
     pub over : IsOver end
     pub stopped : is_stopped t.any_word_follows form.suffixes text end ≡ true
-    pub digit : ((size == end) && is_in is_digit (slice_get text size)) ≡ true
+    pub digit_is : ((size == end) && is_in is_digit (slice_get text size)) ≡ digit
+
+  -- `HasNone` holds if no form has a candidate, and `IsRefused` if none has one, if a literal goes on behind the longest, or if a digit is directly
+  -- behind it. Then a form is to blame.
+  abbrev pub HasNone : Type 0
+  HasNone = All (NoCandidate t.gives_points_back false text) list.forms × All (NoCandidate t.gives_points_back true text) t.forms.now
 
   abbrev pub IsRefused : Type 0
-  IsRefused = HasNone ⊎ (HasGoneOn ⊎ HasDigit)
-
-  -- `word_end index` is the index behind the word of which the byte at `index` is one, or `index` if it is in no word.
-  abbrev pub word_end : ℕ → ℕ
-  word_end index = index + word_size (drop index text)
+  IsRefused = HasNone ⊎ ((index : ℕ) × (form : Form) × (size : ℕ) × (end : ℕ) × (IsCut index form size end true ⊎ (IsChosen index form size end
+      × (IsFollowed end → ⊥) × (i : ℕ) × IsSomeAnd (slice_get list.forms i) (IsAhead t.gives_points_back text end))))
 
   -- `IsWordUpTo size` holds if the form of the list that goes furthest in `text` stops in a word that ends at `size`.
-  pub record IsWordUpTo (size : ℕ) : Type 0 where
-    pub index : ℕ
-    pub stop : ℕ
-    pub furthest : IsGreatest (λ form n. IsValidUpTo (notation_of form.syntax) text n) list.forms index stop
-    pub end : size ≡ word_end stop
+  abbrev pub IsWordUpTo : ℕ → Type 0
+  IsWordUpTo size = (index : ℕ) × (stop : ℕ) × IsGreatest (λ form n. IsValidUpTo (notation_of form.syntax) text n) list.forms index stop
+      × (size ≡ stop + word_size (drop stop text))
 
-  -- `IsCut index form size end` holds if the form with this index has the longest candidate, no literal goes on behind it, and what follows may not.
-  pub record IsCut (index : ℕ) (form : Form) (size end : ℕ) : Type 0 where
-    pub chosen : IsChosen index form size end
-    pub not_followed : IsFollowed end → ⊥
-    pub over : IsOver end
-    pub stopped : is_stopped t.any_word_follows form.suffixes text end ≡ true
-    pub no_digit : ((size == end) && is_in is_digit (slice_get text size)) ≡ false
-
-  -- `IsUnknown index start end words` holds if behind the longest candidate, of the form with this index and with a literal of `start` bytes, a
-  -- word follows, which ends at `end`, and if `words` are the suffixes of the form behind such a literal.
-  pub record IsUnknown (index start end : ℕ) (words : List (Bor (List ℕ))) : Type 0 where
-    pub form : Form
-    pub behind : ℕ
-    pub cut : IsCut index form start behind
-    pub word : is_in is_word_byte (slice_get text behind) ≡ true
-    pub end_is : end ≡ stop_end text behind
-    pub literal : Literal
-    pub reads : Reads (notation_of form.syntax) literal (take start text)
-    pub words_are : words ≡ suffix_words form.suffixes (is_float literal)
-
-  -- `IsStop index start end` holds if behind the longest candidate, of the form with this index, which ends at `start`, no word but a stop follows,
-  -- and if its byte and the word behind this end at `end`.
-  pub record IsStop (index start end : ℕ) : Type 0 where
-    pub form : Form
-    pub size : ℕ
-    pub cut : IsCut index form size start
-    pub no_word : is_in is_word_byte (slice_get text start) ≡ false
-    pub end_is : end ≡ stop_end text start
-
-  -- `IsTokenError error` holds if `error` says why `text` begins with no token.
+  -- `IsTokenError error` holds if `error` says why `text` begins with no token: a form is to blame, or behind the longest candidate a word follows that
+  -- is not one of the suffixes of its form, and ends at `end`, or a byte that may not follow, and then maybe a word.
   abbrev pub IsTokenError : TokenError → Type 0
   IsTokenError errors.NoTokens = ⊥
   IsTokenError (errors.Literal error) = IsRefused × ((size : ℕ) × IsWordUpTo size × IsFormError list.forms (take size text) error)
   IsTokenError (errors.NotAToken end) = IsRefused × IsWordUpTo end × (NoForm list.forms (take end text) → ⊥)
-  IsTokenError (errors.UnknownSuffix form start end suffixes) = IsUnknown form start end suffixes.now
-  IsTokenError (errors.Stopped form start end) = IsStop form start end
+  IsTokenError (errors.UnknownSuffix index start end suffixes) = (form : Form) × (behind : ℕ) × IsCut index form start behind false
+      × (is_in is_word_byte (slice_get text behind) ≡ true) × (end ≡ stop_end text behind)
+      × ((l : Literal) × Reads (notation_of form.syntax) l (take start text) × (suffixes.now ≡ suffix_words form.suffixes (is_float l)))
+  IsTokenError (errors.Stopped index start end) = (form : Form) × (size : ℕ) × IsCut index form size start false
+      × (is_in is_word_byte (slice_get text start) ≡ false) × (end ≡ stop_end text start)
 
 -- `IsReadByTokens list tokens text result` holds if `result` is the token that `text` begins with, or says why there is none: without rules, there
 -- are no tokens.

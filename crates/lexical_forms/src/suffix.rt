@@ -1,11 +1,11 @@
 //! Words that stand directly behind a number, such as `u8`, and bytes that may not follow it.
 
-ghost use Rattle.std.specs.Prelude.{◌≡◌, ◌==◌, [], ◌+◌, ◌≤◌, IsTrue, Some, false, if◌then◌else◌, length, slice_get};
+ghost use Rattle.std.specs.Prelude.{◌≡◌, ◌==◌, ◌&&◌, [], ◌+◌, ◌≤◌, IsTrue, Some, false, if◌then◌else◌, length, option_map, slice_get, unwrap_or};
 ghost use Rattle.std.specs.Char.{eq_ignore_ascii_case};
-ghost use Rattle.std.specs.List.{list_any};
+ghost use Rattle.std.specs.List.{find, list_any};
 ghost use Rattle.lexical_literal.specs.Cause.{is_in};
-ghost use Rattle.lexical_forms.specs.Suffix.{admits, any_word_size, begins, byte_before, is_digit, is_followed, is_letter, is_point};
-ghost use Rattle.lexical_forms.specs.Suffix.{is_stopped, is_word_byte, kind_among, kind_with, longest_word, meets, suffix_size, suffix_words, word_size};
+ghost use Rattle.lexical_forms.specs.Suffix.{admits, any_word_size, begins, byte_before, is_digit, is_followed, is_letter, is_point, is_stopped, is_word_byte};
+ghost use Rattle.lexical_forms.specs.Suffix.{kind_with, longest_word, meets, suffix_size, suffix_words, word_size};
 
 use lexical_literal::kind::Kind;
 use lexical_literal::stop::byte_at;
@@ -113,14 +113,7 @@ impl Suffixes {
     /// Sets the bytes of which any word that begins with one is a suffix, such as `_` for `1_km`.
     #[must_use]
     pub const fn any_word(self, begins: &'static [u8]) -> Suffixes
-        ensures integers { result.integers ≡ self.integers }
-        ensures floats { result.floats ≡ self.floats }
-        ensures case { result.either_case ≡ self.either_case }
-        ensures whole { result.whole_words ≡ self.whole_words }
-        ensures any { result.any ≡ begins.entry }
-        ensures stops { result.stops ≡ self.stops }
-        ensures kinds { result.kinds ≡ self.kinds }
-        ensures written { result.written ≡ self.written }
+        ensures { result ≡ record self { any = begins.entry } }
     {
         Suffixes {
             any: begins,
@@ -252,7 +245,8 @@ pub(crate) const fn kind_with(suffixes: Option<&'static Suffixes>, word: &[u8], 
 
 // Returns the kind of the first of `kinds` with the suffix `word`, or `kind` if there is none.
 const fn kind_among(either: bool, kinds: &[(&[u8], Kind)], word: &[u8], kind: Kind) -> Kind
-    ensures { result ≡ kind_among either kinds.now word.now kind }
+    ensures { result ≡ unwrap_or (option_map (λ it. it.1)
+        (find (λ first. begins either first.0.now word.now && (length first.0.now == length word.now)) kinds.now)) kind }
 {
     match kinds {
         [] => kind,
