@@ -632,9 +632,10 @@ typedef struct {
 } peltzivar_stop;
 
 /* The suffixes of a form, which only peltzivar_forms_token reads: words directly behind integers and behind floats, in
- * this case or, with either_case, in either one. A string of words has spaces between them, as in "u8 u16". Words have
- * letters, digits, `_` and bytes from 128 up, and others are never found, nor is one that begins with a digit of its
- * form. Any word that begins with a byte of the string `any` is a suffix, too, as in `1_km`. A string may be null.
+ * this case or, with either_case, in either one. With whole_words, a suffix is the whole word behind a number, and `1if`
+ * has no suffix `i`. A string of words has spaces between them, as in "u8 u16". Words have letters, digits, `_` and
+ * bytes from 128 up, and others are never found, nor is one that begins with a digit of its form. Any word that begins
+ * with a byte of the string `any` is a suffix, too, as in `1_km`. A string may be null.
  *
  * The words of the string `written`, such as "L" for Java, may be written behind an integer that the forms do not have
  * without one: the first with which peltzivar_forms_token reads all of the text as the number. */
@@ -644,8 +645,8 @@ typedef struct {
     size_t kind_count;
     const peltzivar_stop *stops;
     size_t stop_count;
-    bool either_case;
-    uint8_t reserved[15];
+    bool either_case, whole_words;
+    uint8_t reserved[14];
 } peltzivar_suffixes;
 
 /* A form of numbers, such as `0x1F`: its name, which may be null, its syntax, its kind, by which the values of its
@@ -670,14 +671,14 @@ typedef struct {
 
 /* The rules by which a list has tokens: an array of `count` forms that need a suffix, which no other call takes, such
  * as `08f` in Java, words that may follow a number directly, with spaces between them, such as `else` in `1else`, or
- * null for none, and whether a point at the end of a number is none of its bytes if another point or a word follows, as
- * in `1..2` and `1.max(2)`. */
+ * null for none, whether a point at the end of a number is none of its bytes if another point or a word follows, as in
+ * `1..2` and `1.max(2)`, or if a letter does, as in `1.eq.2`, and whether any word may follow, as in `2x`. */
 typedef struct {
     const peltzivar_form *forms;
     size_t count;
     const char *following;
-    bool gives_points_back;
-    uint8_t reserved[7];
+    bool gives_points_back, gives_points_to_letters, any_word_follows;
+    uint8_t reserved[5];
 } peltzivar_tokens;
 
 /* A list of forms: an array of `count` forms, the spellings of special values, and the rules for tokens, or null. If a

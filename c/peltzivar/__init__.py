@@ -1531,8 +1531,8 @@ class Kind(metaclass=_Class):
 @dataclass(frozen=True)
 class Suffixes(metaclass=_Class):
     """The suffixes of a form, which only `token` reads: words directly behind `integers` and `floats`, with spaces
-    between them, in this case or in either one. Words have letters, digits, `_` and characters that are not ASCII. One
-    that begins with a digit of the form, such as `5k`, is never found. Any word that begins with a character of `any`
+    between them, in this case or in either one, and with `whole_words` a suffix is the whole word behind a number, so
+    that `1if` has no suffix `i`. Words have letters, digits, `_` and characters that are not ASCII. One that begins with a digit of the form, such as `5k`, is never found. Any word that begins with a character of `any`
     is a suffix, too, as in `1_km`. `kinds` has the kinds of numbers by their suffixes, a dict or pairs. A number is not
     a token if it is at one of the `stops`: if it ends in a character of the first string, one of the second follows,
     and then one of the third. An empty string asks for nothing. `written` has the words that `format_number` may write
@@ -1552,13 +1552,14 @@ class Suffixes(metaclass=_Class):
     stops: Any = ()
     either_case: bool = False
     written: str = ""
+    whole_words: bool = False
 
     def __post_init__(self) -> None:
         pairs = self.kinds.items() if isinstance(self.kinds, Mapping) else self.kinds
         kinds = tuple((_typed("a word", it, str), _typed("a kind", kind, Kind)) for it, kind in pairs)
         stops = tuple(tuple(_typed("a stop", it, str) for it in stop) for stop in self.stops)
         vars(self).update(kinds=kinds, stops=stops)
-        _typed("either_case", self.either_case, bool)
+        [_typed(name, vars(self)[name], bool) for name in ("either_case", "whole_words")]
         if any(len(stop) != 3 for stop in self.stops):
             raise ValueError(f"a stop has three strings: {self.stops}")
         texts = self.integers, self.floats, self.any, self.written
@@ -1572,14 +1573,15 @@ class Suffixes(metaclass=_Class):
         stops = tuple(tuple(map(_string, stop)) for stop in self.stops)
         kinds = tuple((_string(it), *kind._numbers()) for it, kind in self.kinds)
         texts = self.integers, self.floats, self.any, self.written
-        return *map(_string, texts), kinds, stops, int(self.either_case)
+        return *map(_string, texts), kinds, stops, int(self.either_case), int(self.whole_words)
 
     @classmethod
     def _of(cls, *members: Any) -> Suffixes:
-        *texts, kinds, stops, either_case = members
+        *texts, kinds, stops, either_case, whole_words = members
         integers, floats, any, written = map(_shown, texts)
         named = [(_shown(word), Kind._of(*numbers)) for word, *numbers in kinds]
-        return cls(integers, floats, any, named, [[*map(_shown, it)] for it in stops], bool(either_case), written)
+        shown = [[*map(_shown, it)] for it in stops]
+        return cls(integers, floats, any, named, shown, bool(either_case), written, bool(whole_words))
 
 
 @dataclass(frozen=True)
@@ -1614,18 +1616,26 @@ class Affixes(metaclass=_Class):
 @dataclass(frozen=True)
 class Tokens(metaclass=_Class):
     """The rules by which a list has tokens: forms that need a suffix, which only `token` takes, such as `08f` in Java,
-    words that may follow a number directly, with spaces between them, such as `else` in `1else`, and whether a point at
-    the end of a number is none of its characters if another point or a word follows, as in `1..2` and `1.max(2)`."""
+    words that may follow a number directly, with spaces between them, such as `else` in `1else`, whether a point at the
+    end of a number is none of its characters if another point or a word follows, as in `1..2` and `1.max(2)`, or if a
+    letter does, as in `1.eq.2`, and whether any word may follow, as in `2x`."""
 
     forms: Optional[Forms] = None
     following: str = ""
     gives_points_back: bool = False
+    gives_points_to_letters: bool = False
+    any_word_follows: bool = False
 
     def __post_init__(self) -> None:
         if self.forms is not None:
             _typed("forms", self.forms, Forms)
         _string(self.following)
-        _typed("gives_points_back", self.gives_points_back, bool)
+        self._flags()
+
+    def _flags(self) -> List[int]:
+        """Returns the last three members of the structure."""
+        names = "gives_points_back", "gives_points_to_letters", "any_word_follows"
+        return [int(_typed(name, vars(self)[name], bool)) for name in names]
 
 
 _OF_FORMS = "kinds", "suffixes", "tokens", "affixes", "only_read"
@@ -1674,7 +1684,7 @@ class Forms(_Keyed, _Several, Mapping[str, Syntax]):
             for _, it, kind, more, affixes, is_read in own
         )
         forms_behind = behind._made[0] if behind is not None else ()
-        rules = self.tokens and (forms_behind, _string(self.tokens.following), int(self.tokens.gives_points_back))
+        rules = self.tokens and (forms_behind, _string(self.tokens.following), *self.tokens._flags())
         self._made: Any = made, self.specials._spellings(), rules
         _c.make(self, self._made, True)
         if isinstance(self._explain(b"", -1), str):
@@ -1758,7 +1768,7 @@ class _Language(_Several, _Named):
         more: Dict[str, Any] = {it: of.decode() for it, of in zip(("nan", "inf", "infinity"), spellings) if of}
         if rules:
             behind = _forms_of(rules[0], {}) if rules[0] else None
-            more["tokens"] = Tokens(behind, _shown(rules[1]), bool(rules[2]))
+            more["tokens"] = Tokens(behind, _shown(rules[1]), *map(bool, rules[2:]))
         return _forms_of(listed, more)
 
     @property

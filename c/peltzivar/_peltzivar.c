@@ -65,11 +65,12 @@ IS(suffix_kind) S(suffix_kind, word) B(suffix_kind, integer_kind) B(suffix_kind,
 IS(stop) S(stop, last) S(stop, next) S(stop, second) }};
 IS(suffixes) S(suffixes, integers) S(suffixes, floats) S(suffixes, any) S(suffixes, written)
     ARRAY(suffixes, kinds, kind_count, suffix_kind) ARRAY(suffixes, stops, stop_count, stop)
-    B(suffixes, either_case) }};
+    B(suffixes, either_case) B(suffixes, whole_words) }};
 IS(form) S(form, name) OF('>', form, syntax, syntax) B(form, integer_kind) B(form, integer_bits) B(form, float_kind)
     B(form, float_limits) OF('*', form, suffixes, suffixes) S(form, opening) S(form, closing)
     B(form, case_sensitive_opening) B(form, case_sensitive_closing) B(form, only_read) }};
-IS(tokens) ARRAY(tokens, forms, count, form) S(tokens, following) B(tokens, gives_points_back) }};
+IS(tokens) ARRAY(tokens, forms, count, form) S(tokens, following) B(tokens, gives_points_back)
+    B(tokens, gives_points_to_letters) B(tokens, any_word_follows) }};
 IS(forms) ARRAY(forms, forms, count, form) OF('>', forms, specials, specials) OF('*', forms, tokens, tokens) }};
 IS(style) B(style, group) B(style, fraction_group) B(style, without_base) B(style, lowercase)
     B(style, min_digits) B(style, exponent) M('4', style, exponent_from) B(style, point)

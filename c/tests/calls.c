@@ -407,8 +407,8 @@ static void test_languages(void) {
 static void test_tokens(void) {
     static const peltzivar_suffix_kind kinds[] = {{"u8", PELTZIVAR_INTEGERS_WRAP, 8, PELTZIVAR_FLOATS_NEAREST, PELTZIVAR_LIMITS_NONE, {0}}};
     static const peltzivar_stop stops[] = {{"8", "-", NULL, {0}}};
-    static const peltzivar_suffixes suffixes = {"u u8", NULL, "k", NULL, kinds, 1, stops, 1, true, {0}};
-    static const peltzivar_tokens rules = {NULL, 0, "if in", true, {0}};
+    static const peltzivar_suffixes suffixes = {"u u8", NULL, "k", NULL, kinds, 1, stops, 1, true, false, {0}};
+    static const peltzivar_tokens rules = {NULL, 0, "if in", true, false, false, {0}};
     peltzivar_form form = language("RUST")->forms[0];
     peltzivar_forms forms = forms_of(&form, 1);
     peltzivar_token token;

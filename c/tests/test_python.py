@@ -665,8 +665,8 @@ WORDS = dict.fromkeys(("integers", "floats", "any", "written"), "x")
 CHANGES = {
     Kind: {"at_most": 8, "wraps": 8, "modulo": True, "single": True, "limits": "both"},
     Specials: SPELLED,
-    Suffixes: {**WORDS, "kinds": {"x": Kind(8)}, "stops": [("", "x", "")], "either_case": True},
-    Tokens: {"forms": Forms({"": SYNTAX}), "following": "x", "gives_points_back": True},
+    Suffixes: {**WORDS, "kinds": {"x": Kind(8)}, "stops": [("", "x", "")], "either_case": True, "whole_words": True},
+    Tokens: {"forms": Forms({"": SYNTAX}), "following": "x", "gives_points_back": True, "gives_points_to_letters": True, "any_word_follows": True},
     Affixes: {"opening": "o", "closing": "o", "case_sensitive_opening": True, "case_sensitive_closing": True},
     Forms: {
         **SPELLED, "forms": {"b": SYNTAX}, "kinds": {"a": Kind(8)}, "suffixes": {"a": Suffixes("u")}, "tokens": Tokens(),

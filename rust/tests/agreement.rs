@@ -37,14 +37,24 @@ const OPENINGS: [&[u8]; 9] = [b"0", b"0x", b"x", b"1", b"12", b"0Xe5", b"-", b"e
 const CLOSINGS: [&[u8]; 8] = [b"q", b" ", b";", b";;", b"h", b"Qe5", b"'1.", b"x0x"];
 
 /// Suffixes of half of the forms, and words that may follow numbers.
-static SUFFIXES: Suffixes = Suffixes::new(&[b"u8", b"x", b"D0"], &[b"f", b"f1"], &[]);
+const WORDS: Suffixes = Suffixes::new(&[b"u8", b"x", b"D0"], &[b"f", b"f1"], &[]);
+static SUFFIXES: [Suffixes; 2] = [WORDS, WORDS.whole_words(true)];
 const FOLLOWING: [&[u8]; 2] = [b"inf", b"x"];
 
-/// A list, the forms that need a suffix, and whether points are given back.
+/// What points are given back to.
+#[derive(Clone, Copy, PartialEq)]
+enum Back {
+    Never,
+    ToWords,
+    ToLetters,
+}
+
+/// A list, the forms that need a suffix, to what points are given back, and whether any word may follow.
 struct Case {
     list: Forms<'static>,
     needing: &'static [Form],
-    back: bool,
+    back: Back,
+    any_word_follows: bool,
 }
 
 /// Returns a form of any language, with the kind of another one, maybe with an opening, a closing and suffixes.
@@ -57,7 +67,7 @@ fn form(random: &mut Random, are_marked: bool) -> Form {
         Affix::new(bytes).unwrap().case_sensitive(bytes.iter().any(u8::is_ascii_uppercase))
     };
     if random.one_in(2) {
-        form = form.with_suffixes(&SUFFIXES);
+        form = form.with_suffixes(&SUFFIXES[usize::from(random.one_in(3))]);
     }
     if are_marked && random.one_in(2) {
         form = form.with_opening(mark(random, &OPENINGS));
@@ -76,11 +86,15 @@ fn list(random: &mut Random) -> Case {
         &*(0..count).map(|_| form(random, are_marked)).collect::<Vec<_>>().leak()
     };
     let (list, needing) = (forms(1, 5), forms(0, 2));
-    let back = random.one_in(2);
-    let tokens = Box::leak(Box::new(Tokens::new(needing, &FOLLOWING).gives_points_back(back)));
+    let back = random.pick(&[Back::Never, Back::ToWords, Back::ToLetters]);
+    let any_word_follows = random.one_in(4);
+    let tokens = Tokens::new(needing, &FOLLOWING).gives_points_back(back == Back::ToWords);
+    let tokens = if back == Back::ToLetters { tokens.gives_points_to_letters() } else { tokens };
+    let tokens = Box::leak(Box::new(tokens.any_word_follows(any_word_follows)));
     let odd = Specials { nan: Some(b"1x"), inf: Some(b"0x"), infinity: Some(b"q1") };
     let specials = random.pick(&[Specials::default(), Language::TOML.forms().specials(), odd]);
-    Case { list: Forms::new_or_panic(list).with_specials(specials).with_tokens(tokens), needing, back }
+    let list = Forms::new_or_panic(list).with_specials(specials).with_tokens(tokens);
+    Case { list, needing, back, any_word_follows }
 }
 
 /// How many bytes of an opening or a closing a text begins with.
@@ -213,15 +227,21 @@ fn is_point(form: &Form, text: &[u8], index: usize) -> bool {
 }
 
 /// The lengths of the longest literal of a form, without a point that is given back, and of this with its suffix.
-fn candidate(form: &Form, needs: bool, back: bool, text: &[u8]) -> Option<(usize, usize)> {
+fn candidate(form: &Form, needs: bool, back: Back, text: &[u8]) -> Option<(usize, usize)> {
     let mut size = longest(form, text)?;
-    let follows = text.get(size).is_some_and(|it| *it == b'.' || is_word_byte(*it));
-    if back && follows && form.closing().is_empty() && is_point(form, text, size - 1) {
+    let takes = |it: &u8| match back {
+        Back::Never => false,
+        Back::ToWords => *it == b'.' || is_word_byte(*it),
+        Back::ToLetters => it.is_ascii_alphabetic(),
+    };
+    if text.get(size).is_some_and(takes) && form.closing().is_empty() && is_point(form, text, size - 1) {
         size -= 1;
     }
     let literal = between(form, &text[..size])?;
     let words = form.suffixes().map_or(&[][..], |it| if literal.is_float() { it.floats() } else { it.integers() });
-    let suffix = words.iter().filter(|it| text[size..].starts_with(it)).map(|it| it.len()).max().unwrap_or(0);
+    let is_whole = form.suffixes() == Some(&SUFFIXES[1]);
+    let is_suffix = |it: &&&[u8]| text[size..].starts_with(it) && (!is_whole || it.len() == word(&text[size..]));
+    let suffix = words.iter().filter(is_suffix).map(|it| it.len()).max().unwrap_or(0);
     (suffix > 0 || !needs).then_some((size, size + suffix))
 }
 
@@ -230,7 +250,7 @@ type Ended = Result<(usize, usize, usize), (Range<usize>, String)>;
 
 /// The token by the steps of the page.
 fn token(case: &Case, text: &[u8]) -> Ended {
-    let Case { list, needing, back } = case;
+    let Case { list, needing, back, any_word_follows } = case;
     let forms = list.into_iter().map(|it| (it, false)).chain(needing.iter().map(|it| (it, true)));
     let candidates = forms.enumerate().filter_map(|(index, (form, needs))| {
         let (size, end) = candidate(form, needs, *back, text)?;
@@ -251,10 +271,14 @@ fn token(case: &Case, text: &[u8]) -> Ended {
     let behind = &text[end..];
     let goes_on = |form: &Form| {
         let right = right(form, text);
-        right > end && !(*back && right == end + 1 && is_point(form, text, end))
+        let two = *back == Back::ToLetters && right == end + 2 && text[end + 1].is_ascii_alphabetic();
+        let name = two && text.get(right).is_some_and(|it| *it == b'.' || it.is_ascii_alphabetic());
+        right > end && !(*back != Back::Never && (right == end + 1 || name) && is_point(form, text, end))
     };
     let follows = word(behind);
-    if FOLLOWING.contains(&&behind[..follows]) || !(list.into_iter().any(goes_on) || follows > 0) {
+    let may = *any_word_follows && !text[..end].ends_with(b".");
+    let stops = follows > 0 && (!may || behind[0].is_ascii_digit());
+    if FOLLOWING.contains(&&behind[..follows]) || !(list.into_iter().any(goes_on) || stops) {
         Ok((index, size, end))
     } else if list.into_iter().any(goes_on) || (size == end && behind[0].is_ascii_digit()) {
         fails()

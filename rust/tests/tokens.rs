@@ -105,8 +105,7 @@ fn each_form_suffix_and_keyword_has_a_row() {
             require(is_read, &String::from_utf8_lossy(word));
         }
     }
-    // Ruby reads `1if` and `1in` as `1` and a keyword. They are refused, since `i` is a suffix.
-    assert!(missing.iter().eq(["RUBY if", "RUBY in"]), "no rows of these, but for `if` and `in` of RUBY: {missing:#?}");
+    assert!(missing.is_empty(), "no rows of these: {missing:#?}");
 }
 
 /// Behind an integer, a suffix of floats makes a float of any size.

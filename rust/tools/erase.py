@@ -126,12 +126,13 @@ REPLACED += [
     ("long.rt", "#[derive(Drop)]\n", ""),
     ("lexical_forms/src/form.rt", "#[derive(Clone, Copy)]\npub struct Form ", "#[derive(Debug, Clone, Copy, PartialEq, Eq, Hash)]\npub struct Form "),
     ("list.rt", "#[derive(Clone, Copy)]\npub struct Tokens ", "#[derive(Debug, Clone, Copy, PartialEq, Eq, Hash)]\npub struct Tokens "),
+    ("list.rt", "#[derive(Clone, Copy)]\npub(crate) enum PointsBack ", "#[derive(Debug, Clone, Copy, PartialEq, Eq, Hash)]\npub(crate) enum PointsBack "),
     ("suffix.rt", "#[derive(Clone, Copy)]\npub struct Stop ", "#[derive(Debug, Clone, Copy, PartialEq, Eq, Hash)]\npub struct Stop "),
     ("suffix.rt", "#[derive(Clone, Copy)]\npub struct Suffixes ", "#[derive(Debug, Clone, Copy, PartialEq, Eq, Hash)]\npub struct Suffixes "),
     # The library for C shows them.
     ("suffix.rt", "    last: &'static [u8],\n    next: &'static [u8],\n    second: &'static [u8],\n}", "    pub(crate) last: &'static [u8],\n    pub(crate) next: &'static [u8],\n    pub(crate) second: &'static [u8],\n}"),
     *[("suffix.rt", f"\n    {it}: {of},\n", f"\n    pub(crate) {it}: {of},\n") for it, of in (
-        ("integers", "&'static [&'static [u8]]"), ("floats", "&'static [&'static [u8]]"), ("either_case", "bool"), ("any", "&'static [u8]"),
+        ("integers", "&'static [&'static [u8]]"), ("floats", "&'static [&'static [u8]]"), ("either_case", "bool"), ("whole_words", "bool"), ("any", "&'static [u8]"),
         ("stops", "&'static [Stop]"), ("kinds", "&'static [(&'static [u8], Kind)]"))],
     ("token.rt", "#[derive(Drop)]", "#[derive(Debug, Clone, Copy, PartialEq, Eq, Hash)] #[non_exhaustive]"),
     ("token.rt", "fn token<'t>(&self", "fn token_bytes<'t>(&self"),

@@ -4,14 +4,14 @@ require 'ripper'
 $VERBOSE = nil
 NUMBERS = %i[on_int on_float on_rational on_imaginary].freeze
 
-# An error of the lexer is at the number or the byte behind it. The parser blames a later token, as in `1 1`.
+# An error of the lexer is at the number or the byte behind it, but for that of a name, as in `1$`. The parser blames a later token, as in `1 1`.
 def size(text)
   lexer = Ripper::Lexer.new(text)
   first = lexer.scan.first
   return '-' unless first && NUMBERS.include?(first.event)
 
   end_of = first.tok.bytesize
-  wrong = lexer.errors.any? { |it| it.message !~ /syntax error/ && it.pos[1] <= end_of }
+  wrong = lexer.errors.any? { |it| it.message !~ /syntax error| variable name/ && it.pos[1] <= end_of }
   wrong ? '-' : end_of
 end
 

@@ -1,64 +1,72 @@
 -- Each byte of a literal plays a role, and a literal with a required prefix begins with it.
 use Rattle.lexical_forms.proofs.Common.{ℕ, ◌≡◌, ◌+◌, ◌<◌, ◌≤◌, ◌⊎◌, inl, inr, true, false, None, List, [], ◌∷◌, ◌++◌, take, get_or, ap, refl, sym, subst, ◌∙◌}
-use Rattle.lexical_forms.proofs.Common.{arith, AllByRecursion, cases_lt, false≢true, length-take-le, nat_tests, ByteSet, signs, Role, Part, Literal, Reads}
+use Rattle.lexical_forms.proofs.Common.{arith, All, cases_lt, false≢true, length-take-le, nat_tests, ByteSet, signs, Role, Part, Literal, Reads}
 use Rattle.lexical_forms.proofs.Common.{is_none_or_one, is_none_or_prefix, is_present, text_of, Notation, notation_of, set_of_role, Grammar, sign_size}
 use Rattle.lexical_forms.proofs.Common.{IsValidUpTo, NoLiteral, role_at, AllIn, run_byte}
-use Rattle.lexical_forms.specs.Additions.Forms.{PlaysNoRole}
+use Rattle.lexical_forms.specs.Additions.Forms.{IsSpare, PlaysNoRole}
 use Rattle.lexical_literal.specs.Readings.{prefix_byte}
 use Rattle.std.proofs.Common.{length, length-append, IsTrue}
 use Rattle.std.proofs.lemmas.List.{get_or-take, get_or_append_left}
+use Rattle.std.proofs.lemmas.List.Elements.{All-append, All-from_recursion, All-get_or, All-weaker}
 use Rattle.lexical_util.specs.declared.feature_format.roles.Role.TheVariants as roles
 use Rattle.lexical_util.specs.declared.format_flags.Part.TheVariants as parts
 use Rattle.lexical_literal.specs.declared.syntax.Condition.TheVariants as conditions
 use Rattle.lexical_literal.proofs.PartLemmas.{parts_have_roles}
 use Rattle.lexical_literal.proofs.WalkLemmas.{no_role}
 
+-- `rest_of l` is what follows the sign and the prefix of `l`.
+abbrev pub rest_of : Literal → List ℕ
+rest_of l = l.integer ++ (l.point ++ (l.fraction ++ (l.exponent_character ++ (l.exponent_sign ++ (l.exponent ++ l.suffix)))))
+
 module _ (m : Notation) where
-  abbrev Play : List ℕ → Type 0
-  Play = AllByRecursion (λ byte. PlaysNoRole m byte → ⊥)
+  abbrev NotSpare : ℕ → Type 0
+  NotSpare byte = IsSpare m byte → ⊥
 
-  play_all : (A : ByteSet) → ((byte : ℕ) → IsTrue (A byte) → PlaysNoRole m byte → ⊥) → (bytes : List ℕ) → AllIn A bytes → Play bytes
-  play_all A plays [] all = tt
-  play_all A plays (b ∷ bytes) all = (plays b all.0, play_all A plays bytes all.1)
+  abbrev Plays : ℕ → Type 0
+  Plays byte = PlaysNoRole m byte → ⊥
 
-  play_both : (xs ys : List ℕ) → Play xs → Play ys → Play (xs ++ ys)
-  play_both [] ys a b = b
-  play_both (x ∷ xs) ys a b = (a.0, play_both xs ys a.1 b)
+  -- What holds of a set holds of bytes of the set.
+  each : (P : ℕ → Type 0) (A : ByteSet) → ((byte : ℕ) → IsTrue (A byte) → P byte) → (bytes : List ℕ) → AllIn A bytes → All P bytes
+  each P A has bytes all = All-weaker (λ byte. IsTrue (A byte)) P has bytes (All-from_recursion (λ byte. IsTrue (A byte)) bytes all)
 
-  play_at : (xs : List ℕ) (i : ℕ) → Play xs → i < length xs → PlaysNoRole m (get_or xs i 0) → ⊥
-  play_at [] i all below none = omega (arith, below)
-  play_at (x ∷ xs) ℕ.zero all below none = all.0 none
-  play_at (x ∷ xs) (ℕ.suc i) all below none = play_at xs i all.1 (omega (arith, below)) none
+  not_spare : (r : Role) → (r ≡ roles.Prefix → ⊥) → (b : ℕ) → IsTrue (set_of_role m r b) → NotSpare b
+  not_spare r other b has none = false≢true (sym (none r other) ∙ has)
 
-  play_sign : (b : ℕ) → IsTrue (signs b) → PlaysNoRole m b → ⊥
-  play_sign b has none = false≢true (sym (none.none roles.Sign) ∙ has)
+  run_not_spare : (part : Part) (b : ℕ) → IsTrue (run_byte m part b) → NotSpare b
+  run_not_spare part b has none = let digit = none roles.Digit (λ same. cc) in let separator = none roles.Separator (λ same. cc)
+      in go part has digit separator where
+        go : (part : Part) → IsTrue (run_byte m part b) → set_of_role m roles.Digit b ≡ false → set_of_role m roles.Separator b ≡ false → ⊥
+        go parts.Integer has digit separator = grind arith
+        go parts.Fraction has digit separator = grind arith
+        go parts.Exponent has digit separator = grind arith
 
-  play_prefix : (b : ℕ) → IsTrue (prefix_byte m b) → PlaysNoRole m b → ⊥
-  play_prefix b has none = let no = none.none roles.Prefix in let zero = none.not_zero in grind (arith, nat_tests)
+  -- Behind its sign and its prefix, a literal has no spare byte.
+  pub rest_known : (l : Literal) (text : List ℕ) → Reads m l text → All NotSpare (rest_of l)
+  rest_known l text reads =
+      let is = parts_have_roles m l reads.literal.spelled in
+      All-append NotSpare l.integer _ (each NotSpare (run_byte m parts.Integer) (run_not_spare parts.Integer) l.integer is.integer)
+      (All-append NotSpare l.point _ (each NotSpare m.point (not_spare roles.Point (λ same. cc)) l.point is.point)
+      (All-append NotSpare l.fraction _ (each NotSpare (run_byte m parts.Fraction) (run_not_spare parts.Fraction) l.fraction is.fraction)
+      (All-append NotSpare l.exponent_character _
+      (each NotSpare m.exponent_character (not_spare roles.Exponent (λ same. cc)) l.exponent_character is.exponent_character)
+      (All-append NotSpare l.exponent_sign _ (each NotSpare signs (not_spare roles.Sign (λ same. cc)) l.exponent_sign is.exponent_sign)
+      (All-append NotSpare l.exponent _ (each NotSpare (run_byte m parts.Exponent) (run_not_spare parts.Exponent) l.exponent is.exponent)
+      (each NotSpare m.suffix (not_spare roles.Suffix (λ same. cc)) l.suffix is.suffix))))))
 
-  play_run : (part : Part) (b : ℕ) → IsTrue (run_byte m part b) → PlaysNoRole m b → ⊥
-  play_run parts.Integer b has none = let digit = none.none roles.Digit in let separator = none.none roles.Separator in grind arith
-  play_run parts.Fraction b has none = let digit = none.none roles.Digit in let separator = none.none roles.Separator in grind arith
-  play_run parts.Exponent b has none = let digit = none.none roles.Digit in let separator = none.none roles.Separator in grind arith
+  plays_prefix : (b : ℕ) → IsTrue (prefix_byte m b) → Plays b
+  plays_prefix b has none = let no = none.none roles.Prefix in let zero = none.not_zero in grind (arith, nat_tests)
 
-  literal_plays : (l : Literal) (text : List ℕ) → Reads m l text → Play (text_of l)
+  literal_plays : (l : Literal) (text : List ℕ) → Reads m l text → All Plays (text_of l)
   literal_plays l text reads =
       let is = parts_have_roles m l reads.literal.spelled in
-      play_both l.sign _ (play_all signs play_sign l.sign is.sign)
-      (play_both l.prefix _ (play_all (prefix_byte m) play_prefix l.prefix is.prefix)
-      (play_both l.integer _ (play_all (run_byte m parts.Integer) (play_run parts.Integer) l.integer is.integer)
-      (play_both l.point _ (play_all m.point (λ b has none. false≢true (sym (none.none roles.Point) ∙ has)) l.point is.point)
-      (play_both l.fraction _ (play_all (run_byte m parts.Fraction) (play_run parts.Fraction) l.fraction is.fraction)
-      (play_both l.exponent_character _
-      (play_all m.exponent_character (λ b has none. false≢true (sym (none.none roles.Exponent) ∙ has)) l.exponent_character is.exponent_character)
-      (play_both l.exponent_sign _ (play_all signs play_sign l.exponent_sign is.exponent_sign)
-      (play_both l.exponent _ (play_all (run_byte m parts.Exponent) (play_run parts.Exponent) l.exponent is.exponent)
-      (play_all m.suffix (λ b has none. false≢true (sym (none.none roles.Suffix) ∙ has)) l.suffix is.suffix))))))))
+      All-append Plays l.sign _ (each Plays signs (λ b has none. false≢true (sym (none.none roles.Sign) ∙ has)) l.sign is.sign)
+      (All-append Plays l.prefix _ (each Plays (prefix_byte m) plays_prefix l.prefix is.prefix)
+      (All-weaker NotSpare Plays (λ b known none. known (λ r other. none.none r)) (rest_of l) (rest_known l text reads)))
 
   -- A text with a byte that plays no role is not a literal.
   pub no_role_excludes : (text : List ℕ) (i : ℕ) → i < length text → PlaysNoRole m (get_or text i 0) → NoLiteral m text
   no_role_excludes text i below none l reads =
-      play_at text i (subst Play (sym reads.whole) (literal_plays l text reads)) below none
+      All-get_or Plays text i 0 below (subst (All Plays) (sym reads.whole) (literal_plays l text reads)) none
 
   -- `BeginsPrefixed text` holds if a zero and the base prefix are behind the sign of `text`.
   pub record BeginsPrefixed (text : List ℕ) : Type 0 where
@@ -96,20 +104,17 @@ module _ (m : Notation) (text : List ℕ) (n : ℕ) (is : IsValidUpTo m text n) 
     | inr near ↦ near
   ]
 
-  pub same_sign : (text rest : List ℕ) (n : ℕ) → 0 < n → sign_size (take n text ++ rest) ≡ sign_size text ⊎ (text ≡ [])
-  same_sign [] rest n some = inr refl
-  same_sign (b ∷ text) rest ℕ.zero some = absurd (omega (arith, some))
-  same_sign (b ∷ text) rest (ℕ.suc n) some = inl refl
+  pub same_sign : (text rest : List ℕ) (n : ℕ) → 0 < n → n ≤ length text → sign_size (take n text ++ rest) ≡ sign_size text
+  same_sign [] rest n some within = absurd (omega (arith, some, within))
+  same_sign (b ∷ text) rest ℕ.zero some within = absurd (omega (arith, some))
+  same_sign (b ∷ text) rest (ℕ.suc n) some within = refl
 
   -- It ends behind the first byte that a required prefix is not.
   pub near_prefix : IsTrue (m.condition conditions.BasePrefix) → (BeginsPrefixed m text → ⊥) → n ≤ sign_size text + 1
   near_prefix required none = elim (cases_lt (sign_size text + 1) n) [
     | inl below ↦
         let begins = prefix_begins m is.front.literal whole is.front.reads required in
-        let same : sign_size whole ≡ sign_size text = elim (same_sign text is.front.more n (omega (arith, below))) [
-          | inl same ↦ same
-          | inr empty ↦ absurd (let within = is.within in let no : length text ≡ 0 = ap length empty in omega (arith, no, within, below))
-        ] in
+        let same : sign_size whole ≡ sign_size text = same_sign text is.front.more n (omega (arith, below)) is.within in
         absurd (none (record {
           inside = omega (arith, below, is.within);
           zero = sym (same_byte (sign_size text) (omega (arith, below))) ∙ ap (λ i. get_or whole i 0) (sym same) ∙ begins.zero;

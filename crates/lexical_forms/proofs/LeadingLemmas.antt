@@ -8,13 +8,18 @@ use Rattle.lexical_forms.specs.Additions.Forms.{NoFrontPast, PlaysNoRole}
 use Rattle.lexical_literal.specs.Additions.Literal.{HasSums, before_exponent}
 use Rattle.lexical_forms.specs.Additions.Token.{FrontsWithin, IsLeading, IsNear, IsPicked, has_float, has_prefix}
 use Rattle.lexical_forms.specs.Token.{HasFrontOfSyntax}
-use Rattle.lexical_forms.specs.Token.{IsCandidate, IsToken, gives_back, is_shorter}
+use Rattle.lexical_forms.specs.Token.{IsCandidate, IsToken, gives_back, is_alone, is_shorter, takes_point}
 use Rattle.std.specs.Borrow.{Bor}
+use Rattle.std.specs.Prelude.{not}
 use Rattle.std.proofs.lemmas.List.{drop-take, get_or-take, get_or_append_left, length-append, take-take}
 use Rattle.std.proofs.lemmas.Option.{slice_get_within}
 use Rattle.lexical_literal.specs.Additions.GroupSize.{goes}
 use Rattle.lexical_literal.specs.Cause.{is_in}
-use Rattle.lexical_forms.specs.Suffix.{any_word_size, begins, byte_before, is_stopped, is_word_byte, kind_with, longest_word, suffix_size, word_size}
+use Rattle.lexical_forms.specs.Suffix.{any_word_size, begins, byte_before, if_whole, is_digit, is_point, is_stopped, is_word_byte, kind_with}
+use Rattle.lexical_forms.specs.Suffix.{longest_word, meets, stops_of, suffix_size, word_size}
+use Rattle.std.specs.List.{list_any}
+use Rattle.lexical_forms.specs.declared.list.PointsBack.{PointsBack}
+use Rattle.lexical_forms.specs.declared.list.PointsBack.TheVariants as points
 use Rattle.lexical_forms.specs.declared.list.Tokens.{Tokens}
 use Rattle.lexical_literal.specs.declared.literal.Sums.{Sums}
 use Rattle.lexical_literal.specs.declared.step.Piece.TheVariants as pieces
@@ -22,6 +27,7 @@ use Rattle.lexical_forms.specs.declared.suffix.Suffixes.{Suffixes}
 use Rattle.lexical_literal.specs.declared.syntax.Condition.TheVariants as conditions
 use Rattle.lexical_forms.specs.declared.token.Token.{Token}
 use Rattle.lexical_forms.proofs.ExcludeLemmas.{BeginsPrefixed, no_role_excludes, prefix_begins}
+use Rattle.lexical_forms.proofs.OpeningLemmas.{begins_whole, both}
 use Rattle.lexical_forms.proofs.TokenLemmas.{float_is, some_is, token_is}
 
 -- A suffix is in the word with which the text begins.
@@ -39,12 +45,20 @@ any_within : (begin text : List ℕ) → any_word_size begin text ≤ word_size 
 any_within begin [] = omega arith
 any_within begin (byte ∷ text) = grind arith
 
+whole_within : (whole : Bool) (text : List ℕ) (size : ℕ) → if_whole whole text size ≤ size
+whole_within whole text size = go (whole && not (size == word_size text)) where
+  go : (b : Bool) → (if b then 0 else size) ≤ size
+  go true = omega arith
+  go false = omega arith
+
 pub suffix_within : (suffixes : Option (Bor Suffixes)) (float : Bool) (text : List ℕ) → suffix_size suffixes float text ≤ word_size text
 suffix_within None float text = omega arith
 suffix_within (Some it) float text =
     let any = any_within it.now.any.now text in
     let floats = longest_within it.now.either_case it.now.floats.now text in
-    let integers = longest_within it.now.either_case it.now.integers.now text in grind arith
+    let integers = longest_within it.now.either_case it.now.integers.now text in
+    let whole = whole_within it.now.whole_words text (longest_word it.now.either_case (if float then it.now.floats.now else it.now.integers.now) text) in
+    grind arith
 
 -- A word ends where no byte of a word follows.
 word_within : (text : List ℕ) (index end : ℕ) → index ≤ end → is_in is_word_byte (slice_get text end) ≡ false
@@ -71,9 +85,6 @@ front_sign : (text rest : List ℕ) (more : ℕ) → more ≤ length text → 0 
 front_sign [] rest more within some = omega (arith, within, some)
 front_sign (byte ∷ text) rest ℕ.zero within some = omega (arith, some)
 front_sign (byte ∷ text) rest (ℕ.suc more) within some = refl
-
-as_front : (m : Notation) (text : List ℕ) (l : Literal) → Reads m l text → IsFront m text
-as_front m text l reads = record { more = []; literal = l; reads = record { whole = append-nil text ∙ reads.whole; literal = reads.literal } }
 
 module _ (m : Notation) (text : List ℕ) where
   -- No literal goes on behind a byte that plays no role.
@@ -111,11 +122,11 @@ module _ (m : Notation) (text : List ℕ) where
         let inside = begins.inside in let size = length-take-le n text within in
         let sign : sign_size (take n text) ≡ sign_size text =
         ap sign_size (sym (append-nil (take n text))) ∙ front_sign text [] n within (omega (arith, inside, size)) in
-        lacking_within n (omega (arith, inside, size, sign)) within (as_front m (take n text) l reads)
+        lacking_within n (omega (arith, inside, size, sign)) within (begins_whole (Reads m) (take n text) l reads)
 
 -- A form of which no literal goes on behind `size` bytes has no longer front.
 pub no_front_past : (m : Notation) (text : List ℕ) (size : ℕ) → IsWithin m text size → NoFrontPast m text size
-no_front_past m text size is more past inside l reads = is more past inside (as_front m (take more text) l reads)
+no_front_past m text size is more past inside l reads = is more past inside (begins_whole (Reads m) (take more text) l reads)
 
 pub fronts_past : (text : List ℕ) (size : ℕ) (form : Form) → NoFrontPast (notation_of form.syntax) text size → FrontsWithin text size form
 fronts_past text size form is n front = elim (cases_lt size n) [
@@ -146,7 +157,7 @@ pub fronts_more : (forms : List Form) (text : List ℕ) (i : ℕ) (d : Form) (ol
 fronts_more forms text i d old new inside less before own = All-more (FrontsWithin text new) forms i d inside
     (λ k e below. more_within text (get_or (take i forms) k e) old new less (before k e below)) own
 
-less_or_same : (b : Bool) (n : ℕ) → (if b then n - 1 else n) ≤ n
+pub less_or_same : (b : Bool) (n : ℕ) → (if b then n - 1 else n) ≤ n
 less_or_same true n = omega arith
 less_or_same false n = omega arith
 
@@ -158,6 +169,23 @@ no_longer s e a b less end = grind (arith, nat_tests)
 
 no_word_of : (a b : Bool) → (a || b) ≡ false → a ≡ false
 no_word_of a b none = grind arith
+
+-- What may follow where no word may does where any word may.
+no_digit_of : (byte : Option ℕ) → is_in is_word_byte byte ≡ false → is_in is_digit byte ≡ false
+no_digit_of None none = refl
+no_digit_of (Some byte) none = grind (arith, nat_tests)
+
+digit_of : (digit word stops : Bool) → (word ≡ false → digit ≡ false) → (word || stops) ≡ false → (digit || stops) ≡ false
+digit_of digit false stops less none = let no = less refl in grind arith
+digit_of digit true stops less none = absurd (false≢true (sym none))
+
+stopped_less : (words : Bool) (suffixes : Option (Bor Suffixes)) (text : List ℕ) (end : ℕ) → is_stopped false suffixes text end ≡ false
+    → is_stopped words suffixes text end ≡ false
+stopped_less words suffixes text end none = go (words && not (is_in is_point (byte_before text end))) where
+  go : (b : Bool) → (is_in (if b then is_digit else is_word_byte) (slice_get text end) || list_any (meets text end) (stops_of suffixes)) ≡ false
+  go true =
+      digit_of (is_in is_digit (slice_get text end)) (is_in is_word_byte (slice_get text end)) _ (no_digit_of (slice_get text end)) none
+  go false = none
 
 -- No literal goes on behind more bytes.
 pub within_more : (m : Notation) (text : List ℕ) (a b : ℕ) → a ≤ b → IsWithin m text a → IsWithin m text b
@@ -171,12 +199,6 @@ without_point false n size s is low given = elim (cases_lt size n) [
   | inr near ↦ omega (arith, is, near)
 ]
 
-both : (a b c : Bool) → (a && b && c) ≡ true → (a ≡ true) × (b ≡ true)
-both true true true is = (refl, refl)
-both true true false is = absurd (false≢true is)
-both true false c is = absurd (false≢true is)
-both false b c is = absurd (false≢true is)
-
 -- The byte before the one behind is the byte.
 byte_behind : (text : List ℕ) (size : ℕ) → byte_before text (size + 1) ≡ slice_get text size
 byte_behind text size = go (size + 1 == 0) refl where
@@ -184,12 +206,19 @@ byte_behind text size = go (size + 1 == 0) refl where
   go true is = grind (arith, nat_tests)
   go false is = ap (slice_get text) (let same : size + 1 - 1 ≡ size = omega arith in same)
 
-pub given_point : (back : Bool) (m : Notation) (text : List ℕ) (size : ℕ) → gives_back back m text (size + 1) ≡ true
-    → (back ≡ true) × (is_in m.point (slice_get text size) ≡ true)
+pub given_point : (back : PointsBack) (m : Notation) (text : List ℕ) (size : ℕ) → gives_back back m text (size + 1) ≡ true
+    → (is_alone back text size (size + 1) ≡ true) × (is_in m.point (slice_get text size) ≡ true)
 given_point back m text size gives =
-    let parts = both back (is_in m.point (byte_before text (size + 1)))
-    (is_in (λ byte. (byte == 46) || is_word_byte byte) (slice_get text (size + 1))) gives in
-    (parts.0, ap (is_in m.point) (sym (byte_behind text size)) ∙ parts.1)
+    let parts = both (is_in m.point (byte_before text (size + 1))) (is_in (takes_point back) (slice_get text (size + 1))) gives in
+    (alone back parts.1, ap (is_in m.point) (sym (byte_behind text size)) ∙ parts.0) where
+      nothing : (o : Option ℕ) → is_in (takes_point points.Never) o ≡ false
+      nothing None = refl
+      nothing (Some byte) = refl
+
+      alone : (back : PointsBack) → is_in (takes_point back) (slice_get text (size + 1)) ≡ true → is_alone back text size (size + 1) ≡ true
+      alone points.Never takes = absurd (false≢true (sym (nothing (slice_get text (size + 1))) ∙ takes))
+      alone points.ToWords takes = grind (arith, nat_tests)
+      alone points.ToLetters takes = grind (arith, nat_tests)
 
 -- One form more.
 pub near_more : (P : Form → Type 0) (forms : List Form) (but i : ℕ) (r : Form) → i < length forms
@@ -212,16 +241,16 @@ front_of text form size within l reads is = (
   record {
     within = within;
     reads = reads;
-    no_longer = λ n past inside l reads. is n past inside (as_front (notation_of form.syntax) (take n text) l reads);
+    no_longer = λ n past inside l reads. is n past inside (begins_whole (Reads (notation_of form.syntax)) (take n text) l reads);
   },
 )
 
 -- The literal before a point that is given back, where reading stops, is that of a candidate.
-abbrev HasLongest : Bool → List ℕ → Form → ℕ → Type 0
+abbrev HasLongest : PointsBack → List ℕ → Form → ℕ → Type 0
 HasLongest back text form size =
     (longest : ℕ) × HasFrontOfSyntax text form longest × (size ≡ (if gives_back back (notation_of form.syntax) text longest then longest - 1 else longest))
 
-pub front_before : (back : Bool) (text : List ℕ) (form : Form) (stop : Stopped) (size : ℕ) → IsStopped (notation_of form.syntax) text stop
+pub front_before : (back : PointsBack) (text : List ℕ) (form : Form) (stop : Stopped) (size : ℕ) → IsStopped (notation_of form.syntax) text stop
     → stop.size ≡ size + 1 → gives_back back (notation_of form.syntax) text stop.size ≡ true → gives_back back (notation_of form.syntax) text size ≡ false
     → (l : Literal) → Reads (notation_of form.syntax) l (take size text) → HasLongest back text form size
 front_before back text form stop size is stop_is gives kept l reads = go (goes (notation_of form.syntax) stop.read is.group None) refl where
@@ -240,7 +269,7 @@ front_before back text form stop size is stop_is gives kept l reads = go (goes (
         within = let within = is.valid.within in omega (arith, within, stop_is);
         reads = reads;
         no_longer = λ n past inside l reads. elim (cases_lt stop.size n) [
-          | inl beyond ↦ is.valid.no_longer n beyond inside (as_front (notation_of form.syntax) (take n text) l reads)
+          | inl beyond ↦ is.valid.no_longer n beyond inside (begins_whole (Reads (notation_of form.syntax)) (take n text) l reads)
           | inr near ↦ is.incomplete off l
               (subst (λ n. Reads (notation_of form.syntax) l (take n text)) (let same : n ≡ stop.size = omega (arith, past, near, stop_is) in same) reads)
         ];
@@ -250,8 +279,8 @@ front_before back text form stop size is stop_is gives kept l reads = go (goes (
   )
 
 -- A point alone that is given back does not go on.
-no_point : (back is : Bool) (a b : ℕ) → (back && (a == b) && is) ≡ false → back ≡ true → a ≡ b → is ≡ true → ⊥
-no_point back is a b alone given same point = grind (arith, nat_tests)
+no_point : (alone is : Bool) → (alone && is) ≡ false → alone ≡ true → is ≡ true → ⊥
+no_point alone is none given point = grind arith
 
 -- The token of a form that is the first with a literal behind which no literal goes on, or only with a point that is given back.
 module _ (list : FormList) (t : Tokens) (text : List ℕ) (index : ℕ) (form : Form) (counts : List ℕ) (size : ℕ)
@@ -292,7 +321,7 @@ module _ (list : FormList) (t : Tokens) (text : List ℕ) (index : ℕ) (form : 
       let size_is = other.size_is in omega (arith, longest, part, size_is)
 
   module _ (more : ℕ) (more_is : more ≡ suffix_size form.suffixes (has_float counts) (drop size text)) (inside : size + more ≤ length text)
-      (ended : is_stopped form.suffixes text (size + more) ≡ false) where
+      (ended : is_stopped false form.suffixes text (size + more) ≡ false) where
     no_word : is_in is_word_byte (slice_get text (size + more)) ≡ false
     no_word = no_word_of _ _ ended
 
@@ -320,9 +349,9 @@ module _ (list : FormList) (t : Tokens) (text : List ℕ) (index : ℕ) (form : 
 
     picked : IsPicked list t text index form found
     picked = record {
-      chosen = inl (record {
-        at = is.at;
-        best = record {
+      chosen = inl (
+        is.at,
+        record {
           here = subst (λ o. IsSomeAnd o (λ form. IsCandidate t.gives_points_back false text form size (size + more))) (sym is.at) candidate;
           before = λ k d below s e other.
               let less = is.before.1 in
@@ -332,11 +361,11 @@ module _ (list : FormList) (t : Tokens) (text : List ℕ) (index : ℕ) (form : 
           others = λ k d below s e other.
               let low = size_within false (get_or list.forms k d) (near k d below) s e other in
               no_longer s e size (size + more) low (end_within false (get_or list.forms k d) s e low other);
-        };
-        others = λ k d below s e other.
+        },
+        λ k d below s e other.
             let low = size_within true (get_or t.forms.now k d) (near_behind k d below) s e other in
-            no_longer s e size (size + more) low (end_within true (get_or t.forms.now k d) s e low other);
-      });
+            no_longer s e size (size + more) low (end_within true (get_or t.forms.now k d) s e low other),
+      );
       measured = measured;
       order = omega arith;
       within = inside;
@@ -355,8 +384,11 @@ module _ (list : FormList) (t : Tokens) (text : List ℕ) (index : ℕ) (form : 
               let one : ahead.size ≡ size + more + 1 = omega (arith, further, low) in
               let at : is_in (notation_of g.syntax).point (slice_get text (size + more)) ≡ true =
               ap (λ n. is_in (notation_of g.syntax).point (slice_get text n)) (let same : size + more ≡ size = omega (arith, none) in same) ∙ given.1 in
-              no_point t.gives_points_back (is_in (notation_of g.syntax).point (slice_get text (size + more))) ahead.size
-              (size + more + 1) ahead.more given.0 one at
+              let alone : is_alone t.gives_points_back text (size + more) ahead.size ≡ true =
+              ap (λ n. is_alone t.gives_points_back text n ahead.size) (let same : size + more ≡ size = omega (arith, none) in same)
+              ∙ ap (is_alone t.gives_points_back text size) (let next : ahead.size ≡ size + 1 = omega (arith, one, none) in next) ∙ given.0 in
+              no_point (is_alone t.gives_points_back text (size + more) ahead.size) (is_in (notation_of g.syntax).point (slice_get text (size + more)))
+              ahead.more alone at
         ]
 
     pub leading_token : (token : Token) → token.form ≡ index → ReadsSyntax (take size text) token.literal form
@@ -364,7 +396,7 @@ module _ (list : FormList) (t : Tokens) (text : List ℕ) (index : ℕ) (form : 
         → token.rest.now ≡ drop (size + more) text → IsToken list t text token
     leading_token token same literal kind suffix rest = token_is list t text index form found picked token same literal kind
         (suffix ∙ ap (λ n. take n (drop size text)) (let sum : more ≡ size + more - size = omega arith in sum)) rest
-        (inr (λ k d below. not_ahead (get_or list.forms k d) (near k d below), ended))
+        (inr (λ k d below. not_ahead (get_or list.forms k d) (near k d below), stopped_less t.any_word_follows form.suffixes text (size + more) ended))
 
 -- The sums of the digits of a front are those of its parts in the text.
 piece_same : (text : List ℕ) (size a k : ℕ) → a + k ≤ size → take k (drop a (take size text)) ≡ take k (drop a text)

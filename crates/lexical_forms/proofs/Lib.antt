@@ -7,3 +7,4 @@ pub mod MarkLemmas
 mod FormLemmas
 mod TokenLemmas
 mod LeadingLemmas
+mod FactLemmas

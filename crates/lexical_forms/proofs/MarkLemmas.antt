@@ -8,9 +8,9 @@ use Rattle.lexical_literal.specs.Additions.Stop.{IsFronted}
 use Rattle.std.proofs.Common.{Err, IfSome, IsNone, IsSomeAnd, Ok, not}
 use Rattle.lexical_literal.specs.Front.{BeginsBy, NoFrontBy, NoneBy, ReadsFrontBy}
 use Rattle.lexical_forms.specs.Additions.Forms.{IsBehind, IsBetween, IsEnding, IsFrontIn, IsLeftOut, IsLow, IsNearSign, IsNoBetter, IsRefusedAt}
-use Rattle.lexical_forms.specs.Additions.Forms.{IsStoppedBefore, IsStoppedBehind, NoFrontPast, NoneOpenedPast, NonePast, PlaysNoRole, sign_size}
+use Rattle.lexical_forms.specs.Additions.Forms.{GoesTo, IsStoppedBefore, IsStoppedBehind, NoFrontPast, NoneOpenedPast, NonePast, PlaysNoRole, behind, sign_size}
 use Rattle.lexical_forms.specs.Affix.{Begins, IsOpened, IsOpenedTo, is_free, spelling, spells}
-use Rattle.lexical_forms.specs.Forms.{GoesTo, IsErrorIn, KeepsError, LacksClosing, OpensIn, Reaches, ReadsIn, behind, reach_in, right_in}
+use Rattle.lexical_forms.specs.Forms.{IsErrorIn, KeepsError, LacksClosing, OpensIn, Reaches, ReadsIn, reach_in, right_in}
 use Rattle.lexical_forms.specs.declared.list.Furthest.{Furthest}
 use Rattle.lexical_forms.specs.declared.marks.Unclosed.{Unclosed}
 use Rattle.lexical_util.specs.Roles.{other_case, signs}
@@ -18,7 +18,7 @@ use Rattle.lexical_util.specs.declared.feature_format.roles.Role.TheVariants as 
 use Rattle.lexical_util.specs.declared.format_flags.Part.TheVariants as parts
 use Rattle.lexical_literal.proofs.OneCauseLemmas.{one_refusal}
 use Rattle.lexical_forms.proofs.ExcludeLemmas.{near_no_role}
-use Rattle.lexical_forms.proofs.OpeningLemmas.{begins_front, begins_of, behind_take, completed, completed_size, front_behind, front_byte}
+use Rattle.lexical_forms.proofs.OpeningLemmas.{begins_front, begins_of, begins_whole, behind_take, both, completed, completed_size, front_behind, front_byte}
 use Rattle.lexical_forms.proofs.OpeningLemmas.{front_opened, none_empty, not_begun, not_longer, not_opened, one_opened, one_size, opened_front}
 use Rattle.lexical_forms.proofs.OpeningLemmas.{past_behind, reach_within, rest_size, spelling_size, spells_own, valid_behind}
 use Rattle.std.proofs.lemmas.List.{append_assoc, drop-drop, drop-take, drop_at, get_or-drop, get_or-take, length-append, length-drop, take-append-drop}
@@ -45,10 +45,6 @@ all_false false false false false false false false true i j is = absurd (false�
 all_false false false false false false false false false true j is = absurd (false≢true is)
 all_false false false false false false false false false false true is = absurd (false≢true is)
 all_false false false false false false false false false false false is = (refl, refl, refl, refl, refl, refl, refl, refl, refl, refl)
-
-both : (a b : Bool) → (a && b) ≡ true → (a ≡ true) × (b ≡ true)
-both true b is = (refl, is)
-both false b is = absurd (false≢true is)
 
 other_of : (a b : Bool) → a ≡ false → (a || b) ≡ true → b ≡ true
 other_of false b fails is = is
@@ -265,11 +261,8 @@ module _ (g : Form) where
         low : e.end - n ≤ size
         low = elim (cases_lt size (e.end - n)) [
           | inl longer ↦ absurd (valid.no_longer (e.end - n) longer
-              (let before = e.before in let inside = e.inside in omega (arith, all_rest, before, inside)) (record {
-                more = [];
-                literal = e.literal;
-                reads = subst (Reads m e.literal) (sym (append-nil (take (e.end - n) rest))) e.reads;
-              }))
+              (let before = e.before in let inside = e.inside in omega (arith, all_rest, before, inside))
+              (begins_whole (Reads m) (take (e.end - n) rest) e.literal e.reads))
           | inr near ↦ near
         ]
 
@@ -423,11 +416,9 @@ module _ (g : Form) where
           });
         };
         no_longer = λ more past inside l reads. elim (cases_lt 0 c) [
-          | inl some ↦ (let ends = closes some size (valid some) more (omega (arith, past, same)) inside (record {
-            more = [];
-            literal = l;
-            reads = subst (ReadsIn g l) (sym (append-nil (take more text))) reads;
-          }) in let exact = ends.exact in absurd (omega (arith, exact, past, same)))
+          | inl some ↦
+              let ends = closes some size (valid some) more (omega (arith, past, same)) inside (begins_whole (ReadsIn g) (take more text) l reads) in
+              let exact = ends.exact in absurd (omega (arith, exact, past, same))
           | inr low ↦ front.no_longer more (omega (arith, past, same)) inside l (opens_of (omega (arith, low)) l (take more text) reads)
         ];
       } where
@@ -456,7 +447,7 @@ module _ (g : Form) where
           ]
         where
           begins : BeginsBy (ReadsIn g) (take more text)
-          begins = record { more = []; literal = k; reads = subst (ReadsIn g k) (sym (append-nil (take more text))) reads }
+          begins = begins_whole (ReadsIn g) (take more text) k reads
 
           more_is : length (take more text) ≡ more
           more_is = length-take-le more text inside
@@ -470,11 +461,7 @@ module _ (g : Form) where
 
           most : size ≤ stop
           most = elim (cases_lt stop size) [
-            | inl more ↦ absurd (valid.no_longer size more is.within (record {
-              more = [];
-              literal = l;
-              reads = subst (Reads m l) (sym (append-nil (take size rest))) is.reads;
-            }))
+            | inl more ↦ absurd (valid.no_longer size more is.within (begins_whole (Reads m) (take size rest) l is.reads))
             | inr low ↦ low
           ]
 
@@ -825,8 +812,7 @@ module _ (g : Form) where
   module _ (rest : List ℕ) (stop : Stopped) (found : Option Found) (front : IsFronted m rest stop found) where
     literal_within : (l : Literal) (size : ℕ) → size ≤ length rest → Reads m l (take size rest) → size ≤ stop.size
     literal_within l size inside reads = elim (cases_lt stop.size size) [
-      | inl more ↦ absurd (front.reached.valid.no_longer size more inside
-          (record { more = []; literal = l; reads = subst (Reads m l) (sym (append-nil (take size rest))) reads }))
+      | inl more ↦ absurd (front.reached.valid.no_longer size more inside (begins_whole (Reads m) (take size rest) l reads))
       | inr low ↦ low
     ]
 

@@ -2,20 +2,23 @@
 use Rattle.lexical_forms.proofs.Common.{ℕ, ◌≡◌, ◌+◌, ◌-◌, ◌*◌, ◌<◌, ◌≤◌, ◌++◌, ◌∙◌, inl, inr, Bool, true, false, List, [], Form}
 use Rattle.lexical_forms.proofs.Common.{Literal, NoLiteral, Notation, Reads, Refusal, ap, arith, cases_lt, drop, false≢true, get_or, if◌then◌else◌}
 use Rattle.lexical_forms.proofs.Common.{IsFront, IsValidUpTo, ReadsFront, append-nil, is_absent, is_present, is_stray, length, length-take-le}
-use Rattle.lexical_forms.proofs.Common.{nat_tests, notation_of, reach, refl, subst, sym, take, ◌||◌, ◌∷◌}
+use Rattle.lexical_forms.proofs.Common.{nat_tests, notation_of, reach, refl, subst, sym, take, ◌&&◌, ◌||◌, ◌∷◌}
 use Rattle.std.proofs.Common.{not}
 use Rattle.lexical_literal.specs.Front.{BeginsBy, IsValidBy, NoneBy, ReadsFrontBy}
-use Rattle.lexical_forms.specs.Additions.Forms.{NoFrontPast, NoneOpenedPast}
+use Rattle.lexical_forms.specs.Additions.Forms.{NoFrontPast, NoneOpenedPast, behind}
 use Rattle.lexical_forms.specs.Affix.{Begins, IsOpened, IsOpenedTo, spelling, spells}
 use Rattle.lexical_forms.specs.declared.affix.Affix.{Affix}
-use Rattle.lexical_forms.specs.Forms.{OpensIn, behind}
+use Rattle.lexical_forms.specs.Forms.{OpensIn}
 use Rattle.std.proofs.lemmas.List.{append_assoc, drop-append-le, drop-take, drop_all, drop_at, get_or-append_right, get_or-drop, get_or-take}
 use Rattle.std.proofs.lemmas.List.{get_or_append_left, length-append, length-drop}
 
--- A text has one longest front that some literal begins with, and one that is a literal.
+-- A text has one longest front that some literal begins with, and one that is a literal. A literal begins with itself.
 module _ (R : Literal → List ℕ → Type 0) (text : List ℕ) where
   pub one_size : (a b : ℕ) → IsValidBy R text a → IsValidBy R text b → a ≤ b
   one_size a b is other = let longer = λ (below : b < a). other.no_longer a below is.within is.front in grind arith
+
+  abbrev pub begins_whole : (l : Literal) → R l text → BeginsBy R text
+  begins_whole l reads = record { more = []; literal = l; reads = subst (R l) (sym (append-nil text)) reads }
 
   pub one_front : (l k : Literal) (a b : ℕ) → ReadsFrontBy R l text a → ReadsFrontBy R k text b → a ≤ b
   one_front l k a b is other = let longer = λ (below : b < a). other.no_longer a below is.within l is.reads in grind arith
@@ -37,6 +40,11 @@ no_empty m l reads =
 pub none_empty : (g : Form) → NoneBy (OpensIn g) []
 none_empty g l reads = no_empty (notation_of g.syntax) l
     (subst (Reads (notation_of g.syntax) l) (drop_all (g.opening.size) [] (omega arith)) reads.reads)
+
+-- Both are true if their conjunction is.
+pub both : (a b : Bool) → (a && b) ≡ true → (a ≡ true) × (b ≡ true)
+both true b is = (refl, is)
+both false b is = absurd (false≢true is)
 
 -- A number and at most 1 more.
 pub bit_within : (n a b : ℕ) (t : Bool) → a ≤ 1 → b ≤ 1 → (n ≤ n + (if t then a else b)) × (n + (if t then a else b) ≤ n + 1)

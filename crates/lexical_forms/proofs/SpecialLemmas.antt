@@ -1,6 +1,6 @@
 -- How a text is compared with a spelling.
 use Rattle.lexical_forms.proofs.Common.{ℕ, ◌≡◌, ◌≤◌, ◌⊎◌, inl, inr, ◌+◌, ◌-◌, Bool, true, false, ◌&&◌, Some, None, ◌||◌, nat_lt, List, [], ◌∷◌, get_or, drop}
-use Rattle.lexical_forms.proofs.Common.{refl, arith, cases_lt, nat_tests, raw, is_absent, Notation, notation_of, Grammar, ◌==◌, option_map, if◌then◌else◌}
+use Rattle.lexical_forms.proofs.Common.{refl, arith, cases_lt, nat_tests, raw, is_absent, Notation, notation_of, Grammar, ◌==◌, Option, option_map, if◌then◌else◌}
 use Rattle.lexical_forms.proofs.Common.{length}
 use Rattle.std.proofs.lemmas.List.{drop_more, drop_all}
 use Rattle.lexical_util.specs.Layout as layout
@@ -8,6 +8,7 @@ use Rattle.lexical_util.specs.Roles.{cased}
 use Rattle.lexical_forms.specs.Specials.{allows, is_spelled, letter_of, signed, special_of, special_separator, spelling_of}
 use Rattle.lexical_forms.specs.declared.specials.Sign.{Sign}
 use Rattle.lexical_forms.specs.declared.specials.Sign.TheVariants as signs
+use Rattle.lexical_forms.specs.declared.specials.Special.{Special}
 use Rattle.lexical_forms.specs.declared.specials.Specials.{Specials}
 
 -- No other byte is a separator.
@@ -94,8 +95,13 @@ module _ (m : Notation) (x : ℕ) where
     | inr past ↦ let last = drop_all n word past in let same = now.same in let within = now.within in grind (arith, nat_tests)
   ]
 
+-- `found m specials sign word` is the special value that `word` is behind `sign`, if there is one.
+abbrev pub found : Notation → Specials → Option Sign → List ℕ → Option Special
+found m specials sign word =
+    if allows m sign then option_map (λ spelling. record { sign = sign; spelling = spelling }) (spelling_of m specials word) else None
+
 -- A sign before a word is the sign of the text.
 pub of_signed : (m : Notation) (specials : Specials) (sign : Sign) (word : List ℕ) → special_of m specials (signed (Some sign) word)
-    ≡ (if allows m (Some sign) then option_map (λ spelling. record { sign = Some sign; spelling = spelling }) (spelling_of m specials word) else None)
+    ≡ found m specials (Some sign) word
 of_signed m specials signs.Plus word = refl
 of_signed m specials signs.Minus word = refl

@@ -13,6 +13,7 @@ use Rattle.lexical_forms.specs.Suffix.{is_digit, is_stopped, is_word_byte, kind_
 use Rattle.lexical_forms.specs.Token.{gives_back, is_shorter}
 use Rattle.lexical_forms.specs.Forms.{ReadsIn}
 use Rattle.lexical_literal.specs.Front.{NoneBy}
+use Rattle.lexical_forms.specs.declared.list.PointsBack.{PointsBack}
 use Rattle.lexical_forms.specs.declared.list.Tokens.{Tokens}
 use Rattle.lexical_forms.specs.declared.token.Token.{Token}
 use Rattle.lexical_forms.specs.declared.token.TokenError.{TokenError}
@@ -39,7 +40,7 @@ pub float_is : (l : Literal) (counts : List ℕ) → HasLengths l (cuts_of count
 float_is l counts is = λ j. present _ _ is.point j || present _ _ is.exponent_character j
 
 -- A form has one candidate.
-module _ (back needs : Bool) (text : List ℕ) (form : Form) (c : Candidate) (made : IsMade back needs text form c) (s e : ℕ)
+module _ (back : PointsBack) (needs : Bool) (text : List ℕ) (form : Form) (c : Candidate) (made : IsMade back needs text form c) (s e : ℕ)
     (other : IsCandidate back needs text form s e) where
   same_longest : other.longest ≡ made.candidate.longest
   same_longest =
@@ -96,7 +97,7 @@ more_than_none true n s off on = grind (arith, nat_tests)
 more_than_none false n s off on = grind arith
 
 -- The front of `text` that is left if its point is given back.
-module _ (back : Bool) (m : Notation) (text : List ℕ) (found : Found) (is : IsCountedFront m text found) where
+module _ (back : PointsBack) (m : Notation) (text : List ℕ) (found : Found) (is : IsCountedFront m text found) where
   pub kept : gives_back back m text found.size ≡ false → IsOwn back m text found.size found
   kept off = record {
     within = is.reads.within;
@@ -150,7 +151,7 @@ module _ (back : Bool) (m : Notation) (text : List ℕ) (found : Found) (is : Is
           front.reads.no_longer (length shorter) apart (omega arith) l read
 
 -- A form has a candidate, or none.
-module _ (back needs : Bool) (text : List ℕ) (form : Form) (found : Found) (is : IsCountedFront (notation_of form.syntax) text found) where
+module _ (back : PointsBack) (needs : Bool) (text : List ℕ) (form : Form) (found : Found) (is : IsCountedFront (notation_of form.syntax) text found) where
   longest_is : (s e : ℕ) → (other : IsCandidate back needs text form s e) → other.longest ≡ found.size
   longest_is s e other =
       let up = one_front (Reads (notation_of form.syntax)) text is.literal other.front.0 found.size other.longest is.reads other.front.1 in
@@ -217,7 +218,7 @@ module _ (back needs : Bool) (text : List ℕ) (form : Form) (found : Found) (is
           let longer = other.suffixed needed.0 in omega (arith, longer, at.0, at.1, needed.1)
       go false off none = no_some _ (sym none)
 
-module _ (back needs : Bool) (forms : List Form) (text : List ℕ) where
+module _ (back : PointsBack) (needs : Bool) (forms : List Form) (text : List ℕ) where
   -- `IsBestYet i best` holds if `best` is the best candidate of the first `i` forms.
   pub record IsYet (i index : ℕ) (c : Candidate) : Type 0 where
     pub here : IsSomeAnd (slice_get forms index) (λ form. IsMade back needs text form c)
@@ -296,7 +297,7 @@ module _ (back needs : Bool) (forms : List Form) (text : List ℕ) where
     go (Some form) made = made.candidate
 
 -- Whether a form goes on behind `end`.
-module _ (back : Bool) (text : List ℕ) (end : ℕ) (form : Form) (stop : ℕ) (valid : IsValidUpTo (notation_of form.syntax) text stop) where
+module _ (back : PointsBack) (text : List ℕ) (end : ℕ) (form : Form) (stop : ℕ) (valid : IsValidUpTo (notation_of form.syntax) text stop) where
   pub ahead : goes_on back (notation_of form.syntax) text end stop ≡ true → IsAhead back text end form
   ahead on = record { size = stop; valid = valid; further = grind (arith, nat_tests); more = grind (arith, nat_tests) }
 
@@ -326,7 +327,7 @@ module _ (list : FormList) (t : Tokens) (text : List ℕ) where
         let made = made_of false list.forms i form c at is in
         let end = made.candidate.end_is in
         record {
-          chosen = inl (record { at = at; best = is.best; others = others });
+          chosen = inl (at, is.best, others);
           measured = made.measured;
           order = omega (arith, end);
           within = made.within;
@@ -347,7 +348,7 @@ module _ (list : FormList) (t : Tokens) (text : List ℕ) where
         let made = made_of true t.forms.now j form o at is in
         let end = made.candidate.end_is in
         record {
-          chosen = inr (record { behind = j; index_is = refl; at = at; best = is.best; others = others });
+          chosen = inr (j, refl, at, is.best, others);
           measured = made.measured;
           order = omega (arith, end);
           within = made.within;
@@ -366,7 +367,8 @@ module _ (list : FormList) (t : Tokens) (text : List ℕ) where
     pub token_is : (token : Token) → token.form ≡ index → ReadsSyntax (take c.size text) token.literal form
         → token.literal.kind ≡ kind_with form.suffixes token.suffix.now form.kind → token.suffix.now ≡ take (c.end - c.size) (drop c.size text)
         → token.rest.now ≡ drop c.end text
-        → IsFollowed list t text c.end ⊎ (IsOver list t text c.end × (is_stopped form.suffixes text c.end ≡ false)) → IsToken list t text token
+        → IsFollowed list t text c.end ⊎ (IsOver list t text c.end × (is_stopped t.any_word_follows form.suffixes text c.end ≡ false))
+        → IsToken list t text token
     token_is token same literal kind suffix rest ended = record {
       form = form;
       size = c.size;
@@ -381,56 +383,42 @@ module _ (list : FormList) (t : Tokens) (text : List ℕ) where
 
     module _ (apart : IsFollowed list t text c.end → ⊥) where
       pub gone_on : (i : ℕ) × IsSomeAnd (slice_get list.forms i) (IsAhead t.gives_points_back text c.end) → IsRefused list t text
-      gone_on ahead = inr (inl (record {
-        index = index;
-        form = form;
-        size = c.size;
-        end = c.end;
-        chosen = is.chosen;
-        not_followed = apart;
-        ahead = ahead;
-      }))
+      gone_on ahead = inr (index, form, c.size, c.end, inr (is.chosen, apart, ahead.0, ahead.1))
 
-      module _ (over : IsOver list t text c.end) (stopped : is_stopped form.suffixes text c.end ≡ true) where
+      module _ (over : IsOver list t text c.end) (stopped : is_stopped t.any_word_follows form.suffixes text c.end ≡ true) where
+        cut : (digit : Bool) → ((c.size == c.end) && is_in is_digit (slice_get text c.size)) ≡ digit → IsCut list t text index form c.size c.end digit
+        cut digit same = record { chosen = is.chosen; not_followed = apart; over = over; stopped = stopped; digit_is = same }
+
         pub before_digit : ((c.size == c.end) && is_in is_digit (slice_get text c.size)) ≡ true → IsRefused list t text
-        before_digit digit = inr (inr (record {
-          index = index;
-          form = form;
-          size = c.size;
-          end = c.end;
-          chosen = is.chosen;
-          not_followed = apart;
-          over = over;
-          stopped = stopped;
-          digit = digit;
-        }))
+        before_digit digit = inr (index, form, c.size, c.end, inl (cut true digit))
 
         module _ (other : ((c.size == c.end) && is_in is_digit (slice_get text c.size)) ≡ false) where
-          cut : IsCut list t text index form c.size c.end
-          cut = record { chosen = is.chosen; not_followed = apart; over = over; stopped = stopped; no_digit = other }
-
           pub ended : (error : TokenError) → IsEnd form text index c error → IsTokenError list t text error
           ended (errors.UnknownSuffix i start end suffixes) e =
               let l = is.measured.literal.0 in
               let reads = is.measured.literal.1 in
-              let here = sym e.2 in record {
-                form = form;
-                behind = c.end;
-                cut = subst (λ n. IsCut list t text n form start c.end) (sym e.1) (subst (λ n. IsCut list t text index form n c.end) here cut);
-                word = e.0;
-                end_is = e.3;
-                literal = l;
-                reads = subst (λ n. Reads (notation_of form.syntax) l (take n text)) here reads;
-                words_are = e.4 ∙ ap (suffix_words form.suffixes) (float_is l c.counts (is.measured.counted l reads));
-              }
+              let here = sym e.2 in (
+                form,
+                c.end,
+                subst (λ n. IsCut list t text n form start c.end false) (sym e.1)
+                    (subst (λ n. IsCut list t text index form n c.end false) here (cut false other)),
+                e.0,
+                e.3,
+                (
+                  l,
+                  subst (λ n. Reads (notation_of form.syntax) l (take n text)) here reads,
+                  e.4 ∙ ap (suffix_words form.suffixes) (float_is l c.counts (is.measured.counted l reads)),
+                ),
+              )
           ended (errors.Stopped i start end) e =
-              let here = sym e.2 in record {
-                form = form;
-                size = c.size;
-                cut = subst (λ n. IsCut list t text n form c.size start) (sym e.1) (subst (λ n. IsCut list t text index form c.size n) here cut);
-                no_word = subst (λ n. is_in is_word_byte (slice_get text n) ≡ false) here e.0;
-                end_is = subst (λ n. end ≡ stop_end text n) here e.3;
-              }
+              let here = sym e.2 in (
+                form,
+                c.size,
+                subst (λ n. IsCut list t text n form c.size start false) (sym e.1)
+                    (subst (λ n. IsCut list t text index form c.size n false) here (cut false other)),
+                subst (λ n. is_in is_word_byte (slice_get text n) ≡ false) here e.0,
+                subst (λ n. end ≡ stop_end text n) here e.3,
+              )
           ended errors.NoTokens e = absurd e
           ended (errors.Literal error) e = absurd e
           ended (errors.NotAToken end) e = absurd e

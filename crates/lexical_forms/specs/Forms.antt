@@ -1,7 +1,6 @@
 -- Several forms of numbers: which form has a text, and which error a text has that is of no form.
 use Rattle.std.specs.Prelude.{ℕ, ◌≡◌, ◌+◌, ◌-◌, ◌*◌, ◌<◌, ◌≤◌, ◌⊎◌, true, false, if◌then◌else◌, IfErr, IfOk, IsErr, IsSomeAnd, List, Option, Some, None, Result}
-use Rattle.std.specs.Prelude.{All}
-use Rattle.std.specs.Prelude.{drop, length, option_map, slice_get, take}
+use Rattle.std.specs.Prelude.{All, drop, length, option_and_then, option_map, slice_get, take}
 use Rattle.std.specs.Result.{result_ok}
 use Rattle.std.specs.Borrow.{Bor}
 use Rattle.lexical_literal.specs.Cause.{Explained, IsRefusal, is_stray, tail_of}
@@ -24,14 +23,10 @@ use Rattle.lexical_forms.specs.declared.list.Number.TheVariants as numbers
 use Rattle.lexical_forms.specs.declared.specials.Special.{Special}
 use Rattle.lexical_forms.specs.declared.specials.Specials.{Specials}
 
--- `behind form text` is what follows as many bytes of `text` as the opening of `form` has.
-abbrev pub behind : Form → List ℕ → List ℕ
-behind form text = drop form.opening.size text
-
 -- `OpensIn form l text` holds if `text` is the opening of `form`, and then a literal of its syntax with the parts of `l`.
 pub record OpensIn (form : Form) (l : Literal) (text : List ℕ) : Type 0 where
   pub opened : IsOpened form.opening text
-  pub reads : Reads (notation_of form.syntax) l (behind form text)
+  pub reads : Reads (notation_of form.syntax) l (drop form.opening.size text)
 
 -- `ReadsIn form l text` holds if `text` is a literal of `form` with the parts of `l`: the opening, a literal of the syntax, and then the closing.
 pub record ReadsIn (form : Form) (l : Literal) (text : List ℕ) : Type 0 where
@@ -62,12 +57,9 @@ pub record KeepsError (form : Form) (rest : List ℕ) (error : Refusal) : Type 0
 -- syntax, or if `error` is `None`, and the opening or the closing is not there behind `right` bytes.
 abbrev pub IsErrorIn : Form → List ℕ → ℕ → Option Refusal → Type 0
 IsErrorIn form text right None = (IsOpenedTo form.opening text right × (right < form.opening.size)) ⊎ (IsOpened form.opening text
-    × (size : ℕ) × (closed : ℕ) × LacksClosing form (behind form text) size closed × (right ≡ form.opening.size + size + closed))
-IsErrorIn form text right (Some error) = IsOpened form.opening text × (right ≡ form.opening.size) × KeepsError form (behind form text) error
-
--- `GoesTo text form size` holds if some literal of `form` begins with the first `size` bytes of `text`, and none with more.
-abbrev pub GoesTo : List ℕ → Form → ℕ → Type 0
-GoesTo text form = IsValidBy (ReadsIn form) text
+    × (size : ℕ) × (closed : ℕ) × LacksClosing form (drop form.opening.size text) size closed × (right ≡ form.opening.size + size + closed))
+IsErrorIn form text right (Some error) = IsOpened form.opening text × (right ≡ form.opening.size)
+    × KeepsError form (drop form.opening.size text) error
 
 -- `HasFront text form size` holds if the longest front of `text` that is a literal of `form` has `size` bytes.
 abbrev pub HasFront : List ℕ → Form → ℕ → Type 0
@@ -135,7 +127,7 @@ pub record IsUnmarked (text : List ℕ) (form : Form) (size : ℕ) (it : Unmarke
 pub record IsErrorOfForm (text : List ℕ) (error : FormError) (form : Form) : Type 0 where
   pub name : error.name.now ≡ form.name.now
   pub refusal : IsErrorIn form text error.opened (refusal_in error)
-  pub valid : GoesTo text form (right_in error.opened (refusal_in error))
+  pub valid : IsValidBy (ReadsIn form) text (right_in error.opened (refusal_in error))
   pub unmarked : IfErr error.error (IsUnmarked text form error.opened)
 
 -- `IsFormError forms text error` holds if `error` is that of the form that goes furthest in `text`. Of several, it is the first
@@ -144,14 +136,9 @@ pub record IsFormError (forms : List Form) (text : List ℕ) (error : FormError)
   pub furthest : IsGreatest (Reaches text) forms error.form (reach_in error.opened (refusal_in error))
   pub refusal : IsSomeAnd (slice_get forms error.form) (IsErrorOfForm text error)
 
--- `special_in specials text form` is the special value that `text` is by the flags and conditions of `form`, or `None`, and
--- `special_by list text` is that of the first form.
-abbrev pub special_in : Specials → List ℕ → Option Form → Option Special
-special_in specials text None = None
-special_in specials text (Some form) = special_of (notation_of form.syntax) specials text
-
+-- `special_by list text` is the special value that `text` is by the flags and conditions of the first form, or `None`.
 abbrev pub special_by : FormList → List ℕ → Option Special
-special_by list text = special_in list.specials text (slice_get list.forms 0)
+special_by list text = option_and_then (λ (form : Form). special_of (notation_of form.syntax) list.specials text) (slice_get list.forms 0)
 
 -- `IsNumber list text number` holds if `number` is the literal `text` of the first form that has it, with the kind of this form, and its
 -- index, or the special value `text`, if `text` is a literal of no form.

@@ -1,9 +1,9 @@
 -- Words behind a number: suffixes, which belong to it, words that may follow it, and bytes that may not.
-use Rattle.std.specs.Prelude.{ℕ, ◌+◌, ◌-◌, ◌==◌, ◌&&◌, ◌||◌, Bool, true, false, if◌then◌else◌, nat_le, nat_lt, List, [], ◌∷◌, Option, Some, None, drop}
-use Rattle.std.specs.Prelude.{length, slice_get}
+use Rattle.std.specs.Prelude.{ℕ, ◌+◌, ◌-◌, ◌==◌, ◌&&◌, ◌||◌, not, Bool, true, false, if◌then◌else◌, nat_le, nat_lt, List, [], ◌∷◌, Option, Some, None}
+use Rattle.std.specs.Prelude.{drop, length, option_map, slice_get, unwrap_or}
 use Rattle.std.specs.Borrow.{Bor}
 use Rattle.std.specs.Char.{eq_ignore_ascii_case}
-use Rattle.std.specs.List.{list_any}
+use Rattle.std.specs.List.{find, list_any}
 use Rattle.lexical_util.specs.Ascii.{ByteSet}
 use Rattle.lexical_literal.specs.Cause.{is_in}
 use Rattle.lexical_literal.specs.declared.kind.Kind.{Kind}
@@ -18,6 +18,14 @@ is_word_byte byte =
 -- `is_digit byte` is true if `byte` is a decimal digit.
 abbrev pub is_digit : ByteSet
 is_digit byte = nat_le 48 byte && nat_le byte 57
+
+-- `is_point byte` is true if `byte` is `.`.
+abbrev pub is_point : ByteSet
+is_point byte = byte == 46
+
+-- `is_letter byte` is true if `byte` is a letter of ASCII.
+abbrev pub is_letter : ByteSet
+is_letter byte = (nat_le 65 byte && nat_le byte 90) || (nat_le 97 byte && nat_le byte 122)
 
 -- `word_size text` is the number of bytes of a word with which `text` begins.
 abbrev pub word_size : List ℕ → ℕ
@@ -51,31 +59,29 @@ abbrev pub suffix_words : Option (Bor Suffixes) → Bool → List (Bor (List ℕ
 suffix_words None float = []
 suffix_words (Some it) float = if float then it.now.floats.now else it.now.integers.now
 
+-- `if_whole whole text size` is `size`, or 0 if `whole` is true and the word with which `text` begins has another length.
+abbrev pub if_whole : Bool → List ℕ → ℕ → ℕ
+if_whole whole text size = if whole && not (size == word_size text) then 0 else size
+
 -- `suffix_size suffixes float text` is the length of the longest suffix with which `text` begins, behind a float or else an
--- integer, or 0 if there is none.
+-- integer, or 0 if there is none, or if the whole word is to be one and is none.
 abbrev pub suffix_size : Option (Bor Suffixes) → Bool → List ℕ → ℕ
 suffix_size None float text = 0
 suffix_size (Some it) float text =
     if any_word_size it.now.any.now text == 0
-    then longest_word it.now.either_case (if float then it.now.floats.now else it.now.integers.now) text
+    then if_whole it.now.whole_words text (longest_word it.now.either_case (if float then it.now.floats.now else it.now.integers.now) text)
     else any_word_size it.now.any.now text
 
--- `kind_among either kinds word kind` is the kind of the first of `kinds` that has `word`, letter case aside if `either` is true, or `kind` if
--- none has it.
-abbrev pub kind_among : Bool → List (Bor (List ℕ) × Kind) → List ℕ → Kind → Kind
-kind_among either [] word kind = kind
-kind_among either (first ∷ kinds) word kind =
-    if begins either first.0.now word && (length first.0.now == length word) then first.1 else kind_among either kinds word kind
-
--- `kind_with suffixes word kind` is the kind of a number with the suffix `word`, and `kind` unless the suffixes have another.
+-- `kind_with suffixes word kind` is the kind of a number with the suffix `word`: that of the first word which is this one, letter case aside if the
+-- suffixes are read in either case, and `kind` if none is.
 abbrev pub kind_with : Option (Bor Suffixes) → List ℕ → Kind → Kind
 kind_with None word kind = kind
-kind_with (Some it) word kind = kind_among it.now.either_case it.now.kinds.now word kind
+kind_with (Some it) word kind = unwrap_or (option_map (λ it. it.1)
+    (find (λ first. begins it.now.either_case first.0.now word && (length first.0.now == length word)) it.now.kinds.now)) kind
 
 -- `is_followed words text` is true if the word with which `text` begins is one of `words`.
 abbrev pub is_followed : List (Bor (List ℕ)) → List ℕ → Bool
-is_followed [] text = false
-is_followed (word ∷ words) text = (begins false word.now text && (length word.now == word_size text)) || is_followed words text
+is_followed words text = list_any (λ word. begins false word.now text && (length word.now == word_size text)) words
 
 -- `byte_before text index` is the byte before the one at `index`, or `None` if there is none.
 abbrev pub byte_before : List ℕ → ℕ → Option ℕ
@@ -92,12 +98,9 @@ abbrev pub meets : List ℕ → ℕ → Stop → Bool
 meets text end stop = admits stop.last.now (byte_before text end) && admits stop.next.now (slice_get text end)
     && admits stop.second.now (slice_get text (end + 1))
 
--- `stops_of suffixes` lists the stops of a form.
-abbrev pub stops_of : Option (Bor Suffixes) → List Stop
-stops_of None = []
-stops_of (Some it) = it.now.stops.now
-
--- `is_stopped suffixes text end` is true if what is behind the number that ends at `end` of `text` may not follow it: a byte of a word,
--- or a stop of the form.
-abbrev pub is_stopped : Option (Bor Suffixes) → List ℕ → ℕ → Bool
-is_stopped suffixes text end = is_in is_word_byte (slice_get text end) || list_any (meets text end) (stops_of suffixes)
+-- `is_stopped words suffixes text end` is true if what is behind the number that ends at `end` of `text` may not follow it: a byte of a
+-- word, or a digit alone if any word may follow, as `words` tells, a number that does not end in a point, or a stop of the form.
+abbrev pub is_stopped : Bool → Option (Bor Suffixes) → List ℕ → ℕ → Bool
+is_stopped words suffixes text end =
+    is_in (if words && not (is_in is_point (byte_before text end)) then is_digit else is_word_byte) (slice_get text end)
+    || list_any (meets text end) (unwrap_or (option_map (λ (it : Bor Suffixes). it.now.stops.now) suffixes) [])

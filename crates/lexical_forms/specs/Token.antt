@@ -1,8 +1,8 @@
 -- Tokens: numbers that a text begins with, each with its suffix, and whatever follows.
 use Rattle.std.specs.Prelude.{ℕ, ◌≡◌, ◌+◌, ◌-◌, ◌==◌, ◌&&◌, ◌||◌, ◌<◌, ◌⊎◌, Bool, true, false, if◌then◌else◌, nat_lt, IsTrue, IsSomeAnd, List, Option, Some}
-use Rattle.std.specs.Prelude.{None}
-use Rattle.std.specs.Prelude.{All, Result, Ok, Err, drop, length, slice_get, take}
+use Rattle.std.specs.Prelude.{None, All, Result, Ok, Err, drop, length, slice_get, take}
 use Rattle.std.specs.Borrow.{Bor}
+use Rattle.lexical_util.specs.Ascii.{ByteSet}
 use Rattle.lexical_literal.specs.Cause.{is_in}
 use Rattle.lexical_forms.specs.FormList.{FormList}
 use Rattle.lexical_forms.specs.Forms.{IsFormError, IsGreatest, NoForm}
@@ -10,18 +10,37 @@ use Rattle.lexical_literal.specs.Front.{IsValidUpTo, ReadsFront}
 use Rattle.lexical_literal.specs.Read.{Read}
 use Rattle.lexical_literal.specs.Literal.{Literal, Reads, is_float}
 use Rattle.lexical_literal.specs.Notation.{Notation, notation_of}
-use Rattle.lexical_forms.specs.Suffix.{byte_before, is_digit, is_followed, is_stopped, is_word_byte, kind_with, stop_end, suffix_size, suffix_words, word_size}
+use Rattle.lexical_forms.specs.Suffix.{byte_before, is_digit, is_followed, is_letter, is_stopped, is_word_byte, kind_with, stop_end, suffix_size, suffix_words}
+use Rattle.lexical_forms.specs.Suffix.{word_size}
 use Rattle.lexical_forms.specs.declared.form.Form.{Form}
+use Rattle.lexical_forms.specs.declared.list.PointsBack.{PointsBack}
+use Rattle.lexical_forms.specs.declared.list.PointsBack.TheVariants as points
 use Rattle.lexical_forms.specs.declared.list.Tokens.{Tokens}
 use Rattle.lexical_forms.specs.declared.token.Token.{Token}
 use Rattle.lexical_forms.specs.declared.token.TokenError.{TokenError}
 use Rattle.lexical_forms.specs.declared.token.TokenError.TheVariants as errors
 
--- `gives_back back m text size` is true if the list gives points back, as `back` tells, and if the first `size` bytes of `text` end in
--- a point, behind which another point follows or a byte of a word.
-abbrev pub gives_back : Bool → Notation → List ℕ → ℕ → Bool
-gives_back back m text size =
-    back && is_in m.point (byte_before text size) && is_in (λ byte. (byte == 46) || is_word_byte byte) (slice_get text size)
+-- `takes_point back byte` is true if a point before `byte` is given back, as `back` tells: before a point or a byte of a word, or before a
+-- letter.
+abbrev pub takes_point : PointsBack → ByteSet
+takes_point points.Never byte = false
+takes_point points.ToWords byte = (byte == 46) || is_word_byte byte
+takes_point points.ToLetters byte = is_letter byte
+
+-- `gives_back back m text size` is true if the first `size` bytes of `text` end in a point that is given back.
+abbrev pub gives_back : PointsBack → Notation → List ℕ → ℕ → Bool
+gives_back back m text size = is_in m.point (byte_before text size) && is_in (takes_point back) (slice_get text size)
+
+-- `begins_name text index` is true if a letter is at `index`, and another one or a point behind it.
+abbrev pub begins_name : List ℕ → ℕ → Bool
+begins_name text index = is_in is_letter (slice_get text index) && is_in (λ byte. (byte == 46) || is_letter byte) (slice_get text (index + 1))
+
+-- `is_alone back text end size` is true if no byte of a literal that goes up to `size` is behind the point at `end`, or, in a list that gives
+-- points back to letters, one byte that begins a name, as in `1.eq.2`.
+abbrev pub is_alone : PointsBack → List ℕ → ℕ → ℕ → Bool
+is_alone points.Never text end size = false
+is_alone points.ToWords text end size = size == end + 1
+is_alone points.ToLetters text end size = (size == end + 1) || ((size == end + 2) && begins_name text (end + 1))
 
 -- Forms of tokens have no opening. `HasFrontOfSyntax text form size` holds if the longest front of `text` that is a literal of the syntax of `form` has `size`
 -- bytes, and `ReadsSyntax text read form` if `text` is the literal `read` of it.
@@ -33,7 +52,7 @@ ReadsSyntax text read form = (read.format ≡ form.syntax.word) × Reads (notati
 
 -- `IsCandidate back needs text form size end` holds if the longest front of `text` that is a literal of `form`, without its point if that
 -- is given back, has `size` bytes and is a literal of `form`, and if `end` is behind its longest suffix, which is there if `needs` is true.
-pub record IsCandidate (back needs : Bool) (text : List ℕ) (form : Form) (size end : ℕ) : Type 0 where
+pub record IsCandidate (back : PointsBack) (needs : Bool) (text : List ℕ) (form : Form) (size end : ℕ) : Type 0 where
   pub longest : ℕ
   pub front : HasFrontOfSyntax text form longest
   pub size_is : size ≡ (if gives_back back (notation_of form.syntax) text longest then longest - 1 else longest)
@@ -48,7 +67,7 @@ is_shorter size end other_size other_end = nat_lt end other_end || ((end == othe
 
 -- `AllShorter`, `NoLonger` and `NoCandidate` hold of a form whose candidate, if it has one, is shorter than one of `size` bytes that ends
 -- at `end`, or not longer, or that has none.
-module _ (back needs : Bool) (text : List ℕ) where
+module _ (back : PointsBack) (needs : Bool) (text : List ℕ) where
   abbrev pub AllShorter : ℕ → ℕ → Form → Type 0
   AllShorter size end form = (s e : ℕ) → IsCandidate back needs text form s e → is_shorter s e size end ≡ true
 
@@ -60,40 +79,29 @@ module _ (back needs : Bool) (text : List ℕ) where
 
 -- `IsBest back needs forms text index size end` holds if the form with this index is the first of `forms` with the longest candidate,
 -- which has a literal of `size` bytes and ends at `end`.
-pub record IsBest (back needs : Bool) (forms : List Form) (text : List ℕ) (index size end : ℕ) : Type 0 where
+pub record IsBest (back : PointsBack) (needs : Bool) (forms : List Form) (text : List ℕ) (index size end : ℕ) : Type 0 where
   pub here : IsSomeAnd (slice_get forms index) (λ form. IsCandidate back needs text form size end)
   pub before : All (AllShorter back needs text size end) (take index forms)
   pub others : All (NoLonger back needs text size end) forms
 
--- `IsAhead back text end form` holds if some literal of `form` begins with more than the first `end` bytes of `text`, and not only with one
--- point more in a list that gives points back.
-pub record IsAhead (back : Bool) (text : List ℕ) (end : ℕ) (form : Form) : Type 0 where
+-- `IsAhead back text end form` holds if some literal of `form` begins with more than the first `end` bytes of `text`, and not only with a
+-- point that stands alone in a list that gives points back.
+pub record IsAhead (back : PointsBack) (text : List ℕ) (end : ℕ) (form : Form) : Type 0 where
   pub size : ℕ
   pub valid : IsValidUpTo (notation_of form.syntax) text size
   pub further : end < size
-  pub more : (back && (size == end + 1) && is_in (notation_of form.syntax).point (slice_get text end)) ≡ false
+  pub more : (is_alone back text end size && is_in (notation_of form.syntax).point (slice_get text end)) ≡ false
 
 -- Forms of a list, and those that need a suffix, whose indexes are behind.
 module _ (list : FormList) (t : Tokens) (text : List ℕ) where
-  -- `IsPlain index form size end` holds if `form`, with this index in the list, has the best candidate of the list, and no form that
-  -- needs a suffix has a longer one.
-  pub record IsPlain (index : ℕ) (form : Form) (size end : ℕ) : Type 0 where
-    pub at : slice_get list.forms index ≡ Some form
-    pub best : IsBest t.gives_points_back false list.forms text index size end
-    pub others : All (NoLonger t.gives_points_back true text size end) t.forms.now
-
-  -- `IsSuffixed index form size end` holds if `form`, which needs a suffix, has the best candidate of such forms, and a longer one than
-  -- those of the list.
-  pub record IsSuffixed (index : ℕ) (form : Form) (size end : ℕ) : Type 0 where
-    pub behind : ℕ
-    pub index_is : index ≡ length list.forms + behind
-    pub at : slice_get t.forms.now behind ≡ Some form
-    pub best : IsBest t.gives_points_back true t.forms.now text behind size end
-    pub others : All (AllShorter t.gives_points_back false text size end) list.forms
-
-  -- `IsChosen index form size end` holds if `form`, with this index, has the longest candidate.
+  -- `IsChosen index form size end` holds if `form`, with this index, has the longest candidate: the best of the list, and no form that needs a suffix
+  -- has a longer one, or the best of those, and a longer one than the forms of the list.
   abbrev pub IsChosen : ℕ → Form → ℕ → ℕ → Type 0
-  IsChosen index form size end = IsPlain index form size end ⊎ IsSuffixed index form size end
+  IsChosen index form size end =
+      ((slice_get list.forms index ≡ Some form) × IsBest t.gives_points_back false list.forms text index size end
+      × All (NoLonger t.gives_points_back true text size end) t.forms.now)
+      ⊎ ((behind : ℕ) × (index ≡ length list.forms + behind) × (slice_get t.forms.now behind ≡ Some form)
+      × IsBest t.gives_points_back true t.forms.now text behind size end × All (AllShorter t.gives_points_back false text size end) list.forms)
 
   -- `IsFollowed end` holds if a word that may follow a number is behind `end`.
   abbrev pub IsFollowed : ℕ → Type 0
@@ -114,84 +122,42 @@ module _ (list : FormList) (t : Tokens) (text : List ℕ) where
     pub kind : token.literal.kind ≡ kind_with form.suffixes token.suffix.now form.kind
     pub suffix : token.suffix.now ≡ take (end - size) (drop size text)
     pub rest : token.rest.now ≡ drop end text
-    pub ended : IsFollowed end ⊎ (IsOver end × (is_stopped form.suffixes text end ≡ false))
+    pub ended : IsFollowed end ⊎ (IsOver end × (is_stopped t.any_word_follows form.suffixes text end ≡ false))
 
-  -- `HasNone` holds if no form has a candidate, `HasGoneOn` if a literal goes on behind the longest, and `HasDigit` if a digit is directly
-  -- behind its literal, which has no suffix. Then a form is to blame.
-  pub record HasNone : Type 0 where
-    pub plain : All (NoCandidate t.gives_points_back false text) list.forms
-    pub suffixed : All (NoCandidate t.gives_points_back true text) t.forms.now
-
-  pub record HasGoneOn : Type 0 where
-    pub index : ℕ
-    pub form : Form
-    pub size : ℕ
-    pub end : ℕ
-    pub chosen : IsChosen index form size end
-    pub not_followed : IsFollowed end → ⊥
-    pub ahead : (i : ℕ) × IsSomeAnd (slice_get list.forms i) (IsAhead t.gives_points_back text end)
-
-  pub record HasDigit : Type 0 where
-    pub index : ℕ
-    pub form : Form
-    pub size : ℕ
-    pub end : ℕ
+  -- `IsCut index form size end digit` holds if `form`, with this index, has the longest candidate, no word that may follow is behind it and no literal
+  -- goes on, and what follows may not: directly behind a literal without a suffix a digit, if `digit` is true, or something else.
+  pub record IsCut (index : ℕ) (form : Form) (size end : ℕ) (digit : Bool) : Type 0 where
     pub chosen : IsChosen index form size end
     pub not_followed : IsFollowed end → ⊥
     pub over : IsOver end
-    pub stopped : is_stopped form.suffixes text end ≡ true
-    pub digit : ((size == end) && is_in is_digit (slice_get text size)) ≡ true
+    pub stopped : is_stopped t.any_word_follows form.suffixes text end ≡ true
+    pub digit_is : ((size == end) && is_in is_digit (slice_get text size)) ≡ digit
+
+  -- `HasNone` holds if no form has a candidate, and `IsRefused` if none has one, if a literal goes on behind the longest, or if a digit is directly
+  -- behind it. Then a form is to blame.
+  abbrev pub HasNone : Type 0
+  HasNone = All (NoCandidate t.gives_points_back false text) list.forms × All (NoCandidate t.gives_points_back true text) t.forms.now
 
   abbrev pub IsRefused : Type 0
-  IsRefused = HasNone ⊎ (HasGoneOn ⊎ HasDigit)
-
-  -- `word_end index` is the index behind the word of which the byte at `index` is one, or `index` if it is in no word.
-  abbrev pub word_end : ℕ → ℕ
-  word_end index = index + word_size (drop index text)
+  IsRefused = HasNone ⊎ ((index : ℕ) × (form : Form) × (size : ℕ) × (end : ℕ) × (IsCut index form size end true ⊎ (IsChosen index form size end
+      × (IsFollowed end → ⊥) × (i : ℕ) × IsSomeAnd (slice_get list.forms i) (IsAhead t.gives_points_back text end))))
 
   -- `IsWordUpTo size` holds if the form of the list that goes furthest in `text` stops in a word that ends at `size`.
-  pub record IsWordUpTo (size : ℕ) : Type 0 where
-    pub index : ℕ
-    pub stop : ℕ
-    pub furthest : IsGreatest (λ form n. IsValidUpTo (notation_of form.syntax) text n) list.forms index stop
-    pub end : size ≡ word_end stop
+  abbrev pub IsWordUpTo : ℕ → Type 0
+  IsWordUpTo size = (index : ℕ) × (stop : ℕ) × IsGreatest (λ form n. IsValidUpTo (notation_of form.syntax) text n) list.forms index stop
+      × (size ≡ stop + word_size (drop stop text))
 
-  -- `IsCut index form size end` holds if the form with this index has the longest candidate, no literal goes on behind it, and what follows may not.
-  pub record IsCut (index : ℕ) (form : Form) (size end : ℕ) : Type 0 where
-    pub chosen : IsChosen index form size end
-    pub not_followed : IsFollowed end → ⊥
-    pub over : IsOver end
-    pub stopped : is_stopped form.suffixes text end ≡ true
-    pub no_digit : ((size == end) && is_in is_digit (slice_get text size)) ≡ false
-
-  -- `IsUnknown index start end words` holds if behind the longest candidate, of the form with this index and with a literal of `start` bytes, a
-  -- word follows, which ends at `end`, and if `words` are the suffixes of the form behind such a literal.
-  pub record IsUnknown (index start end : ℕ) (words : List (Bor (List ℕ))) : Type 0 where
-    pub form : Form
-    pub behind : ℕ
-    pub cut : IsCut index form start behind
-    pub word : is_in is_word_byte (slice_get text behind) ≡ true
-    pub end_is : end ≡ stop_end text behind
-    pub literal : Literal
-    pub reads : Reads (notation_of form.syntax) literal (take start text)
-    pub words_are : words ≡ suffix_words form.suffixes (is_float literal)
-
-  -- `IsStop index start end` holds if behind the longest candidate, of the form with this index, which ends at `start`, no word but a stop follows,
-  -- and if its byte and the word behind this end at `end`.
-  pub record IsStop (index start end : ℕ) : Type 0 where
-    pub form : Form
-    pub size : ℕ
-    pub cut : IsCut index form size start
-    pub no_word : is_in is_word_byte (slice_get text start) ≡ false
-    pub end_is : end ≡ stop_end text start
-
-  -- `IsTokenError error` holds if `error` says why `text` begins with no token.
+  -- `IsTokenError error` holds if `error` says why `text` begins with no token: a form is to blame, or behind the longest candidate a word follows that
+  -- is not one of the suffixes of its form, and ends at `end`, or a byte that may not follow, and then maybe a word.
   abbrev pub IsTokenError : TokenError → Type 0
   IsTokenError errors.NoTokens = ⊥
   IsTokenError (errors.Literal error) = IsRefused × ((size : ℕ) × IsWordUpTo size × IsFormError list.forms (take size text) error)
   IsTokenError (errors.NotAToken end) = IsRefused × IsWordUpTo end × (NoForm list.forms (take end text) → ⊥)
-  IsTokenError (errors.UnknownSuffix form start end suffixes) = IsUnknown form start end suffixes.now
-  IsTokenError (errors.Stopped form start end) = IsStop form start end
+  IsTokenError (errors.UnknownSuffix index start end suffixes) = (form : Form) × (behind : ℕ) × IsCut index form start behind false
+      × (is_in is_word_byte (slice_get text behind) ≡ true) × (end ≡ stop_end text behind)
+      × ((l : Literal) × Reads (notation_of form.syntax) l (take start text) × (suffixes.now ≡ suffix_words form.suffixes (is_float l)))
+  IsTokenError (errors.Stopped index start end) = (form : Form) × (size : ℕ) × IsCut index form size start false
+      × (is_in is_word_byte (slice_get text start) ≡ false) × (end ≡ stop_end text start)
 
 -- `IsReadByTokens list tokens text result` holds if `result` is the token that `text` begins with, or says why there is none: without rules, there
 -- are no tokens.

@@ -4,6 +4,7 @@
 pub mod affix;
 mod exclude;
 pub mod form;
+pub mod laws;
 pub mod list;
 mod marked;
 mod marks;

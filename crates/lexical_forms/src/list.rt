@@ -8,6 +8,7 @@ ghost use Rattle.lexical_forms.specs.FormList.{have_marks};
 ghost use Rattle.lexical_forms.specs.Forms.{HasKind, IsFormError, IsFrontByForms, IsReadByForms, NoForm, Reaches, special_by};
 ghost use Rattle.lexical_literal.specs.Front.{NoLiteral};
 ghost use Rattle.lexical_literal.specs.Notation.{notation_of};
+ghost use Rattle.lexical_forms.specs.declared.list.PointsBack.TheVariants as points;
 
 use crate::affix::Affix;
 use crate::exclude::{excludes, has_letter_behind_zero, is_settled, sign_size};
@@ -19,13 +20,22 @@ use lexical_literal::stop::{Found, Stopped};
 use lexical_literal::syntax::Grammar;
 use std::marker::Model;
 
+// What a point at the end of a number is given back to: nothing, another point or a word, or a letter.
+#[derive(Clone, Copy)]
+pub(crate) enum PointsBack {
+    Never,
+    ToWords,
+    ToLetters,
+}
+
 /// How numbers end in the middle of source text: forms that need a suffix, which no call but [`Forms::token`] takes, words that may
 /// follow a number directly, and whether a point at the end of a number may belong to what follows.
 #[derive(Clone, Copy)]
 pub struct Tokens {
     pub(crate) forms: &'static [Form],
     pub(crate) following: &'static [&'static [u8]],
-    pub(crate) gives_points_back: bool,
+    pub(crate) gives_points_back: PointsBack,
+    pub(crate) any_word_follows: bool,
 }
 
 impl Tokens {
@@ -33,12 +43,16 @@ impl Tokens {
     /// directly, such as `else` in `1else` in Python.
     #[must_use]
     pub const fn new(forms: &'static [Form], following: &'static [&'static [u8]]) -> Tokens
-        ensures { result ≡ record { forms = forms.entry; following = following.entry; gives_points_back = false } }
+        ensures forms { result.forms ≡ forms.entry }
+        ensures following { result.following ≡ following.entry }
+        ensures points { result.gives_points_back ≡ points.Never }
+        ensures words { result.any_word_follows ≡ false }
     {
         Tokens {
             forms,
             following,
-            gives_points_back: false,
+            gives_points_back: PointsBack::Never,
+            any_word_follows: false,
         }
     }
 
@@ -46,10 +60,39 @@ impl Tokens {
     /// `1.max(2)`.
     #[must_use]
     pub const fn gives_points_back(self, gives: bool) -> Tokens
-        ensures { result ≡ record self { gives_points_back = gives } }
+        ensures { result ≡ record self { gives_points_back = (if gives then points.ToWords else points.Never) } }
+    {
+        let gives_points_back = if gives {
+            PointsBack::ToWords
+        } else {
+            PointsBack::Never
+        };
+        Tokens {
+            gives_points_back,
+            ..self
+        }
+    }
+
+    /// Sets that a point at the end of a number belongs to what follows if that is a letter, as in `1.eq.2` of Fortran, but not if
+    /// it is another point or `_`, as in `1..eq.2` and `1._8`.
+    #[must_use]
+    pub const fn gives_points_to_letters(self) -> Tokens
+        ensures { result ≡ record self { gives_points_back = points.ToLetters } }
     {
         Tokens {
-            gives_points_back: gives,
+            gives_points_back: PointsBack::ToLetters,
+            ..self
+        }
+    }
+
+    /// Sets whether any word that does not begin with a digit may follow a number directly that does not end in a point, as in `2x`, a
+    /// product in Julia.
+    #[must_use]
+    pub const fn any_word_follows(self, follows: bool) -> Tokens
+        ensures { result ≡ record self { any_word_follows = follows } }
+    {
+        Tokens {
+            any_word_follows: follows,
             ..self
         }
     }

@@ -5,7 +5,7 @@ ghost use Rattle.std.specs.Option.{ForSome};
 ghost use Rattle.lexical_forms.specs.Additions.Token.{IsInside};
 
 use crate::form::Form;
-use crate::list::{Forms, Tokens};
+use crate::list::{Forms, PointsBack, Tokens};
 use crate::suffix::{is_followed, is_stopped, kind_with, word_size};
 use crate::token::{
     Candidate, Token, TokenError, better, gives_back, goes_on, has_digit, larger, stopped, whole,
@@ -27,7 +27,7 @@ impl<'a> Forms<'a> {
         let it = self.form_at(tokens, form);
         let (_, rest) = text.split_at(end);
         let followed = is_followed(tokens.following, rest);
-        let ends = !is_stopped(it.suffixes, text, end);
+        let ends = !is_stopped(tokens.any_word_follows, it.suffixes, text, end);
         if !followed
             && (self.goes_on(tokens.gives_points_back, text, end)
                 || (!ends && has_digit(text, size, end)))
@@ -68,7 +68,7 @@ impl<'a> Forms<'a> {
     }
 
     // Returns whether a literal of a form of the list goes on behind `end`.
-    fn goes_on(&self, back: bool, text: &[u8], end: usize) -> bool {
+    fn goes_on(&self, back: PointsBack, text: &[u8], end: usize) -> bool {
         let mut form = 0;
         while form < self.forms.len() {
             let it = &self.forms[form];
@@ -102,7 +102,7 @@ impl<'a> Forms<'a> {
 impl Form {
     // Returns the candidate of the form, if there is one.
     #[inline(always)]
-    fn candidate_marked(&self, back: bool, needs: bool, text: &[u8]) -> Option<Candidate>
+    fn candidate_marked(&self, back: PointsBack, needs: bool, text: &[u8]) -> Option<Candidate>
         ensures { ForSome result (λ it. IsInside 1 text.now (0, it)) }
     {
         match self.front_past(text, 0) {
@@ -116,7 +116,7 @@ impl Form {
 
     // Returns the front `found`, or without its point if that is given back, if it is a literal. A closing is no point.
     #[inline(always)]
-    fn own_marked(&self, back: bool, text: &[u8], found: Found) -> Option<Found>
+    fn own_marked(&self, back: PointsBack, text: &[u8], found: Found) -> Option<Found>
         requires some { 0 < found.size }
         requires within { found.size ≤ length text.now }
         ensures { ForSome result (λ it. it.size ≤ length text.now) }
@@ -157,7 +157,7 @@ impl Form {
 }
 
 // Returns the longest candidate of the forms, the first of equals, with the index of its form.
-fn best_of(forms: &[Form], back: bool, needs: bool, text: &[u8]) -> Option<(usize, Candidate)>
+fn best_of(forms: &[Form], back: PointsBack, needs: bool, text: &[u8]) -> Option<(usize, Candidate)>
     ensures { ForSome result (IsInside (length forms.now) text.now) }
 {
     let mut best = None;

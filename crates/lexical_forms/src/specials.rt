@@ -1,6 +1,6 @@
 //! Special values: the texts that are NaN or infinity.
 
-ghost use Rattle.std.specs.Prelude.{ℕ, ◌≡◌, ◌==◌, IsTrue, List, None, Some};
+ghost use Rattle.std.specs.Prelude.{ℕ, ◌≡◌, ◌==◌, IsTrue, List, None, if◌then◌else◌, option_map};
 ghost use Rattle.lexical_literal.specs.Notation.{Notation, notation_of};
 ghost use Rattle.lexical_forms.specs.Specials.{allows, behind_sign, means_nan, is_negative, is_read_back, is_spelled, is_value, letter_of, matches};
 ghost use Rattle.lexical_forms.specs.Specials.{sign_of, signed, special_of, special_separator, spelling_of, text_of_special, written_sign};
@@ -86,15 +86,8 @@ impl<'a> Specials<'a> {
     pub const fn read(&self, syntax: &Syntax, text: &[u8]) -> Option<Special>
         ensures { result ≡ special_of (notation_of syntax.now) self.now text.now }
     {
-        let grammar = syntax.grammar();
         let (sign, rest) = split_sign(text);
-        if !allows(grammar, sign) {
-            return None;
-        }
-        match self.spelling(grammar, rest) {
-            Some(spelling) => Some(Special { sign, spelling }),
-            None => None,
-        }
+        self.behind(syntax.grammar(), sign, rest)
     }
 
     /// Returns the text of a special value, or `None` if no spelling is read back as this value in `syntax`.
@@ -136,18 +129,17 @@ impl<'a> Specials<'a> {
     const fn read_signed(&self, syntax: &Syntax, sign: Option<Sign>, word: &[u8]) -> Option<Special>
         ensures { result ≡ special_of (notation_of syntax.now) self.now (signed sign word.now) }
     {
-        let Some(given) = sign else {
-            return self.read(syntax, word);
-        };
-        self.behind(syntax.grammar(), given, word)
+        match sign {
+            None => self.read(syntax, word),
+            Some(_) => self.behind(syntax.grammar(), sign, word),
+        }
     }
 
-    // Returns the special value that a word is behind a sign that is there.
-    #[tactic(auto, using(crate::proofs::SpecialLemmas::of_signed))]
-    const fn behind(&self, grammar: Grammar, sign: Sign, word: &[u8]) -> Option<Special>
-        ensures { result ≡ special_of (notation_of grammar) self.now (signed (Some sign) word.now) }
+    // Returns the special value that a word is behind a sign, if there is one.
+    const fn behind(&self, grammar: Grammar, sign: Option<Sign>, word: &[u8]) -> Option<Special>
+        ensures { result ≡ (if allows (notation_of grammar) sign
+            then option_map (λ spelling. record { sign = sign; spelling = spelling }) (spelling_of (notation_of grammar) self.now word.now) else None) }
     {
-        let sign = Some(sign);
         if !allows(grammar, sign) {
             return None;
         }

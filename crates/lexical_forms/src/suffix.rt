@@ -1,11 +1,11 @@
 //! Words that stand directly behind a number, such as `u8`, and bytes that may not follow it.
 
-ghost use Rattle.std.specs.Prelude.{◌≡◌, ◌==◌, [], ◌+◌, ◌≤◌, IsTrue, Some, false, if◌then◌else◌, length, slice_get};
+ghost use Rattle.std.specs.Prelude.{◌≡◌, ◌==◌, ◌&&◌, [], ◌+◌, ◌≤◌, IsTrue, Some, false, if◌then◌else◌, length, option_map, slice_get, unwrap_or};
 ghost use Rattle.std.specs.Char.{eq_ignore_ascii_case};
-ghost use Rattle.std.specs.List.{list_any};
+ghost use Rattle.std.specs.List.{find, list_any};
 ghost use Rattle.lexical_literal.specs.Cause.{is_in};
-ghost use Rattle.lexical_forms.specs.Suffix.{admits, any_word_size, begins, byte_before, is_followed, is_stopped, is_word_byte, kind_among, kind_with};
-ghost use Rattle.lexical_forms.specs.Suffix.{longest_word, meets, suffix_size, suffix_words, word_size};
+ghost use Rattle.lexical_forms.specs.Suffix.{admits, any_word_size, begins, byte_before, is_digit, is_followed, is_letter, is_point, is_stopped, is_word_byte};
+ghost use Rattle.lexical_forms.specs.Suffix.{kind_with, longest_word, meets, suffix_size, suffix_words, word_size};
 
 use lexical_literal::kind::Kind;
 use lexical_literal::stop::byte_at;
@@ -51,6 +51,7 @@ pub struct Suffixes {
     integers: &'static [&'static [u8]],
     floats: &'static [&'static [u8]],
     either_case: bool,
+    whole_words: bool,
     any: &'static [u8],
     stops: &'static [Stop],
     kinds: &'static [(&'static [u8], Kind)],
@@ -69,6 +70,7 @@ impl Suffixes {
         ensures integers { result.integers ≡ integers.entry }
         ensures floats { result.floats ≡ floats.entry }
         ensures case { result.either_case ≡ false }
+        ensures whole { result.whole_words ≡ false }
         ensures any { result.any.now ≡ [] }
         ensures stops { result.stops ≡ stops.entry }
         ensures kinds { result.kinds.now ≡ [] }
@@ -78,6 +80,7 @@ impl Suffixes {
             integers,
             floats,
             either_case: false,
+            whole_words: false,
             any: &[],
             stops,
             kinds: &[],
@@ -96,16 +99,21 @@ impl Suffixes {
         }
     }
 
+    /// Sets whether a suffix is the whole word behind a number, as in Ruby, where `1i` has the suffix `i`, and `1if` none.
+    #[must_use]
+    pub const fn whole_words(self, whole: bool) -> Suffixes
+        ensures { result ≡ record self { whole_words = whole } }
+    {
+        Suffixes {
+            whole_words: whole,
+            ..self
+        }
+    }
+
     /// Sets the bytes of which any word that begins with one is a suffix, such as `_` for `1_km`.
     #[must_use]
     pub const fn any_word(self, begins: &'static [u8]) -> Suffixes
-        ensures integers { result.integers ≡ self.integers }
-        ensures floats { result.floats ≡ self.floats }
-        ensures case { result.either_case ≡ self.either_case }
-        ensures any { result.any ≡ begins.entry }
-        ensures stops { result.stops ≡ self.stops }
-        ensures kinds { result.kinds ≡ self.kinds }
-        ensures written { result.written ≡ self.written }
+        ensures { result ≡ record self { any = begins.entry } }
     {
         Suffixes {
             any: begins,
@@ -178,7 +186,12 @@ impl Suffixes {
         let size = any_word_size(self.any, text);
         if size == 0 {
             let words = if float { self.floats } else { self.integers };
-            longest_word(self.either_case, words, text)
+            let longest = longest_word(self.either_case, words, text);
+            if self.whole_words && longest != word_size(text) {
+                0
+            } else {
+                longest
+            }
         } else {
             size
         }
@@ -232,7 +245,8 @@ pub(crate) const fn kind_with(suffixes: Option<&'static Suffixes>, word: &[u8], 
 
 // Returns the kind of the first of `kinds` with the suffix `word`, or `kind` if there is none.
 const fn kind_among(either: bool, kinds: &[(&[u8], Kind)], word: &[u8], kind: Kind) -> Kind
-    ensures { result ≡ kind_among either kinds.now word.now kind }
+    ensures { result ≡ unwrap_or (option_map (λ it. it.1)
+        (find (λ first. begins either first.0.now word.now && (length first.0.now == length word.now)) kinds.now)) kind }
 {
     match kinds {
         [] => kind,
@@ -246,16 +260,25 @@ const fn kind_among(either: bool, kinds: &[(&[u8], Kind)], word: &[u8], kind: Ki
     }
 }
 
-// Returns whether what is behind the number that ends at `end` may not follow it.
+// Returns whether what is behind the number that ends at `end` may not follow it, where any word may follow or none. None may follow a
+// point.
 #[inline(always)]
-pub(crate) const fn is_stopped(suffixes: Option<&'static Suffixes>, text: &[u8], end: usize) -> bool
-    ensures { result ≡ is_stopped suffixes.entry text.now end }
+pub(crate) const fn is_stopped(
+    words: bool,
+    suffixes: Option<&'static Suffixes>,
+    text: &[u8],
+    end: usize,
+) -> bool
+    ensures { result ≡ is_stopped words suffixes.entry text.now end }
 {
-    has_word_byte(text, end)
-        || match suffixes {
-            None => false,
-            Some(suffixes) => is_one_met(suffixes.stops, text, end),
-        }
+    (if words && !has_point(byte_before(text, end)) {
+        has_digit_at(text, end)
+    } else {
+        has_word_byte(text, end)
+    }) || match suffixes {
+        None => false,
+        Some(suffixes) => is_one_met(suffixes.stops, text, end),
+    }
 }
 
 // Returns whether the byte at `index` is one of a word.
@@ -266,6 +289,26 @@ pub(crate) const fn has_word_byte(text: &[u8], index: usize) -> bool
     match byte_at(text, index) {
         None => false,
         Some(byte) => is_word_byte(byte),
+    }
+}
+
+// Returns whether `byte` is a point.
+const fn has_point(byte: Option<u8>) -> bool
+    ensures { result ≡ is_in is_point byte }
+{
+    match byte {
+        None => false,
+        Some(byte) => byte == b'.',
+    }
+}
+
+// Returns whether the byte at `index` is a digit.
+pub(crate) const fn has_digit_at(text: &[u8], index: usize) -> bool
+    ensures { result ≡ is_in is_digit (slice_get text.now index) }
+{
+    match byte_at(text, index) {
+        None => false,
+        Some(byte) => matches!(byte, b'0'..=b'9'),
     }
 }
 
@@ -289,7 +332,7 @@ const fn meets(text: &[u8], end: usize, stop: &Stop) -> bool
 }
 
 // Returns the byte behind the one at `index`, if there is one.
-const fn byte_after(text: &[u8], index: usize) -> Option<u8>
+pub(crate) const fn byte_after(text: &[u8], index: usize) -> Option<u8>
     ensures { result ≡ slice_get text.now (index + 1) }
 {
     if index < text.len() {
@@ -339,6 +382,13 @@ pub(crate) const fn is_word_byte(byte: u8) -> bool
     ensures { result ≡ is_word_byte byte }
 {
     matches!(byte, b'0'..=b'9' | b'A'..=b'Z' | b'_' | b'a'..=b'z' | 128..)
+}
+
+// Returns whether `byte` is a letter.
+pub(crate) const fn is_letter(byte: u8) -> bool
+    ensures { result ≡ is_letter byte }
+{
+    matches!(byte, b'A'..=b'Z' | b'a'..=b'z')
 }
 
 // Returns the number of bytes of a word with which `text` begins.

@@ -15,15 +15,15 @@ ghost use Rattle.lexical_literal.specs.Notation.{notation_of};
 ghost use Rattle.lexical_forms.specs.FormList.{are_marked};
 ghost use Rattle.lexical_forms.specs.Suffix.{is_digit, kind_with, stop_end};
 ghost use Rattle.lexical_forms.specs.Token.{HasNone, IsAhead, IsReadByTokens, IsToken, IsTokenError, IsRefused, IsWordUpTo, NoCandidate, gives_back};
-ghost use Rattle.lexical_forms.specs.Token.{ReadsSyntax, is_shorter};
+ghost use Rattle.lexical_forms.specs.Token.{ReadsSyntax, begins_name, is_alone, is_shorter, takes_point};
 ghost use Rattle.lexical_util.specs.Record.{raw};
 
 use crate::exclude::{has_letter_behind_zero, is_over, lacks_longer, sign_size};
 use crate::form::Form;
-use crate::list::{FormError, Forms, Tokens};
+use crate::list::{FormError, Forms, PointsBack, Tokens};
 use crate::suffix::{
-    byte_before, has_word_byte, is_followed, is_stopped, is_word_byte, kind_with, suffix_size,
-    suffix_words, word_size,
+    byte_after, byte_before, has_digit_at, has_word_byte, is_followed, is_letter, is_stopped,
+    is_word_byte, kind_with, suffix_size, suffix_words, word_size,
 };
 use lexical_literal::literal::Literal;
 use lexical_literal::step::is_point;
@@ -161,7 +161,7 @@ impl<'a> Forms<'a> {
         if is_one_ahead(self.forms, back, text, end) {
             return Err(self.fail(tokens, text, plain.furthest));
         }
-        if !is_stopped(it.suffixes, text, end) {
+        if !is_stopped(tokens.any_word_follows, it.suffixes, text, end) {
             return Ok(made(it, text, form, candidate));
         }
         if has_digit(text, size, end) {
@@ -263,7 +263,7 @@ impl<'a> Forms<'a> {
         } = begun;
         let (front, rest) = text.split_at(at.size);
         let more = suffix_size(it.suffixes, is_float(counts), rest);
-        if is_stopped(it.suffixes, text, at.size + more) {
+        if is_stopped(false, it.suffixes, text, at.size + more) {
             return None;
         }
         let (suffix, rest) = rest.split_at(more);
@@ -331,7 +331,7 @@ impl<'a> Forms<'a> {
 // Returns whether no literal of the forms, but for the one with the index `but`, begins with more than the first `size` bytes of
 // `text`, which are more than a sign, or only with a point more that is given back.
 #[inline(always)]
-fn are_past(forms: &[Form], but: usize, back: bool, text: &[u8], size: usize) -> bool
+fn are_past(forms: &[Form], but: usize, back: PointsBack, text: &[u8], size: usize) -> bool
     requires { size ≤ length text.now }
     ensures { IsTrue result → sign_size text.now < size → AreNear back forms.now but text.now size }
 {
@@ -384,7 +384,7 @@ fn made<'t>(it: &Form, text: &'t [u8], form: usize, candidate: Candidate) -> Tok
 impl Form {
     // Returns whether the front that has been read, which is a literal, is the longest, and does not end in a point that is given back.
     #[inline(always)]
-    fn is_longest(&self, back: bool, text: &[u8], begun: Begun) -> bool
+    fn is_longest(&self, back: PointsBack, text: &[u8], begun: Begun) -> bool
         requires { HasBegun (notation_of self.now.syntax) text.now begun }
         ensures within { IsTrue result → IsWithin (notation_of self.now.syntax) text.now begun.at.size }
         ensures kept { IsTrue result → gives_back back (notation_of self.now.syntax) text.now begun.at.size ≡ false }
@@ -397,7 +397,7 @@ impl Form {
     // Returns whether no literal begins with more than the first `size` bytes of `text`, which are more than a sign, or only with a
     // point more that is given back.
     #[inline(always)]
-    fn is_past(&self, back: bool, text: &[u8], size: usize) -> bool
+    fn is_past(&self, back: PointsBack, text: &[u8], size: usize) -> bool
         requires { size ≤ length text.now }
         ensures { IsTrue result → sign_size text.now < size → IsNear back (notation_of self.now.syntax) text.now size }
     {
@@ -407,7 +407,7 @@ impl Form {
     // Returns by reading whether no literal begins with more than the first `size` bytes of `text`, or only with a point more that is
     // given back.
     #[inline(never)]
-    fn stops(&self, back: bool, text: &[u8], size: usize) -> bool
+    fn stops(&self, back: PointsBack, text: &[u8], size: usize) -> bool
         requires { size ≤ length text.now }
         ensures { IsTrue result → IsNear back (notation_of self.now.syntax) text.now size }
     {
@@ -431,7 +431,7 @@ impl Form {
 
     // Returns where reading `text` stops, and the candidate, if there is one.
     #[inline(always)]
-    fn candidate(&self, back: bool, needs: bool, text: &[u8]) -> (Stopped, Option<Candidate>)
+    fn candidate(&self, back: PointsBack, needs: bool, text: &[u8]) -> (Stopped, Option<Candidate>)
         ensures stop { IsStopped (notation_of self.now.syntax) text.now result.0 }
         ensures some { ForSome result.1 (IsMade back needs text.now self.now) }
         ensures none { IsNone result.1 → NoCandidate back needs text.now self.now }
@@ -446,7 +446,13 @@ impl Form {
 
     // Returns the candidate of which `found` is the longest front, if there is one.
     #[inline(always)]
-    fn candidate_of(&self, back: bool, needs: bool, text: &[u8], found: Found) -> Option<Candidate>
+    fn candidate_of(
+        &self,
+        back: PointsBack,
+        needs: bool,
+        text: &[u8],
+        found: Found,
+    ) -> Option<Candidate>
         requires { IsCountedFront (notation_of self.now.syntax) text.now found }
         ensures some { ForSome result (IsMade back needs text.now self.now) }
         ensures none { IsNone result → NoCandidate back needs text.now self.now }
@@ -477,7 +483,7 @@ impl Form {
 
     // Returns the front `found`, or without its point if that is given back, if it is a literal.
     #[inline(always)]
-    fn own(&self, back: bool, text: &[u8], found: Found) -> Option<Found>
+    fn own(&self, back: PointsBack, text: &[u8], found: Found) -> Option<Found>
         requires { IsCountedFront (notation_of self.now.syntax) text.now found }
         ensures some { ForSome result (IsOwn back (notation_of self.now.syntax) text.now found.size) }
         ensures none { IsNone result → NoOwn back (notation_of self.now.syntax) text.now found.size }
@@ -505,14 +511,26 @@ pub(crate) fn whole(found: Option<Found>, size: usize) -> Option<Found>
 
 // Returns whether the first `size` bytes of `text` end in a point that is given back.
 #[inline(always)]
-pub(crate) fn gives_back(syntax: Syntax, back: bool, text: &[u8], size: usize) -> bool
+pub(crate) fn gives_back(syntax: Syntax, back: PointsBack, text: &[u8], size: usize) -> bool
     ensures { result ≡ gives_back back (notation_of syntax) text.now size }
 {
-    back && is_one(syntax, byte_before(text, size))
+    is_one(syntax, byte_before(text, size))
         && match byte_at(text, size) {
             None => false,
-            Some(byte) => byte == b'.' || is_word_byte(byte),
+            Some(byte) => takes_point(back, byte),
         }
+}
+
+// Returns whether a point before `byte` is given back.
+#[inline(always)]
+const fn takes_point(back: PointsBack, byte: u8) -> bool
+    ensures { result ≡ takes_point back byte }
+{
+    match back {
+        PointsBack::Never => false,
+        PointsBack::ToWords => byte == b'.' || is_word_byte(byte),
+        PointsBack::ToLetters => is_letter(byte),
+    }
 }
 
 // Returns whether `byte` is the decimal point.
@@ -530,11 +548,7 @@ fn is_one(syntax: Syntax, byte: Option<u8>) -> bool
 pub(crate) fn has_digit(text: &[u8], size: usize, end: usize) -> bool
     ensures { result ≡ ((size == end) && is_in is_digit (slice_get text.now size)) }
 {
-    size == end
-        && match byte_at(text, size) {
-            None => false,
-            Some(byte) => matches!(byte, b'0'..=b'9'),
-        }
+    size == end && has_digit_at(text, size)
 }
 
 // Returns why what is behind the number with this candidate may not follow it: a word, or otherwise a byte that a stop names.
@@ -587,7 +601,7 @@ fn is_shorter(one: Candidate, other: Candidate) -> bool
 }
 
 // Returns what the forms find in `text`.
-fn scan(forms: &[Form], back: bool, needs: bool, text: &[u8]) -> Scanned
+fn scan(forms: &[Form], back: PointsBack, needs: bool, text: &[u8]) -> Scanned
     ensures furthest { 0 < length forms.now → IsFurthestForm forms.now text.now result.furthest }
     ensures best { IsBestOf back needs forms.now text.now result.best }
 {
@@ -638,7 +652,7 @@ pub(crate) fn better(
 
 // Returns whether a literal of one of the forms goes on behind `end`.
 #[cold]
-fn is_one_ahead(forms: &[Form], back: bool, text: &[u8], end: usize) -> bool
+fn is_one_ahead(forms: &[Form], back: PointsBack, text: &[u8], end: usize) -> bool
     ensures ahead { IsTrue result → (i : ℕ) × IsSomeAnd (slice_get forms.now i) (IsAhead back text.now end) }
     ensures over { result ≡ false → All (λ form. IsAhead back text.now end form → ⊥) forms.now }
 {
@@ -655,8 +669,44 @@ fn is_one_ahead(forms: &[Form], back: bool, text: &[u8], end: usize) -> bool
 }
 
 // Returns whether a literal that goes up to `stop` goes on behind `end`.
-pub(crate) fn goes_on(syntax: Syntax, back: bool, text: &[u8], end: usize, stop: usize) -> bool
+pub(crate) fn goes_on(
+    syntax: Syntax,
+    back: PointsBack,
+    text: &[u8],
+    end: usize,
+    stop: usize,
+) -> bool
     ensures { result ≡ goes_on back (notation_of syntax) text.now end stop }
 {
-    end < stop && !(back && stop == end + 1 && is_one(syntax, byte_at(text, end)))
+    end < stop && !(is_alone(back, text, end, stop) && is_one(syntax, byte_at(text, end)))
+}
+
+// Returns whether no byte of a literal that goes up to `stop` is behind the point at `end`, or only one that begins a name.
+const fn is_alone(back: PointsBack, text: &[u8], end: usize, stop: usize) -> bool
+    requires { end < stop }
+    ensures { result ≡ is_alone back text.now end stop }
+{
+    match back {
+        PointsBack::Never => false,
+        PointsBack::ToWords => stop == end + 1,
+        PointsBack::ToLetters => {
+            stop == end + 1 || (stop - 1 == end + 1 && begins_name(text, end + 1))
+        }
+    }
+}
+
+// Returns whether a letter is at `index`, and another one or a point behind it.
+const fn begins_name(text: &[u8], index: usize) -> bool
+    ensures { result ≡ begins_name text.now index }
+{
+    match byte_at(text, index) {
+        None => false,
+        Some(letter) => {
+            is_letter(letter)
+                && match byte_after(text, index) {
+                    None => false,
+                    Some(byte) => byte == b'.' || is_letter(byte),
+                }
+        }
+    }
 }

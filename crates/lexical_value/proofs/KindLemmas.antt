@@ -2,14 +2,15 @@
 use Rattle.lexical_value.proofs.Common.{ℕ, ◌≡◌, ◌+◌, ◌-◌, ◌%◌, ◌^◌, ◌<◌, ◌≤◌, ◌||◌, ◌∙◌, Bool, true, false, not, if◌then◌else◌, Some, Ok, Err, arith, ap, refl}
 use Rattle.lexical_value.proofs.Common.{subst, sym, pow-le-pow_right, nat_tests, Record, limit, width, worth, wrapped, Kind, Literal, is_float, is_minus}
 use Rattle.lexical_value.proofs.Common.{mantissa, is_exact, integer_worth, within, format_by, round, is_binary, is_decimal, nearest}
-use Rattle.lexical_value.proofs.Common.{IsNoInteger, IsNotWorth, float_worth, ValueErrorKind}
+use Rattle.lexical_value.proofs.Common.{IsNoInteger, IsNotWorth, float_worth, ValueErrorKind, inl, inr, ◌*◌, ◌/◌}
 use Rattle.std.proofs.Common.{Result}
-use Rattle.std.proofs.Math.Nat.{mod-eq_of_lt}
+use Rattle.std.proofs.Math.Nat.{mod-add-div', mod-eq_of_lt, mod-lt}
 use Rattle.std.proofs.Math.Pow.{mod-mod-pow}
 use Rattle.std.proofs.lemmas.Bool.{false≢true}
+use Rattle.std.proofs.lemmas.Nat.{pow-add, pow_pos}
 use Rattle.std.specs.Float.{Float, Format}
 use Rattle.std.specs.Option.{ok_or}
-use Rattle.std.specs.Prelude.{[], option_map}
+use Rattle.std.specs.Prelude.{[], nat_le, option_map, ◌⊎◌}
 use Rattle.lexical_value.specs.Integer.{integer_size}
 use Rattle.lexical_value.proofs.ValueLemmas.{whole_denominator, whole_numerator}
 use Rattle.lexical_literal.specs.Read.{exact}
@@ -71,6 +72,32 @@ module _ (negative : Bool) (n bits : ℕ) (low : n < 2 ^ (width bits - 1)) where
 
   pub modulo_keeps : worth (integers.WrapsModulo bits) negative n ≡ Some (negative, n)
   modulo_keeps = ap (λ k. Some (wrapped (width bits) negative k)) (mod-eq_of_lt fits) ∙ ap Some wraps
+
+-- A number that wraps is worth one that differs from it by a multiple of a power of two, and that has so many bits with its sign.
+pub wraps_by : (bits : ℕ) (negative : Bool) (n : ℕ) → 1 ≤ bits → let w : Bool × ℕ = wrapped bits negative (n % 2 ^ bits) in
+    (((k : ℕ) × (w.0 ≡ negative) × (n ≡ w.1 + k * 2 ^ bits)) ⊎ ((k : ℕ) × (w.0 ≡ not negative) × (n + w.1 ≡ k * 2 ^ bits)))
+    × (w.1 ≤ (if w.0 then 2 ^ (bits - 1) else 2 ^ (bits - 1) - 1))
+wraps_by bits negative n some = go negative (nat_le (n % 2 ^ bits) (if negative then 2 ^ (bits - 1) else 2 ^ (bits - 1) - 1)) refl where
+  twice : 2 ^ bits ≡ 2 * 2 ^ (bits - 1)
+  twice = let next : bits ≡ 1 + (bits - 1) = omega (arith, some) in ap (λ k. 2 ^ k) next ∙ pow-add 2 1 (bits - 1)
+
+  parts : n ≡ n % 2 ^ bits + n / 2 ^ bits * 2 ^ bits
+  parts = sym (mod-add-div' n (2 ^ bits))
+
+  next : (n / 2 ^ bits + 1) * 2 ^ bits ≡ n / 2 ^ bits * 2 ^ bits + 2 ^ bits
+  next = omega arith
+
+  small : n % 2 ^ bits < 2 ^ bits
+  small = mod-lt n (pow_pos bits)
+
+  go : (s b : Bool) → nat_le (n % 2 ^ bits) (if s then 2 ^ (bits - 1) else 2 ^ (bits - 1) - 1) ≡ b
+      → let w : Bool × ℕ = if b then (s, n % 2 ^ bits) else (not s, 2 ^ bits - n % 2 ^ bits) in
+      (((k : ℕ) × (w.0 ≡ s) × (n ≡ w.1 + k * 2 ^ bits)) ⊎ ((k : ℕ) × (w.0 ≡ not s) × (n + w.1 ≡ k * 2 ^ bits)))
+      × (w.1 ≤ (if w.0 then 2 ^ (bits - 1) else 2 ^ (bits - 1) - 1))
+  go true true low = (inl (n / 2 ^ bits, refl, parts), grind (arith, nat_tests))
+  go false true low = (inl (n / 2 ^ bits, refl, parts), grind (arith, nat_tests))
+  go true false high = (inr (n / 2 ^ bits + 1, refl, omega (arith, parts, next, small)), let double = twice in let less = small in grind (arith, nat_tests))
+  go false false high = (inr (n / 2 ^ bits + 1, refl, omega (arith, parts, next, small)), let double = twice in let less = small in grind (arith, nat_tests))
 
 -- A literal of the exact kind is worth the number that it represents.
 pub exact_error : (least largest : ℕ) (r : Record) (l : Literal) (error : ValueErrorKind) → IsNotWorth integers.Exact least largest r.byte l error

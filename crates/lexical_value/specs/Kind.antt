@@ -1,6 +1,6 @@
 -- What a literal is worth by its kind.
 use Rattle.std.specs.Prelude.{ℕ, ◌≡◌, ◌<◌, ◌-◌, ◌%◌, ◌^◌, ◌==◌, ◌&&◌, ◌||◌, Bool, true, false, not, if◌then◌else◌, min, nat_le, nat_lt}
-use Rattle.std.specs.Prelude.{IsFalse, IsTrue, IsSomeAnd, Option, Some, None, option_map, Result, Ok, Err, ℤ}
+use Rattle.std.specs.Prelude.{IsFalse, IsTrue, IsSomeAnd, MatchOption, Option, Some, None, option_map, Result, Ok, Err, ℤ}
 use Rattle.std.specs.Option.{ok_or}
 use Rattle.std.specs.Float.{Float, Format, binary32, float_is_infinite}
 use Rattle.std.specs.Float.Ieee.{round}
@@ -55,21 +55,14 @@ integer_worth kind b l = worth kind (is_minus l.sign) (number (b layout.mantissa
 abbrev pub IsWorth : IntegerKind → (Byte → ℕ) → Literal → ℤ → Type 0
 IsWorth kind b l z = IsFalse (is_float l) × IsSomeAnd (integer_worth kind b l) (λ w. z ≡ with_sign w.0 w.1)
 
--- `IsAbove most negative w` holds if `w` is above `most`, and `IsBelow most negative w` if it is below `-most`. If it is `None`, so that the
--- number is too large, `negative` decides.
-abbrev pub IsAbove : ℕ → Bool → Option (Bool × ℕ) → Type 0
-IsAbove most negative None = IsFalse negative
-IsAbove most negative (Some w) = IsFalse w.0 × (most < w.1)
-
-abbrev pub IsBelow : ℕ → Bool → Option (Bool × ℕ) → Type 0
-IsBelow most negative None = IsTrue negative
-IsBelow most negative (Some w) = IsTrue w.0 × (most < w.1)
-
--- `IsNotWorth kind least largest b l error` holds if `error` is why `l` is not worth an integer from `-least` to `largest`.
+-- `IsNotWorth kind least largest b l error` holds if `error` is why `l` is not worth an integer from `-least` to `largest`. If the number is too large
+-- for its kind, its sign decides.
 abbrev pub IsNotWorth : IntegerKind → ℕ → ℕ → (Byte → ℕ) → Literal → ValueErrorKind → Type 0
 IsNotWorth kind least largest b l kinds.Float = IsTrue (is_float l)
-IsNotWorth kind least largest b l kinds.TooLarge = IsFalse (is_float l) × IsAbove largest (is_minus l.sign) (integer_worth kind b l)
-IsNotWorth kind least largest b l kinds.TooSmall = IsFalse (is_float l) × IsBelow least (is_minus l.sign) (integer_worth kind b l)
+IsNotWorth kind least largest b l kinds.TooLarge =
+    IsFalse (is_float l) × MatchOption (integer_worth kind b l) (IsFalse (is_minus l.sign)) (λ w. IsFalse w.0 × (largest < w.1))
+IsNotWorth kind least largest b l kinds.TooSmall =
+    IsFalse (is_float l) × MatchOption (integer_worth kind b l) (IsTrue (is_minus l.sign)) (λ w. IsTrue w.0 × (least < w.1))
 IsNotWorth kind least largest b l _ = ⊥
 
 -- `format_by kind f` is the format of `f32` if floats are single, and otherwise `f`.

@@ -273,7 +273,10 @@ pub unsafe fn with_tokens(forms: *const Forms, then: &mut dyn FnMut(Given<'_>)) 
                 count => suffixed(rules.forms, count, &mut behind, &mut reader)?,
             };
             let made = literal::Tokens::new(needing, reader.words(rules.following)?);
-            tokens = Some(made.gives_points_back(rules.gives_points_back != 0)).filter(|_| rules.reserved == [0; 7]);
+            let [back, to_letters, follows] = rules.flags.map(|it| it != 0);
+            let made = made.gives_points_back(back).any_word_follows(follows);
+            let made = if to_letters { made.gives_points_to_letters() } else { made };
+            tokens = Some(made).filter(|_| rules.reserved == [0; 5]);
             tokens?;
         }
         (given.reserved == [0; 2] && given.specials.reserved == [0; 8]).then_some(own)
@@ -366,10 +369,10 @@ macro_rules! languages {
                 const IT: &literal::Forms<'static> = Language::$NAME.forms();
                 const COUNT: usize = IT.as_slice().len();
                 const SPELLED: literal::Specials<'static> = IT.specials();
-                const RULES: Option<(&[literal::Form], &[&[u8]], bool)> = IT.token_rules();
-                const BEHIND: (&[literal::Form], &[&[u8]], bool) = match RULES {
+                const RULES: Option<(&[literal::Form], &[&[u8]], [bool; 3])> = IT.token_rules();
+                const BEHIND: (&[literal::Form], &[&[u8]], [bool; 3]) = match RULES {
                     Some(rules) => rules,
-                    None => (&[], &[], false),
+                    None => (&[], &[], [false; 3]),
                 };
                 const LISTS: [&[literal::Form]; 2] = [IT.as_slice(), BEHIND.0];
                 const ALL: usize = COUNT + BEHIND.0.len();
@@ -398,8 +401,8 @@ macro_rules! languages {
                     forms: SHOWN.0.as_ptr().wrapping_add(COUNT),
                     count: ALL - COUNT,
                     following: Laid::of(LISTS, BEHIND.1, (TEXT.as_ptr(), ptr::null(), ptr::null())).following,
-                    gives_points_back: BEHIND.2 as u8,
-                    reserved: [0; 7],
+                    flags: [BEHIND.2[0] as u8, BEHIND.2[1] as u8, BEHIND.2[2] as u8],
+                    reserved: [0; 5],
                 };
                 static FORMS: LanguageForms = LanguageForms {
                     shown: Forms {

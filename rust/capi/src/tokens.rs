@@ -37,18 +37,19 @@ pub struct Suffixes {
     stops: *const Stop,
     stop_count: usize,
     either_case: u8,
-    reserved: [u8; 15],
+    whole_words: u8,
+    reserved: [u8; 14],
 }
 
-/// The rules for the tokens of a list.
+/// The rules for the tokens of a list, with whether points are given back, to letters alone, and any word may follow.
 #[repr(C)]
 #[derive(Clone, Copy)]
 pub struct Tokens {
     pub(crate) forms: *const Form,
     pub(crate) count: usize,
     pub(crate) following: *const u8,
-    pub(crate) gives_points_back: u8,
-    pub(crate) reserved: [u8; 7],
+    pub(crate) flags: [u8; 3],
+    pub(crate) reserved: [u8; 5],
 }
 
 // SAFETY: the pointers of constants point to constants.
@@ -160,7 +161,7 @@ impl Reader {
         }
         if self.suffixes.len == 0 || !ptr::eq(given, self.last) {
             let it = given.read_unaligned();
-            if it.reserved != [0; 15] {
+            if it.reserved != [0; 14] {
                 return None;
             }
             let [integers, floats] = [self.words(it.words[0])?, self.words(it.words[1])?];
@@ -175,7 +176,7 @@ impl Reader {
                 self.stops.push(Some(stop).filter(|_| reserved == [0; 8])?)?;
             }
             let made = literal::Suffixes::new(integers, floats, self.stops.since(stops));
-            let made = made.either_case(it.either_case != 0).any_word(string(it.any));
+            let made = made.either_case(it.either_case != 0).whole_words(it.whole_words != 0).any_word(string(it.any));
             let made = made.with_written(self.words(it.written)?);
             self.suffixes.push(made.with_kinds(self.kinds.since(kinds)))?;
             self.last = given;
@@ -233,7 +234,8 @@ impl Laid {
         stops: ptr::null(),
         stop_count: 0,
         either_case: 0,
-        reserved: [0; 15],
+        whole_words: 0,
+        reserved: [0; 14],
     };
 
     /// Lays out the suffixes of forms, where the strings, kinds and stops begin at these addresses.
@@ -274,7 +276,8 @@ impl Laid {
         laid
     }
 
-    /// Adds words with spaces between them, and returns where they are, or null if there are none.
+    /// Adds words with spaces between them, and returns where they are, or null if there are none. For many bytes that these suffixes
+    /// have already, one stands that is in no word.
     const fn put(&mut self, words: &[&[u8]], base: *const u8) -> *const u8 {
         let (start, mut word) = (self.size, 0);
         while word < words.len() {
@@ -290,14 +293,34 @@ impl Laid {
                 self.size += 1;
             }
         }
-        let is_none = self.size == start;
+        let len = self.size - start;
         self.text[self.size] = 0;
         self.size += 1;
-        if is_none {
+        let mut at = if len < 64 { start } else { self.starts[self.count] };
+        while at < start && !self.has_again(at, start, len + 1) {
+            at += 1;
+        }
+        if at < start {
+            self.text[start] = 1;
+            self.size = start + 1;
+        }
+        if len == 0 {
             ptr::null()
         } else {
-            base.wrapping_add(start)
+            base.wrapping_add(at)
         }
+    }
+
+    /// Returns whether the bytes from two indexes on are the same.
+    const fn has_again(&self, one: usize, other: usize, len: usize) -> bool {
+        let mut index = 0;
+        while index < len {
+            if self.text[one + index] != self.text[other + index] {
+                return false;
+            }
+            index += 1;
+        }
+        true
     }
 
     /// Adds suffixes, unless there are the same, and returns their index.
@@ -307,7 +330,7 @@ impl Laid {
         (base, kinds, stops): (*const u8, *const SuffixKind, *const Stop),
     ) -> usize {
         let (start, kind, stop) = (self.size, self.kind_count, self.stop_count);
-        let ((either_case, any, own_kinds, own_stops), [integers, floats]) = (it.rules(), it.words());
+        let (([either_case, whole_words], any, own_kinds, own_stops), [integers, floats]) = (it.rules(), it.words());
         let words = [self.put(integers, base), self.put(floats, base)];
         let (any, written) = (self.put(&[any], base), self.put(it.written(), base));
         while self.kind_count - kind < own_kinds.len() {
@@ -331,6 +354,7 @@ impl Laid {
             stops: if own_stops.is_empty() { ptr::null() } else { stops.wrapping_add(stop) },
             stop_count: own_stops.len(),
             either_case: either_case as u8,
+            whole_words: whole_words as u8,
             ..Laid::NONE
         };
         self.starts[self.count] = start;
@@ -355,21 +379,19 @@ impl Laid {
             || first.kind_count != second.kind_count
             || first.stop_count != second.stop_count
             || first.either_case != second.either_case
+            || first.whole_words != second.whole_words
         {
             return false;
         }
-        let (mut at, mut before, mut index) = (0, 0, 0);
-        while at < size {
-            if self.text[self.starts[one] + at] != self.text[self.starts[other] + at] {
-                return false;
-            }
-            at += 1;
+        let (mut before, mut index) = (0, 0);
+        if !self.has_again(self.starts[one], self.starts[other], size) {
+            return false;
         }
         while index < one {
             before += self.suffixes[index].kind_count;
             index += 1;
         }
-        at = 0;
+        let mut at = 0;
         while at < first.kind_count {
             if !self.kinds[before + at].kind.is_same(self.kinds[kind + at].kind) {
                 return false;

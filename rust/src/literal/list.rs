@@ -11,13 +11,22 @@ use crate::literal::specials::{Special, Specials};
 use crate::literal::stop::{Found, Stopped};
 use crate::literal::syntax::Grammar;
 
+// What a point at the end of a number is given back to: nothing, another point or a word, or a letter.
+#[derive(Debug, Clone, Copy, PartialEq, Eq, Hash)]
+pub(crate) enum PointsBack {
+    Never,
+    ToWords,
+    ToLetters,
+}
+
 /// How numbers end in the middle of source text: forms that need a suffix, which no call but [`Forms::token`] takes, words that may
 /// follow a number directly, and whether a point at the end of a number may belong to what follows.
 #[derive(Debug, Clone, Copy, PartialEq, Eq, Hash)]
 pub struct Tokens {
     pub(crate) forms: &'static [Form],
     pub(crate) following: &'static [&'static [u8]],
-    pub(crate) gives_points_back: bool,
+    pub(crate) gives_points_back: PointsBack,
+    pub(crate) any_word_follows: bool,
 }
 
 impl Tokens {
@@ -25,14 +34,29 @@ impl Tokens {
     /// directly, such as `else` in `1else` in Python.
     #[must_use]
     pub const fn new(forms: &'static [Form], following: &'static [&'static [u8]]) -> Tokens {
-        Tokens { forms, following, gives_points_back: false }
+        Tokens { forms, following, gives_points_back: PointsBack::Never, any_word_follows: false }
     }
 
     /// Sets whether a point at the end of a number belongs to what follows if that is another point or a word, as in `1..2` and
     /// `1.max(2)`.
     #[must_use]
     pub const fn gives_points_back(self, gives: bool) -> Tokens {
-        Tokens { gives_points_back: gives, ..self }
+        let gives_points_back = if gives { PointsBack::ToWords } else { PointsBack::Never };
+        Tokens { gives_points_back, ..self }
+    }
+
+    /// Sets that a point at the end of a number belongs to what follows if that is a letter, as in `1.eq.2` of Fortran, but not if
+    /// it is another point or `_`, as in `1..eq.2` and `1._8`.
+    #[must_use]
+    pub const fn gives_points_to_letters(self) -> Tokens {
+        Tokens { gives_points_back: PointsBack::ToLetters, ..self }
+    }
+
+    /// Sets whether any word that does not begin with a digit may follow a number directly that does not end in a point, as in `2x`, a
+    /// product in Julia.
+    #[must_use]
+    pub const fn any_word_follows(self, follows: bool) -> Tokens {
+        Tokens { any_word_follows: follows, ..self }
     }
 
     /// Returns the forms that need a suffix.

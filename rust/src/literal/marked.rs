@@ -3,7 +3,7 @@
 //! Tokens of lists with openings or closings, by the rules of tokens. Contracts state nothing of which token it is.
 
 use crate::literal::form::Form;
-use crate::literal::list::{Forms, Tokens};
+use crate::literal::list::{Forms, PointsBack, Tokens};
 use crate::literal::stop::Found;
 use crate::literal::suffix::{is_followed, is_stopped, kind_with, word_size};
 use crate::literal::token::{
@@ -21,7 +21,7 @@ impl<'a> Forms<'a> {
         let it = self.form_at(tokens, form);
         let (_, rest) = text.split_at(end);
         let followed = is_followed(tokens.following, rest);
-        let ends = !is_stopped(it.suffixes, text, end);
+        let ends = !is_stopped(tokens.any_word_follows, it.suffixes, text, end);
         if !followed && (self.goes_on(tokens.gives_points_back, text, end) || (!ends && has_digit(text, size, end))) {
             return Err(self.fail_marked(text));
         }
@@ -55,7 +55,7 @@ impl<'a> Forms<'a> {
     }
 
     // Returns whether a literal of a form of the list goes on behind `end`.
-    const fn goes_on(&self, back: bool, text: &[u8], end: usize) -> bool {
+    const fn goes_on(&self, back: PointsBack, text: &[u8], end: usize) -> bool {
         let mut form = 0;
         while form < self.forms.len() {
             let it = &self.forms[form];
@@ -92,7 +92,7 @@ impl<'a> Forms<'a> {
 impl Form {
     // Returns the candidate of the form, if there is one.
     #[inline(always)]
-    const fn candidate_marked(&self, back: bool, needs: bool, text: &[u8]) -> Option<Candidate> {
+    const fn candidate_marked(&self, back: PointsBack, needs: bool, text: &[u8]) -> Option<Candidate> {
         match self.front_past(text, 0) {
             None => None,
             Some(found) => match self.own_marked(back, text, found) {
@@ -104,7 +104,7 @@ impl Form {
 
     // Returns the front `found`, or without its point if that is given back, if it is a literal. A closing is no point.
     #[inline(always)]
-    const fn own_marked(&self, back: bool, text: &[u8], found: Found) -> Option<Found> {
+    const fn own_marked(&self, back: PointsBack, text: &[u8], found: Found) -> Option<Found> {
         if self.closing.is_empty() && gives_back(self.syntax, back, text, found.size) {
             let (shorter, _) = text.split_at(found.size - 1);
             whole(self.front_past(shorter, 0), shorter.len())
@@ -130,7 +130,7 @@ impl Form {
 }
 
 // Returns the longest candidate of the forms, the first of equals, with the index of its form.
-const fn best_of(forms: &[Form], back: bool, needs: bool, text: &[u8]) -> Option<(usize, Candidate)> {
+const fn best_of(forms: &[Form], back: PointsBack, needs: bool, text: &[u8]) -> Option<(usize, Candidate)> {
     let mut best = None;
     let mut form = 0;
     while form < forms.len() {

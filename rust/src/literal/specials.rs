@@ -81,15 +81,8 @@ impl<'a> Specials<'a> {
     /// A text can be both a literal and a special value, such as `inf` in radix 36.
     #[must_use]
     pub const fn read_bytes(&self, syntax: &Syntax, text: &[u8]) -> Option<Special> {
-        let grammar = syntax.as_grammar();
         let (sign, rest) = split_sign(text);
-        if !allows(grammar, sign) {
-            return None;
-        }
-        match self.spelling(grammar, rest) {
-            Some(spelling) => Some(Special { sign, spelling }),
-            None => None,
-        }
+        self.behind(syntax.as_grammar(), sign, rest)
     }
 
     /// Returns the text of a special value, or `None` if no spelling is read back as this value in `syntax`.
@@ -125,15 +118,14 @@ impl<'a> Specials<'a> {
 
     // Returns the special value that a word is behind a sign.
     const fn read_signed(&self, syntax: &Syntax, sign: Option<Sign>, word: &[u8]) -> Option<Special> {
-        let Some(given) = sign else {
-            return self.read_bytes(syntax, word);
-        };
-        self.behind(syntax.as_grammar(), given, word)
+        match sign {
+            None => self.read_bytes(syntax, word),
+            Some(_) => self.behind(syntax.as_grammar(), sign, word),
+        }
     }
 
-    // Returns the special value that a word is behind a sign that is there.
-    const fn behind(&self, grammar: Grammar, sign: Sign, word: &[u8]) -> Option<Special> {
-        let sign = Some(sign);
+    // Returns the special value that a word is behind a sign, if there is one.
+    const fn behind(&self, grammar: Grammar, sign: Option<Sign>, word: &[u8]) -> Option<Special> {
         if !allows(grammar, sign) {
             return None;
         }

@@ -42,6 +42,7 @@ pub struct Suffixes {
     pub(crate) integers: &'static [&'static [u8]],
     pub(crate) floats: &'static [&'static [u8]],
     pub(crate) either_case: bool,
+    pub(crate) whole_words: bool,
     pub(crate) any: &'static [u8],
     pub(crate) stops: &'static [Stop],
     pub(crate) kinds: &'static [(&'static [u8], Kind)],
@@ -57,13 +58,19 @@ impl Suffixes {
         floats: &'static [&'static [u8]],
         stops: &'static [Stop],
     ) -> Suffixes {
-        Suffixes { integers, floats, either_case: false, any: &[], stops, kinds: &[], written: &[] }
+        Suffixes { integers, floats, either_case: false, whole_words: false, any: &[], stops, kinds: &[], written: &[] }
     }
 
     /// Sets whether the words may be in either case.
     #[must_use]
     pub const fn either_case(self, either: bool) -> Suffixes {
         Suffixes { either_case: either, ..self }
+    }
+
+    /// Sets whether a suffix is the whole word behind a number, as in Ruby, where `1i` has the suffix `i`, and `1if` none.
+    #[must_use]
+    pub const fn whole_words(self, whole: bool) -> Suffixes {
+        Suffixes { whole_words: whole, ..self }
     }
 
     /// Sets the bytes of which any word that begins with one is a suffix, such as `_` for `1_km`.
@@ -120,7 +127,12 @@ impl Suffixes {
         let size = any_word_size(self.any, text);
         if size == 0 {
             let words = if float { self.floats } else { self.integers };
-            longest_word(self.either_case, words, text)
+            let longest = longest_word(self.either_case, words, text);
+            if self.whole_words && longest != word_size(text) {
+                0
+            } else {
+                longest
+            }
         } else {
             size
         }
@@ -178,10 +190,11 @@ const fn kind_among(either: bool, kinds: &[(&[u8], Kind)], word: &[u8], kind: Ki
     }
 }
 
-// Returns whether what is behind the number that ends at `end` may not follow it.
+// Returns whether what is behind the number that ends at `end` may not follow it, where any word may follow or none. None may follow a
+// point.
 #[inline(always)]
-pub(crate) const fn is_stopped(suffixes: Option<&'static Suffixes>, text: &[u8], end: usize) -> bool {
-    has_word_byte(text, end)
+pub(crate) const fn is_stopped(words: bool, suffixes: Option<&'static Suffixes>, text: &[u8], end: usize) -> bool {
+    (if words && !has_point(byte_before(text, end)) { has_digit_at(text, end) } else { has_word_byte(text, end) })
         || match suffixes {
             None => false,
             Some(suffixes) => is_one_met(suffixes.stops, text, end),
@@ -194,6 +207,22 @@ pub(crate) const fn has_word_byte(text: &[u8], index: usize) -> bool {
     match byte_at(text, index) {
         None => false,
         Some(byte) => is_word_byte(byte),
+    }
+}
+
+// Returns whether `byte` is a point.
+const fn has_point(byte: Option<u8>) -> bool {
+    match byte {
+        None => false,
+        Some(byte) => byte == b'.',
+    }
+}
+
+// Returns whether the byte at `index` is a digit.
+pub(crate) const fn has_digit_at(text: &[u8], index: usize) -> bool {
+    match byte_at(text, index) {
+        None => false,
+        Some(byte) => matches!(byte, b'0'..=b'9'),
     }
 }
 
@@ -213,7 +242,7 @@ const fn meets(text: &[u8], end: usize, stop: &Stop) -> bool {
 }
 
 // Returns the byte behind the one at `index`, if there is one.
-const fn byte_after(text: &[u8], index: usize) -> Option<u8> {
+pub(crate) const fn byte_after(text: &[u8], index: usize) -> Option<u8> {
     if index < text.len() {
         byte_at(text, index + 1)
     } else {
@@ -253,6 +282,11 @@ const fn has_byte(bytes: &[u8], byte: u8) -> bool {
 #[inline(always)]
 pub(crate) const fn is_word_byte(byte: u8) -> bool {
     matches!(byte, b'0'..=b'9' | b'A'..=b'Z' | b'_' | b'a'..=b'z' | 128..)
+}
+
+// Returns whether `byte` is a letter.
+pub(crate) const fn is_letter(byte: u8) -> bool {
+    matches!(byte, b'A'..=b'Z' | b'a'..=b'z')
 }
 
 // Returns the number of bytes of a word with which `text` begins.

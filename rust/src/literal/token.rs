@@ -4,12 +4,13 @@
 
 use crate::literal::exclude::{has_letter_behind_zero, is_over, lacks_longer, sign_size};
 use crate::literal::form::Form;
-use crate::literal::list::{FormError, Forms, Tokens};
+use crate::literal::list::{FormError, Forms, PointsBack, Tokens};
 use crate::literal::literal::Literal;
 use crate::literal::step::is_point;
 use crate::literal::stop::{byte_at, Begun, Found, Stopped};
 use crate::literal::suffix::{
-    byte_before, has_word_byte, is_followed, is_stopped, is_word_byte, kind_with, suffix_size, suffix_words, word_size,
+    byte_after, byte_before, has_digit_at, has_word_byte, is_followed, is_letter, is_stopped, is_word_byte, kind_with,
+    suffix_size, suffix_words, word_size,
 };
 use crate::literal::syntax::Syntax;
 
@@ -137,7 +138,7 @@ impl<'a> Forms<'a> {
         if is_one_ahead(self.forms, back, text, end) {
             return Err(self.fail(tokens, text, plain.furthest));
         }
-        if !is_stopped(it.suffixes, text, end) {
+        if !is_stopped(tokens.any_word_follows, it.suffixes, text, end) {
             return Ok(made(it, text, form, candidate));
         }
         if has_digit(text, size, end) {
@@ -218,7 +219,7 @@ impl<'a> Forms<'a> {
         let Begun { at, counts, sums, .. } = begun;
         let (front, rest) = text.split_at(at.size);
         let more = suffix_size(it.suffixes, is_float(counts), rest);
-        if is_stopped(it.suffixes, text, at.size + more) {
+        if is_stopped(false, it.suffixes, text, at.size + more) {
             return None;
         }
         let (suffix, rest) = rest.split_at(more);
@@ -270,7 +271,7 @@ impl<'a> Forms<'a> {
 // Returns whether no literal of the forms, but for the one with the index `but`, begins with more than the first `size` bytes of
 // `text`, which are more than a sign, or only with a point more that is given back.
 #[inline(always)]
-const fn are_past(forms: &[Form], but: usize, back: bool, text: &[u8], size: usize) -> bool {
+const fn are_past(forms: &[Form], but: usize, back: PointsBack, text: &[u8], size: usize) -> bool {
     let mut form = 0;
     while form < forms.len() {
         if form != but && !forms[form].is_past(back, text, size) {
@@ -306,7 +307,7 @@ const fn made<'t>(it: &Form, text: &'t [u8], form: usize, candidate: Candidate) 
 impl Form {
     // Returns whether the front that has been read, which is a literal, is the longest, and does not end in a point that is given back.
     #[inline(always)]
-    const fn is_longest(&self, back: bool, text: &[u8], begun: Begun) -> bool {
+    const fn is_longest(&self, back: PointsBack, text: &[u8], begun: Begun) -> bool {
         let size = begun.at.size;
         (is_over(self.syntax.as_grammar(), text, size) || begun.stop(&self.syntax, text).size == size)
             && !gives_back(self.syntax, back, text, size)
@@ -315,14 +316,14 @@ impl Form {
     // Returns whether no literal begins with more than the first `size` bytes of `text`, which are more than a sign, or only with a
     // point more that is given back.
     #[inline(always)]
-    const fn is_past(&self, back: bool, text: &[u8], size: usize) -> bool {
+    const fn is_past(&self, back: PointsBack, text: &[u8], size: usize) -> bool {
         lacks_longer(self.syntax.as_grammar(), text, size) || self.stops(back, text, size)
     }
 
     // Returns by reading whether no literal begins with more than the first `size` bytes of `text`, or only with a point more that is
     // given back.
     #[inline(never)]
-    const fn stops(&self, back: bool, text: &[u8], size: usize) -> bool {
+    const fn stops(&self, back: PointsBack, text: &[u8], size: usize) -> bool {
         let stop = self.syntax.stop(text);
         stop.size <= size || (stop.size == size + 1 && gives_back(self.syntax, back, text, size + 1))
     }
@@ -339,7 +340,7 @@ impl Form {
 
     // Returns where reading `text` stops, and the candidate, if there is one.
     #[inline(always)]
-    const fn candidate(&self, back: bool, needs: bool, text: &[u8]) -> (Stopped, Option<Candidate>) {
+    const fn candidate(&self, back: PointsBack, needs: bool, text: &[u8]) -> (Stopped, Option<Candidate>) {
         let (stop, found) = self.syntax.front(text);
         let candidate = match found {
             None => None,
@@ -350,7 +351,7 @@ impl Form {
 
     // Returns the candidate of which `found` is the longest front, if there is one.
     #[inline(always)]
-    const fn candidate_of(&self, back: bool, needs: bool, text: &[u8], found: Found) -> Option<Candidate> {
+    const fn candidate_of(&self, back: PointsBack, needs: bool, text: &[u8], found: Found) -> Option<Candidate> {
         match self.own(back, text, found) {
             None => None,
             Some(own) => self.suffixed(needs, text, own),
@@ -373,7 +374,7 @@ impl Form {
 
     // Returns the front `found`, or without its point if that is given back, if it is a literal.
     #[inline(always)]
-    const fn own(&self, back: bool, text: &[u8], found: Found) -> Option<Found> {
+    const fn own(&self, back: PointsBack, text: &[u8], found: Found) -> Option<Found> {
         if gives_back(self.syntax, back, text, found.size) {
             let (shorter, _) = text.split_at(found.size - 1);
             let (_, own) = self.syntax.front(shorter);
@@ -395,12 +396,22 @@ pub(crate) const fn whole(found: Option<Found>, size: usize) -> Option<Found> {
 
 // Returns whether the first `size` bytes of `text` end in a point that is given back.
 #[inline(always)]
-pub(crate) const fn gives_back(syntax: Syntax, back: bool, text: &[u8], size: usize) -> bool {
-    back && is_one(syntax, byte_before(text, size))
+pub(crate) const fn gives_back(syntax: Syntax, back: PointsBack, text: &[u8], size: usize) -> bool {
+    is_one(syntax, byte_before(text, size))
         && match byte_at(text, size) {
             None => false,
-            Some(byte) => byte == b'.' || is_word_byte(byte),
+            Some(byte) => takes_point(back, byte),
         }
+}
+
+// Returns whether a point before `byte` is given back.
+#[inline(always)]
+const fn takes_point(back: PointsBack, byte: u8) -> bool {
+    match back {
+        PointsBack::Never => false,
+        PointsBack::ToWords => byte == b'.' || is_word_byte(byte),
+        PointsBack::ToLetters => is_letter(byte),
+    }
 }
 
 // Returns whether `byte` is the decimal point.
@@ -414,11 +425,7 @@ const fn is_one(syntax: Syntax, byte: Option<u8>) -> bool {
 
 // Returns whether a digit is behind a literal of `size` bytes that has no suffix, so that the number ends where the literal does.
 pub(crate) const fn has_digit(text: &[u8], size: usize, end: usize) -> bool {
-    size == end
-        && match byte_at(text, size) {
-            None => false,
-            Some(byte) => matches!(byte, b'0'..=b'9'),
-        }
+    size == end && has_digit_at(text, size)
 }
 
 // Returns why what is behind the number with this candidate may not follow it: a word, or otherwise a byte that a stop names.
@@ -459,7 +466,7 @@ const fn is_shorter(one: Candidate, other: Candidate) -> bool {
 }
 
 // Returns what the forms find in `text`.
-const fn scan(forms: &[Form], back: bool, needs: bool, text: &[u8]) -> Scanned {
+const fn scan(forms: &[Form], back: PointsBack, needs: bool, text: &[u8]) -> Scanned {
     let mut furthest = None;
     let mut best = None;
     let mut form = 0;
@@ -499,7 +506,7 @@ pub(crate) const fn better(
 
 // Returns whether a literal of one of the forms goes on behind `end`.
 #[cold]
-const fn is_one_ahead(forms: &[Form], back: bool, text: &[u8], end: usize) -> bool {
+const fn is_one_ahead(forms: &[Form], back: PointsBack, text: &[u8], end: usize) -> bool {
     let mut form = 0;
     while form < forms.len() {
         let it = &forms[form];
@@ -513,6 +520,29 @@ const fn is_one_ahead(forms: &[Form], back: bool, text: &[u8], end: usize) -> bo
 }
 
 // Returns whether a literal that goes up to `stop` goes on behind `end`.
-pub(crate) const fn goes_on(syntax: Syntax, back: bool, text: &[u8], end: usize, stop: usize) -> bool {
-    end < stop && !(back && stop == end + 1 && is_one(syntax, byte_at(text, end)))
+pub(crate) const fn goes_on(syntax: Syntax, back: PointsBack, text: &[u8], end: usize, stop: usize) -> bool {
+    end < stop && !(is_alone(back, text, end, stop) && is_one(syntax, byte_at(text, end)))
+}
+
+// Returns whether no byte of a literal that goes up to `stop` is behind the point at `end`, or only one that begins a name.
+const fn is_alone(back: PointsBack, text: &[u8], end: usize, stop: usize) -> bool {
+    match back {
+        PointsBack::Never => false,
+        PointsBack::ToWords => stop == end + 1,
+        PointsBack::ToLetters => stop == end + 1 || (stop - 1 == end + 1 && begins_name(text, end + 1)),
+    }
+}
+
+// Returns whether a letter is at `index`, and another one or a point behind it.
+const fn begins_name(text: &[u8], index: usize) -> bool {
+    match byte_at(text, index) {
+        None => false,
+        Some(letter) => {
+            is_letter(letter)
+                && match byte_after(text, index) {
+                    None => false,
+                    Some(byte) => byte == b'.' || is_letter(byte),
+                }
+        }
+    }
 }

@@ -2,6 +2,7 @@
 
 use core::{fmt, ops::Range, str};
 
+use crate::literal::list::PointsBack;
 use crate::literal::{Form, Forms, Kind, Stop, Suffixes, Token, TokenError, Tokens};
 use crate::short_text::ShortText;
 
@@ -16,13 +17,18 @@ impl Forms<'_> {
         self.token_bytes(text.as_ref())
     }
 
-    /// Returns the forms that need a suffix, the words that may follow, and whether points are given back, for the library for C.
+    /// Returns the forms that need a suffix, the words that may follow, and whether points are given back, to letters alone, and any word
+    /// may follow, for the library for C.
     #[doc(hidden)]
     #[must_use]
     #[allow(clippy::type_complexity, reason = "it is for the library for C alone")]
-    pub const fn token_rules(&self) -> Option<(&[Form], &[&'static [u8]], bool)> {
+    pub const fn token_rules(&self) -> Option<(&[Form], &[&'static [u8]], [bool; 3])> {
         match self.tokens {
-            Some(Tokens { forms, following, gives_points_back }) => Some((forms, following, *gives_points_back)),
+            Some(Tokens { forms, following, gives_points_back: back, any_word_follows }) => {
+                let [to_words, to_letters] =
+                    [matches!(back, PointsBack::ToWords), matches!(back, PointsBack::ToLetters)];
+                Some((forms, following, [to_words, to_letters, *any_word_follows]))
+            }
             None => None,
         }
     }
@@ -48,8 +54,8 @@ impl Suffixes {
     #[doc(hidden)]
     #[must_use]
     #[allow(clippy::type_complexity, reason = "it is for the library for C alone")]
-    pub const fn rules(&self) -> (bool, &'static [u8], &'static [(&'static [u8], Kind)], &'static [Stop]) {
-        (self.either_case, self.any, self.kinds, self.stops)
+    pub const fn rules(&self) -> ([bool; 2], &'static [u8], &'static [(&'static [u8], Kind)], &'static [Stop]) {
+        ([self.either_case, self.whole_words], self.any, self.kinds, self.stops)
     }
 }
 

@@ -8,8 +8,8 @@ use Rattle.lexical_util.specs.declared.feature_format.roles.Role.TheVariants as 
 use Rattle.lexical_literal.specs.Additions.Stop.{IsCountedFront, IsStopped}
 use Rattle.lexical_literal.specs.Cause.{Explained, IsRefusal}
 use Rattle.lexical_forms.specs.Affix.{IsOpened, IsOpenedTo}
-use Rattle.lexical_forms.specs.Forms.{HasFront, IsFirst, IsFormError, IsGreatest, KeepsError, LacksClosing, NoForm, OpensIn, Reaches, ReadsIn, behind, reach}
-use Rattle.lexical_literal.specs.Front.{IsValidUpTo, NoFrontBy, NoLiteral, NoneBy}
+use Rattle.lexical_forms.specs.Forms.{HasFront, IsFirst, IsFormError, IsGreatest, KeepsError, LacksClosing, NoForm, OpensIn, Reaches, ReadsIn, reach}
+use Rattle.lexical_literal.specs.Front.{IsValidBy, IsValidUpTo, NoFrontBy, NoLiteral, NoneBy}
 use Rattle.lexical_literal.specs.Literal.{Literal, Reads}
 use Rattle.lexical_literal.specs.Read.{Read}
 use Rattle.lexical_literal.specs.Notation.{Notation, notation_of, set_of_role}
@@ -25,6 +25,14 @@ use Rattle.lexical_forms.specs.declared.marks.Unclosed.{Unclosed}
 abbrev pub sign_size : List ℕ → ℕ
 sign_size [] = 0
 sign_size (byte ∷ text) = if signs byte then 1 else 0
+
+-- `behind form text` is what follows as many bytes of `text` as the opening of `form` has.
+abbrev pub behind : Form → List ℕ → List ℕ
+behind form text = drop form.opening.size text
+
+-- `GoesTo text form size` holds if some literal of `form` begins with the first `size` bytes of `text`, and none with more.
+abbrev pub GoesTo : List ℕ → Form → ℕ → Type 0
+GoesTo text form = IsValidBy (ReadsIn form) text
 
 -- `greater size best form found` is `best`, or `found` of the form with the index `form` if its `size` is greater.
 abbrev pub greater : {X : Type 0} → (X → ℕ) → Option (ℕ × X) → ℕ → X → Option (ℕ × X)

@@ -8,7 +8,8 @@ use Rattle.lexical_forms.specs.FormList.{FormList}
 use Rattle.lexical_literal.specs.Front.{IsFront, NoLiteral}
 use Rattle.lexical_forms.specs.Suffix.{is_word_byte, stop_end, suffix_size, suffix_words}
 use Rattle.lexical_forms.specs.declared.suffix.Suffixes.{Suffixes}
-use Rattle.lexical_forms.specs.Token.{HasFrontOfSyntax, IsBest, IsCandidate, IsChosen, NoCandidate, gives_back, is_shorter}
+use Rattle.lexical_forms.specs.Token.{HasFrontOfSyntax, IsBest, IsCandidate, IsChosen, NoCandidate, gives_back, is_alone, is_shorter}
+use Rattle.lexical_forms.specs.declared.list.PointsBack.{PointsBack}
 use Rattle.lexical_forms.specs.declared.list.Tokens.{Tokens}
 use Rattle.lexical_literal.specs.declared.stop.Found.{Found}
 use Rattle.lexical_literal.specs.Notation.{Notation, notation_of}
@@ -18,7 +19,7 @@ use Rattle.lexical_forms.specs.declared.token.TokenError.{TokenError}
 use Rattle.lexical_forms.specs.declared.token.TokenError.TheVariants as errors
 
 -- `IsMade back needs text form c` holds if `c` is the candidate of `form` in `text`, and has the lengths of the parts of its literal.
-pub record IsMade (back needs : Bool) (text : List ℕ) (form : Form) (c : Candidate) : Type 0 where
+pub record IsMade (back : PointsBack) (needs : Bool) (text : List ℕ) (form : Form) (c : Candidate) : Type 0 where
   pub candidate : IsCandidate back needs text form c.size c.end
   pub measured : IsMeasured (notation_of form.syntax) (take c.size text) c.counts
   pub within : c.end ≤ length text
@@ -31,22 +32,22 @@ pub record IsInside (count : ℕ) (text : List ℕ) (best : ℕ × Candidate) : 
 
 -- `IsBestOf back needs forms text best` holds if `best` is the index of the first of `forms` with the longest candidate, and this
 -- candidate, or `None` if there is none.
-pub record IsBestMade (back needs : Bool) (forms : List Form) (text : List ℕ) (index : ℕ) (c : Candidate) : Type 0 where
+pub record IsBestMade (back : PointsBack) (needs : Bool) (forms : List Form) (text : List ℕ) (index : ℕ) (c : Candidate) : Type 0 where
   pub best : IsBest back needs forms text index c.size c.end
   pub made : IsSomeAnd (slice_get forms index) (λ form. IsMade back needs text form c)
 
-abbrev pub IsBestOf : Bool → Bool → List Form → List ℕ → Option (ℕ × Candidate) → Type 0
+abbrev pub IsBestOf : PointsBack → Bool → List Form → List ℕ → Option (ℕ × Candidate) → Type 0
 IsBestOf back needs forms text None = All (NoCandidate back needs text) forms
 IsBestOf back needs forms text (Some best) = IsBestMade back needs forms text best.0 best.1
 
 -- `IsOwn back m text longest own` holds if `own` has the lengths of the longest front, of `longest` bytes, or of this without its point if
 -- that is given back. `NoOwn` holds if there is no such literal.
-pub record IsOwn (back : Bool) (m : Notation) (text : List ℕ) (longest : ℕ) (own : Found) : Type 0 where
+pub record IsOwn (back : PointsBack) (m : Notation) (text : List ℕ) (longest : ℕ) (own : Found) : Type 0 where
   pub within : own.size ≤ length text
   pub size : own.size ≡ (if gives_back back m text longest then longest - 1 else longest)
   pub measured : IsMeasured m (take own.size text) own.counts
 
-abbrev pub NoOwn : Bool → Notation → List ℕ → ℕ → Type 0
+abbrev pub NoOwn : PointsBack → Notation → List ℕ → ℕ → Type 0
 NoOwn back m text longest = NoLiteral m (take (if gives_back back m text longest then longest - 1 else longest) text)
 
 -- `has_float counts` is true if a literal with these lengths of its parts is a float.
@@ -59,9 +60,9 @@ better best form None = best
 better None form (Some c) = Some (form, c)
 better (Some best) form (Some c) = if is_shorter best.1.size best.1.end c.size c.end then Some (form, c) else Some best
 
--- `goes_on back m text end stop` is true if a literal that goes up to `stop` goes on behind `end`, and not only with a point.
-abbrev pub goes_on : Bool → Notation → List ℕ → ℕ → ℕ → Bool
-goes_on back m text end stop = nat_lt end stop && not (back && (stop == end + 1) && is_in m.point (slice_get text end))
+-- `goes_on back m text end stop` is true if a literal that goes up to `stop` goes on behind `end`, and not only with a point that is given back.
+abbrev pub goes_on : PointsBack → Notation → List ℕ → ℕ → ℕ → Bool
+goes_on back m text end stop = nat_lt end stop && not (is_alone back text end stop && is_in m.point (slice_get text end))
 
 -- `IsPicked list t text index form c` holds if `form`, with this index, has the longest candidate, which is `c`.
 pub record IsPicked (list : FormList) (t : Tokens) (text : List ℕ) (index : ℕ) (form : Form) (c : Candidate) : Type 0 where
@@ -96,10 +97,10 @@ suffixed suffixes needs text own =
 abbrev pub IsWithin : Notation → List ℕ → ℕ → Type 0
 IsWithin m text size = (more : ℕ) → size < more → more ≤ length text → IsFront m (take more text) → ⊥
 
-abbrev pub IsNear : Bool → Notation → List ℕ → ℕ → Type 0
+abbrev pub IsNear : PointsBack → Notation → List ℕ → ℕ → Type 0
 IsNear back m text size = IsWithin m text size ⊎ (IsWithin m text (size + 1) × (gives_back back m text (size + 1) ≡ true))
 
-abbrev pub AreNear : Bool → List Form → ℕ → List ℕ → ℕ → Type 0
+abbrev pub AreNear : PointsBack → List Form → ℕ → List ℕ → ℕ → Type 0
 AreNear back forms but text size =
     (i : ℕ) (form : Form) → i < length forms → (i ≡ but → ⊥) → IsNear back (notation_of (get_or forms i form).syntax) text size
 

@@ -236,7 +236,7 @@ const ADA_STOPS: &[Stop] = &[
 ];
 
 /// Kinds of Fortran, of so many bytes or by a name: `1_8`, `1.0_dp`. Those of 10 and 16 bytes have floats that an `f64`
-/// has not. `1._8`, whose point is not given back, is refused.
+/// has not.
 const FORTRAN_WORDS: Suffixes = Suffixes::new(&[], &[], &[Stop::new(b"", b".", b"_0123456789")])
     .any_word(b"_")
     .with_kinds(&[
@@ -461,9 +461,9 @@ const RAKU_WORDS: Suffixes = words(&[b"i"], &[b"i"]);
 
 /// Suffixes of Ruby.
 const RUBY_INTEGERS: &[&[u8]] = &[b"r", b"i", b"ri"];
-const RUBY_WORDS: Suffixes = Suffixes::new(RUBY_INTEGERS, &[b"i"], POINT_AND_DIGIT);
+const RUBY_WORDS: Suffixes = Suffixes::new(RUBY_INTEGERS, &[b"i"], POINT_AND_DIGIT).whole_words(true);
 
-/// Words of Ruby that may follow a number: `1unless x`. `1if x` is refused, since `i` is a suffix.
+/// Words of Ruby that may follow a number: `1unless x`.
 const RUBY_KEYWORDS: &[&[u8]] = &[
     b"alias", b"and", b"begin", b"break", b"case", b"class", b"def", b"do", b"else", b"elsif", b"end", b"ensure",
     b"false", b"for", b"if", b"in", b"module", b"next", b"nil", b"not", b"or", b"redo", b"rescue", b"retry", b"return",
@@ -652,8 +652,9 @@ languages! {
     /// Fortran's signed integers and reals (ISO/IEC 1539-1:2018, 7.4.3). Binary, octal and hexadecimal
     /// constants, such as `Z'FF'`, have no type of their own: here, they have at most 128 bits, and are not written.
     /// Integers have at most 31 bits, and `0.1`, but not `0.1d0`, is an `f32`. The suffix of a token is its
-    /// kind: `0.1_8` is no `f32`. Of a named kind, such as `_dp`, neither the name nor the value is known. Tokens
-    /// such as `1._8` and `1.eq.2` are refused. `-2147483648`, which compilers refuse, is read, and written.
+    /// kind: `0.1_8` is no `f32`. Of a named kind, such as `_dp`, neither the name nor the value is known, nor is that of
+    /// `_08`. gfortran also accepts `1q5`, and reads `1.q5` as one number. `-2147483648`, which compilers refuse, is read,
+    /// and written.
     FORTRAN: "Fortran" = {
         "decimal": numbers(b'e', b'.', NumberFormatBuilder::new().no_special(true)) => FORTRAN_WORDS; DEFAULT, // rejects `NaN` and `inf`
         "double precision": numbers(b'd', b'.', NumberFormatBuilder::new()
@@ -666,7 +667,7 @@ languages! {
         "hexadecimal, \"" behind "z\"" before "\"" only_read true: integers(16, TOKENS, UNSIGNED); AT_MOST_128,
         "octal, \"" behind "o\"" before "\"" only_read true: integers(8, TOKENS, UNSIGNED); AT_MOST_128,
         "binary, \"" behind "b\"" before "\"" only_read true: integers(2, TOKENS, UNSIGNED); AT_MOST_128,
-    } => POINTS_BACK;
+    } => Tokens::new(&[], &[]).gives_points_to_letters();
 
     /// Go's integer and floating-point literals (Language Specification).
     GO: "Go" = {
@@ -739,9 +740,10 @@ languages! {
     }, Specials { nan: Some(b"NaN"), inf: Some(b"Infinity"), infinity: None };
 
     /// Julia's integers and floats (Manual 1.11, Integers and Floating-Point Numbers). `0.1f0`, but not `0.1`, is an `f32`.
+    /// The token of `2x`, a product, is `2`.
     JULIA: "Julia" = {
         "decimal": decimal(JULIA) => JULIA_WORDS,
-        "32 bits": numbers(b'f', b'.', JULIA.case_sensitive_exponent(true)).with_conditions_or_panic(UNSIGNED); SINGLE, // accepts `1f3`, not `1F3`
+        "32 bits": numbers(b'f', b'.', JULIA.case_sensitive_exponent(true)).with_conditions_or_panic(UNSIGNED) => JULIA_WORDS; SINGLE, // accepts `1f3`, not `1F3`
         "hexadecimal": prefixed(b'x', 16, JULIA.case_sensitive_base_prefix(true)), // rejects `0X1F`
         "octal": prefixed(b'o', 8, JULIA.case_sensitive_base_prefix(true)), // rejects `0O17`
         "binary": prefixed(b'b', 2, JULIA.case_sensitive_base_prefix(true)), // rejects `0B1`
@@ -749,7 +751,7 @@ languages! {
             .case_sensitive_base_prefix(true) // rejects `0X1p3`
             .required_exponent_notation(true) // rejects `0x1.8`
         ),
-    } => Tokens::new(&[], &[]);
+    } => Tokens::new(&[], &[]).any_word_follows(true);
 
     /// Kotlin's integer and real literals (Kotlin language specification 1.9, Literals). An integer is an `Int` or a `Long` or, with
     /// `u`, a `ULong`.
@@ -911,8 +913,7 @@ languages! {
         "decimal, 0d": prefixed(b'd', 10, RAKU_PREFIXED) => RAKU_WORDS,
     } radixes ":" "<" before ">" { based(separated(b'_')) } => POINTS_BACK;
 
-    /// Ruby's integers and floats (ISO/IEC 30170:2012, 8.7.6.2), with signs. Of `1iif`, which is `1` and a name to
-    /// Ruby, the token is `1i`, since `if` is a keyword.
+    /// Ruby's integers and floats (ISO/IEC 30170:2012, 8.7.6.2), with signs.
     RUBY: "Ruby" = {
         "decimal": numbers(b'e', b'.', without_zeros(RUBY).required_digits(true)) => RUBY_WORDS, // rejects `.5`, `1.`, `1e` and `.`
         "octal": signed(octal(RUBY)) => RUBY_WORDS,
@@ -922,7 +923,7 @@ languages! {
         "decimal, 0d": signed(prefixed(b'd', 10, RUBY)) => RUBY_WORDS,
     } => Tokens::new(
         &[Form::new("rational", numbers(b'e', b'.', without_zeros(RUBY).required_digits(true).no_exponent_notation(true)))
-            .with_suffixes(&words(&[b"r", b"ri"], &[b"r", b"ri"]))],
+            .with_suffixes(&words(&[b"r", b"ri"], &[b"r", b"ri"]).whole_words(true))],
         RUBY_KEYWORDS,
     )
     .gives_points_back(true);

@@ -2,8 +2,8 @@
 use Rattle.lexical_forms.proofs.Common.{Form, IsSomeAnd, Some, ap, false≢true, length, slice_get, subst, sym, ◌+◌}
 use Rattle.lexical_forms.proofs.Common.{arith, length-take-le, ◌-◌, ◌≡◌, ◌∙◌}
 use Rattle.lexical_literal.specs.Front.{ReadsFrontBy}
-use Rattle.lexical_forms.specs.Additions.Forms.{IsFrontIn}
-use Rattle.lexical_forms.specs.Forms.{ReadsIn, behind}
+use Rattle.lexical_forms.specs.Additions.Forms.{IsFrontIn, behind}
+use Rattle.lexical_forms.specs.Forms.{ReadsIn}
 use Rattle.lexical_forms.proofs.FormLemmas.{form_at, inside_of}
 use Rattle.lexical_forms.proofs.MarkLemmas.{front_in, inner_is, read_in}
 use Rattle.lexical_literal.proofs.PieceLemmas.{front_cut, front_read}

@@ -1,0 +1,110 @@
+-- What the parts of a token are, and which tokens are a whole text.
+use Rattle.lexical_forms.proofs.Common.{ℕ, ◌≡◌, ◌≤◌, ◌<◌, ◌&&◌, ◌+◌, ◌-◌, ◌++◌, [], Bool, false, true, inl, inr, All, IsSomeAnd, List, Literal, Reads, ap, append-nil, arith}
+use Rattle.lexical_forms.proofs.Common.{drop, get_or, if◌then◌else◌, length, notation_of, refl, slice_get, subst, sym, take, take_all, text_of, ◌∙◌}
+use Rattle.lexical_forms.proofs.Common.{Form, FormList, is_float}
+use Rattle.lexical_literal.specs.Cause.{is_in}
+use Rattle.lexical_forms.specs.FormList.{have_marks}
+use Rattle.lexical_forms.specs.Forms.{IsFirst, NoForm, ReadsForm, ReadsIn}
+use Rattle.lexical_forms.specs.Suffix.{suffix_size, word_size}
+use Rattle.lexical_forms.specs.Token.{IsCandidate, IsChosen, IsToken, gives_back, is_shorter, takes_point}
+use Rattle.lexical_forms.specs.declared.list.Tokens.{Tokens}
+use Rattle.lexical_forms.specs.declared.token.Token.{Token}
+use Rattle.lexical_forms.proofs.FormLemmas.{all_at, plain_at}
+use Rattle.lexical_forms.proofs.LeadingLemmas.{front_of, less_or_same, suffix_within}
+use Rattle.lexical_forms.proofs.MarkLemmas.{plain_in, plain_of}
+use Rattle.std.proofs.Common.{min}
+use Rattle.std.proofs.lemmas.Bool.{false≢true}
+use Rattle.std.proofs.lemmas.Bool.Decides.{nat_tests}
+use Rattle.std.proofs.lemmas.List.{drop-drop, length-drop, length-take, take-append-drop}
+use Rattle.std.proofs.lemmas.List.Elements.{All-take}
+use Rattle.std.proofs.lemmas.Option.{slice_get_past}
+
+-- A form has no suffix at the end of a text.
+no_more : (form : Form) (float : Bool) (text : List ℕ) (size : ℕ) → length text ≤ size → suffix_size form.suffixes float (drop size text) ≡ 0
+no_more form float text size past =
+    let less = suffix_within form.suffixes float (drop size text) in
+    let none = no_word (drop size text) (let left = length-drop size text in omega (arith, left, past)) in omega (arith, less, none) where
+      no_word : (text : List ℕ) → length text ≡ 0 → word_size text ≡ 0
+      no_word [] none = refl
+      no_word (byte ∷ text) none = absurd (omega (arith, none))
+
+kept : (a b : Bool) → b ≡ false → (a && b) ≡ false
+kept a b is = grind arith
+
+module _ (list : FormList) (t : Tokens) (text : List ℕ) (token : Token) (is : IsToken list t text token) where
+  -- The form has a candidate, which needs a suffix or not.
+  candidate : (needs : Bool) × IsCandidate t.gives_points_back needs text is.form is.size is.end
+  candidate = of is.chosen where
+    of : IsChosen list t text token.form is.form is.size is.end → (needs : Bool) × IsCandidate t.gives_points_back needs text is.form is.size is.end
+    of (inl (at, best, others)) =
+        (false, subst (λ o. IsSomeAnd o (λ form. IsCandidate t.gives_points_back false text form is.size is.end)) at best.here)
+    of (inr (behind, same, at, best, others)) =
+        (true, subst (λ o. IsSomeAnd o (λ form. IsCandidate t.gives_points_back true text form is.size is.end)) at best.here)
+
+  pub parts_are : text ≡ text_of token.literal.literal ++ (token.suffix.now ++ token.rest.now)
+  parts_are =
+      let end = candidate.1.end_is in
+      let sum : is.size + (is.end - is.size) ≡ is.end = omega (arith, end) in
+      sym (take-append-drop is.size text)
+      ∙ (λ j. is.literal.1.whole j ++ sym (take-append-drop (is.end - is.size) (drop is.size text)) j)
+      ∙ (λ j. text_of token.literal.literal ++ (sym is.suffix j ++ (drop-drop (is.end - is.size) is.size text ∙ ap (λ k. drop k text) sum ∙ sym is.rest) j))
+
+  -- The whole text is the literal, if it has neither a suffix nor a rest.
+  module _ (bare : have_marks list.forms ≡ false) (no_suffix : token.suffix.now ≡ []) (no_rest : token.rest.now ≡ []) where
+    abbrev IsPlain : Form → Type 0
+    IsPlain form = (form.opening.size ≡ 0) × (form.closing.size ≡ 0)
+
+    plain : All IsPlain list.forms
+    plain k d below = plain_at list.forms k d below bare
+
+    past : length text ≤ is.size
+    past =
+        let behind : length text - is.end ≡ 0 = sym (length-drop is.end text) ∙ ap length (sym is.rest ∙ no_rest) in
+        let more : min (is.end - is.size) (length (drop is.size text)) ≡ 0 =
+        sym (length-take (is.end - is.size) (drop is.size text)) ∙ ap length (sym is.suffix ∙ no_suffix) in
+        let left = length-drop is.size text in omega (arith, behind, more, left)
+
+    end : is.end ≡ is.size
+    end = candidate.1.end_is ∙ (let none = no_more is.form (is_float candidate.1.literal) text is.size past in omega (arith, none))
+
+    reads : Reads (notation_of is.form.syntax) token.literal.literal text
+    reads = subst (Reads (notation_of is.form.syntax) token.literal.literal) (take_all is.size text past) is.literal.1
+
+    -- A form that reads the text has it as a candidate.
+    whole : (form : Form) (l : Literal) → Reads (notation_of form.syntax) l text
+        → IsCandidate t.gives_points_back false text form (length text) (length text)
+    whole form l read =
+        let read = subst (Reads (notation_of form.syntax) l) (sym (take_all (length text) text (omega arith))) read in record {
+          longest = length text;
+          front = front_of text form (length text) (omega arith) l read (λ more past inside. absurd (omega (arith, past, inside)));
+          size_is = ap (λ b. if b then length text - 1 else length text)
+              (sym (kept _ _ (ap (is_in (takes_point t.gives_points_back)) (slice_get_past text (length text) (omega arith)))));
+          literal = l;
+          reads = read;
+          end_is = let none = no_more form (is_float l) text (length text) (omega arith) in omega (arith, none);
+          suffixed = λ needed. absurd (false≢true needed);
+        }
+
+    size : is.size ≤ length text
+    size =
+        let longest = candidate.1.front.1.within in
+        let own = candidate.1.size_is in
+        let less = less_or_same (gives_back t.gives_points_back (notation_of is.form.syntax) text candidate.1.longest) candidate.1.longest in
+        omega (arith, longest, own, less)
+
+    pub is_whole : IsFirst list.forms text token.form token.literal
+    is_whole = of is.chosen where
+      of : IsChosen list t text token.form is.form is.size is.end → IsFirst list.forms text token.form token.literal
+      of (inl (at, best, others)) =
+          let marks = all_at IsPlain list.forms token.form is.form at plain in record {
+            reads = subst (λ o. IsSomeAnd o (ReadsForm text token.literal)) (sym at)
+                (is.literal.0, plain_in is.form text marks.0 marks.1 token.literal.literal reads);
+            before = λ k d below l read.
+                let form = get_or (take token.form list.forms) k d in
+                let marks = All-take IsPlain token.form list.forms plain k d below in
+                let shorter = best.before k d below (length text) (length text) (whole form l (plain_of form text marks.0 marks.1 l read)) in
+                let stop = end in let own = size in let less = past in grind (arith, nat_tests);
+          }
+      of (inr (behind, same, at, best, others)) =
+          let own = subst (λ o. IsSomeAnd o (λ form. IsCandidate t.gives_points_back true text form is.size is.end)) at best.here in
+          let longer = own.suffixed refl in absurd (omega (arith, longer, end))
