@@ -128,7 +128,7 @@ impl Suffixes {
 }
 
 // Returns the length of the longest suffix with which `text` begins, or 0 if there is none.
-#[inline(always)]
+#[cfg_attr(not(peltzivar_small), inline(always))]
 pub(crate) const fn suffix_size(suffixes: Option<&'static Suffixes>, float: bool, text: &[u8]) -> usize {
     match suffixes {
         None => 0,
@@ -179,7 +179,7 @@ const fn kind_among(either: bool, kinds: &[(&[u8], Kind)], word: &[u8], kind: Ki
 }
 
 // Returns whether what is behind the number that ends at `end` may not follow it.
-#[inline(always)]
+#[cfg_attr(not(peltzivar_small), inline(always))]
 pub(crate) const fn is_stopped(suffixes: Option<&'static Suffixes>, text: &[u8], end: usize) -> bool {
     has_word_byte(text, end)
         || match suffixes {
@@ -189,7 +189,7 @@ pub(crate) const fn is_stopped(suffixes: Option<&'static Suffixes>, text: &[u8],
 }
 
 // Returns whether the byte at `index` is one of a word.
-#[inline(always)]
+#[cfg_attr(not(peltzivar_small), inline(always))]
 pub(crate) const fn has_word_byte(text: &[u8], index: usize) -> bool {
     match byte_at(text, index) {
         None => false,
@@ -250,7 +250,7 @@ const fn has_byte(bytes: &[u8], byte: u8) -> bool {
 }
 
 // Returns whether `byte` is a digit, a letter, `_` or at least 128.
-#[inline(always)]
+#[cfg_attr(not(peltzivar_small), inline(always))]
 pub(crate) const fn is_word_byte(byte: u8) -> bool {
     matches!(byte, b'0'..=b'9' | b'A'..=b'Z' | b'_' | b'a'..=b'z' | 128..)
 }

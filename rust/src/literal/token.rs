@@ -206,7 +206,7 @@ impl<'a> Forms<'a> {
     }
 
     // Returns the token of which `begun` is the literal, of the form with this index, if nothing follows that may not.
-    #[inline(always)]
+    #[cfg_attr(not(peltzivar_small), inline(always))]
     const fn token_at<'t>(
         &self,
         _tokens: &Tokens,
@@ -269,7 +269,7 @@ impl<'a> Forms<'a> {
 
 // Returns whether no literal of the forms, but for the one with the index `but`, begins with more than the first `size` bytes of
 // `text`, which are more than a sign, or only with a point more that is given back.
-#[inline(always)]
+#[cfg_attr(not(peltzivar_small), inline(always))]
 const fn are_past(forms: &[Form], but: usize, back: bool, text: &[u8], size: usize) -> bool {
     let mut form = 0;
     while form < forms.len() {
@@ -282,7 +282,7 @@ const fn are_past(forms: &[Form], but: usize, back: bool, text: &[u8], size: usi
 }
 
 // Returns the larger of two sizes.
-#[inline(always)]
+#[cfg_attr(not(peltzivar_small), inline(always))]
 pub(crate) const fn larger(one: usize, other: usize) -> usize {
     if one < other {
         other
@@ -292,7 +292,7 @@ pub(crate) const fn larger(one: usize, other: usize) -> usize {
 }
 
 // Returns the token with this candidate.
-#[inline(always)]
+#[cfg_attr(not(peltzivar_small), inline(always))]
 const fn made<'t>(it: &Form, text: &'t [u8], form: usize, candidate: Candidate) -> Token<'t> {
     let Candidate { size, counts, end } = candidate;
     let (front, behind) = text.split_at(size);
@@ -305,7 +305,7 @@ const fn made<'t>(it: &Form, text: &'t [u8], form: usize, candidate: Candidate) 
 
 impl Form {
     // Returns whether the front that has been read, which is a literal, is the longest, and does not end in a point that is given back.
-    #[inline(always)]
+    #[cfg_attr(not(peltzivar_small), inline(always))]
     const fn is_longest(&self, back: bool, text: &[u8], begun: Begun) -> bool {
         let size = begun.at.size;
         (is_over(self.syntax.as_grammar(), text, size) || begun.stop(&self.syntax, text).size == size)
@@ -314,7 +314,7 @@ impl Form {
 
     // Returns whether no literal begins with more than the first `size` bytes of `text`, which are more than a sign, or only with a
     // point more that is given back.
-    #[inline(always)]
+    #[cfg_attr(not(peltzivar_small), inline(always))]
     const fn is_past(&self, back: bool, text: &[u8], size: usize) -> bool {
         lacks_longer(self.syntax.as_grammar(), text, size) || self.stops(back, text, size)
     }
@@ -328,7 +328,7 @@ impl Form {
     }
 
     // Returns a size that no front of `text` that is a literal exceeds, where reading stops at `stop`.
-    #[inline(always)]
+    #[cfg_attr(not(peltzivar_small), inline(always))]
     const fn bound(&self, text: &[u8], stop: Stopped) -> usize {
         if stop.size == 0 || stop.is_literal(&self.syntax, text) {
             stop.size
@@ -338,7 +338,7 @@ impl Form {
     }
 
     // Returns where reading `text` stops, and the candidate, if there is one.
-    #[inline(always)]
+    #[cfg_attr(not(peltzivar_small), inline(always))]
     const fn candidate(&self, back: bool, needs: bool, text: &[u8]) -> (Stopped, Option<Candidate>) {
         let (stop, found) = self.syntax.front(text);
         let candidate = match found {
@@ -349,7 +349,7 @@ impl Form {
     }
 
     // Returns the candidate of which `found` is the longest front, if there is one.
-    #[inline(always)]
+    #[cfg_attr(not(peltzivar_small), inline(always))]
     const fn candidate_of(&self, back: bool, needs: bool, text: &[u8], found: Found) -> Option<Candidate> {
         match self.own(back, text, found) {
             None => None,
@@ -358,7 +358,7 @@ impl Form {
     }
 
     // Returns the candidate with the literal `own`, if there is a suffix or none is needed.
-    #[inline(always)]
+    #[cfg_attr(not(peltzivar_small), inline(always))]
     pub(crate) const fn suffixed(&self, needs: bool, text: &[u8], own: Found) -> Option<Candidate> {
         let Found { size, counts } = own;
         let (_, rest) = text.split_at(size);
@@ -372,7 +372,7 @@ impl Form {
     }
 
     // Returns the front `found`, or without its point if that is given back, if it is a literal.
-    #[inline(always)]
+    #[cfg_attr(not(peltzivar_small), inline(always))]
     const fn own(&self, back: bool, text: &[u8], found: Found) -> Option<Found> {
         if gives_back(self.syntax, back, text, found.size) {
             let (shorter, _) = text.split_at(found.size - 1);
@@ -385,7 +385,7 @@ impl Form {
 }
 
 // Returns the front `found` if it has `size` bytes.
-#[inline(always)]
+#[cfg_attr(not(peltzivar_small), inline(always))]
 pub(crate) const fn whole(found: Option<Found>, size: usize) -> Option<Found> {
     match found {
         Some(found) if found.size == size => Some(found),
@@ -394,7 +394,7 @@ pub(crate) const fn whole(found: Option<Found>, size: usize) -> Option<Found> {
 }
 
 // Returns whether the first `size` bytes of `text` end in a point that is given back.
-#[inline(always)]
+#[cfg_attr(not(peltzivar_small), inline(always))]
 pub(crate) const fn gives_back(syntax: Syntax, back: bool, text: &[u8], size: usize) -> bool {
     back && is_one(syntax, byte_before(text, size))
         && match byte_at(text, size) {
@@ -404,7 +404,7 @@ pub(crate) const fn gives_back(syntax: Syntax, back: bool, text: &[u8], size: us
 }
 
 // Returns whether `byte` is the decimal point.
-#[inline(always)]
+#[cfg_attr(not(peltzivar_small), inline(always))]
 const fn is_one(syntax: Syntax, byte: Option<u8>) -> bool {
     match byte {
         None => false,
@@ -447,13 +447,13 @@ const fn stop_end(text: &[u8], index: usize) -> usize {
 }
 
 // Returns whether a literal with these parts is a float.
-#[inline(always)]
+#[cfg_attr(not(peltzivar_small), inline(always))]
 const fn is_float(counts: [usize; 9]) -> bool {
     counts[3] != 0 || counts[5] != 0
 }
 
 // Returns whether a candidate is shorter than another.
-#[inline(always)]
+#[cfg_attr(not(peltzivar_small), inline(always))]
 const fn is_shorter(one: Candidate, other: Candidate) -> bool {
     one.end < other.end || (one.end == other.end && one.size < other.size)
 }
@@ -473,7 +473,7 @@ const fn scan(forms: &[Form], back: bool, needs: bool, text: &[u8]) -> Scanned {
 }
 
 // Returns which of two forms goes further, the first of equals.
-#[inline(always)]
+#[cfg_attr(not(peltzivar_small), inline(always))]
 const fn further(furthest: Option<(usize, Stopped)>, form: usize, stop: Stopped) -> Option<(usize, Stopped)> {
     match furthest {
         Some((_, best)) if best.size >= stop.size => furthest,
@@ -482,7 +482,7 @@ const fn further(furthest: Option<(usize, Stopped)>, form: usize, stop: Stopped)
 }
 
 // Returns the longer of two candidates, the first of equals.
-#[inline(always)]
+#[cfg_attr(not(peltzivar_small), inline(always))]
 pub(crate) const fn better(
     best: Option<(usize, Candidate)>,
     form: usize,
