@@ -88,7 +88,7 @@ CONST = ("lexical_literal/src/stop.rt", "affix.rt", "marked.rt", "marks.rt", "li
 
 # Functions that are inlined in plain Rust, and of which the library for C has one copy.
 ONE_COPY = {
-    "affix.rt": "opened", "exclude.rt": "excludes lacks_longer", "float.rt": "beyond", "lexical_literal/src/stop.rt": "front step",
+    "affix.rt": "opened", "exclude.rt": "excludes lacks_longer", "lexical_value/src/float.rt": "beyond", "lexical_literal/src/stop.rt": "front step",
     "lexical_value/src/kind.rt": "keeps", "marked.rt": r"\w+", "marks.rt": r"\w+", "reasons.rt": "clash reason_for", "scaled.rt": "settled",
     "step.rt": "admits role_at step_as", "suffix.rt": r"\w+", "token.rt": r"\w+",
 }  # fmt: skip
@@ -359,7 +359,9 @@ def replaced(path):
     for file, names in ONE_COPY.items():
         if path.match(file):
             own = rf"#\[inline\(always\)\](?=\s+(?:#\[tactic.*\s+)?(?:pub(?:\(crate\))? )?(?:const )?fn (?:{names.replace(' ', '|')})\b)"
-            text = re.sub(own, "#[cfg_attr(not(peltzivar_small), inline(always))]", text)
+            text, count = re.subn(own, "#[cfg_attr(not(peltzivar_small), inline(always))]", text)
+            if count < len(names.split()):
+                sys.exit(f"{path}: ONE_COPY in {__file__} names functions that are not there or not inlined: {names}")
     for old, new in EVERYWHERE:
         text = text.replace(old, new)
     return text
