@@ -21,7 +21,7 @@ use Rattle.lexical_literal.specs.declared.step.Piece.TheVariants as pieces
 use Rattle.lexical_forms.specs.declared.suffix.Suffixes.{Suffixes}
 use Rattle.lexical_literal.specs.declared.syntax.Condition.TheVariants as conditions
 use Rattle.lexical_forms.specs.declared.token.Token.{Token}
-use Rattle.lexical_forms.proofs.ExcludeLemmas.{BeginsPrefixed, no_role_excludes, prefix_begins}
+use Rattle.lexical_forms.proofs.ExcludeLemmas.{BeginsPrefixed, front_sign, no_role_excludes, prefix_begins}
 use Rattle.lexical_forms.proofs.TokenLemmas.{float_is, some_is, token_is}
 
 -- A suffix is in the word with which the text begins.
@@ -66,11 +66,6 @@ front_byte : (text rest : List ℕ) (more index : ℕ) → more ≤ length text 
 front_byte text rest more index within below =
     get_or_append_left (take more text) rest 0 index (omega (arith, below, within, length-take-le more text within))
     ∙ get_or-take more text index 0 below
-
-front_sign : (text rest : List ℕ) (more : ℕ) → more ≤ length text → 0 < more → sign_size (take more text ++ rest) ≡ sign_size text
-front_sign [] rest more within some = omega (arith, within, some)
-front_sign (byte ∷ text) rest ℕ.zero within some = omega (arith, some)
-front_sign (byte ∷ text) rest (ℕ.suc more) within some = refl
 
 as_front : (m : Notation) (text : List ℕ) (l : Literal) → Reads m l text → IsFront m text
 as_front m text l reads = record { more = []; literal = l; reads = record { whole = append-nil text ∙ reads.whole; literal = reads.literal } }

@@ -120,10 +120,7 @@ near_spare m text n is i far none = elim (cases_lt i n) [
   | inl below ↦
       let whole = take n text ++ is.front.more in
       let more = longer m text n is in
-      let same : sign_size whole ≡ sign_size text = elim (same_sign m text n is text is.front.more n (omega (arith, below))) [
-        | inl same ↦ same
-        | inr empty ↦ absurd (let within = is.within in let no : length text ≡ 0 = ap length empty in omega (arith, no, within, below))
-      ] in
+      let same = same_sign m text n is (omega (arith, below)) in
       absurd (spare_excludes m whole i (omega (arith, same, far)) (omega (arith, below, more))
       (subst (IsSpare m) (sym (same_byte m text n is i below)) none) is.front.literal is.front.reads)
   | inr near ↦ near
@@ -170,13 +167,13 @@ no_more : (n size : ℕ) (b lacks : Bool) → b ≡ true → n ≡ size → 2 * 
 no_more n size true lacks is same = omega (arith, same)
 no_more n size false lacks is same = absurd (false≢true is)
 
+-- An error that goes less far.
+pub near_is : (m : Notation) (text : List ℕ) (size : ℕ) → ((n : ℕ) → IsValidUpTo m text n → n < size) → IsNoBetter m text size
+near_is m text size near error is =
+    let up = near error.valid_up_to is.valid_up_to in let most = one_more error.valid_up_to (is_stray error) in omega (arith, up, most)
+
 -- An error goes no further than to a stranger, and there it is a wrong byte.
 module _ (m : Notation) (text : List ℕ) (size : ℕ) (far : sign_size text + 1 < size) where
-  pub near_is : ((n : ℕ) → IsValidUpTo m text n → n ≤ sign_size text + 1) → IsNoBetter m text size
-  near_is near error is = let up = near error.valid_up_to is.valid_up_to in let most = at_most error in omega (arith, up, most, far) where
-    at_most : (error : Refusal) → reach error ≤ 2 * error.valid_up_to + 1
-    at_most error = one_more error.valid_up_to (is_stray error)
-
   pub stranger_is : size < length text → IsStranger m (get_or text size 0) → IsNoBetter m text size
   stranger_is inside stranger error is =
       let up = near_spare m text error.valid_up_to is.valid_up_to size far stranger.0 in

@@ -1,7 +1,7 @@
 //! What excludes that a text is a literal of a form: its first bytes, or a byte that plays no role in the form.
 
 ghost use Rattle.std.specs.Prelude.{ℕ, ◌≡◌, ◌+◌, ◌<◌, ◌≤◌, Bool, IsTrue, get_or, length};
-ghost use Rattle.lexical_forms.specs.Additions.Forms.{AreFalse, IsNoBetter, IsStranger, NoFrontPast, PlaysNoRole, sign_size};
+ghost use Rattle.lexical_forms.specs.Additions.Forms.{AreFalse, IsNoBetter, IsStranger, LacksZero, NoFrontPast, PlaysNoRole, sign_size};
 ghost use Rattle.lexical_forms.specs.Additions.Token.{IsWithin, has_prefix};
 ghost use Rattle.lexical_forms.specs.Affix.{is_free, may_close};
 ghost use Rattle.lexical_literal.specs.Front.{IsValidUpTo, NoFront, NoLiteral};
@@ -39,11 +39,25 @@ pub(crate) const fn is_settled(grammar: Grammar, text: &[u8], size: usize) -> bo
     ensures better { IsTrue result → IsNoBetter (notation_of grammar) text.now size }
 {
     let start = sign_size(text);
-    if size > start + 1 {
+    if start < size && lacks_zero(grammar, text, start) {
+        true
+    } else if size > start + 1 {
         excludes(grammar, text, start) || is_stranger_at(grammar, text, size)
     } else {
         is_silent_at(grammar, text, size)
     }
+}
+
+// Returns whether a zero is required behind the sign, which has this length, and another byte is there.
+#[inline(always)]
+const fn lacks_zero(grammar: Grammar, text: &[u8], sign: usize) -> bool
+    requires { sign ≡ sign_size text.now }
+    ensures { IsTrue result → LacksZero (notation_of grammar) text.now }
+{
+    (grammar.conditions.has(Condition::BasePrefix)
+        || grammar.conditions.has(Condition::LeadingZero))
+        && sign < text.len()
+        && text[sign] != b'0'
 }
 
 // Returns whether the byte at `index`, if there is one, plays no role, and its other case neither.

@@ -26,11 +26,21 @@ pub(crate) const fn excludes(grammar: Grammar, text: &[u8], sign: usize) -> bool
 #[cfg_attr(not(peltzivar_small), inline(always))]
 pub(crate) const fn is_settled(grammar: Grammar, text: &[u8], size: usize) -> bool {
     let start = sign_size(text);
-    if size > start + 1 {
+    if start < size && lacks_zero(grammar, text, start) {
+        true
+    } else if size > start + 1 {
         excludes(grammar, text, start) || is_stranger_at(grammar, text, size)
     } else {
         is_silent_at(grammar, text, size)
     }
+}
+
+// Returns whether a zero is required behind the sign, which has this length, and another byte is there.
+#[inline(always)]
+const fn lacks_zero(grammar: Grammar, text: &[u8], sign: usize) -> bool {
+    (grammar.conditions.has(Condition::BasePrefix) || grammar.conditions.has(Condition::LeadingZero))
+        && sign < text.len()
+        && text[sign] != b'0'
 }
 
 // Returns whether the byte at `index`, if there is one, plays no role, and its other case neither.

@@ -1,12 +1,21 @@
 -- The form goes no further, and if it goes as far, its cause is a wrong byte.
-use Rattle.lexical_forms.proofs.Common.{◌+◌, ◌<◌, subst, notation_of}
-use Rattle.lexical_forms.proofs.ExcludeLemmas.{no_role_excludes}
+use Rattle.lexical_forms.proofs.Common.{◌+◌, ◌<◌, arith, subst, notation_of}
+use Rattle.lexical_forms.proofs.ExcludeLemmas.{near_zero, no_role_excludes, zero_begins}
 use Rattle.lexical_forms.proofs.StrangerLemmas.{near_is, silent_is, spare_excludes, stranger_is}
 use Rattle.lexical_forms.proofs.exclude.is_settled.Goals as goal
 
+pub returns-then-lacks_zero-clause-none : goal.returns-then-lacks_zero-clause-none
+returns-then-lacks_zero-clause-none c = λ is l reads. let lacks = c.lacks_zero.ensures c.if-lacks_zero.true in
+    lacks.other (zero_begins (notation_of c.args.grammar) l c.args.text.now reads lacks.required)
+
+pub returns-then-lacks_zero-clause-better : goal.returns-then-lacks_zero-clause-better
+returns-then-lacks_zero-clause-better c = λ is. near_is (notation_of c.args.grammar) c.args.text.now c.args.size (λ n valid.
+    let low = near_zero (notation_of c.args.grammar) c.args.text.now n valid (c.lacks_zero.ensures c.if-lacks_zero.true) in
+    omega (arith, low, c.sign_size-start.ensures.size, c.if-start-size.true))
+
 pub returns-then-excludes-clause-better : goal.returns-then-excludes-clause-better
-returns-then-excludes-clause-better c = λ is. near_is (notation_of c.args.grammar) c.args.text.now c.args.size
-    (subst (λ sign. sign + 1 < c.args.size) c.sign_size-start.ensures.size c.if-size-start.true) (c.excludes.ensures.near c.if-excludes.true)
+returns-then-excludes-clause-better c = λ is. near_is (notation_of c.args.grammar) c.args.text.now c.args.size (λ n valid.
+    let low = c.excludes.ensures.near c.if-excludes.true n valid in omega (arith, low, c.sign_size-start.ensures.size, c.if-size-start.true))
 
 pub returns-else-excludes-clause-none : goal.returns-else-excludes-clause-none
 returns-else-excludes-clause-none c = λ is. spare_excludes (notation_of c.args.grammar) c.args.text.now c.args.size
