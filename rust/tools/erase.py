@@ -176,7 +176,6 @@ REPLACED += [
     ("list.rt", "let begun = syntax.begin(false, text, false);", "let begun = syntax.begin_small(text, false);"),
     ("list.rt", "Err(stop) => furthest = self.further_on(", "Err(_) if cfg!(peltzivar_small) && self.marked => {}\n Err(stop) => furthest = self.further_on("),
     ("exclude.rt", "pub(crate) const fn is_settled(", "#[cfg_attr(not(peltzivar_small), inline(always))]\npub(crate) const fn is_settled("),
-    ("exclude.rt", "\nconst fn is_silent_at(", "\n#[inline(always)]\nconst fn is_silent_at("),
     ("lexical_literal/src/stop.rt", "stop.step(syntax, text, last)", "stop.step_any(syntax, text, last)"),
     ("lexical_literal/src/stop.rt", "at.step(self, text, last)", "at.step_any(self, text, last)"),
     ("list.rt", "    #[inline(never)]\n    const fn furthest(", "    #[cfg_attr(not(peltzivar_small), inline(never))]\n #[cfg_attr(peltzivar_small, inline(always))]\n    const fn furthest("),

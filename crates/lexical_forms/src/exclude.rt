@@ -42,9 +42,10 @@ pub(crate) const fn is_settled(grammar: Grammar, text: &[u8], size: usize) -> bo
     if start < size && lacks_zero(grammar, text, start) {
         true
     } else if size > start + 1 {
-        excludes(grammar, text, start) || is_stranger_at(grammar, text, size)
+        excludes(grammar, text, start)
+            || (size < text.len() && is_stranger(grammar, text[size]))
     } else {
-        is_silent_at(grammar, text, size)
+        size < text.len() && is_silent(grammar, text[size])
     }
 }
 
@@ -60,15 +61,6 @@ const fn lacks_zero(grammar: Grammar, text: &[u8], sign: usize) -> bool
         && text[sign] != b'0'
 }
 
-// Returns whether the byte at `index`, if there is one, plays no role, and its other case neither.
-const fn is_silent_at(grammar: Grammar, text: &[u8], index: usize) -> bool
-    ensures inside { IsTrue result → index < length text.now }
-    ensures own { IsTrue result → PlaysNoRole (notation_of grammar) (get_or text.now index 0) }
-    ensures other { IsTrue result → PlaysNoRole (notation_of grammar) (other_case (get_or text.now index 0)) }
-{
-    index < text.len() && is_silent(grammar, text[index])
-}
-
 // Returns whether `byte` plays no role, and its other case neither. Bytes up to `9` are said to play one: most are digits, and a prefix
 // begins with a zero.
 #[inline(always)]
@@ -79,15 +71,6 @@ const fn is_silent(grammar: Grammar, byte: u8) -> bool
     byte > b'9'
         && is_stranger(grammar, byte)
         && is_apart(base_prefix(grammar.word), byte, other_case(byte))
-}
-
-// Returns whether the byte at `index` is a stranger, if there is one.
-#[inline(always)]
-const fn is_stranger_at(grammar: Grammar, text: &[u8], index: usize) -> bool
-    ensures inside { IsTrue result → index < length text.now }
-    ensures stranger { IsTrue result → IsStranger (notation_of grammar) (get_or text.now index 0) }
-{
-    index < text.len() && is_stranger(grammar, text[index])
 }
 
 // Returns whether `byte` plays no role behind the base prefix, and its other case neither.
