@@ -151,6 +151,7 @@ impl<'a> Forms<'a> {
     const fn leading<'t>(&self, tokens: &Tokens, text: &'t [u8], start: usize) -> Option<Token<'t>> {
         let back = tokens.gives_points_back;
         let mut reached = start;
+        let mut from = 0;
         let mut form = 0;
         while form < self.forms.len() {
             let it = &self.forms[form];
@@ -160,8 +161,8 @@ impl<'a> Forms<'a> {
                 if begun.complete
                     && reached < size
                     && it.is_longest(back, text, begun)
-                    && are_past(self.forms, form, back, text, size)
-                    && are_past(tokens.forms, tokens.forms.len(), back, text, size)
+                    && are_past(self.forms, from, form, back, text, size)
+                    && are_past(tokens.forms, 0, tokens.forms.len(), back, text, size)
                 {
                     return self.token_at(tokens, text, it, form, begun);
                 }
@@ -170,6 +171,8 @@ impl<'a> Forms<'a> {
                     return self.before_point(tokens, text, it, form, stop, reached);
                 }
                 reached = larger(reached, it.bound(text, stop));
+            } else if from == form && sign_size(text) < reached {
+                from = form + 1;
             }
             form += 1;
         }
@@ -196,8 +199,8 @@ impl<'a> Forms<'a> {
             && begun.at.size == size
             && reached < size
             && !gives_back(it.syntax, back, text, size)
-            && are_past(self.forms, form, back, text, size)
-            && are_past(tokens.forms, tokens.forms.len(), back, text, size)
+            && are_past(self.forms, 0, form, back, text, size)
+            && are_past(tokens.forms, 0, tokens.forms.len(), back, text, size)
         {
             self.token_at(tokens, text, it, form, begun)
         } else {
@@ -268,10 +271,10 @@ impl<'a> Forms<'a> {
 }
 
 // Returns whether no literal of the forms, but for the one with the index `but`, begins with more than the first `size` bytes of
-// `text`, which are more than a sign, or only with a point more that is given back.
+// `text`, which are more than a sign, or only with a point more that is given back. Of the forms before `from`, this is known.
 #[cfg_attr(not(peltzivar_small), inline(always))]
-const fn are_past(forms: &[Form], but: usize, back: bool, text: &[u8], size: usize) -> bool {
-    let mut form = 0;
+const fn are_past(forms: &[Form], from: usize, but: usize, back: bool, text: &[u8], size: usize) -> bool {
+    let mut form = from;
     while form < forms.len() {
         if form != but && !forms[form].is_past(back, text, size) {
             return false;
