@@ -86,6 +86,13 @@ REPLACED = [
 # Files in which each function is const in plain Rust. Rattle's `split_at` is not, nor is what calls it.
 CONST = ("lexical_literal/src/stop.rt", "affix.rt", "marked.rt", "marks.rt", "list.rt", "span.rt", "token.rt", "lexical_literal/src/literal.rt")
 
+# Functions that are inlined in plain Rust, and of which the library for C has one copy.
+ONE_COPY = {
+    "affix.rt": "opened", "exclude.rt": "excludes lacks_longer", "lexical_value/src/float.rt": "beyond", "lexical_literal/src/stop.rt": "front step",
+    "lexical_value/src/kind.rt": "keeps", "marked.rt": r"\w+", "marks.rt": r"\w+", "reasons.rt": "clash reason_for", "scaled.rt": "settled",
+    "step.rt": "admits role_at step_as", "suffix.rt": r"\w+", "token.rt": r"\w+",
+}  # fmt: skip
+
 # Texts that plain Rust replaces in every file, wherever they occur.
 EVERYWHERE = [
     (".grammar()", ".as_grammar()"),
@@ -161,29 +168,22 @@ REPLACED += [
     ("token.rt", "it.syntax.begin(false, text, true)", "it.syntax.begin_small(text, true)"),
     ("token.rt", "it.syntax.begin(false, front, true)", "it.syntax.begin_small(front, true)"),
     # The library for C has one copy of these.
-    ("reasons.rt", "#[inline(always)]\n#[tactic(auto, unfolding(lexical_flags::specs::Roles::Disjoint))]\nconst fn clash(", "#[cfg_attr(not(peltzivar_small), inline(always))]\nconst fn clash("),
-    ("reasons.rt", "#[inline(always)]\nconst fn reason_for(", "#[cfg_attr(not(peltzivar_small), inline(always))]\nconst fn reason_for("),
-    ("marks.rt", "#[inline(always)]\n    pub(crate) const fn front_past(", "#[cfg_attr(not(peltzivar_small), inline(always))]\n    pub(crate) const fn front_past("),
     ("token.rt", "None => self.token_of(", "None if cfg!(peltzivar_small) => self.token_marked(tokens, text),\n            None => self.token_of("),
     ("marked.rt", "match self.find_marked(word) {", "if cfg!(peltzivar_small) { return self.fault(word, end); } match self.find_marked(word) {"),
     ("marked.rt", "match self.literal(front) {", "match self.literal_of(front, candidate.counts) {"),
     ("marks.rt", "const fn between<", "pub(crate) const fn between<"),
     ("list.rt", "        if self.marked {\n            self.number(text, self.find_marked(text))", "        if !cfg!(peltzivar_small) && self.marked {\n            self.number(text, self.find_marked(text))"),
-    ("list.rt", "            let syntax = &self.forms[form].syntax;\n            if !is_behind(", "            let Some((text, sign)) = self.inside(text, sign, form) else { form += 1; continue; }; let syntax = &self.forms[form].syntax;\n            if !is_behind("),
+    ("list.rt", "            let syntax = &self.forms[form].syntax;\n            if !is_behind(", "            let Some(text) = self.inside(text, form) else { form += 1; continue; }; let syntax = &self.forms[form].syntax;\n            if !is_behind("),
     ("list.rt", "let begun = syntax.begin(false, text, false);", "let begun = syntax.begin_small(text, false);"),
     ("list.rt", "Err(stop) => furthest = self.further_on(", "Err(_) if cfg!(peltzivar_small) && self.marked => {}\n Err(stop) => furthest = self.further_on("),
-    ("lexical_literal/src/stop.rt", "#[inline(always)]\n    pub(crate) const fn front(", "#[cfg_attr(not(peltzivar_small), inline(always))]\n    pub(crate) const fn front("),
     ("exclude.rt", "pub(crate) const fn is_settled(", "#[cfg_attr(not(peltzivar_small), inline(always))]\npub(crate) const fn is_settled("),
-    ("exclude.rt", "#[inline(always)]\npub(crate) const fn excludes(", "#[cfg_attr(not(peltzivar_small), inline(always))]\npub(crate) const fn excludes("),
-    ("exclude.rt", "\nconst fn is_silent_at(", "\n#[inline(always)]\nconst fn is_silent_at("),
-    ("exclude.rt", "#[inline(always)]\npub(crate) const fn lacks_longer(", "#[cfg_attr(not(peltzivar_small), inline(always))]\npub(crate) const fn lacks_longer("),
     ("lexical_literal/src/stop.rt", "stop.step(syntax, text, last)", "stop.step_any(syntax, text, last)"),
     ("lexical_literal/src/stop.rt", "at.step(self, text, last)", "at.step_any(self, text, last)"),
     ("list.rt", "    #[inline(never)]\n    const fn furthest(", "    #[cfg_attr(not(peltzivar_small), inline(never))]\n #[cfg_attr(peltzivar_small, inline(always))]\n    const fn furthest("),
     ("lexical_literal/src/stop.rt", "    #[cold]\n    pub(crate) const fn walk(", "    #[cold]\n #[cfg_attr(peltzivar_small, inline(always))]\n    pub(crate) const fn walk("),
     ("marks.rt", "    #[cold]\n    const fn is_marked_stray(", "    #[cold]\n #[cfg_attr(peltzivar_small, inline(always))]\n    const fn is_marked_stray("),
     # Texts that are refused need it alone, and one copy is enough for all calls.
-    ("lexical_literal/src/stop.rt", "#[inline(always)]\n    const fn step(", "#[cfg_attr(not(peltzivar_small), inline(always))]\n    pub(crate) const fn step("),
+    ("lexical_literal/src/stop.rt", "    const fn step(", "    pub(crate) const fn step("),
     ("lexical_literal/src/stop.rt", "#[inline(always)]\n    pub(crate) const fn go_on(", "#[inline(never)]\n    pub(crate) const fn go_on("),
     # An error is made in its place.
     ("lexical_literal/src/stop.rt", "    const fn spot(", "    pub(crate) const fn spot("),
@@ -193,12 +193,10 @@ REPLACED += [
     ("lexical_value/src/float.rt", "match nearest_single(literal)", "match nearest_single(&{ *literal })"),
     ("lexical_value/src/float.rt", "return whole_float(literal)", "return whole_float(&{ *literal })"),
     ("lexical_value/src/float.rt", "has_digits(literal) =>", "has_digits(&{ *literal }) =>"),
-    ("lexical_value/src/float.rt", "#[inline(always)]\npub(crate) fn beyond(", "#[cfg_attr(not(peltzivar_small), inline(always))]\npub(crate) const fn beyond("),
+    ("lexical_value/src/float.rt", "pub(crate) fn beyond(", "pub(crate) const fn beyond("),
     ("lexical_value/src/float.rt", "\nfn has_digits", "\nconst fn has_digits"),
     ("lexical_value/src/scaled.rt", "long_scaled(literal, places", "long_scaled(&{ *literal }, places"),
-    ("lexical_value/src/scaled.rt", "#[inline(always)]\nfn settled", "#[cfg_attr(not(peltzivar_small), inline(always))]\nfn settled"),
     ("lexical_value/src/kind.rt", "fewer(kind, &numeral)", "fewer(kind, &{ numeral })"),
-    ("lexical_value/src/kind.rt", "#[inline(always)]\npub(crate) const fn keeps", "#[cfg_attr(not(peltzivar_small), inline(always))]\npub(crate) const fn keeps"),
     # Calls for constants.
     ("lexical_value/src/integer.rt", "pub fn own_numeral", "pub(crate) const fn own_numeral"),
     ("lexical_value/src/integer.rt", "pub fn integer_numeral", "pub(crate) const fn integer_numeral"),
@@ -358,6 +356,12 @@ def replaced(path):
             if text.count(old) != 1:
                 sys.exit(f"{path}: REPLACED in {__file__} needs one such text, and there are {text.count(old)}: {old}")
             text = text.replace(old, new)
+    for file, names in ONE_COPY.items():
+        if path.match(file):
+            own = rf"#\[inline\(always\)\](?=\s+(?:#\[tactic.*\s+)?(?:pub(?:\(crate\))? )?(?:const )?fn (?:{names.replace(' ', '|')})\b)"
+            text, count = re.subn(own, "#[cfg_attr(not(peltzivar_small), inline(always))]", text)
+            if count < len(names.split()):
+                sys.exit(f"{path}: ONE_COPY in {__file__} names functions that are not there or not inlined: {names}")
     for old, new in EVERYWHERE:
         text = text.replace(old, new)
     return text

@@ -1,9 +1,10 @@
 -- Each byte of a literal plays a role, and a literal with a required prefix begins with it.
 use Rattle.lexical_forms.proofs.Common.{ℕ, ◌≡◌, ◌+◌, ◌<◌, ◌≤◌, ◌⊎◌, inl, inr, true, false, None, List, [], ◌∷◌, ◌++◌, take, get_or, ap, refl, sym, subst, ◌∙◌}
-use Rattle.lexical_forms.proofs.Common.{arith, All, cases_lt, false≢true, length-take-le, nat_tests, ByteSet, signs, Role, Part, Literal, Reads}
+use Rattle.lexical_forms.proofs.Common.{arith, All, cases_lt, false≢true, length-take-le, nat_tests, ◌&&◌, ByteSet, signs, Role, Part, Literal, Reads}
 use Rattle.lexical_forms.proofs.Common.{is_none_or_one, is_none_or_prefix, is_present, text_of, Notation, notation_of, set_of_role, Grammar, sign_size}
 use Rattle.lexical_forms.proofs.Common.{IsValidUpTo, NoLiteral, role_at, AllIn, run_byte}
-use Rattle.lexical_forms.specs.Additions.Forms.{IsSpare, PlaysNoRole}
+use Rattle.lexical_forms.specs.Additions.Forms.{IsSpare, LacksZero, PlaysNoRole}
+use Rattle.lexical_literal.specs.Literal.{begins_with, may_begin}
 use Rattle.lexical_literal.specs.Readings.{prefix_byte}
 use Rattle.std.proofs.Common.{length, length-append, IsTrue}
 use Rattle.std.proofs.lemmas.List.{get_or-take, get_or_append_left}
@@ -80,10 +81,30 @@ module _ (m : Notation) where
   begins (sign ∷ []) (first ∷ byte ∷ []) rest one is here = grind (arith, nat_tests)
   begins sign prefix rest one is here = grind (arith, nat_tests)
 
+  first_zero : (sign rest : List ℕ) → IsTrue (is_none_or_one signs sign)
+      → IsTrue (begins_with (λ byte. m.digit parts.Integer byte && may_begin conditions.LeadingZero byte) rest)
+      → get_or (sign ++ rest) (sign_size (sign ++ rest)) 0 ≡ 48
+  first_zero [] (byte ∷ rest) one is = grind (arith, nat_tests)
+  first_zero (sign ∷ []) (byte ∷ rest) one is = grind (arith, nat_tests)
+  first_zero sign rest one is = grind (arith, nat_tests)
+
   -- A literal with a required prefix begins with it.
   pub prefix_begins : (l : Literal) (text : List ℕ) → Reads m l text → IsTrue (m.condition conditions.BasePrefix) → BeginsPrefixed text
   prefix_begins l text reads required = subst BeginsPrefixed (sym reads.whole)
       (begins l.sign l.prefix _ reads.literal.spelled.sign reads.literal.spelled.prefix (reads.literal.conditions conditions.BasePrefix required))
+
+  -- A literal begins with a zero if a prefix or a leading zero is required.
+  pub zero_begins : (l : Literal) (text : List ℕ) → Reads m l text
+      → IsTrue (m.condition conditions.BasePrefix) ⊎ IsTrue (m.condition conditions.LeadingZero) → get_or text (sign_size text) 0 ≡ 48
+  zero_begins l text reads (inl required) = (prefix_begins l text reads required).zero
+  zero_begins l text reads (inr required) = subst (λ t. get_or t (sign_size t) 0 ≡ 48) (sym reads.whole)
+      (first_zero l.sign _ reads.literal.spelled.sign (reads.literal.conditions conditions.LeadingZero required))
+
+-- The sign of a text that goes on otherwise behind some bytes.
+pub front_sign : (text rest : List ℕ) (more : ℕ) → more ≤ length text → 0 < more → sign_size (take more text ++ rest) ≡ sign_size text
+front_sign [] rest more within some = omega (arith, within, some)
+front_sign (byte ∷ text) rest ℕ.zero within some = omega (arith, some)
+front_sign (byte ∷ text) rest (ℕ.suc more) within some = refl
 
 -- Some literal begins with the first `n` bytes of `text`.
 module _ (m : Notation) (text : List ℕ) (n : ℕ) (is : IsValidUpTo m text n) where
@@ -104,17 +125,23 @@ module _ (m : Notation) (text : List ℕ) (n : ℕ) (is : IsValidUpTo m text n) 
     | inr near ↦ near
   ]
 
-  pub same_sign : (text rest : List ℕ) (n : ℕ) → 0 < n → n ≤ length text → sign_size (take n text ++ rest) ≡ sign_size text
-  same_sign [] rest n some within = absurd (omega (arith, some, within))
-  same_sign (b ∷ text) rest ℕ.zero some within = absurd (omega (arith, some))
-  same_sign (b ∷ text) rest (ℕ.suc n) some within = refl
+  pub same_sign : 0 < n → sign_size whole ≡ sign_size text
+  same_sign some = front_sign text is.front.more n is.within some
+
+  -- It ends before the first byte behind the sign if that is not a zero that is required.
+  pub near_zero : LacksZero m text → n ≤ sign_size text
+  near_zero lacks = elim (cases_lt (sign_size text) n) [
+    | inl below ↦ absurd (lacks.other (sym (same_byte (sign_size text) below) ∙ ap (λ i. get_or whole i 0) (sym (same_sign (omega (arith, below))))
+        ∙ zero_begins m is.front.literal whole is.front.reads lacks.required))
+    | inr near ↦ near
+  ]
 
   -- It ends behind the first byte that a required prefix is not.
   pub near_prefix : IsTrue (m.condition conditions.BasePrefix) → (BeginsPrefixed m text → ⊥) → n ≤ sign_size text + 1
   near_prefix required none = elim (cases_lt (sign_size text + 1) n) [
     | inl below ↦
         let begins = prefix_begins m is.front.literal whole is.front.reads required in
-        let same : sign_size whole ≡ sign_size text = same_sign text is.front.more n (omega (arith, below)) is.within in
+        let same = same_sign (omega (arith, below)) in
         absurd (none (record {
           inside = omega (arith, below, is.within);
           zero = sym (same_byte (sign_size text) (omega (arith, below))) ∙ ap (λ i. get_or whole i 0) (sym same) ∙ begins.zero;

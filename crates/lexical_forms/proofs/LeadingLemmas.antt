@@ -16,7 +16,7 @@ use Rattle.std.proofs.lemmas.Option.{slice_get_within}
 use Rattle.lexical_literal.specs.Additions.GroupSize.{goes}
 use Rattle.lexical_literal.specs.Cause.{is_in}
 use Rattle.lexical_forms.specs.Suffix.{any_word_size, begins, byte_before, if_whole, is_digit, is_point, is_stopped, is_word_byte, kind_with}
-use Rattle.lexical_forms.specs.Suffix.{longest_word, meets, stops_of, suffix_size, word_size}
+use Rattle.lexical_forms.specs.Suffix.{longest_word, meets, suffix_size, word_size}
 use Rattle.std.specs.List.{list_any}
 use Rattle.lexical_forms.specs.declared.list.PointsBack.{PointsBack}
 use Rattle.lexical_forms.specs.declared.list.PointsBack.TheVariants as points
@@ -26,7 +26,7 @@ use Rattle.lexical_literal.specs.declared.step.Piece.TheVariants as pieces
 use Rattle.lexical_forms.specs.declared.suffix.Suffixes.{Suffixes}
 use Rattle.lexical_literal.specs.declared.syntax.Condition.TheVariants as conditions
 use Rattle.lexical_forms.specs.declared.token.Token.{Token}
-use Rattle.lexical_forms.proofs.ExcludeLemmas.{BeginsPrefixed, no_role_excludes, prefix_begins}
+use Rattle.lexical_forms.proofs.ExcludeLemmas.{BeginsPrefixed, front_sign, no_role_excludes, prefix_begins}
 use Rattle.lexical_forms.proofs.OpeningLemmas.{begins_whole, both}
 use Rattle.lexical_forms.proofs.TokenLemmas.{float_is, some_is, token_is}
 
@@ -81,10 +81,6 @@ front_byte text rest more index within below =
     get_or_append_left (take more text) rest 0 index (omega (arith, below, within, length-take-le more text within))
     ∙ get_or-take more text index 0 below
 
-front_sign : (text rest : List ℕ) (more : ℕ) → more ≤ length text → 0 < more → sign_size (take more text ++ rest) ≡ sign_size text
-front_sign [] rest more within some = omega (arith, within, some)
-front_sign (byte ∷ text) rest ℕ.zero within some = omega (arith, some)
-front_sign (byte ∷ text) rest (ℕ.suc more) within some = refl
 
 module _ (m : Notation) (text : List ℕ) where
   -- No literal goes on behind a byte that plays no role.
@@ -182,7 +178,7 @@ digit_of digit true stops less none = absurd (false≢true (sym none))
 stopped_less : (words : Bool) (suffixes : Option (Bor Suffixes)) (text : List ℕ) (end : ℕ) → is_stopped false suffixes text end ≡ false
     → is_stopped words suffixes text end ≡ false
 stopped_less words suffixes text end none = go (words && not (is_in is_point (byte_before text end))) where
-  go : (b : Bool) → (is_in (if b then is_digit else is_word_byte) (slice_get text end) || list_any (meets text end) (stops_of suffixes)) ≡ false
+  go : (b : Bool) → (is_in (if b then is_digit else is_word_byte) (slice_get text end) || list_any (meets text end) (unwrap_or (option_map (λ (it : Bor Suffixes). it.now.stops.now) suffixes) [])) ≡ false
   go true =
       digit_of (is_in is_digit (slice_get text end)) (is_in is_word_byte (slice_get text end)) _ (no_digit_of (slice_get text end)) none
   go false = none

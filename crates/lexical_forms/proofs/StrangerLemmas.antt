@@ -79,7 +79,7 @@ near_spare m text n is i far none = elim (cases_lt i n) [
   | inl below ↦
       let whole = take n text ++ is.front.more in
       let more = longer m text n is in
-      let same : sign_size whole ≡ sign_size text = same_sign m text n is text is.front.more n (omega (arith, below)) is.within in
+      let same = same_sign m text n is (omega (arith, below)) in
       absurd (spare_excludes m whole i (omega (arith, same, far)) (omega (arith, below, more))
       (subst (IsSpare m) (sym (same_byte m text n is i below)) none) is.front.literal is.front.reads)
   | inr near ↦ near
@@ -132,11 +132,12 @@ module _ (m : Notation) (text : List ℕ) (size : ℕ) where
         silent_by : {b : ℕ} (flag : Flag → Bool) (condition : Condition → Bool) → PlaysNoRole m b → PlaysNoRole (with_rules m flag condition) b
         silent_by flag condition none = record { not_zero = none.not_zero; none = λ r. none.none r }
 
+  -- An error that goes less far.
+  pub near_is : ((n : ℕ) → IsValidUpTo m text n → n < size) → IsNoBetter m text size
+  near_is near error is = let up = near error.valid_up_to is.valid_up_to in let most = at_most error in omega (arith, up, most)
+
   -- A stranger.
   module _ (far : sign_size text + 1 < size) where
-    pub near_is : ((n : ℕ) → IsValidUpTo m text n → n ≤ sign_size text + 1) → IsNoBetter m text size
-    near_is near error is = let up = near error.valid_up_to is.valid_up_to in let most = at_most error in omega (arith, up, most, far)
-
     pub stranger_is : size < length text → IsStranger m (get_or text size 0) → IsNoBetter m text size
     stranger_is inside stranger = no_better inside (λ n valid. near_spare m text n valid size far stranger.0)
         (λ flag condition. spare_front (with_rules m flag condition) (take size text) (get_or text size 0) front stranger.0)

@@ -1,7 +1,7 @@
 //! What excludes that a text is a literal of a form: its first bytes, or a byte that plays no role in the form.
 
 ghost use Rattle.std.specs.Prelude.{ℕ, ◌≡◌, ◌+◌, ◌<◌, ◌≤◌, Bool, IsTrue, get_or, length};
-ghost use Rattle.lexical_forms.specs.Additions.Forms.{AreFalse, IsNoBetter, IsStranger, NoFrontPast, PlaysNoRole, sign_size};
+ghost use Rattle.lexical_forms.specs.Additions.Forms.{AreFalse, IsNoBetter, IsStranger, LacksZero, NoFrontPast, PlaysNoRole, sign_size};
 ghost use Rattle.lexical_forms.specs.Additions.Token.{IsWithin, has_prefix};
 ghost use Rattle.lexical_forms.specs.Affix.{is_free, may_close};
 ghost use Rattle.lexical_literal.specs.Front.{IsValidUpTo, NoFront, NoLiteral};
@@ -39,20 +39,26 @@ pub(crate) const fn is_settled(grammar: Grammar, text: &[u8], size: usize) -> bo
     ensures better { IsTrue result → IsNoBetter (notation_of grammar) text.now size }
 {
     let start = sign_size(text);
-    if size > start + 1 {
-        excludes(grammar, text, start) || is_stranger_at(grammar, text, size)
+    if start < size && lacks_zero(grammar, text, start) {
+        true
+    } else if size > start + 1 {
+        excludes(grammar, text, start)
+            || (size < text.len() && is_stranger(grammar, text[size]))
     } else {
-        is_silent_at(grammar, text, size)
+        size < text.len() && is_silent(grammar, text[size])
     }
 }
 
-// Returns whether the byte at `index`, if there is one, plays no role, and its other case neither.
-const fn is_silent_at(grammar: Grammar, text: &[u8], index: usize) -> bool
-    ensures inside { IsTrue result → index < length text.now }
-    ensures own { IsTrue result → PlaysNoRole (notation_of grammar) (get_or text.now index 0) }
-    ensures other { IsTrue result → PlaysNoRole (notation_of grammar) (other_case (get_or text.now index 0)) }
+// Returns whether a zero is required behind the sign, which has this length, and another byte is there.
+#[inline(always)]
+const fn lacks_zero(grammar: Grammar, text: &[u8], sign: usize) -> bool
+    requires { sign ≡ sign_size text.now }
+    ensures { IsTrue result → LacksZero (notation_of grammar) text.now }
 {
-    index < text.len() && is_silent(grammar, text[index])
+    (grammar.conditions.has(Condition::BasePrefix)
+        || grammar.conditions.has(Condition::LeadingZero))
+        && sign < text.len()
+        && text[sign] != b'0'
 }
 
 // Returns whether `byte` plays no role, and its other case neither. Bytes up to `9` are said to play one: most are digits, and a prefix
@@ -65,15 +71,6 @@ const fn is_silent(grammar: Grammar, byte: u8) -> bool
     byte > b'9'
         && is_stranger(grammar, byte)
         && is_apart(base_prefix(grammar.word), byte, other_case(byte))
-}
-
-// Returns whether the byte at `index` is a stranger, if there is one.
-#[inline(always)]
-const fn is_stranger_at(grammar: Grammar, text: &[u8], index: usize) -> bool
-    ensures inside { IsTrue result → index < length text.now }
-    ensures stranger { IsTrue result → IsStranger (notation_of grammar) (get_or text.now index 0) }
-{
-    index < text.len() && is_stranger(grammar, text[index])
 }
 
 // Returns whether `byte` plays no role behind the base prefix, and its other case neither.

@@ -418,7 +418,6 @@ impl<'a> Forms<'a> {
         requires plain { have_marks self.now.forms ≡ false }
         ensures { IsFoundForm self.now.forms text.now result }
     {
-        let sign = sign_size(text);
         let mut furthest = None;
         let mut form = 0;
         if let Some(stop) = stop {
@@ -431,14 +430,14 @@ impl<'a> Forms<'a> {
         }
         while form < self.forms.len() {
             let syntax = &self.forms[form].syntax;
-            if !is_behind(syntax.grammar(), text, sign, furthest) {
+            if !is_behind(syntax.grammar(), text, furthest) {
                 let begun = syntax.begin(false, text, false);
                 if begun.is_whole(syntax, text) {
                     return Ok((form, syntax.literal(text, begun.counts, begun.sums)));
                 }
                 match begun.lengths(syntax, text) {
                     Ok(counts) => return Ok((form, syntax.summed(text, counts))),
-                    Err(stop) => furthest = self.further_on(text, sign, furthest, form, stop),
+                    Err(stop) => furthest = self.further_on(text, furthest, form, stop),
                 }
             }
             form += 1;
@@ -502,25 +501,23 @@ impl<'a> Forms<'a> {
         furthest
     }
 
-    // Returns which of two forms has the error of the list, or `None` if there is but one, which does not go beyond the first byte behind a
-    // sign of this length.
+    // Returns which of two forms has the error of the list, or `None` if there is but one, which does not go beyond the first byte behind
+    // the sign.
     #[inline(always)]
     fn further_on(
         &self,
         text: &[u8],
-        sign: usize,
         furthest: Option<Furthest>,
         form: usize,
         stop: Stopped,
     ) -> Option<Furthest>
-        requires sign { sign ≡ sign_size text.now }
         requires furthest { IsLed self.now.forms text.now form furthest }
         requires refused { IsSomeAnd (slice_get self.now.forms form) (IsRefusedAt text.now stop) }
         ensures { IsLed self.now.forms text.now (form + 1) result }
     {
         match furthest {
             Some(best) => Some(self.further(text, best, form, stop)),
-            None if stop.size > sign + 1 => Some(Furthest {
+            None if stop.size > sign_size(text) + 1 => Some(Furthest {
                 form,
                 stop,
                 settled: false,
@@ -647,13 +644,12 @@ const fn have_marks(forms: &[Form]) -> bool
 // Returns whether a form need not be asked: its first bytes exclude that `text` is a literal, or no error of it goes further than the
 // furthest form, unless its cause is a wrong byte.
 #[inline(always)]
-const fn is_behind(grammar: Grammar, text: &[u8], sign: usize, furthest: Option<Furthest>) -> bool
-    requires { sign ≡ sign_size text.now }
+const fn is_behind(grammar: Grammar, text: &[u8], furthest: Option<Furthest>) -> bool
     ensures none { IsTrue result → NoLiteral (notation_of grammar) text.now }
     ensures near { IsTrue result → IsBehind (notation_of grammar) text.now furthest }
 {
     match furthest {
-        None => excludes(grammar, text, sign),
+        None => excludes(grammar, text, sign_size(text)),
         Some(best) => is_settled(grammar, text, best.stop.size),
     }
 }

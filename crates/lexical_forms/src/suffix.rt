@@ -251,7 +251,7 @@ const fn kind_among(either: bool, kinds: &[(&[u8], Kind)], word: &[u8], kind: Ki
     match kinds {
         [] => kind,
         [(suffix, own), rest @ ..] => {
-            if begins(either, suffix, word) && suffix.len() == word.len() {
+            if suffix.len() == word.len() && begins(either, suffix, word) {
                 *own
             } else {
                 kind_among(either, rest, word, kind)

@@ -1,6 +1,6 @@
 //! Tokens: numbers in the middle of a text, each with its suffix.
 
-ghost use Rattle.std.specs.Prelude.{◌≡◌, ◌<◌, ◌≤◌, ◌+◌, ◌-◌, ◌==◌, ◌&&◌, ℕ, All, IsNone, IsSomeAnd, IsTrue, Some, drop, false, length, slice_get, take, true};
+ghost use Rattle.std.specs.Prelude.{◌≡◌, ◌<◌, ◌≤◌, ◌+◌, ◌-◌, ◌==◌, ◌&&◌, ℕ, All, IsNone, IsSomeAnd, IsTrue, Some, drop, false, get_or, length, slice_get, take, true};
 ghost use Rattle.std.specs.Option.{ForSome};
 ghost use Rattle.lexical_forms.specs.Additions.Forms.{IsFurthestForm, further, sign_size};
 ghost use Rattle.lexical_literal.specs.Additions.Stop.{HasBegun, IsCountedFront, IsMeasured, IsStopped};
@@ -178,6 +178,7 @@ impl<'a> Forms<'a> {
     {
         let back = tokens.gives_points_back;
         let mut reached = start;
+        let mut from = 0;
         let mut form = 0;
         while form < self.forms.len() {
             let it = &self.forms[form];
@@ -187,8 +188,8 @@ impl<'a> Forms<'a> {
                 if begun.complete
                     && reached < size
                     && it.is_longest(back, text, begun)
-                    && are_past(self.forms, form, back, text, size)
-                    && are_past(tokens.forms, tokens.forms.len(), back, text, size)
+                    && are_past(self.forms, from, form, back, text, size)
+                    && are_past(tokens.forms, 0, tokens.forms.len(), back, text, size)
                 {
                     return self.token_at(tokens, text, it, form, begun);
                 }
@@ -197,6 +198,8 @@ impl<'a> Forms<'a> {
                     return self.before_point(tokens, text, it, form, stop, reached);
                 }
                 reached = larger(reached, it.bound(text, stop));
+            } else if from == form && sign_size(text) < reached {
+                from = form + 1;
             }
             form += 1;
         }
@@ -230,8 +233,8 @@ impl<'a> Forms<'a> {
             && begun.at.size == size
             && reached < size
             && !gives_back(it.syntax, back, text, size)
-            && are_past(self.forms, form, back, text, size)
-            && are_past(tokens.forms, tokens.forms.len(), back, text, size)
+            && are_past(self.forms, 0, form, back, text, size)
+            && are_past(tokens.forms, 0, tokens.forms.len(), back, text, size)
         {
             self.token_at(tokens, text, it, form, begun)
         } else {
@@ -329,13 +332,21 @@ impl<'a> Forms<'a> {
 }
 
 // Returns whether no literal of the forms, but for the one with the index `but`, begins with more than the first `size` bytes of
-// `text`, which are more than a sign, or only with a point more that is given back.
+// `text`, which are more than a sign, or only with a point more that is given back. Of the forms before `from`, this is known.
 #[inline(always)]
-fn are_past(forms: &[Form], but: usize, back: PointsBack, text: &[u8], size: usize) -> bool
-    requires { size ≤ length text.now }
+fn are_past(
+    forms: &[Form],
+    from: usize,
+    but: usize,
+    back: PointsBack,
+    text: &[u8],
+    size: usize,
+) -> bool
+    requires within { size ≤ length text.now }
+    requires known { (k : ℕ) (d : Form) → k < from → IsWithin (notation_of (get_or forms.now k d).syntax) text.now size }
     ensures { IsTrue result → sign_size text.now < size → AreNear back forms.now but text.now size }
 {
-    let mut form = 0;
+    let mut form = from;
     while form < forms.len() {
         if form != but && !forms[form].is_past(back, text, size) {
             return false;

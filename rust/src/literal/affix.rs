@@ -89,7 +89,7 @@ impl Affix {
     }
 
     // Returns the number of its bytes that `text` begins with.
-    #[inline(always)]
+    #[cfg_attr(not(peltzivar_small), inline(always))]
     pub(crate) const fn opened(&self, text: &[u8]) -> usize {
         let mut size = 0;
         while size < self.size() && size < text.len() && self.spells(size, text[size]) {

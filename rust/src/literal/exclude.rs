@@ -26,17 +26,21 @@ pub(crate) const fn excludes(grammar: Grammar, text: &[u8], sign: usize) -> bool
 #[cfg_attr(not(peltzivar_small), inline(always))]
 pub(crate) const fn is_settled(grammar: Grammar, text: &[u8], size: usize) -> bool {
     let start = sign_size(text);
-    if size > start + 1 {
-        excludes(grammar, text, start) || is_stranger_at(grammar, text, size)
+    if start < size && lacks_zero(grammar, text, start) {
+        true
+    } else if size > start + 1 {
+        excludes(grammar, text, start) || (size < text.len() && is_stranger(grammar, text[size]))
     } else {
-        is_silent_at(grammar, text, size)
+        size < text.len() && is_silent(grammar, text[size])
     }
 }
 
-// Returns whether the byte at `index`, if there is one, plays no role, and its other case neither.
+// Returns whether a zero is required behind the sign, which has this length, and another byte is there.
 #[inline(always)]
-const fn is_silent_at(grammar: Grammar, text: &[u8], index: usize) -> bool {
-    index < text.len() && is_silent(grammar, text[index])
+const fn lacks_zero(grammar: Grammar, text: &[u8], sign: usize) -> bool {
+    (grammar.conditions.has(Condition::BasePrefix) || grammar.conditions.has(Condition::LeadingZero))
+        && sign < text.len()
+        && text[sign] != b'0'
 }
 
 // Returns whether `byte` plays no role, and its other case neither. Bytes up to `9` are said to play one: most are digits, and a prefix
@@ -44,12 +48,6 @@ const fn is_silent_at(grammar: Grammar, text: &[u8], index: usize) -> bool {
 #[inline(always)]
 const fn is_silent(grammar: Grammar, byte: u8) -> bool {
     byte > b'9' && is_stranger(grammar, byte) && is_apart(base_prefix(grammar.word), byte, other_case(byte))
-}
-
-// Returns whether the byte at `index` is a stranger, if there is one.
-#[inline(always)]
-const fn is_stranger_at(grammar: Grammar, text: &[u8], index: usize) -> bool {
-    index < text.len() && is_stranger(grammar, text[index])
 }
 
 // Returns whether `byte` plays no role behind the base prefix, and its other case neither.

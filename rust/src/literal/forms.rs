@@ -2,7 +2,7 @@
 
 use core::{fmt, ops, ops::Range, slice, str};
 
-use crate::literal::exclude::{has_letter_behind_zero, sign_size};
+use crate::literal::exclude::has_letter_behind_zero;
 use crate::literal::list::{Furthest, Mark, Unmarked};
 use crate::literal::sentence::{first_character, unexpected};
 use crate::literal::stop::Stopped;
@@ -70,17 +70,14 @@ impl<'a> Forms<'a> {
         }
     }
 
-    // Returns what a form reads of `text`, and the length of its sign. In the library for C, which has one reader for all
-    // lists, that is what is between the marks of the form, if they are there.
+    // Returns what a form reads of `text`. In the library for C, which has one reader for all lists, that is what is between the marks
+    // of the form, if they are there.
     #[inline(always)]
-    pub(crate) const fn inside<'t>(&self, text: &'t [u8], sign: usize, form: usize) -> Option<(&'t [u8], usize)> {
+    pub(crate) const fn inside<'t>(&self, text: &'t [u8], form: usize) -> Option<&'t [u8]> {
         if !cfg!(peltzivar_small) || !self.marked {
-            return Some((text, sign));
+            return Some(text);
         }
-        match self.as_slice()[form].between(text) {
-            Some(inside) => Some((inside, sign_size(inside))),
-            None => None,
-        }
+        self.as_slice()[form].between(text)
     }
 
     // Returns whether the first form is asked before all, whose literal is the number. Texts such as `0x1F` are most often none.

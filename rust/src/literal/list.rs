@@ -309,7 +309,6 @@ impl<'a> Forms<'a> {
         text: &'t [u8],
         stop: Option<Stopped>,
     ) -> Result<(usize, Literal<'t>), Furthest> {
-        let sign = sign_size(text);
         let mut furthest = None;
         let mut form = 0;
         if let Some(stop) = stop {
@@ -317,12 +316,12 @@ impl<'a> Forms<'a> {
             form = 1;
         }
         while form < self.forms.len() {
-            let Some((text, sign)) = self.inside(text, sign, form) else {
+            let Some(text) = self.inside(text, form) else {
                 form += 1;
                 continue;
             };
             let syntax = &self.forms[form].syntax;
-            if !is_behind(syntax.as_grammar(), text, sign, furthest) {
+            if !is_behind(syntax.as_grammar(), text, furthest) {
                 let begun = syntax.begin_small(text, false);
                 if begun.is_whole(syntax, text) {
                     return Ok((form, syntax.literal(text, begun.counts, begun.sums)));
@@ -330,7 +329,7 @@ impl<'a> Forms<'a> {
                 match begun.lengths(syntax, text) {
                     Ok(counts) => return Ok((form, syntax.summed(text, counts))),
                     Err(_) if cfg!(peltzivar_small) && self.marked => {}
-                    Err(stop) => furthest = self.further_on(text, sign, furthest, form, stop),
+                    Err(stop) => furthest = self.further_on(text, furthest, form, stop),
                 }
             }
             form += 1;
@@ -379,20 +378,19 @@ impl<'a> Forms<'a> {
         furthest
     }
 
-    // Returns which of two forms has the error of the list, or `None` if there is but one, which does not go beyond the first byte behind a
-    // sign of this length.
+    // Returns which of two forms has the error of the list, or `None` if there is but one, which does not go beyond the first byte behind
+    // the sign.
     #[inline(always)]
     const fn further_on(
         &self,
         text: &[u8],
-        sign: usize,
         furthest: Option<Furthest>,
         form: usize,
         stop: Stopped,
     ) -> Option<Furthest> {
         match furthest {
             Some(best) => Some(self.further(text, best, form, stop)),
-            None if stop.size > sign + 1 => Some(Furthest { form, stop, settled: false }),
+            None if stop.size > sign_size(text) + 1 => Some(Furthest { form, stop, settled: false }),
             None => None,
         }
     }
@@ -486,9 +484,9 @@ const fn have_marks(forms: &[Form]) -> bool {
 // Returns whether a form need not be asked: its first bytes exclude that `text` is a literal, or no error of it goes further than the
 // furthest form, unless its cause is a wrong byte.
 #[inline(always)]
-const fn is_behind(grammar: Grammar, text: &[u8], sign: usize, furthest: Option<Furthest>) -> bool {
+const fn is_behind(grammar: Grammar, text: &[u8], furthest: Option<Furthest>) -> bool {
     match furthest {
-        None => excludes(grammar, text, sign),
+        None => excludes(grammar, text, sign_size(text)),
         Some(best) => is_settled(grammar, text, best.stop.size),
     }
 }

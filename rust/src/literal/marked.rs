@@ -35,7 +35,7 @@ impl<'a> Forms<'a> {
     }
 
     // Returns the form with this index. Those that need a suffix are behind the others.
-    #[inline(always)]
+    #[cfg_attr(not(peltzivar_small), inline(always))]
     const fn form_at<'f>(&'f self, tokens: &'f Tokens, form: usize) -> &'f Form {
         if form < self.forms.len() {
             &self.forms[form]
@@ -91,7 +91,7 @@ impl<'a> Forms<'a> {
 
 impl Form {
     // Returns the candidate of the form, if there is one.
-    #[inline(always)]
+    #[cfg_attr(not(peltzivar_small), inline(always))]
     const fn candidate_marked(&self, back: PointsBack, needs: bool, text: &[u8]) -> Option<Candidate> {
         match self.front_past(text, 0) {
             None => None,
@@ -103,7 +103,7 @@ impl Form {
     }
 
     // Returns the front `found`, or without its point if that is given back, if it is a literal. A closing is no point.
-    #[inline(always)]
+    #[cfg_attr(not(peltzivar_small), inline(always))]
     const fn own_marked(&self, back: PointsBack, text: &[u8], found: Found) -> Option<Found> {
         if self.closing.is_empty() && gives_back(self.syntax, back, text, found.size) {
             let (shorter, _) = text.split_at(found.size - 1);
@@ -114,7 +114,7 @@ impl Form {
     }
 
     // Returns the token with this candidate.
-    #[inline(always)]
+    #[cfg_attr(not(peltzivar_small), inline(always))]
     const fn made_marked<'t>(&self, text: &'t [u8], form: usize, candidate: Candidate) -> Option<Token<'t>> {
         let Candidate { size, end, .. } = candidate;
         let (front, behind) = text.split_at(size);

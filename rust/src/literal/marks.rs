@@ -12,7 +12,7 @@ use crate::literal::syntax::Condition;
 
 impl Form {
     // Returns the literal that `text` is, if it is one. Its first byte is `byte`, whose other case is `other`.
-    #[inline(always)]
+    #[cfg_attr(not(peltzivar_small), inline(always))]
     pub(crate) const fn literal_from<'t>(&self, byte: u8, other: u8, text: &'t [u8]) -> Option<Literal<'t>> {
         if self.opening.excludes(byte, other) {
             return None;
@@ -21,7 +21,7 @@ impl Form {
     }
 
     // Returns the literal that `text` is, if it is one.
-    #[inline(always)]
+    #[cfg_attr(not(peltzivar_small), inline(always))]
     pub(crate) const fn literal<'t>(&self, text: &'t [u8]) -> Option<Literal<'t>> {
         let Some(inside) = self.between(text) else {
             return None;
@@ -41,7 +41,7 @@ impl Form {
     }
 
     // Returns what is between the opening and the closing of `text`, if both are there.
-    #[inline(always)]
+    #[cfg_attr(not(peltzivar_small), inline(always))]
     pub(crate) const fn between<'t>(&self, text: &'t [u8]) -> Option<&'t [u8]> {
         let opened = self.opening.opened(text);
         if opened < self.opening.size() {
@@ -60,7 +60,7 @@ impl Form {
     }
 
     // Returns what is between the opening and the closing of `text`, which has both.
-    #[inline(always)]
+    #[cfg_attr(not(peltzivar_small), inline(always))]
     pub(crate) const fn inner<'t>(&self, text: &'t [u8]) -> &'t [u8] {
         let (front, _) = text.split_at(text.len() - self.closing.size());
         let (_, inside) = front.split_at(self.opening.size());
@@ -92,7 +92,7 @@ impl Form {
     }
 
     // Returns whether the closing is behind `found`, the longest front of `rest` that is a literal of the syntax, which stops at `stop`.
-    #[inline(always)]
+    #[cfg_attr(not(peltzivar_small), inline(always))]
     const fn closes(&self, rest: &[u8], stop: Stopped, found: Found) -> bool {
         let (_, closing) = rest.split_at(found.size);
         self.closing.is_empty() || (found.size == stop.size && self.closing.opened(closing) == self.closing.size())
@@ -151,7 +151,7 @@ impl Form {
     }
 
     // Returns why `text` is not a literal of the form, which has the index `form`.
-    #[inline(always)]
+    #[cfg_attr(not(peltzivar_small), inline(always))]
     pub(crate) const fn refuse(&self, text: &[u8], form: usize, stop: Stopped) -> FormError {
         if self.is_marked() {
             return self.refuse_marked(text, form, stop);
@@ -186,7 +186,7 @@ impl Form {
     }
 
     // Returns why `text` is not a literal of the syntax, which stops at `stop`.
-    #[inline(always)]
+    #[cfg_attr(not(peltzivar_small), inline(always))]
     const fn error_of(&self, text: &[u8], stop: Stopped) -> ReadError {
         let Err(error) = stop.refuse::<()>(&self.syntax, text) else { unreachable!() };
         error
@@ -236,7 +236,7 @@ impl Form {
     }
 
     // Returns that `mark` is not there behind the first `size` bytes.
-    #[inline(always)]
+    #[cfg_attr(not(peltzivar_small), inline(always))]
     const fn unmarked(&self, text: &[u8], size: usize, mark: Mark) -> Unmarked {
         let byte = byte_at(text, size);
         let affix = match mark {

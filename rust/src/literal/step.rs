@@ -303,7 +303,7 @@ const fn leads(fits: bool, role: Role) -> bool {
 }
 
 // Returns whether the conditions let `byte` follow, which has the role `role`.
-#[inline(always)]
+#[cfg_attr(not(peltzivar_small), inline(always))]
 pub(crate) const fn admits(conditions: Conditions, read: Summary, byte: u8, role: Role) -> bool {
     conditions.is_none() || some_admit(conditions, read, byte, role)
 }
@@ -385,7 +385,7 @@ pub(crate) const fn after(read: Summary, zero: bool, role: Role) -> Summary {
 }
 
 // Returns the role of `byte` after a front that ends in `part`, where digits are those of the radix of `part`.
-#[inline(always)]
+#[cfg_attr(not(peltzivar_small), inline(always))]
 pub const fn role_at(grammar: Grammar, part: Part, byte: u8) -> Option<Role> {
     if is_digit(grammar, part, byte) {
         Some(Role::Digit)
@@ -419,7 +419,7 @@ pub(crate) const fn step(grammar: Grammar, read: Summary, byte: u8) -> Option<(R
 }
 
 // Returns what `byte` makes of what has been read if it has the role `role`, or `None` if no literal begins so.
-#[inline(always)]
+#[cfg_attr(not(peltzivar_small), inline(always))]
 pub(crate) const fn step_as(grammar: Grammar, read: Summary, byte: u8, role: Role) -> Option<Summary> {
     if !read.ended && takes(grammar, read, byte == b'+', role) && admits(grammar.conditions, read, byte, role) {
         Some(after(read, byte == b'0', role))

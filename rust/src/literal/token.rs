@@ -152,6 +152,7 @@ impl<'a> Forms<'a> {
     const fn leading<'t>(&self, tokens: &Tokens, text: &'t [u8], start: usize) -> Option<Token<'t>> {
         let back = tokens.gives_points_back;
         let mut reached = start;
+        let mut from = 0;
         let mut form = 0;
         while form < self.forms.len() {
             let it = &self.forms[form];
@@ -161,8 +162,8 @@ impl<'a> Forms<'a> {
                 if begun.complete
                     && reached < size
                     && it.is_longest(back, text, begun)
-                    && are_past(self.forms, form, back, text, size)
-                    && are_past(tokens.forms, tokens.forms.len(), back, text, size)
+                    && are_past(self.forms, from, form, back, text, size)
+                    && are_past(tokens.forms, 0, tokens.forms.len(), back, text, size)
                 {
                     return self.token_at(tokens, text, it, form, begun);
                 }
@@ -171,6 +172,8 @@ impl<'a> Forms<'a> {
                     return self.before_point(tokens, text, it, form, stop, reached);
                 }
                 reached = larger(reached, it.bound(text, stop));
+            } else if from == form && sign_size(text) < reached {
+                from = form + 1;
             }
             form += 1;
         }
@@ -197,8 +200,8 @@ impl<'a> Forms<'a> {
             && begun.at.size == size
             && reached < size
             && !gives_back(it.syntax, back, text, size)
-            && are_past(self.forms, form, back, text, size)
-            && are_past(tokens.forms, tokens.forms.len(), back, text, size)
+            && are_past(self.forms, 0, form, back, text, size)
+            && are_past(tokens.forms, 0, tokens.forms.len(), back, text, size)
         {
             self.token_at(tokens, text, it, form, begun)
         } else {
@@ -207,7 +210,7 @@ impl<'a> Forms<'a> {
     }
 
     // Returns the token of which `begun` is the literal, of the form with this index, if nothing follows that may not.
-    #[inline(always)]
+    #[cfg_attr(not(peltzivar_small), inline(always))]
     const fn token_at<'t>(
         &self,
         _tokens: &Tokens,
@@ -269,10 +272,10 @@ impl<'a> Forms<'a> {
 }
 
 // Returns whether no literal of the forms, but for the one with the index `but`, begins with more than the first `size` bytes of
-// `text`, which are more than a sign, or only with a point more that is given back.
-#[inline(always)]
-const fn are_past(forms: &[Form], but: usize, back: PointsBack, text: &[u8], size: usize) -> bool {
-    let mut form = 0;
+// `text`, which are more than a sign, or only with a point more that is given back. Of the forms before `from`, this is known.
+#[cfg_attr(not(peltzivar_small), inline(always))]
+const fn are_past(forms: &[Form], from: usize, but: usize, back: PointsBack, text: &[u8], size: usize) -> bool {
+    let mut form = from;
     while form < forms.len() {
         if form != but && !forms[form].is_past(back, text, size) {
             return false;
@@ -283,7 +286,7 @@ const fn are_past(forms: &[Form], but: usize, back: PointsBack, text: &[u8], siz
 }
 
 // Returns the larger of two sizes.
-#[inline(always)]
+#[cfg_attr(not(peltzivar_small), inline(always))]
 pub(crate) const fn larger(one: usize, other: usize) -> usize {
     if one < other {
         other
@@ -293,7 +296,7 @@ pub(crate) const fn larger(one: usize, other: usize) -> usize {
 }
 
 // Returns the token with this candidate.
-#[inline(always)]
+#[cfg_attr(not(peltzivar_small), inline(always))]
 const fn made<'t>(it: &Form, text: &'t [u8], form: usize, candidate: Candidate) -> Token<'t> {
     let Candidate { size, counts, end } = candidate;
     let (front, behind) = text.split_at(size);
@@ -306,7 +309,7 @@ const fn made<'t>(it: &Form, text: &'t [u8], form: usize, candidate: Candidate) 
 
 impl Form {
     // Returns whether the front that has been read, which is a literal, is the longest, and does not end in a point that is given back.
-    #[inline(always)]
+    #[cfg_attr(not(peltzivar_small), inline(always))]
     const fn is_longest(&self, back: PointsBack, text: &[u8], begun: Begun) -> bool {
         let size = begun.at.size;
         (is_over(self.syntax.as_grammar(), text, size) || begun.stop(&self.syntax, text).size == size)
@@ -315,7 +318,7 @@ impl Form {
 
     // Returns whether no literal begins with more than the first `size` bytes of `text`, which are more than a sign, or only with a
     // point more that is given back.
-    #[inline(always)]
+    #[cfg_attr(not(peltzivar_small), inline(always))]
     const fn is_past(&self, back: PointsBack, text: &[u8], size: usize) -> bool {
         lacks_longer(self.syntax.as_grammar(), text, size) || self.stops(back, text, size)
     }
@@ -329,7 +332,7 @@ impl Form {
     }
 
     // Returns a size that no front of `text` that is a literal exceeds, where reading stops at `stop`.
-    #[inline(always)]
+    #[cfg_attr(not(peltzivar_small), inline(always))]
     const fn bound(&self, text: &[u8], stop: Stopped) -> usize {
         if stop.size == 0 || stop.is_literal(&self.syntax, text) {
             stop.size
@@ -339,7 +342,7 @@ impl Form {
     }
 
     // Returns where reading `text` stops, and the candidate, if there is one.
-    #[inline(always)]
+    #[cfg_attr(not(peltzivar_small), inline(always))]
     const fn candidate(&self, back: PointsBack, needs: bool, text: &[u8]) -> (Stopped, Option<Candidate>) {
         let (stop, found) = self.syntax.front(text);
         let candidate = match found {
@@ -350,7 +353,7 @@ impl Form {
     }
 
     // Returns the candidate of which `found` is the longest front, if there is one.
-    #[inline(always)]
+    #[cfg_attr(not(peltzivar_small), inline(always))]
     const fn candidate_of(&self, back: PointsBack, needs: bool, text: &[u8], found: Found) -> Option<Candidate> {
         match self.own(back, text, found) {
             None => None,
@@ -359,7 +362,7 @@ impl Form {
     }
 
     // Returns the candidate with the literal `own`, if there is a suffix or none is needed.
-    #[inline(always)]
+    #[cfg_attr(not(peltzivar_small), inline(always))]
     pub(crate) const fn suffixed(&self, needs: bool, text: &[u8], own: Found) -> Option<Candidate> {
         let Found { size, counts } = own;
         let (_, rest) = text.split_at(size);
@@ -373,7 +376,7 @@ impl Form {
     }
 
     // Returns the front `found`, or without its point if that is given back, if it is a literal.
-    #[inline(always)]
+    #[cfg_attr(not(peltzivar_small), inline(always))]
     const fn own(&self, back: PointsBack, text: &[u8], found: Found) -> Option<Found> {
         if gives_back(self.syntax, back, text, found.size) {
             let (shorter, _) = text.split_at(found.size - 1);
@@ -386,7 +389,7 @@ impl Form {
 }
 
 // Returns the front `found` if it has `size` bytes.
-#[inline(always)]
+#[cfg_attr(not(peltzivar_small), inline(always))]
 pub(crate) const fn whole(found: Option<Found>, size: usize) -> Option<Found> {
     match found {
         Some(found) if found.size == size => Some(found),
@@ -395,7 +398,7 @@ pub(crate) const fn whole(found: Option<Found>, size: usize) -> Option<Found> {
 }
 
 // Returns whether the first `size` bytes of `text` end in a point that is given back.
-#[inline(always)]
+#[cfg_attr(not(peltzivar_small), inline(always))]
 pub(crate) const fn gives_back(syntax: Syntax, back: PointsBack, text: &[u8], size: usize) -> bool {
     is_one(syntax, byte_before(text, size))
         && match byte_at(text, size) {
@@ -405,7 +408,7 @@ pub(crate) const fn gives_back(syntax: Syntax, back: PointsBack, text: &[u8], si
 }
 
 // Returns whether a point before `byte` is given back.
-#[inline(always)]
+#[cfg_attr(not(peltzivar_small), inline(always))]
 const fn takes_point(back: PointsBack, byte: u8) -> bool {
     match back {
         PointsBack::Never => false,
@@ -415,7 +418,7 @@ const fn takes_point(back: PointsBack, byte: u8) -> bool {
 }
 
 // Returns whether `byte` is the decimal point.
-#[inline(always)]
+#[cfg_attr(not(peltzivar_small), inline(always))]
 const fn is_one(syntax: Syntax, byte: Option<u8>) -> bool {
     match byte {
         None => false,
@@ -454,13 +457,13 @@ const fn stop_end(text: &[u8], index: usize) -> usize {
 }
 
 // Returns whether a literal with these parts is a float.
-#[inline(always)]
+#[cfg_attr(not(peltzivar_small), inline(always))]
 const fn is_float(counts: [usize; 9]) -> bool {
     counts[3] != 0 || counts[5] != 0
 }
 
 // Returns whether a candidate is shorter than another.
-#[inline(always)]
+#[cfg_attr(not(peltzivar_small), inline(always))]
 const fn is_shorter(one: Candidate, other: Candidate) -> bool {
     one.end < other.end || (one.end == other.end && one.size < other.size)
 }
@@ -480,7 +483,7 @@ const fn scan(forms: &[Form], back: PointsBack, needs: bool, text: &[u8]) -> Sca
 }
 
 // Returns which of two forms goes further, the first of equals.
-#[inline(always)]
+#[cfg_attr(not(peltzivar_small), inline(always))]
 const fn further(furthest: Option<(usize, Stopped)>, form: usize, stop: Stopped) -> Option<(usize, Stopped)> {
     match furthest {
         Some((_, best)) if best.size >= stop.size => furthest,
@@ -489,7 +492,7 @@ const fn further(furthest: Option<(usize, Stopped)>, form: usize, stop: Stopped)
 }
 
 // Returns the longer of two candidates, the first of equals.
-#[inline(always)]
+#[cfg_attr(not(peltzivar_small), inline(always))]
 pub(crate) const fn better(
     best: Option<(usize, Candidate)>,
     form: usize,

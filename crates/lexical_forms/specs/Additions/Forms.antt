@@ -1,5 +1,5 @@
 -- What one pass over several forms finds.
-use Rattle.std.specs.Prelude.{ℕ, ◌≡◌, ◌+◌, ◌-◌, ◌*◌, ◌<◌, ◌≤◌, ◌⊎◌, [], ◌∷◌, false, if◌then◌else◌, nat_lt, IfErr, IfOk, IsErr, IsSomeAnd, List, Option, get_or}
+use Rattle.std.specs.Prelude.{ℕ, ◌≡◌, ◌+◌, ◌-◌, ◌*◌, ◌<◌, ◌≤◌, ◌⊎◌, [], ◌∷◌, false, if◌then◌else◌, nat_lt, IfErr, IfOk, IsErr, IsSomeAnd, IsTrue, List, Option, get_or}
 use Rattle.std.specs.Prelude.{Some, None, Result, Ok, Err, All, drop, length, slice_get, take}
 use Rattle.lexical_util.specs.Ascii.{ByteSet}
 use Rattle.lexical_util.specs.Roles.{other_case, signs}
@@ -14,6 +14,7 @@ use Rattle.lexical_literal.specs.Literal.{Literal, Reads}
 use Rattle.lexical_literal.specs.Read.{Read}
 use Rattle.lexical_literal.specs.Notation.{Notation, notation_of, set_of_role}
 use Rattle.lexical_literal.specs.declared.cause.Refusal.{Refusal}
+use Rattle.lexical_literal.specs.declared.syntax.Condition.TheVariants as conditions
 use Rattle.lexical_forms.specs.declared.list.FormError.{FormError}
 use Rattle.lexical_forms.specs.declared.list.Furthest.{Furthest}
 use Rattle.lexical_literal.specs.declared.stop.Found.{Found}
@@ -59,6 +60,11 @@ AreFalse test byte = (test byte ≡ false) × (test (other_case byte) ≡ false)
 -- `IsStranger m byte` holds if `byte` plays no role behind the base prefix, and its other case neither.
 abbrev pub IsStranger : Notation → ℕ → Type 0
 IsStranger m byte = IsSpare m byte × IsSpare m (other_case byte)
+
+-- `LacksZero m text` holds if literals begin with a zero behind their sign, since a base prefix or a leading zero is required, and `text` does not.
+pub record LacksZero (m : Notation) (text : List ℕ) : Type 0 where
+  pub required : IsTrue (m.condition conditions.BasePrefix) ⊎ IsTrue (m.condition conditions.LeadingZero)
+  pub other : get_or text (sign_size text) 0 ≡ 48 → ⊥
 
 -- `IsNoBetter m text size` holds if no error of `text` has a greater reach than one that goes up to `size` and whose cause is a wrong byte.
 abbrev pub IsNoBetter : Notation → List ℕ → ℕ → Type 0

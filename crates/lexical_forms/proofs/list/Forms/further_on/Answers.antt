@@ -11,7 +11,7 @@ returns-in-None c =
     let text = c.args.text.now in
     let led = subst (IsLed forms text c.args.form) c.in-None.is c.requires.furthest in
     leads_first forms text c.args.form c.args.stop c.requires.refused (λ k d low below n reaches.
-    let most = led k d below n reaches in omega (arith, most, c.if-stop-sign.true, c.requires.sign))
+    let most = led k d below n reaches in omega (arith, most, c.if-stop-sign_size.true, c.sign_size.ensures.size))
 
 pub returns-in-None-2 : goal.returns-in-None-2
 returns-in-None-2 c =
@@ -20,4 +20,4 @@ returns-in-None-2 c =
     let stop = c.args.stop in
     led_out forms text c.args.form None (subst (IsLed forms text c.args.form) c.in-None.is c.requires.furthest)
     (each (IsRefusedAt text stop) (IsLeftOut text None) (slice_get forms c.args.form)
-    (λ g is n reaches. let most = reach_most g text stop is n reaches in omega (arith, most, c.if-stop-sign.false, c.requires.sign)) c.requires.refused)
+    (λ g is n reaches. let most = reach_most g text stop is n reaches in omega (arith, most, c.if-stop-sign_size.false, c.sign_size.ensures.size)) c.requires.refused)

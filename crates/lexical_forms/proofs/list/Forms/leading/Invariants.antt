@@ -1,10 +1,12 @@
-use Rattle.lexical_forms.proofs.Common.{◌≤◌, ◌-◌, All, take, length, sign_size}
+use Rattle.lexical_forms.proofs.Common.{ℕ, ◌<◌, ◌≤◌, ◌-◌, All, Form, IsWithin, get_or, length, notation_of, sign_size, take}
 use Rattle.lexical_forms.specs.Additions.Token.{FrontsWithin}
 use Rattle.lexical_forms.proofs.list.Forms.leading.Given as goal
 
 abbrev pub invariant-loop-form : goal.invariant-loop-form
 invariant-loop-form l = record {
   sign : sign_size l.text ≤ l.reached;
+  from : l.from ≤ l.form;
+  known : (k : ℕ) (d : Form) → k < l.from → IsWithin (notation_of (get_or l.self-inside.forms.now k d).syntax) l.text l.reached;
   fronts : All (FrontsWithin l.text l.reached) (take l.form l.self-inside.forms.now);
 }
 
