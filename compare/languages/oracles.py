@@ -249,7 +249,7 @@ LANGUAGES = [
              ":16<0bF> :16<F.8*16**2> :3<1.1> 1i :16<F", [
         Cause("+", "Inf|NaN", "a name"), *(Cause(mark, ":.*<0[bdox].*>", "a prefix behind a radix") for mark in "+-="),
         Cause("+", ":0.*", "a zero before a radix"),
-        Cause("+", r":.*\*.*", "a power of a radix"), RADIX, ROUNDED,
+        Cause("+", r":.*\*.*", "a power of a radix"), RADIX,
         Cause("-", r"0_[\d_]*(\.[\d_]+)?[eE][+-]?[\d_]+", "a separator behind the first zero of a float, for which the tool has a fault")]),
     Language("RUBY", "ruby", "018._exr-+b", "_", "1r 1i 1ri 0d10", [suffix("ri?|i")]),
     Language("RUST", "rustc", "018._exo-u", "_", "1u8 1.5f32 1_i64 0x1z", [

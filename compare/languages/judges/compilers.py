@@ -87,7 +87,8 @@ SIGN = r"(?<![eE])[+-]"
 COMPILERS = {
     "gcc": [Compiler(f"gcc -std=c2x {GCC}", "a.c", *C, PRINT_C, scanner=[sys.executable, f"{SCANNERS}/gcc.py", "gcc -x c -std=c2x"])],
     "g++": [Compiler(f"g++ -std=c++20 -include chrono -include complex -D_Static_assert=static_assert {GCC}", "a.cc", *CC, PRINT_CC,
-                     scanner=[sys.executable, f"{SCANNERS}/gcc.py", "g++ -x c++ -std=c++20"], error="(?:(?:fatal )?error|  required from here)")],
+                     scanner=[sys.executable, f"{SCANNERS}/gcc.py", "g++ -x c++ -std=c++20"],
+                     error="(?:(?:fatal )?error|  required from here)")],  # An error may be in a template.
     "gdc": [Compiler("gdc -fmax-errors=0 -fno-diagnostics-show-caret -o out", "a.d", *D, PRINT_D)],
     "gnat": [Compiler("gnatmake -f -q -o out -gnatf -gnatm999999 -gnatws", "a.adb", *ADA, PRINT_ADA)],
     "gfortran": [Compiler(f"gfortran -std=f2018 {GCC}", "a.f90", *FORTRAN, PRINT_FORTRAN, signed=True),
