@@ -154,12 +154,8 @@ REPLACED += [
     # Its other calls are written by hand. Their results depend on what is compared.
     ("lexical_literal/src/literal.rt", "#[derive(Drop)]", "#[derive(Clone, Copy, PartialEq, Eq, Hash)]"),
     ("lexical_literal/src/literal.rt", "    text: &'a [u8],\n    counts", "    pub(crate) text: &'a [u8],\n    pub(crate) counts"),
-    ("lexical_literal/src/literal.rt", "pub const fn format(&self)", "pub(crate) const fn format(&self)"),
-    ("lexical_literal/src/literal.rt", "pub const fn cut(&self)", "pub(crate) const fn cut(&self)"),
-    ("lexical_literal/src/literal.rt", "pub const fn has_negative_exponent(&self)", "pub(crate) const fn has_negative_exponent(&self)"),
-    ("lexical_literal/src/literal.rt", "pub const fn mantissa(&self)", "pub(crate) const fn mantissa(&self)"),
-    ("lexical_literal/src/literal.rt", "pub const fn places(&self)", "pub(crate) const fn places(&self)"),
-    ("lexical_literal/src/literal.rt", "pub const fn scale(&self)", "pub(crate) const fn scale(&self)"),
+    *[("lexical_literal/src/literal.rt", f"pub const fn {it}(&self)", f"pub(crate) const fn {it}(&self)")
+      for it in "cut format has_negative_exponent mantissa places scale".split()],
     # A syntax that is not lawful can have any radix.
     ("lexical_number/src/small.rt", "MOST[radix as usize] as usize", "if radix <= 36 { MOST[radix as usize] as usize } else { 0 }"),
     # Programs have one copy of these.
@@ -193,28 +189,17 @@ REPLACED += [
     ("lexical_value/src/float.rt", "match nearest_single(literal)", "match nearest_single(&{ *literal })"),
     ("lexical_value/src/float.rt", "return whole_float(literal)", "return whole_float(&{ *literal })"),
     ("lexical_value/src/float.rt", "has_digits(literal) =>", "has_digits(&{ *literal }) =>"),
-    ("lexical_value/src/float.rt", "pub(crate) fn beyond(", "pub(crate) const fn beyond("),
-    ("lexical_value/src/float.rt", "\nfn has_digits", "\nconst fn has_digits"),
+    *[("lexical_value/src/float.rt", f"fn {it}(", f"const fn {it}(") for it in "beyond binary_size exponent_of has_digits leading_of long_binary_size".split()],
     ("lexical_value/src/scaled.rt", "long_scaled(literal, places", "long_scaled(&{ *literal }, places"),
     ("lexical_value/src/kind.rt", "fewer(kind, &numeral)", "fewer(kind, &{ numeral })"),
     # Calls for constants.
     ("lexical_value/src/integer.rt", "pub fn own_numeral", "pub(crate) const fn own_numeral"),
     ("lexical_value/src/integer.rt", "pub fn integer_numeral", "pub(crate) const fn integer_numeral"),
     ("lexical_value/src/integer.rt", "\nfn magnitude", "\nconst fn magnitude"),
-    ("lexical_value/src/float.rt", "pub(crate) fn binary_size", "pub(crate) const fn binary_size"),
-    ("lexical_value/src/float.rt", "\nfn long_binary_size", "\nconst fn long_binary_size"),
-    ("lexical_value/src/float.rt", "pub(crate) fn leading_of", "pub(crate) const fn leading_of"),
-    ("lexical_value/src/float.rt", "pub(crate) fn exponent_of", "pub(crate) const fn exponent_of"),
     ("sink.rt", "#[derive(Drop)]", "#[derive(Debug)]"),
     # Programs have one copy of these, for any kind of number.
     ("choice.rt", "&amount.lay_out(syntax, style)?", "&(if cfg!(peltzivar_small) { crate::literal::lay_out(&amount, syntax, style) } else { amount.lay_out(syntax, style) })?"),
-    ("choice.rt", "fn choose<N: Writable>(", "fn choose<N: Writable + ?Sized>("),
-    ("choice.rt", "fn write_in<N: Writable>(", "fn write_in<N: Writable + ?Sized>("),
-    ("choice.rt", "fn write_words<N: Writable>(", "fn write_words<N: Writable + ?Sized>("),
-    ("choice.rt", "fn write_around<N: Writable>(", "fn write_around<N: Writable + ?Sized>("),
-    ("choice.rt", "fn read_alone<N: Writable>(", "fn read_alone<N: Writable + ?Sized>("),
-    ("choice.rt", "fn read_token<N: Writable>(", "fn read_token<N: Writable + ?Sized>("),
-    ("choice.rt", "fn write_by<N: Writable>(", "fn write_by<N: Writable + ?Sized>("),
+    *[("choice.rt", f"fn {it}<N: Writable>(", f"fn {it}<N: Writable + ?Sized>(") for it in "choose read_alone read_token write_around write_by write_in write_words".split()],
     # Programs that write floats have no code for tokens.
     ("choice.rt", "    fn radix(&self) -> u32;\n", "    fn radix(&self) -> u32; /// Returns the token that `text` begins with. Only integers are written with words.\n fn token<'t>(&self, _: &Forms, _: &'t [u8]) -> Option<Token<'t>> { None }\n"),
     ("choice.rt", "impl Writable for Whole {", "impl Writable for Whole { fn token<'t>(&self, forms: &Forms, text: &'t [u8]) -> Option<Token<'t>> { forms.token(text).ok() }"),

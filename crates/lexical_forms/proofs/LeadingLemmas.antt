@@ -11,7 +11,7 @@ use Rattle.lexical_forms.specs.Token.{HasFrontOfSyntax}
 use Rattle.lexical_forms.specs.Token.{IsCandidate, IsToken, gives_back, is_alone, is_shorter, takes_point}
 use Rattle.std.specs.Borrow.{Bor}
 use Rattle.std.specs.Prelude.{not}
-use Rattle.std.proofs.lemmas.List.{drop-take, get_or-take, get_or_append_left, length-append, take-take}
+use Rattle.std.proofs.lemmas.List.{drop-take, length-append, take-take}
 use Rattle.std.proofs.lemmas.Option.{slice_get_within}
 use Rattle.lexical_literal.specs.Additions.GroupSize.{goes}
 use Rattle.lexical_literal.specs.Cause.{is_in}
@@ -27,7 +27,7 @@ use Rattle.lexical_forms.specs.declared.suffix.Suffixes.{Suffixes}
 use Rattle.lexical_literal.specs.declared.syntax.Condition.TheVariants as conditions
 use Rattle.lexical_forms.specs.declared.token.Token.{Token}
 use Rattle.lexical_forms.proofs.ExcludeLemmas.{BeginsPrefixed, front_sign, no_role_excludes, prefix_begins}
-use Rattle.lexical_forms.proofs.OpeningLemmas.{begins_whole, both}
+use Rattle.lexical_forms.proofs.OpeningLemmas.{begins_whole, both, front_byte}
 use Rattle.lexical_forms.proofs.TokenLemmas.{float_is, some_is, token_is}
 
 -- A suffix is in the word with which the text begins.
@@ -75,12 +75,6 @@ pub no_suffix : (suffixes : Option (Bor Suffixes)) (float : Bool) (text : List �
 no_suffix suffixes float text none =
     let word = word_within text 0 0 (omega arith) none in let suffix = suffix_within suffixes float text in omega (arith, word, suffix)
 
--- The bytes of a front are those of the text.
-front_byte : (text rest : List ℕ) (more index : ℕ) → more ≤ length text → index < more → get_or (take more text ++ rest) index 0 ≡ get_or text index 0
-front_byte text rest more index within below =
-    get_or_append_left (take more text) rest 0 index (omega (arith, below, within, length-take-le more text within))
-    ∙ get_or-take more text index 0 below
-
 
 module _ (m : Notation) (text : List ℕ) where
   -- No literal goes on behind a byte that plays no role.
@@ -89,7 +83,7 @@ module _ (m : Notation) (text : List ℕ) where
       let long : size < length (take more text ++ front.more) =
       omega (arith, below, length-append (take more text) front.more, length-take-le more text within) in
       no_role_excludes m (take more text ++ front.more) size long
-      (subst (PlaysNoRole m) (sym (front_byte text front.more more size within below)) none) front.literal front.reads
+      (subst (PlaysNoRole m) (sym (front_byte text front.more more size below within)) none) front.literal front.reads
 
   pub over_byte : (size byte : ℕ) → slice_get text size ≡ Some byte → PlaysNoRole m byte → IsWithin m text size
   over_byte size byte at none =
@@ -102,9 +96,9 @@ module _ (m : Notation) (text : List ℕ) where
     not_begun more rest below within is =
         let sign = front_sign text rest more within (omega (arith, below)) in
         let zero : get_or text (sign_size text) 0 ≡ 48 =
-        sym (front_byte text rest more (sign_size text) within (omega (arith, below))) ∙ ap (λ n. get_or (take more text ++ rest) n 0) (sym sign) ∙ is.zero in
+        sym (front_byte text rest more (sign_size text) (omega (arith, below)) within) ∙ ap (λ n. get_or (take more text ++ rest) n 0) (sym sign) ∙ is.zero in
         let prefix : m.prefix (get_or text (sign_size text + 1) 0) ≡ true =
-        ap m.prefix (sym (front_byte text rest more (sign_size text + 1) within below) ∙ ap (λ n. get_or (take more text ++ rest) (n + 1) 0) (sym sign))
+        ap m.prefix (sym (front_byte text rest more (sign_size text + 1) below within) ∙ ap (λ n. get_or (take more text ++ rest) (n + 1) 0) (sym sign))
         ∙ is.prefix in
         grind (arith, nat_tests)
 

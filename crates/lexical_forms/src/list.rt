@@ -394,7 +394,10 @@ impl<'a> Forms<'a> {
     pub(crate) fn find_marked<'t>(&self, text: &'t [u8]) -> Result<(usize, Literal<'t>), Furthest>
         ensures { IsFoundForm self.now.forms text.now result }
     {
-        let byte = first_of(text);
+        let byte = match text {
+            [first, ..] => *first,
+            [] => 0,
+        };
         let other = other_case(byte);
         let mut form = 0;
         while form < self.forms.len() {
@@ -614,16 +617,6 @@ impl<'a> Forms<'a> {
     {
         let Furthest { form, stop, .. } = furthest;
         self.as_slice()[form].refuse(text, form, stop)
-    }
-}
-
-// Returns the first byte of `text`, or 0 if there is none.
-const fn first_of(text: &[u8]) -> u8
-    ensures { result ≡ get_or text.now 0 0 }
-{
-    match text {
-        [first, ..] => *first,
-        [] => 0,
     }
 }
 

@@ -289,7 +289,10 @@ impl<'a> Forms<'a> {
     // no literal, all forms are asked again.
     #[inline(never)]
     pub(crate) const fn find_marked<'t>(&self, text: &'t [u8]) -> Result<(usize, Literal<'t>), Furthest> {
-        let byte = first_of(text);
+        let byte = match text {
+            [first, ..] => *first,
+            [] => 0,
+        };
         let other = other_case(byte);
         let mut form = 0;
         while form < self.forms.len() {
@@ -458,14 +461,6 @@ impl<'a> Forms<'a> {
     pub(crate) const fn error_at(&self, text: &[u8], furthest: Furthest) -> FormError {
         let Furthest { form, stop, .. } = furthest;
         self.as_slice()[form].refuse(text, form, stop)
-    }
-}
-
-// Returns the first byte of `text`, or 0 if there is none.
-const fn first_of(text: &[u8]) -> u8 {
-    match text {
-        [first, ..] => *first,
-        [] => 0,
     }
 }
 
