@@ -208,7 +208,6 @@ REPLACED += [
     ("lexical_value/src/float.rt", "pub(crate) fn exponent_of", "pub(crate) const fn exponent_of"),
     ("sink.rt", "#[derive(Drop)]", "#[derive(Debug)]"),
     # Programs have one copy of these, for any kind of number.
-    ("choice.rt", "&amount.lay_out(syntax, style)?", "&(if cfg!(peltzivar_small) { crate::literal::lay_out(&amount, syntax, style) } else { amount.lay_out(syntax, style) })?"),
     ("choice.rt", "fn choose<N: Writable>(", "fn choose<N: Writable + ?Sized>("),
     ("choice.rt", "fn write_in<N: Writable>(", "fn write_in<N: Writable + ?Sized>("),
     ("choice.rt", "fn write_words<N: Writable>(", "fn write_words<N: Writable + ?Sized>("),
