@@ -198,7 +198,6 @@ REPLACED += [
     ("lexical_value/src/integer.rt", "\nfn magnitude", "\nconst fn magnitude"),
     ("sink.rt", "#[derive(Drop)]", "#[derive(Debug)]"),
     # Programs have one copy of these, for any kind of number.
-    ("choice.rt", "&amount.lay_out(syntax, style)?", "&(if cfg!(peltzivar_small) { crate::literal::lay_out(&amount, syntax, style) } else { amount.lay_out(syntax, style) })?"),
     *[("choice.rt", f"fn {it}<N: Writable>(", f"fn {it}<N: Writable + ?Sized>(") for it in "choose read_alone read_token write_around write_by write_in write_words".split()],
     # Programs that write floats have no code for tokens.
     ("choice.rt", "    fn radix(&self) -> u32;\n", "    fn radix(&self) -> u32; /// Returns the token that `text` begins with. Only integers are written with words.\n fn token<'t>(&self, _: &Forms, _: &'t [u8]) -> Option<Token<'t>> { None }\n"),

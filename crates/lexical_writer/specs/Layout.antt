@@ -14,6 +14,7 @@ use Rattle.lexical_number.specs.Number.{digits_in, number}
 use Rattle.lexical_number.specs.Numeral.{with_sign}
 use Rattle.lexical_value.specs.Value.{denominator, numerator}
 use Rattle.lexical_writer.specs.Digits.{at_least, begins_decimal, grouped, no_groups, only_if, run_text, size_of, values_of}
+use Rattle.lexical_writer.specs.declared.integer.WrittenInteger.{WrittenInteger}
 use Rattle.lexical_writer.specs.declared.layout.Amount.{Amount}
 use Rattle.lexical_writer.specs.declared.layout.Grouping.{Grouping}
 use Rattle.lexical_writer.specs.declared.layout.Grouping.TheVariants as groupings
@@ -260,3 +261,12 @@ whole_refusal g z =
 -- `IsWhole g style z l` holds if `l` is what is written for the integer `z`.
 abbrev pub IsWhole : Grammar → Style → ℤ → Literal → Type 0
 IsWhole g style z l = l ≡ laid_out g style (whole z)
+
+-- `integer_literal it` is the literal that is written for the integer `it`.
+abbrev pub integer_literal : WrittenInteger → Literal
+integer_literal it = laid_out it.syntax it.style (number_of_size it.negative it.size)
+
+-- `plain_text it` has the sign of the integer `it`, if it is written, and the decimal digits.
+abbrev pub plain_text : WrittenInteger → List ℕ
+plain_text it = option_to_list (sign_of it.negative ((raw it.syntax.word).flag layout.required_mantissa_sign))
+    ++ grouped (no_groups it.style.lowercase) (at_least 1 (digits_of 10 it.size))

@@ -22,14 +22,15 @@ ghost use Rattle.lexical_writer.specs.declared.layout.Style.{Style as Wishes};
 use crate::checked::is_integer;
 use crate::float::format_float;
 use crate::float_digits::FloatDigits;
-use crate::layout::{Amount, ExponentStyle, Layout, Style, WriteError, needs_exponent};
+use crate::integer::WrittenInteger;
+use crate::layout::{ExponentStyle, Layout, Style, WriteError, needs_exponent};
 use crate::near::format_near;
 use lexical_forms::form::Form;
 use lexical_forms::list::{Forms, Number};
 use lexical_literal::kind::{FloatKind, FloatLimits, IntegerKind, Kind};
 use lexical_literal::laws::literal_facts;
 use lexical_literal::literal::Literal;
-use lexical_literal::syntax::{Condition, Syntax};
+use lexical_literal::syntax::Syntax;
 use lexical_number::float::Float;
 use lexical_number::integer::Integer;
 use lexical_number::numeral::Magnitude;
@@ -137,12 +138,8 @@ impl Writable for Whole {
         style: Style,
         buffer: &mut [u8],
     ) -> Result<(usize, bool), WriteError> {
-        // A list asks each form, so a refusal is to take few steps.
-        if self.negative && syntax.conditions().has(Condition::NegativeSign) {
-            return Err(WriteError::Negative);
-        }
-        let amount = Amount::of_size(self.negative, self.size);
-        Ok(put(&amount.lay_out(syntax, style)?, buffer))
+        let integer = WrittenInteger::of_size(self.negative, self.size, syntax, style)?;
+        Ok((integer.write(buffer), integer.is_float()))
     }
 
     fn is_plain(&self, syntax: &Syntax, kind: Kind, _: Style, float: bool) -> bool {

@@ -212,7 +212,7 @@ impl Layout<'_> {
 }
 
 // Returns the sign of a number, if it has one.
-const fn sign_of(negative: bool, required: bool) -> Option<u8>
+pub(crate) const fn sign_of(negative: bool, required: bool) -> Option<u8>
     ensures { result ≡ sign_of negative required }
 {
     if negative {
@@ -282,7 +282,7 @@ impl<'a> Amount<'a> {
     /// # Errors
     ///
     /// If no literal has this form, returns why.
-    #[inline(always)]
+    #[inline]
     pub fn lay_out(&self, syntax: &Syntax, style: Style) -> Result<Layout<'a>, WriteError>
         ensures parts { IsLaidOut syntax.now style self.now result }
         ensures literal { IfOk result (λ layout. Reads (notation_of syntax.now) (literal_of layout) (text_of (literal_of layout))) }
@@ -293,16 +293,24 @@ impl<'a> Amount<'a> {
         self.plan(syntax, style)
     }
 
-    // Returns the parts of the literal. For an integer, which has no fraction and no exponent, inlining takes less time.
+    // Returns the parts of the literal, or why the number cannot be written.
     #[inline(always)]
     fn plan(&self, syntax: &Syntax, style: Style) -> Result<Layout<'a>, WriteError>
         ensures lawful { IsSyntax syntax.now }
         ensures parts { IsLaidOut syntax.now style self.now result }
     {
-        let format = syntax.format().view();
-        if let Some(refusal) = self.refusal(syntax) {
-            return Err(refusal);
+        match self.refusal(syntax) {
+            Some(refusal) => Err(refusal),
+            None => Ok(self.parts(syntax, style)),
         }
+    }
+
+    // Returns the parts of the literal, if the number can be written. Programs have one copy of this.
+    #[inline(never)]
+    pub(crate) fn parts(&self, syntax: &Syntax, style: Style) -> Layout<'a>
+        ensures { literal_of result ≡ laid_out syntax.now style self.now }
+    {
+        let format = syntax.format().view();
         let conditions = syntax.conditions();
         let options = syntax.options().unwrap_or(Options {
             exponent: 0,
@@ -319,7 +327,7 @@ impl<'a> Amount<'a> {
             base_prefix(format.word()),
         );
         let float = point | exponent;
-        Ok(Layout {
+        Layout {
             sign: sign_of(self.negative, format.required_mantissa_sign()),
             prefix,
             integer: self.integer_run(format, conditions, style, prefix.is_some(), float),
@@ -332,12 +340,12 @@ impl<'a> Amount<'a> {
                 style.suffix | conditions.has(Condition::BaseSuffix),
                 base_suffix(format.word()),
             ),
-        })
+        }
     }
 
     // Returns whether there is an exponent character.
     #[inline]
-    fn has_exponent(&self, syntax: &Syntax, style: Style) -> bool
+    pub(crate) fn has_exponent(&self, syntax: &Syntax, style: Style) -> bool
         ensures { result ≡ has_exponent syntax.now style self.now }
     {
         self.exponent.is_some()
@@ -347,7 +355,7 @@ impl<'a> Amount<'a> {
 
     // Returns whether there is a decimal point.
     #[inline]
-    fn has_point(&self, syntax: &Syntax, style: Style) -> bool
+    pub(crate) fn has_point(&self, syntax: &Syntax, style: Style) -> bool
         ensures { result ≡ has_point syntax.now style self.now }
     {
         self.fraction.is_some()
@@ -356,7 +364,7 @@ impl<'a> Amount<'a> {
     }
 
     // Returns the integer, behind a base prefix or not, of a float or not.
-    #[inline]
+    #[inline(always)]
     fn integer_run(
         &self,
         format: NumberFormat,

@@ -138,21 +138,6 @@ fn keep<'a>(
     ensures parts { IsKept (raw format) parts.now syntax.now style result }
 {
     let amount = amount_of(format, parts, syntax.format().view())?;
-    lay_out(&amount, syntax, style)
-}
-
-// Returns how a number is written, or why it is not. Programs have one copy of this.
-#[inline(never)]
-pub(crate) fn lay_out<'a>(
-    amount: &Amount<'a>,
-    syntax: &Syntax,
-    style: Style,
-) -> Result<Layout<'a>, WriteError>
-    ensures literal { IfOk result (λ layout. Reads (notation_of syntax.now) (written layout) (text_of (written layout))) }
-    ensures number { IfOk result (λ layout. HasNumber syntax.now amount.now (written layout)) }
-    ensures parts { IsLaidOut syntax.now style amount.now result }
-    ensures lawful { IsSyntax syntax.now }
-{
     amount.lay_out(syntax, style)
 }
 
@@ -187,10 +172,10 @@ fn shorten<'a>(amount: &Amount<'a>, syntax: &Syntax, style: Style) -> Result<Lay
     ensures parts { IsShort syntax.now style amount.now result }
     ensures lawful { IsSyntax syntax.now }
 {
-    match lay_out(amount, syntax, Style::PLAIN) {
+    match amount.lay_out(syntax, Style::PLAIN) {
         Err(error) => Err(error),
         Ok(plain) if plain.is_long() => Err(WriteError::Long),
-        Ok(_) => lay_out(amount, syntax, style),
+        Ok(_) => amount.lay_out(syntax, style),
     }
 }
 
@@ -210,7 +195,7 @@ fn by_value<'a>(
     ensures parts { IsByValue limit (raw format) parts.now syntax.now style result }
 {
     match whole_size(format, parts) {
-        Ok(size) => lay_out(&Amount::of_size(is_minus(parts.sign), size), syntax, style),
+        Ok(size) => Amount::of_size(is_minus(parts.sign), size).lay_out(syntax, style),
         Err(error) => Err(or_limit(is_whole(syntax), limit, error)),
     }
 }

@@ -99,7 +99,10 @@ fn has_radixes(syntax: &literal::Syntax) -> bool {
 unsafe fn print(written: &Written<'_>, to: (*mut u8, usize, Out<usize>)) -> WriteStatus {
     finish(to, |text| match written.short() {
         Some(short) => text.write_str(str::from_utf8_unchecked(short)),
-        None => written.write_to(text),
+        None => match written.write_into(&mut [0; 40]) {
+            Ok(short) => text.write_str(short),
+            Err(_) => written.write_to(text),
+        },
     })
 }
 

@@ -219,7 +219,7 @@ impl Syntax {
     /// has an exponent.
     #[inline(always)]
     pub fn format_integer<T: WriteInteger>(&self, value: T, style: Style) -> Result<Written<'static>, WriteError> {
-        integer::format_integer(self, value, style).map(|layout| Written::of(Text::Number(layout)))
+        integer::format_integer(self, value, style).map(|integer| Written::of(Text::Integer(integer)))
     }
 
     /// Returns the value of a float as a literal of this syntax. [Parsing][Syntax::parse] the text returns the same value, also

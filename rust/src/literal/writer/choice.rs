@@ -6,7 +6,7 @@ use crate::literal::form::Form;
 use crate::literal::kind::{FloatKind, FloatLimits, IntegerKind, Kind};
 use crate::literal::list::{Forms, Number};
 use crate::literal::literal::Literal;
-use crate::literal::syntax::{Condition, Syntax};
+use crate::literal::syntax::Syntax;
 use crate::literal::token::Token;
 use crate::literal::value::float::{supports_floats, to_float};
 use crate::literal::value::integer::own_numeral;
@@ -16,7 +16,8 @@ use crate::literal::value::number::numeral::Magnitude;
 use crate::literal::writer::checked::is_integer;
 use crate::literal::writer::float::format_float;
 use crate::literal::writer::float_digits::FloatDigits;
-use crate::literal::writer::layout::{needs_exponent, Amount, ExponentStyle, Layout, Style, WriteError};
+use crate::literal::writer::integer::WrittenInteger;
+use crate::literal::writer::layout::{needs_exponent, ExponentStyle, Layout, Style, WriteError};
 use crate::literal::writer::near::format_near;
 
 /// A number that a list of forms is asked to write.
@@ -87,19 +88,8 @@ impl Writable for Whole {
     }
 
     fn write(&self, syntax: &Syntax, style: Style, buffer: &mut [u8]) -> Result<(usize, bool), WriteError> {
-        // A list asks each form, so a refusal is to take few steps.
-        if self.negative && syntax.conditions().has(Condition::NegativeSign) {
-            return Err(WriteError::Negative);
-        }
-        let amount = Amount::of_size(self.negative, self.size);
-        Ok(put(
-            &(if cfg!(peltzivar_small) {
-                crate::literal::writer::literal::lay_out(&amount, syntax, style)
-            } else {
-                amount.lay_out(syntax, style)
-            })?,
-            buffer,
-        ))
+        let integer = WrittenInteger::of_size(self.negative, self.size, syntax, style)?;
+        Ok((integer.write(buffer), integer.is_float()))
     }
 
     fn is_plain(&self, syntax: &Syntax, kind: Kind, _: Style, float: bool) -> bool {

@@ -41,15 +41,28 @@ pub(crate) fn characters(buffer: &mut [u8], number: u128, radix: u32) -> &[u8] {
     &buffer[start..]
 }
 
+// The characters of the two digits of the numbers below 100.
+const TENS: [u8; 100] =
+    *b"0000000000111111111122222222223333333333444444444455555555556666666666777777777788888888889999999999";
+
+const ONES: [u8; 100] =
+    *b"0123456789012345678901234567890123456789012345678901234567890123456789012345678901234567890123456789";
+
+// Returns the characters of the two digits of a number.
+#[inline(always)]
+const fn two_characters(pair: usize) -> (u8, u8) {
+    (TENS[pair], ONES[pair])
+}
+
 // Writes the decimal digits of a number to the end of a buffer, and returns them. Two at a time take less time.
 #[inline(always)]
 pub(crate) fn decimals(buffer: &mut [u8], number: u64) -> &[u8] {
     let mut left = number;
     let mut start = buffer.len();
     while left >= 10 {
-        let pair = (left % 100) as u32;
-        buffer[start - 1] = digit_to_char_const(pair % 10, 10);
-        buffer[start - 2] = digit_to_char_const(pair / 10, 10);
+        let (tens, ones) = two_characters((left % 100) as usize);
+        buffer[start - 1] = ones;
+        buffer[start - 2] = tens;
         start -= 2;
         left /= 100;
     }

@@ -189,7 +189,7 @@ impl Layout<'_> {
 }
 
 // Returns the sign of a number, if it has one.
-const fn sign_of(negative: bool, required: bool) -> Option<u8> {
+pub(crate) const fn sign_of(negative: bool, required: bool) -> Option<u8> {
     if negative {
         Some(b'-')
     } else {
@@ -240,18 +240,24 @@ impl<'a> Amount<'a> {
     /// # Errors
     ///
     /// If no literal has this form, returns why.
-    #[inline(always)]
+    #[inline]
     pub fn lay_out(&self, syntax: &Syntax, style: Style) -> Result<Layout<'a>, WriteError> {
         self.plan(syntax, style)
     }
 
-    // Returns the parts of the literal. For an integer, which has no fraction and no exponent, inlining takes less time.
+    // Returns the parts of the literal, or why the number cannot be written.
     #[inline(always)]
     fn plan(&self, syntax: &Syntax, style: Style) -> Result<Layout<'a>, WriteError> {
-        let format = syntax.format().view();
-        if let Some(refusal) = self.refusal(syntax) {
-            return Err(refusal);
+        match self.refusal(syntax) {
+            Some(refusal) => Err(refusal),
+            None => Ok(self.parts(syntax, style)),
         }
+    }
+
+    // Returns the parts of the literal, if the number can be written. Programs have one copy of this.
+    #[inline(never)]
+    pub(crate) fn parts(&self, syntax: &Syntax, style: Style) -> Layout<'a> {
+        let format = syntax.format().view();
         let conditions = syntax.conditions();
         let options = syntax.options().unwrap_or(Options { exponent: 0, point: 0 });
         let power = self.exponent.unwrap_or(Power { negative: false, source: Source::Number(0) });
@@ -259,7 +265,7 @@ impl<'a> Amount<'a> {
         let point = self.has_point(syntax, style);
         let prefix = base_byte(style.prefix | conditions.has(Condition::BasePrefix), base_prefix(format.word()));
         let float = point | exponent;
-        Ok(Layout {
+        Layout {
             sign: sign_of(self.negative, format.required_mantissa_sign()),
             prefix,
             integer: self.integer_run(format, conditions, style, prefix.is_some(), float),
@@ -269,24 +275,24 @@ impl<'a> Amount<'a> {
             exponent_sign: sign_of(power.negative, exponent & format.required_exponent_sign()),
             exponent: exponent_run(power.source, format, style, exponent),
             suffix: base_byte(style.suffix | conditions.has(Condition::BaseSuffix), base_suffix(format.word())),
-        })
+        }
     }
 
     // Returns whether there is an exponent character.
     #[inline]
-    fn has_exponent(&self, syntax: &Syntax, style: Style) -> bool {
+    pub(crate) fn has_exponent(&self, syntax: &Syntax, style: Style) -> bool {
         self.exponent.is_some() || needs_exponent(syntax) || wants_exponent(style.exponent) && allows_exponent(syntax)
     }
 
     // Returns whether there is a decimal point.
     #[inline]
-    fn has_point(&self, syntax: &Syntax, style: Style) -> bool {
+    pub(crate) fn has_point(&self, syntax: &Syntax, style: Style) -> bool {
         self.fraction.is_some()
             || self.has_exponent(syntax, style) && syntax.format().view().no_exponent_without_fraction()
     }
 
     // Returns the integer, behind a base prefix or not, of a float or not.
-    #[inline]
+    #[inline(always)]
     fn integer_run(
         &self,
         format: FormatView,

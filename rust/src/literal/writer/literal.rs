@@ -86,12 +86,6 @@ fn is_unwanted(wish: ExponentStyle, exponent: &Numeral) -> bool {
 // Returns how a literal is written whose point stays where it is, or why it cannot be.
 fn keep<'a>(format: FormatView, parts: &Parts<'a>, syntax: &Syntax, style: Style) -> Result<Layout<'a>, WriteError> {
     let amount = amount_of(format, parts, syntax.format().view())?;
-    lay_out(&amount, syntax, style)
-}
-
-// Returns how a number is written, or why it is not. Programs have one copy of this.
-#[inline(never)]
-pub(crate) fn lay_out<'a>(amount: &Amount<'a>, syntax: &Syntax, style: Style) -> Result<Layout<'a>, WriteError> {
     amount.lay_out(syntax, style)
 }
 
@@ -113,10 +107,10 @@ fn move_point<'a>(
 
 // Returns how a number is written whose point has moved, or why it is not.
 fn shorten<'a>(amount: &Amount<'a>, syntax: &Syntax, style: Style) -> Result<Layout<'a>, WriteError> {
-    match lay_out(amount, syntax, Style::PLAIN) {
+    match amount.lay_out(syntax, Style::PLAIN) {
         Err(error) => Err(error),
         Ok(plain) if plain.is_long() => Err(WriteError::Long),
-        Ok(_) => lay_out(amount, syntax, style),
+        Ok(_) => amount.lay_out(syntax, style),
     }
 }
 
@@ -130,7 +124,7 @@ fn by_value<'a>(
     style: Style,
 ) -> Result<Layout<'a>, WriteError> {
     match whole_size(format, parts) {
-        Ok(size) => lay_out(&Amount::of_size(is_minus(parts.sign), size), syntax, style),
+        Ok(size) => Amount::of_size(is_minus(parts.sign), size).lay_out(syntax, style),
         Err(error) => Err(or_limit(is_whole(syntax), limit, error)),
     }
 }

@@ -5,10 +5,11 @@ use core::str;
 
 use crate::literal::value::number::float::Float;
 use crate::literal::value::number::integer::Integer;
+use crate::literal::writer::float;
 use crate::literal::writer::float_digits::FloatDigits;
+use crate::literal::writer::integer::WrittenInteger;
 use crate::literal::writer::layout::{Amount, Layout, Style, WriteError};
 use crate::literal::writer::sink::{Sink, Window};
-use crate::literal::writer::{float, literal};
 use crate::literal::{Affix, Syntax};
 
 /// A number as a literal of a syntax, or NaN or infinity, which prints the text. Nothing is allocated.
@@ -35,6 +36,7 @@ impl<'a> Written<'a> {
 #[allow(clippy::large_enum_variant, reason = "nothing is allocated")]
 pub(super) enum Text<'a> {
     Number(Layout<'a>),
+    Integer(WrittenInteger),
     Value(ValueText),
     Special(Option<u8>, &'a str),
 }
@@ -53,7 +55,7 @@ impl Value {
     pub(super) fn of_integer<T: Integer>(value: T) -> Value {
         let (negative, size) = value.sign_and_size();
         let lay_out = |negative, size, syntax: &Syntax, style, _: &mut FloatDigits| {
-            literal::lay_out(&Amount::of_size(negative, size), syntax, style).ok()
+            Amount::of_size(negative, size).lay_out(syntax, style).ok()
         };
         Value { negative, size, lay_out }
     }
@@ -94,6 +96,7 @@ impl Text<'_> {
     fn layout<'b>(&'b self, digits: &'b mut FloatDigits) -> Option<Layout<'b>> {
         match self {
             Text::Number(layout) => Some(*layout),
+            Text::Integer(integer) => Some(integer.lay_out()),
             Text::Value(ValueText { value: Value { negative, size, lay_out }, syntax, style, .. }) => {
                 lay_out(*negative, *size, syntax, *style, digits)
             }
@@ -113,6 +116,7 @@ impl Text<'_> {
     fn write(&self, buffer: &mut [u8]) -> usize {
         match self {
             Text::Number(layout) => layout.write(buffer),
+            Text::Integer(integer) => integer.write(buffer),
             Text::Value(_) => self.layout(&mut FloatDigits::new()).map_or(0, |layout| layout.write(buffer)),
             Text::Special(sign, word) => {
                 let mut window = Window { bytes: buffer, length: 0 };
@@ -131,7 +135,21 @@ impl Written<'_> {
     }
 
     /// Writes the text to the beginning of a buffer, as far as it has room, and returns its length.
+    #[inline]
     pub(super) fn write(&self, buffer: &mut [u8]) -> usize {
+        match &self.text {
+            Text::Integer(integer) if self.is_bare() => integer.write(buffer),
+            _ => self.write_all(buffer),
+        }
+    }
+
+    /// Returns whether nothing stands around the text.
+    fn is_bare(&self) -> bool {
+        self.opening.is_empty() && self.closing.is_empty() && self.word.is_none()
+    }
+
+    /// Writes the text with what stands around it, as [`write`][Self::write] does.
+    fn write_all(&self, buffer: &mut [u8]) -> usize {
         if let Some(text) = self.short().filter(|text| text.len() <= buffer.len()) {
             buffer[..text.len()].copy_from_slice(text);
             return text.len();

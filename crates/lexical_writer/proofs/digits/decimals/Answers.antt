@@ -37,9 +37,8 @@ loop-left-preserved c =
     record {
       within = omega (arith, l.invariant.within);
       room = r.1;
-      text = two_more l.left l.start c.digit_to_char_const-in-loop-left.result c.digit_to_char_const.result l.buffer c.loop-left-test.true r.0
-          (omega arith) (c.digit_to_char_const-in-loop-left.ensures.character (omega arith)) (c.digit_to_char_const.ensures.character (omega arith))
-          ∙ l.invariant.text;
+      text = two_more l.left l.start c.two_characters-tens.result.0 c.two_characters-tens.result.1 l.buffer c.loop-left-test.true r.0
+          (omega arith) c.two_characters-tens.ensures.tens c.two_characters-tens.ensures.ones ∙ l.invariant.text;
     }
 
 pub overflow_sub-start-then-left-gt0 : goal.overflow_sub-start-then-left-gt0

@@ -1,11 +1,11 @@
 -- Each integer is laid out, and its value is that of the integer.
-use Rattle.lexical_writer.proofs.Common.{Bool, Err, Grammar, HasNumber, IfErr, IsLaidOut, Layout, Literal, Ok, Result, Some, Style, WriteError, ap, arith}
-use Rattle.lexical_writer.proofs.Common.{false, has_exponent, has_point, is_float, laid_out, literal_of, needs_exponent, number_of_size, raw, refl, subst, suc}
-use Rattle.lexical_writer.proofs.Common.{sym, true, with_sign, zero, ℕ, ℤ, ◌&&◌, ◌<◌, ◌||◌, ◌∙◌, ◌≡◌}
+use Rattle.lexical_writer.proofs.Common.{Bool, Err, Grammar, HasNumber, IfErr, IfOk, IfOk-weaker, Literal, Ok, Reads, Result, Some, Style, WriteError, ap, arith}
+use Rattle.lexical_writer.proofs.Common.{false, has_exponent, has_point, is_float, laid_out, needs_exponent, notation_of, number_of_size, raw, refl, refusal, subst, suc}
+use Rattle.lexical_writer.proofs.Common.{sym, text_of, true, with_sign, zero, ℕ, ℤ, ◌&&◌, ◌<◌, ◌||◌, ◌∙◌, ◌≡◌}
 use Rattle.lexical_value.specs.Integer.{IsInteger}
 use Rattle.lexical_util.specs.Layout as layouts
-use Rattle.lexical_writer.specs.Layout.{wants_exponent, whole, whole_refusal}
-use Rattle.lexical_writer.proofs.FloatLemmas.{if_numbered}
+use Rattle.lexical_writer.specs.Layout.{integer_literal, wants_exponent, whole, whole_refusal}
+use Rattle.lexical_writer.specs.declared.integer.WrittenInteger.{WrittenInteger}
 use Rattle.lexical_writer.proofs.LiteralLemmas.{float_if}
 use Rattle.lexical_writer.proofs.PlainLemmas.{has_value}
 use Rattle.lexical_writer.proofs.integer.format_integer.Goals as goal
@@ -17,45 +17,47 @@ amount_is false size z value some = ap whole value
 amount_is true zero z value some = absurd (let none = some refl in omega arith)
 amount_is true (suc n) z value some = ap whole value
 
-refused : (g : Grammar) (style : Style) (z : ℤ) → needs_exponent g ≡ false → (result : Result Layout WriteError) → IsLaidOut g style (whole z) result
-    → IfErr result (λ error. whole_refusal g z ≡ Some error)
-refused g style z none (Ok layout) is = tt
-refused g style z none (Err error) is = grind arith
+refused : (g : Grammar) (z : ℤ) → needs_exponent g ≡ false → (result : Result WrittenInteger WriteError)
+    → IfErr result (λ error. refusal g (whole z) ≡ Some error) → IfErr result (λ error. whole_refusal g z ≡ Some error)
+refused g z none (Ok it) is = tt
+refused g z none (Err error) is = grind arith
 
 no_exponent : (needs wants allows : Bool) → needs ≡ false → wants ≡ false → (false || (needs || (wants && allows))) ≡ false
 no_exponent needs wants allows none unwanted = grind arith
 
 integer : (g : Grammar) (style : Style) (negative : Bool) (n : ℕ) (z : ℤ) → with_sign negative n ≡ z → needs_exponent g ≡ false
-    → wants_exponent style.exponent ≡ false → (l : Literal) → l ≡ laid_out g style (number_of_size negative n) → HasNumber g (number_of_size negative n) l
-    → IsInteger (raw g.word).byte l z
-integer g style negative n z is needs wants l out has =
+    → wants_exponent style.exponent ≡ false → (result : Result WrittenInteger WriteError)
+    → IfOk result (λ it. integer_literal it ≡ laid_out g style (number_of_size negative n))
+    → IfOk result (λ it. Reads (notation_of g) (integer_literal it) (text_of (integer_literal it)) × HasNumber g (number_of_size negative n) (integer_literal it))
+    → IfOk result (λ it. IsInteger (raw g.word).byte (integer_literal it) z)
+integer g style negative n z is needs wants (Err error) out has = tt
+integer g style negative n z is needs wants (Ok it) out has =
     let none : has_exponent g style (number_of_size negative n) ≡ false = no_exponent _ _ _ needs wants in
     let point : has_point g style (number_of_size negative n) ≡ false =
     ap (λ exponent. false || (exponent && (raw g.word).flag layouts.no_exponent_without_fraction)) none in
-    (ap is_float out ∙ float_if _ _ _ _ ∙ (λ i. point i || none i), sym is ∙ (λ i. with_sign (sym has.sign i) (sym has.integer i)))
+    (ap is_float out ∙ float_if _ _ _ _ ∙ (λ i. point i || none i), sym is ∙ (λ i. with_sign (sym has.1.sign i) (sym has.1.integer i)))
+
+pub returns-clause-literal : goal.returns-clause-literal
+returns-clause-literal h c = IfOk-weaker c.of_size.result _ _ (λ it has. has.0) c.of_size.ensures.written
 
 pub returns-clause-parts : goal.returns-clause-parts
 returns-clause-parts h c =
-    let same = c.of_size.ensures ∙ amount_is _ _ _ c.sign_and_size-negative.ensures.value c.sign_and_size-negative.ensures.zero in
-    if_numbered c.args.syntax.now c.args.style c.of_size.result _ c.lay_out.result c.lay_out.ensures.parts c.lay_out.ensures.number
-    (λ layout is has. is ∙ ap (laid_out c.args.syntax.now c.args.style) same)
+    let same = amount_is _ _ _ c.sign_and_size-negative.ensures.value c.sign_and_size-negative.ensures.zero in
+    IfOk-weaker c.of_size.result _ _ (λ it is. is ∙ ap (laid_out c.args.syntax.now c.args.style) same) c.of_size.ensures.parts
 
 pub returns-clause-error : goal.returns-clause-error
 returns-clause-error h c =
-    refused c.args.syntax.now c.args.style _ (sym c.needs_exponent.ensures ∙ c.if-needs_exponent.false) c.lay_out.result
-    (subst (λ amount. IsLaidOut c.args.syntax.now c.args.style amount c.lay_out.result)
-    (c.of_size.ensures ∙ amount_is _ _ _ c.sign_and_size-negative.ensures.value c.sign_and_size-negative.ensures.zero) c.lay_out.ensures.parts)
+    refused c.args.syntax.now _ (sym c.needs_exponent.ensures ∙ c.if-needs_exponent.false) c.of_size.result
+    (subst (λ amount. IfErr c.of_size.result (λ error. refusal c.args.syntax.now amount ≡ Some error))
+    (amount_is _ _ _ c.sign_and_size-negative.ensures.value c.sign_and_size-negative.ensures.zero) c.of_size.ensures.error)
 
 pub returns-clause-value : goal.returns-clause-value
 returns-clause-value h c =
-    if_numbered c.args.syntax.now c.args.style c.of_size.result _ c.lay_out.result c.lay_out.ensures.parts c.lay_out.ensures.number
-    (λ layout is has. has_value c.args.syntax.now _ _ _ c.sign_and_size-negative.ensures.value c.lay_out.ensures.lawful (literal_of layout)
-    (subst (λ amount. HasNumber c.args.syntax.now amount (literal_of layout)) c.of_size.ensures has))
+    IfOk-weaker c.of_size.result _ _
+    (λ it has. has_value c.args.syntax.now _ _ _ c.sign_and_size-negative.ensures.value c.of_size.ensures.lawful (integer_literal it) has.1)
+    c.of_size.ensures.written
 
 pub returns-clause-integer : goal.returns-clause-integer
 returns-clause-integer h c wants =
-    let same = c.of_size.ensures in
-    if_numbered c.args.syntax.now c.args.style c.of_size.result _ c.lay_out.result c.lay_out.ensures.parts c.lay_out.ensures.number
-    (λ layout is has. integer c.args.syntax.now c.args.style _ _ _ c.sign_and_size-negative.ensures.value
-    (sym c.needs_exponent.ensures ∙ c.if-needs_exponent.false) wants (literal_of layout) (is ∙ ap (laid_out c.args.syntax.now c.args.style) same)
-    (subst (λ amount. HasNumber c.args.syntax.now amount (literal_of layout)) same has))
+    integer c.args.syntax.now c.args.style _ _ _ c.sign_and_size-negative.ensures.value (sym c.needs_exponent.ensures ∙ c.if-needs_exponent.false) wants
+    c.of_size.result c.of_size.ensures.parts c.of_size.ensures.written

@@ -1,19 +1,20 @@
 -- What is written has the value.
-use Rattle.lexical_writer.proofs.Common.{Amount, HasNumber, literal_of, refl, subst, sym, with_sign}
+use Rattle.lexical_writer.proofs.Common.{refl, sym, with_sign}
+use Rattle.lexical_writer.specs.Layout.{integer_literal}
 use Rattle.lexical_writer.proofs.PlainLemmas.{has_value}
 use Rattle.lexical_writer.proofs.choice.WholeWritable.write.Goals as goal
 
 pub returns : goal.returns
 returns c =
-    let written = c.in_ok-lay_out.ensures in
-    let l = literal_of c.in_ok-lay_out.field-0 in
-    let number = subst (λ (a : Amount). HasNumber c.args.syntax.now a l) c.of_size-amount.ensures written.number in (
+    let written = c.in_ok-integer.ensures in
+    let l = integer_literal c.in_ok-integer.integer in
+    let number = written.written.1 in (
       l,
-      written.literal,
+      written.written.0,
       (
         has_value c.args.syntax.now c.args.self.now.negative c.args.self.now.size _ refl written.lawful l number,
         λ i. with_sign (sym number.sign i) (sym number.integer i),
       ),
-      c.put.ensures.text,
-      c.put.ensures.float,
+      c.write.ensures,
+      c.is_float.ensures,
     )
