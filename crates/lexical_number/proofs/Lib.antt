@@ -8,3 +8,7 @@ mod NearLemmas
 mod PowersLemmas
 mod ScalingLemmas
 mod TenLemmas
+mod FareyLemmas
+mod RowLemmas
+mod ReadLemmas
+mod ShortestLemmas

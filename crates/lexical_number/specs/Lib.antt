@@ -4,3 +4,4 @@ pub mod Float
 pub mod Numeral
 pub mod Leading
 pub mod Nearest
+pub mod Shortest
