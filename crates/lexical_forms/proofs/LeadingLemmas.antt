@@ -10,7 +10,7 @@ use Rattle.lexical_forms.specs.Additions.Token.{FrontsWithin, IsLeading, IsNear,
 use Rattle.lexical_forms.specs.Token.{HasFrontOfSyntax}
 use Rattle.lexical_forms.specs.Token.{IsCandidate, IsToken, gives_back, is_alone, is_shorter, takes_point}
 use Rattle.std.specs.Borrow.{Bor}
-use Rattle.std.specs.Prelude.{not}
+use Rattle.std.specs.Prelude.{not, option_map, unwrap_or}
 use Rattle.std.proofs.lemmas.List.{drop-take, length-append, take-take}
 use Rattle.std.proofs.lemmas.Option.{slice_get_within}
 use Rattle.lexical_literal.specs.Additions.GroupSize.{goes}

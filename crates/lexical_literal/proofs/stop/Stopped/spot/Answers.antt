@@ -1,5 +1,5 @@
 -- What has been read decides what may follow, and so why what follows is refused.
-use Rattle.lexical_literal.proofs.Common.{◌≡◌, refl, sym, ap, subst, ◌∙◌, take, notation_of, Grammar, IsRefusal, marks_of, Group, slice_get, grammar_at}
+use Rattle.lexical_literal.proofs.Common.{◌≡◌, sym, ap, subst, ◌∙◌, take, notation_of, IsRefusal, Group, slice_get, grammar_at}
 use Rattle.lexical_literal.proofs.Common.{refusal_of, spot_of, goes}
 use Rattle.lexical_literal.proofs.BlameLemmas.{refusal_at}
 use Rattle.lexical_literal.proofs.StoppedLemmas.{refused_there}
