@@ -1,6 +1,7 @@
 -- On what the value of a literal does not depend.
 use Rattle.lexical_value.proofs.Common.{raw}
 use Rattle.lexical_literal.specs.Notation.{notation_of}
+use Rattle.lexical_value.proofs.KindLemmas.{wraps_by}
 use Rattle.lexical_value.proofs.ValueLemmas.{integer_numerator, same_value, same_word}
 use Rattle.lexical_value.proofs.laws.value_facts.Goals as goal
 
@@ -16,3 +17,6 @@ returns-clause-same_digits c g is l k same =
 
 pub returns-clause-numerator : goal.returns-clause-numerator
 returns-clause-numerator c g l text reads whole = integer_numerator (notation_of g) (raw g.word) l text reads whole
+
+pub returns-clause-wraps : goal.returns-clause-wraps
+returns-clause-wraps c = wraps_by
