@@ -308,7 +308,7 @@ pub(crate) const fn has_digit_at(text: &[u8], index: usize) -> bool
 {
     match byte_at(text, index) {
         None => false,
-        Some(byte) => matches!(byte, b'0'..=b'9'),
+        Some(byte) => byte.is_ascii_digit(),
     }
 }
 
@@ -388,7 +388,7 @@ pub(crate) const fn is_word_byte(byte: u8) -> bool
 pub(crate) const fn is_letter(byte: u8) -> bool
     ensures { result ≡ is_letter byte }
 {
-    matches!(byte, b'A'..=b'Z' | b'a'..=b'z')
+    byte.is_ascii_alphabetic()
 }
 
 // Returns the number of bytes of a word with which `text` begins.

@@ -222,7 +222,7 @@ const fn has_point(byte: Option<u8>) -> bool {
 pub(crate) const fn has_digit_at(text: &[u8], index: usize) -> bool {
     match byte_at(text, index) {
         None => false,
-        Some(byte) => matches!(byte, b'0'..=b'9'),
+        Some(byte) => byte.is_ascii_digit(),
     }
 }
 
@@ -286,7 +286,7 @@ pub(crate) const fn is_word_byte(byte: u8) -> bool {
 
 // Returns whether `byte` is a letter.
 pub(crate) const fn is_letter(byte: u8) -> bool {
-    matches!(byte, b'A'..=b'Z' | b'a'..=b'z')
+    byte.is_ascii_alphabetic()
 }
 
 // Returns the number of bytes of a word with which `text` begins.
