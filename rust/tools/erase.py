@@ -181,6 +181,8 @@ REPLACED += [
     # Texts that are refused need it alone, and one copy is enough for all calls.
     ("lexical_literal/src/stop.rt", "    const fn step(", "    pub(crate) const fn step("),
     ("lexical_literal/src/stop.rt", "#[inline(always)]\n    pub(crate) const fn go_on(", "#[inline(never)]\n    pub(crate) const fn go_on("),
+    # The loop over the bytes of an opening is a loop in the library for C.
+    ("affix.rt", "    #[inline(always)]\n    const fn spells(", "    #[cfg_attr(peltzivar_small, inline(never))]\n    #[cfg_attr(not(peltzivar_small), inline(always))]\n    const fn spells("),
     # An error is made in its place.
     ("lexical_literal/src/stop.rt", "    const fn spot(", "    pub(crate) const fn spot("),
     ("span.rt", "pub(crate) const fn spot(", "#[cfg_attr(not(peltzivar_small), inline(always))]\npub(crate) const fn spot("),

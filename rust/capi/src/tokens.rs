@@ -221,7 +221,8 @@ pub struct Laid {
     pub of_forms: [usize; 64],
     pub affixes: [[*const u8; 2]; 64],
     pub following: *const u8,
-    starts: [usize; 65],
+    begins: [usize; 65],
+    ends: [usize; 64],
 }
 
 impl Laid {
@@ -256,7 +257,8 @@ impl Laid {
             of_forms: [MOST; 64],
             affixes: [[ptr::null(); 2]; 64],
             following: ptr::null(),
-            starts: [0; 65],
+            begins: [0; 65],
+            ends: [0; 64],
         };
         let mut form = 0;
         while form < forms[0].len() + forms[1].len() {
@@ -296,7 +298,7 @@ impl Laid {
         let len = self.size - start;
         self.text[self.size] = 0;
         self.size += 1;
-        let mut at = if len < 64 { start } else { self.starts[self.count] };
+        let mut at = if len < 64 { start } else { self.begins[self.count] };
         while at < start && !self.has_again(at, start, len + 1) {
             at += 1;
         }
@@ -330,6 +332,7 @@ impl Laid {
         (base, kinds, stops): (*const u8, *const SuffixKind, *const Stop),
     ) -> usize {
         let (start, kind, stop) = (self.size, self.kind_count, self.stop_count);
+        self.begins[self.count] = start;
         let (([either_case, whole_words], any, own_kinds, own_stops), [integers, floats]) = (it.rules(), it.words());
         let words = [self.put(integers, base), self.put(floats, base)];
         let (any, written) = (self.put(&[any], base), self.put(it.written(), base));
@@ -357,8 +360,7 @@ impl Laid {
             whole_words: whole_words as u8,
             ..Laid::NONE
         };
-        self.starts[self.count] = start;
-        self.starts[self.count + 1] = self.size;
+        self.ends[self.count] = self.size;
         let mut same = 0;
         while same < self.count && !self.are_same(same, self.count, kind) {
             same += 1;
@@ -374,8 +376,8 @@ impl Laid {
     /// Returns whether two suffixes are the same, the kinds of the second of which begin at `kind`.
     const fn are_same(&self, one: usize, other: usize, kind: usize) -> bool {
         let (first, second) = (self.suffixes[one], self.suffixes[other]);
-        let size = self.starts[one + 1] - self.starts[one];
-        if size != self.starts[other + 1] - self.starts[other]
+        let size = self.ends[one] - self.begins[one];
+        if size != self.ends[other] - self.begins[other]
             || first.kind_count != second.kind_count
             || first.stop_count != second.stop_count
             || first.either_case != second.either_case
@@ -384,7 +386,7 @@ impl Laid {
             return false;
         }
         let (mut before, mut index) = (0, 0);
-        if !self.has_again(self.starts[one], self.starts[other], size) {
+        if !self.has_again(self.begins[one], self.begins[other], size) {
             return false;
         }
         while index < one {

@@ -99,7 +99,8 @@ impl Affix {
     }
 
     // Returns whether `byte` may be the byte with this index.
-    #[inline(always)]
+    #[cfg_attr(peltzivar_small, inline(never))]
+    #[cfg_attr(not(peltzivar_small), inline(always))]
     const fn spells(&self, index: usize, byte: u8) -> bool {
         let own = self.bytes[index];
         byte == own || (!self.case_sensitive && byte == other_case(own))
