@@ -11,6 +11,7 @@ mod FloatLemmas
 mod ChoiceLemmas
 mod RoundedLemmas
 mod AmountLemmas
+mod BufferLemmas
 mod ShortLemmas
 mod DecimalLemmas
 mod BinaryLemmas

@@ -10,7 +10,7 @@ ghost use Rattle.lexical_literal.specs.Syntax.{IsSyntax};
 ghost use Rattle.lexical_literal.specs.declared.syntax.Condition.TheVariants as conditions;
 ghost use Rattle.lexical_writer.specs.Digits.{no_groups, only_if, run_text, size_of, values_of};
 ghost use Rattle.lexical_writer.specs.Layout.{HasNumber, IsLaidOut, allows_exponent, base_byte, exponent_text, first_error, fraction_pattern, fraction_text};
-ghost use Rattle.lexical_writer.specs.Layout.{has_exponent, has_point, has_zero, integer_pattern, integer_text};
+ghost use Rattle.lexical_writer.specs.Layout.{has_exponent, has_point, has_zero, integer_pattern, integer_text, laid_out};
 ghost use Rattle.lexical_writer.specs.Layout.{least_digits, led_digits, literal_of, needs_exponent, number_of_size, one_if, refusal, sign_of, wants_exponent};
 ghost use Rattle.lexical_writer.specs.Buffer.{IsTaken};
 

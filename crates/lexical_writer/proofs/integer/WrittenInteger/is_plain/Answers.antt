@@ -1,6 +1,6 @@
 -- The text is a sign and decimal digits.
-use Rattle.lexical_writer.proofs.Common.{Amount, Bool, Grammar, List, None, Option, Pattern, Record, Style, [], ap, append-nil, append_assoc, arith, at_least, digits_of}
-use Rattle.lexical_writer.proofs.Common.{eqb-true, false, false≢true, grouped, has, has_exponent, has_point, if◌then◌else◌, is_some, laid_out, max, nat_lt, nat_tests}
+use Rattle.lexical_writer.proofs.Common.{Bool, Grammar, None, Pattern, Record, Style, ap, append-nil, arith, at_least, digits_of}
+use Rattle.lexical_writer.proofs.Common.{false, false≢true, grouped, has, has_exponent, has_point, if◌then◌else◌, is_some, laid_out, max, nat_lt, nat_tests}
 use Rattle.lexical_writer.proofs.Common.{no_groups, no_power, not, number_of_size, only_if, option_to_list, raw, refl, sym, text_of, true, ℕ, ◌&&◌, ◌++◌, ◌==◌, ◌||◌}
 use Rattle.lexical_writer.proofs.Common.{◌∙◌, ◌≡◌, ◌≤◌}
 use Rattle.lexical_util.specs.Layout as layout
@@ -75,14 +75,14 @@ pub returns : goal.returns
 returns c is =
     let it = c.args.self.now in
     let word = c.view-format.ensures.word ∙ c.format.ensures.word in
-    let a = all _ _ _ _ _ _ _ _ is in
+    let a = all _ _ _ _ c.has.result c.has-2.result (nat_lt 1 it.style.min_digits) _ is in
     let own = c.conditions-conditions.ensures in
     plain it.syntax it.style it.negative it.size
-    (sym (c.has_exponent-exponent.ensures ∙ ap (has_exponent it.syntax it.style) c.amount.ensures) ∙ a.1.1.1.1.1.1)
+    (sym (c.has_exponent-exponent.ensures ∙ ap (has_exponent it.syntax it.style) c.amount.ensures) ∙ a.6)
     (sym (c.mantissa_radix.ensures.value ∙ ap (λ w. (raw w).byte layout.mantissa_radix) word) ∙ a.0)
-    (sym (c.base_prefix.ensures ∙ ap (λ w. (raw w).byte layout.base_prefix) (c.word.ensures ∙ word)) ∙ a.1.0)
-    (sym (c.base_suffix.ensures ∙ ap (λ w. (raw w).byte layout.base_suffix) (c.word-2.ensures ∙ word)) ∙ a.1.1.0)
-    (sym (ap (λ (p : Pattern). p.last) (c.integer_pattern.ensures ∙ (λ j. integer_pattern (raw (word j)) (own j) it.style))) ∙ a.1.1.1.0)
+    (sym (c.base_prefix.ensures ∙ ap (λ w. (raw w).byte layout.base_prefix) (c.word.ensures ∙ word)) ∙ a.1)
+    (sym (c.base_suffix.ensures ∙ ap (λ w. (raw w).byte layout.base_suffix) (c.word-2.ensures ∙ word)) ∙ a.2)
+    (sym (ap (λ (p : Pattern). p.last) (c.integer_pattern.ensures ∙ (λ j. integer_pattern (raw (word j)) (own j) it.style))) ∙ a.3)
     (sym (λ i. (c.has.ensures ∙ ap (λ k. has k conditions.LeadingZero) own) i || (c.has-2.ensures ∙ ap (λ k. has k conditions.DecimalFirstDigit) own) i)
-    ∙ a.1.1.1.1.0)
-    (let short = a.1.1.1.1.1.0 in grind (arith, nat_tests))
+    ∙ a.4)
+    (let short : nat_lt 1 it.style.min_digits ≡ false = a.5 in grind (arith, nat_tests))
