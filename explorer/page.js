@@ -96,7 +96,7 @@ class Page {
         });
         document.addEventListener("focusin", ({ target }) => (this.key = target.id === this.key ? this.key : ""));
         document.addEventListener("keydown", (event) => (rove(event), this.undo(event)));
-        addEventListener("hashchange", () => location.hash === this.fragment() || this.read());
+        addEventListener("popstate", () => location.hash === this.fragment() || this.read());
         addEventListener("beforeprint", () => this.showText("code"));
     }
 
