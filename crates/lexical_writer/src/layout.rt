@@ -414,9 +414,10 @@ impl<'a> Amount<'a> {
     }
 
     // Returns why the number cannot be written, if it cannot.
-    #[inline]
-    fn refusal(&self, syntax: &Syntax) -> Option<WriteError>
-        ensures { result ≡ refusal syntax.now self.now }
+    #[inline(always)]
+    pub(crate) fn refusal(&self, syntax: &Syntax) -> Option<WriteError>
+        ensures refusal { result ≡ refusal syntax.now self.now }
+        ensures lawful { IsSyntax syntax.now }
     {
         let integers = is_whole(syntax);
         let no_exponent = integers | syntax.format().view().no_exponent_notation();

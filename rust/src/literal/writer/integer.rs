@@ -47,12 +47,10 @@ impl WrittenInteger {
         syntax: &Syntax,
         style: Style,
     ) -> Result<WrittenInteger, WriteError> {
-        let own = *syntax;
-        let refused = negative & forbids_minus(syntax);
-        if refused {
-            return Err(WriteError::Negative);
+        match Amount::of_size(negative, size).refusal(syntax) {
+            Some(refusal) => Err(refusal),
+            None => Ok(WrittenInteger { negative, size, syntax: *syntax, style }),
         }
-        Ok(WrittenInteger { negative, size, syntax: own, style })
     }
 
     // Returns the number.

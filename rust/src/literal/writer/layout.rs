@@ -325,8 +325,8 @@ impl<'a> Amount<'a> {
     }
 
     // Returns why the number cannot be written, if it cannot.
-    #[inline]
-    fn refusal(&self, syntax: &Syntax) -> Option<WriteError> {
+    #[inline(always)]
+    pub(crate) fn refusal(&self, syntax: &Syntax) -> Option<WriteError> {
         let integers = is_whole(syntax);
         let no_exponent = integers | syntax.format().view().no_exponent_notation();
         first_error(
