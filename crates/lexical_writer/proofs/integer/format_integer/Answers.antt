@@ -1,5 +1,5 @@
 -- Each integer is laid out, and its value is that of the integer.
-use Rattle.lexical_writer.proofs.Common.{Bool, Err, Grammar, HasNumber, IfErr, IfOk, IfOk-weaker, Literal, Ok, Reads, Result, Some, Style, WriteError, ap, arith}
+use Rattle.lexical_writer.proofs.Common.{Bool, Err, Grammar, HasNumber, IfErr, IfOk, IfOk-weaker, Ok, Reads, Result, Some, Style, WriteError, ap, arith}
 use Rattle.lexical_writer.proofs.Common.{false, has_exponent, has_point, is_float, laid_out, needs_exponent, notation_of, number_of_size, raw, refl, refusal, subst, suc}
 use Rattle.lexical_writer.proofs.Common.{sym, text_of, true, with_sign, zero, ℕ, ℤ, ◌&&◌, ◌<◌, ◌||◌, ◌∙◌, ◌≡◌}
 use Rattle.lexical_value.specs.Integer.{IsInteger}
