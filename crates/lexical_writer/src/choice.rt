@@ -1,7 +1,7 @@
 //! A list of forms writes numbers: in the first form whose text the list reads as the number.
 
 ghost use Rattle.std.specs.Prelude.{◌≡◌, ◌≤◌, ◌<◌, ◌-◌, ◌^◌, ◌⊎◌, ◌||◌, if◌then◌else◌, not, Bool, true, false};
-ghost use Rattle.std.specs.Prelude.{ℕ, IfOk, IfSome, IsFalse, None, Ok, Some, from_bits, is_some, length, take, ℤ};
+ghost use Rattle.std.specs.Prelude.{ℕ, IfOk, IfSome, IsFalse, None, Ok, Some, from_bits, is_some, length, slice_get, take, ℤ};
 ghost use Rattle.std.specs.Float.{Float as Value};
 ghost use Rattle.lexical_util.specs.Record.{bytes_of};
 ghost use Rattle.lexical_literal.specs.Read.{exact, Read};
@@ -14,7 +14,8 @@ ghost use Rattle.lexical_value.specs.Float.{is_binary, is_decimal};
 ghost use Rattle.lexical_value.specs.Kind.{float_worth, integer_worth, is_exact, width, within, worth};
 ghost use Rattle.lexical_literal.specs.declared.kind.FloatKind.TheVariants as floats;
 ghost use Rattle.lexical_writer.specs.Buffer.{IsTaken};
-ghost use Rattle.lexical_writer.specs.Layout.{literal_of as written};
+ghost use Rattle.lexical_forms.specs.declared.form.Form.{Form as Asked};
+ghost use Rattle.lexical_writer.specs.Layout.{integer_literal, laid_out, literal_of as written, number_of_size};
 ghost use Rattle.lexical_writer.specs.Choice.{IsReadBack, IsReadWith, IsReal, IsStyleOf, IsTokenOf, IsWhole, first_reason, turn};
 ghost use Rattle.lexical_writer.specs.declared.layout.ExponentStyle.TheVariants as exponents;
 ghost use Rattle.lexical_writer.specs.declared.layout.Style.{Style as Wishes};
@@ -552,6 +553,29 @@ pub fn choose<N: Writable>(
         }
     }
     Err(error.unwrap_or(WriteError::ReadBack))
+}
+
+/// Returns how the first form of a list writes an integer, if this form is asked first, and its text is known to be read back.
+#[inline(always)]
+pub fn lay_out_first(forms: &Forms, number: &Whole, style: Style) -> Option<WrittenInteger>
+    ensures back { IfSome result (λ it.
+        IsReadBack forms.now (text_of (integer_literal it)) (IsWhole (with_sign number.now.negative number.now.size))) }
+    ensures first { IfSome result (λ it. (form : Asked) × (slice_get forms.now.forms 0 ≡ Some form) × (form.only_read ≡ false)
+        × (turn 10 true form.syntax ≡ 0)
+        × (integer_literal it ≡ laid_out form.syntax style (number_of_size number.now.negative number.now.size))) }
+{
+    let form = &forms.as_slice()[0];
+    let syntax = form.syntax();
+    if form.is_only_read() || form.is_marked() || turn(10, true, &syntax) != 0 {
+        return None;
+    }
+    let Ok(integer) = WrittenInteger::of_size(number.negative, number.size, &syntax, style) else {
+        return None;
+    };
+    if integer.is_float() || !number.is_plain(&syntax, form.kind(), style, false) {
+        return None;
+    }
+    Some(integer)
 }
 
 // Returns the first of the reasons why forms do not write a number. `Fraction` gives way to another one.

@@ -44,7 +44,7 @@ mod written;
 
 pub use layout::{ExponentStyle, Grouping, Style, WriteError};
 
-use choice::{choose, Chosen, LONGEST};
+use choice::{choose, lay_out_first, Chosen, LONGEST};
 #[doc(hidden)]
 pub use choice::{Real, Whole, Writable};
 use float_digits::FloatDigits;
@@ -321,7 +321,11 @@ impl<'a> Forms<'a> {
     /// another one. It is [`WriteError::ReadBack`] if the text is read as another number, [`WriteError::TooLarge`] if it is too
     /// large for its kind, and [`WriteError::Buffer`] for a text of more than 4,096 bytes, which is not read back.
     pub fn format_integer<T: WriteInteger>(&self, value: T, style: Style) -> Result<Written<'static>, WriteError> {
-        self.format_value(&Whole::of(value), Value::of_integer(value), style)
+        let number = Whole::of(value);
+        match lay_out_first(self, &number, style) {
+            Some(integer) => Ok(Written::of(Text::Integer(integer))),
+            None => self.format_value(&number, Value::of_integer(value), style),
+        }
     }
 
     /// Returns the value of a float as a number of one of these forms, or as one of the spellings of NaN and infinity.

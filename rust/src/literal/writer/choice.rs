@@ -418,6 +418,23 @@ pub fn choose<N: Writable + ?Sized>(
     Err(error.unwrap_or(WriteError::ReadBack))
 }
 
+/// Returns how the first form of a list writes an integer, if this form is asked first, and its text is known to be read back.
+#[inline(always)]
+pub fn lay_out_first(forms: &Forms, number: &Whole, style: Style) -> Option<WrittenInteger> {
+    let form = &forms.as_slice()[0];
+    let syntax = form.syntax();
+    if form.is_only_read() || form.is_marked() || turn(10, true, &syntax) != 0 {
+        return None;
+    }
+    let Ok(integer) = WrittenInteger::of_size(number.negative, number.size, &syntax, style) else {
+        return None;
+    };
+    if integer.is_float() || !number.is_plain(&syntax, form.kind(), style, false) {
+        return None;
+    }
+    Some(integer)
+}
+
 // Returns the first of the reasons why forms do not write a number. `Fraction` gives way to another one.
 const fn first_reason(first: Option<WriteError>, error: WriteError) -> Option<WriteError> {
     match first {

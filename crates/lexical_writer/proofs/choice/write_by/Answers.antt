@@ -1,7 +1,7 @@
 -- The list reads the text as the number.
-use Rattle.lexical_writer.proofs.Common.{Bool, Form, Grammar, IfOk, ◌==◌, IsNumber, IsSomeAnd, IsSyntax, List, Option, Read, Reads, ReadsForm, Some, ap}
+use Rattle.lexical_writer.proofs.Common.{Form, Grammar, IfOk, IsNumber, IsSomeAnd, IsSyntax, List, Option, Read, Reads, ReadsForm, Some, ap}
 use Rattle.lexical_writer.proofs.Common.{arith, cases_lt}
-use Rattle.lexical_writer.proofs.Common.{inl, inr, is_float, length, min, nat_tests, notation_of, refl, rules, slice_get, subst, sym, take, text_of, ℕ, ◌-◌}
+use Rattle.lexical_writer.proofs.Common.{inl, inr, is_float, length, min, notation_of, refl, rules, slice_get, subst, sym, take, text_of, ℕ, ◌-◌}
 use Rattle.lexical_writer.proofs.Common.{◌<◌, ◌^◌, ◌∙◌}
 use Rattle.lexical_writer.proofs.Common.{◌≡◌, ◌≤◌}
 use Rattle.std.proofs.lemmas.Option.{slice_get_read}

@@ -1,0 +1,45 @@
+-- The first form reads the text as the integer.
+use Rattle.lexical_writer.proofs.Common.{Form, Grammar, List, Reads, Some, ap, arith, get_or, laid_out, length, notation_of, number_of_size, refl, slice_get, subst, sym}
+use Rattle.lexical_writer.proofs.Common.{text_of, true, with_sign, ◌<◌, ◌∙◌, ◌≡◌}
+use Rattle.std.proofs.lemmas.Option.{slice_get_read}
+use Rattle.lexical_forms.proofs.MarkLemmas.{no_marks}
+use Rattle.lexical_writer.proofs.ChoiceLemmas.{first_reads}
+use Rattle.lexical_writer.proofs.PlainLemmas.{has_value}
+use Rattle.lexical_writer.specs.Choice.{turn}
+use Rattle.lexical_writer.specs.Layout.{integer_literal}
+use Rattle.lexical_writer.proofs.choice.lay_out_first.Goals as goal
+
+-- The form is the first of the list.
+first : (list forms : List Form) (form : Form) → list ≡ forms → 0 < length forms → form ≡ get_or list 0 form → slice_get forms 0 ≡ Some form
+first list forms form same some is = ap (λ forms. slice_get forms 0) (sym same)
+    ∙ slice_get_read list (length list) 0 form refl (subst (λ (forms : List Form). 0 < length forms) (sym same) some) is
+
+pub returns-clause-back : goal.returns-clause-back
+returns-clause-back c =
+    let form = c.index-as_slice-0.result in
+    let syntax = c.syntax-syntax.result in
+    let l = integer_literal c.in-Ok.integer in
+    let written = c.in-Ok.ensures.written in
+    let here = first _ _ form c.as_slice.ensures.list c.as_slice.ensures.some c.index-as_slice-0.is in
+    let none = no_marks _ _ c.is_marked.result c.is_marked.ensures c.if-is_marked.false in
+    let read = first_reads c.args.forms.now.forms form (text_of l) l 0 here refl none
+    (subst (λ (g : Grammar). Reads (notation_of g) l (text_of l)) c.syntax-syntax.ensures written.0) in (
+      record { format = form.syntax.word; literal = l; kind = form.kind },
+      0,
+      read.0,
+      read.1,
+      c.is_plain.ensures c.if-not-is_plain.false _ (sym c.kind.ensures) (ap (λ (g : Grammar). g.word) (sym c.syntax-syntax.ensures))
+          (sym c.is_float.ensures ∙ c.if-is_float.false) (
+            has_value syntax c.args.number.now.negative c.args.number.now.size _ refl c.in-Ok.ensures.lawful l written.1,
+            λ i. with_sign (sym written.1.sign i) (sym written.1.integer i),
+          ),
+    )
+
+pub returns-clause-first : goal.returns-clause-first
+returns-clause-first c = (
+  c.index-as_slice-0.result,
+  first _ _ _ c.as_slice.ensures.list c.as_slice.ensures.some c.index-as_slice-0.is,
+  sym c.is_only_read.ensures ∙ c.if-is_only_read.false,
+  sym (ap (turn 10 true) c.syntax-syntax.ensures) ∙ sym c.turn.ensures ∙ omega (arith, c.if-turn-ne0.false),
+  c.in-Ok.ensures.parts ∙ ap (λ g. laid_out g c.args.style (number_of_size c.args.number.now.negative c.args.number.now.size)) c.syntax-syntax.ensures,
+)
