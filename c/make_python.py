@@ -128,7 +128,7 @@ if __name__ == "__main__":
         try:
             new = stub() if path.suffix == ".pyi" else made(old)
         except ImportError as error:
-            print(f"{path} is left as it is: {error}. Run `make -C c` first.")
+            print(f"{path} is left as it is, since the module is not built: {error}. Run `make -C c`, and then this.")
             sys.exit("--check" in sys.argv[1:])
         if "--check" in sys.argv[1:]:
             new == old or sys.exit(f"run c/make_python.py: {path} is not up to date")

@@ -87,8 +87,7 @@ class Programs(unittest.TestCase):
         return program.stat().st_size
 
     def test_the_library_is_small_and_programs_have_at_most_the_sizes_of_the_page(self):
-        # Of the 349,600 + 11 * 1,500 + 275 * 400 that 11 languages more with 275 forms beyond four each may take.
-        self.assertLessEqual(SHARED.stat().st_size, 433_000)
+        self.assertLessEqual(SHARED.stat().st_size, 433_000, "a new language may add 500 bytes, and each of its forms 400")
         calls = {
             "forms_read": 'peltzivar_literal it; return !peltzivar_forms_read(FORMS, "1.5", 3, &it, NULL);',
             "parse_f64": 'double it; return peltzivar_parse_f64(FORMS, "1.5", 3, &it, NULL) || it != 1.5;',
