@@ -21,7 +21,8 @@ function test_numbers_beyond_the_limits_of_a_condition_are_told() {
 
 function test_fields_are_in_the_sections_of_their_parts() {
     const words = ["all", "integer", "fraction", "exponent", "special"];
-    const ofSeparators = Object.fromEntries([...document.querySelectorAll("#separators input")].map((it) => [it.id, it.closest("fieldset").firstChild.textContent]));
+    const headOf = (it) => it.closest("fieldset").firstChild.textContent;
+    const ofSeparators = Object.fromEntries([...document.querySelectorAll("#separators input")].map((it) => [it.id, headOf(it)]));
     return [...page.library.groups, ...page.library.flags].filter(({ name }) => {
         const word = words.find((it) => name.startsWith(`${it}_`)) ?? "all";
         return name.includes("digit_separator") ? !ofSeparators[name]?.split(" ").includes(word) : name in ofSeparators;
