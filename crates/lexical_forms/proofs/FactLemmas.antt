@@ -1,5 +1,6 @@
 -- What the parts of a token are, and which tokens are a whole text.
-use Rattle.lexical_forms.proofs.Common.{ℕ, ◌≡◌, ◌≤◌, ◌<◌, ◌&&◌, ◌+◌, ◌-◌, ◌++◌, [], ◌∷◌, Bool, false, true, inl, inr, All, IsSomeAnd, List, Literal, Reads, ap, append-nil, arith}
+use Rattle.lexical_forms.proofs.Common.{ℕ, ◌≡◌, ◌≤◌, ◌<◌, ◌&&◌, ◌+◌, ◌-◌, ◌++◌, [], ◌∷◌, Bool, false, true, inl, inr, All, IsSomeAnd}
+use Rattle.lexical_forms.proofs.Common.{List, Literal, Reads, ap, append-nil, arith}
 use Rattle.lexical_forms.proofs.Common.{drop, get_or, if◌then◌else◌, length, notation_of, refl, slice_get, subst, sym, take, take_all, text_of, ◌∙◌}
 use Rattle.lexical_forms.proofs.Common.{Form, FormList, is_float}
 use Rattle.lexical_literal.specs.Cause.{is_in}

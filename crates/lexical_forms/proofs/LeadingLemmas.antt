@@ -75,7 +75,6 @@ pub no_suffix : (suffixes : Option (Bor Suffixes)) (float : Bool) (text : List �
 no_suffix suffixes float text none =
     let word = word_within text 0 0 (omega arith) none in let suffix = suffix_within suffixes float text in omega (arith, word, suffix)
 
-
 module _ (m : Notation) (text : List ℕ) where
   -- No literal goes on behind a byte that plays no role.
   over : (size : ℕ) → size < length text → PlaysNoRole m (get_or text size 0) → IsWithin m text size
@@ -172,7 +171,8 @@ digit_of digit true stops less none = absurd (false≢true (sym none))
 stopped_less : (words : Bool) (suffixes : Option (Bor Suffixes)) (text : List ℕ) (end : ℕ) → is_stopped false suffixes text end ≡ false
     → is_stopped words suffixes text end ≡ false
 stopped_less words suffixes text end none = go (words && not (is_in is_point (byte_before text end))) where
-  go : (b : Bool) → (is_in (if b then is_digit else is_word_byte) (slice_get text end) || list_any (meets text end) (unwrap_or (option_map (λ (it : Bor Suffixes). it.now.stops.now) suffixes) [])) ≡ false
+  go : (b : Bool) → (is_in (if b then is_digit else is_word_byte) (slice_get text end)
+      || list_any (meets text end) (unwrap_or (option_map (λ (it : Bor Suffixes). it.now.stops.now) suffixes) [])) ≡ false
   go true =
       digit_of (is_in is_digit (slice_get text end)) (is_in is_word_byte (slice_get text end)) _ (no_digit_of (slice_get text end)) none
   go false = none

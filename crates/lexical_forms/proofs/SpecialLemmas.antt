@@ -1,6 +1,7 @@
 -- How a text is compared with a spelling.
 use Rattle.lexical_forms.proofs.Common.{ℕ, ◌≡◌, ◌≤◌, ◌⊎◌, inl, inr, ◌+◌, ◌-◌, Bool, true, false, ◌&&◌, Some, None, ◌||◌, nat_lt, List, [], ◌∷◌, get_or, drop}
-use Rattle.lexical_forms.proofs.Common.{refl, arith, cases_lt, nat_tests, raw, is_absent, Notation, notation_of, Grammar, ◌==◌, Option, option_map, if◌then◌else◌}
+use Rattle.lexical_forms.proofs.Common.{refl, arith, cases_lt, nat_tests, raw, is_absent, Notation}
+use Rattle.lexical_forms.proofs.Common.{notation_of, Grammar, ◌==◌, Option, option_map, if◌then◌else◌}
 use Rattle.lexical_forms.proofs.Common.{length}
 use Rattle.std.proofs.lemmas.List.{drop_more, drop_all}
 use Rattle.lexical_util.specs.Layout as layout

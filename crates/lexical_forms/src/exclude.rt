@@ -42,8 +42,7 @@ pub(crate) const fn is_settled(grammar: Grammar, text: &[u8], size: usize) -> bo
     if start < size && lacks_zero(grammar, text, start) {
         true
     } else if size > start + 1 {
-        excludes(grammar, text, start)
-            || (size < text.len() && is_stranger(grammar, text[size]))
+        excludes(grammar, text, start) || (size < text.len() && is_stranger(grammar, text[size]))
     } else {
         size < text.len() && is_silent(grammar, text[size])
     }

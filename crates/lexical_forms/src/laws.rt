@@ -9,7 +9,6 @@ ghost use Rattle.lexical_forms.specs.declared.token.Token.{Token};
 ghost use Rattle.lexical_literal.specs.Literal.{text_of};
 
 /// States what the parts of a token are, and which tokens are a whole text.
-#[tactic(auto, using(crate::proofs::FactLemmas::is_whole, crate::proofs::FactLemmas::parts_are))]
 pub fn token_facts()
     // The literal, the suffix and the rest are the text.
     ensures parts { (list : FormList) → (t : Tokens) → (text : List ℕ) → (token : Token) → IsToken list t text token

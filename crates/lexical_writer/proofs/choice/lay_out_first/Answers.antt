@@ -1,5 +1,6 @@
 -- The first form reads the text as the integer.
-use Rattle.lexical_writer.proofs.Common.{Form, Grammar, List, Reads, Some, ap, arith, get_or, laid_out, length, notation_of, number_of_size, refl, slice_get, subst, sym}
+use Rattle.lexical_writer.proofs.Common.{Form, Grammar, List, Reads, Some, ap, arith, get_or, laid_out, length}
+use Rattle.lexical_writer.proofs.Common.{notation_of, number_of_size, refl, slice_get, subst, sym}
 use Rattle.lexical_writer.proofs.Common.{text_of, true, with_sign, ◌<◌, ◌∙◌, ◌≡◌}
 use Rattle.std.proofs.lemmas.Option.{slice_get_read}
 use Rattle.lexical_forms.proofs.MarkLemmas.{no_marks}

@@ -1,6 +1,7 @@
 -- Each integer is laid out, and its value is that of the integer.
 use Rattle.lexical_writer.proofs.Common.{Bool, Err, Grammar, HasNumber, IfErr, IfOk, IfOk-weaker, Ok, Reads, Result, Some, Style, WriteError, ap, arith}
-use Rattle.lexical_writer.proofs.Common.{false, has_exponent, has_point, is_float, laid_out, needs_exponent, notation_of, number_of_size, raw, refl, refusal, subst, suc}
+use Rattle.lexical_writer.proofs.Common.{false, has_exponent, has_point, is_float, laid_out, needs_exponent, notation_of}
+use Rattle.lexical_writer.proofs.Common.{number_of_size, raw, refl, refusal, subst, suc}
 use Rattle.lexical_writer.proofs.Common.{sym, text_of, true, with_sign, zero, ℕ, ℤ, ◌&&◌, ◌<◌, ◌||◌, ◌∙◌, ◌≡◌}
 use Rattle.lexical_value.specs.Integer.{IsInteger}
 use Rattle.lexical_util.specs.Layout as layouts
@@ -28,7 +29,8 @@ no_exponent needs wants allows none unwanted = grind arith
 integer : (g : Grammar) (style : Style) (negative : Bool) (n : ℕ) (z : ℤ) → with_sign negative n ≡ z → needs_exponent g ≡ false
     → wants_exponent style.exponent ≡ false → (result : Result WrittenInteger WriteError)
     → IfOk result (λ it. integer_literal it ≡ laid_out g style (number_of_size negative n))
-    → IfOk result (λ it. Reads (notation_of g) (integer_literal it) (text_of (integer_literal it)) × HasNumber g (number_of_size negative n) (integer_literal it))
+    → IfOk result (λ it. Reads (notation_of g) (integer_literal it) (text_of (integer_literal it))
+    × HasNumber g (number_of_size negative n) (integer_literal it))
     → IfOk result (λ it. IsInteger (raw g.word).byte (integer_literal it) z)
 integer g style negative n z is needs wants (Err error) out has = tt
 integer g style negative n z is needs wants (Ok it) out has =

@@ -20,4 +20,5 @@ returns-in-None-2 c =
     let stop = c.args.stop in
     led_out forms text c.args.form None (subst (IsLed forms text c.args.form) c.in-None.is c.requires.furthest)
     (each (IsRefusedAt text stop) (IsLeftOut text None) (slice_get forms c.args.form)
-    (λ g is n reaches. let most = reach_most g text stop is n reaches in omega (arith, most, c.if-stop-sign_size.false, c.sign_size.ensures.size)) c.requires.refused)
+    (λ g is n reaches. let most = reach_most g text stop is n reaches in
+    omega (arith, most, c.if-stop-sign_size.false, c.sign_size.ensures.size)) c.requires.refused)

@@ -1,7 +1,8 @@
 -- The text is a sign and decimal digits.
 use Rattle.lexical_writer.proofs.Common.{Bool, Grammar, None, Pattern, Record, Style, ap, append-nil, arith, at_least, digits_of}
 use Rattle.lexical_writer.proofs.Common.{false, false≢true, grouped, has, has_exponent, has_point, if◌then◌else◌, is_some, laid_out, max, nat_lt, nat_tests}
-use Rattle.lexical_writer.proofs.Common.{no_groups, no_power, not, number_of_size, only_if, option_to_list, raw, refl, sym, text_of, true, ℕ, ◌&&◌, ◌++◌, ◌==◌, ◌||◌}
+use Rattle.lexical_writer.proofs.Common.{no_groups, no_power, not, number_of_size, only_if, option_to_list, raw, refl, sym, text_of}
+use Rattle.lexical_writer.proofs.Common.{true, ℕ, ◌&&◌, ◌++◌, ◌==◌, ◌||◌}
 use Rattle.lexical_writer.proofs.Common.{◌∙◌, ◌≡◌, ◌≤◌}
 use Rattle.lexical_util.specs.Layout as layout
 use Rattle.lexical_literal.specs.declared.syntax.Condition.TheVariants as conditions
@@ -52,7 +53,8 @@ plain g style negative n none radix prefix suffix groups leads most =
     let before = unbased (style.prefix || has c conditions.BasePrefix) _ prefix in
     let behind = unbased (style.suffix || has c conditions.BaseSuffix) _ suffix in
     let last = group_size (number_of c conditions.IntegerGroupSize) style.group in
-    let pattern = pattern_is r (r.flag layout.integer_internal_digit_separator) style.lowercase last (either (number_of c conditions.HigherGroupSize) last) groups in
+    let pattern = pattern_is r (r.flag layout.integer_internal_digit_separator) style.lowercase last
+    (either (number_of c conditions.HigherGroupSize) last) groups in
     let least : least_digits r c style false false amount ≡ 1 =
     one (has_zero r amount) (led_digits c false (digits_of (r.byte layout.mantissa_radix) n)) style.min_digits (takes_zeros r false false)
     (zero (r.flag layout.required_integer_digits) _) (unled (has c conditions.LeadingZero) (has c conditions.DecimalFirstDigit) _ _ leads) most in
