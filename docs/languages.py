@@ -10,6 +10,7 @@ import pathlib
 import re
 import subprocess
 import sys
+import textwrap
 
 TOP = pathlib.Path(__file__).resolve().parent.parent
 PAGE = TOP / "docs/LANGUAGES.md"
@@ -24,14 +25,13 @@ in [source text](FORMS.md#tokens), with its suffix, such as the `L` of `1L`, whi
 explorer have the same lists. `cargo run --example languages -- 0x1F` prints which languages read a text, and without a
 text the syntax of each form. What no format can express is in [FORMAT](FORMAT.md#what-a-format-cannot-express).
 
-Numbers have a sign in CLOJURE, COMMON_LISP, CSS, CSV_DE, CSV_EN, FORTRAN, JSON, JSON5, NIM, POSTSCRIPT, RUBY, SCHEME,
-SQL, SWIFT, TOML, XML_SCHEMA, YAML and YAML_1_1. In the other languages, `-` is an operator: they refuse `-5`, so read what
-is behind it.
+SIGNS
 
 A form reads an optional sign, `.5` and `1.` beside `1.5`, and exponents with `e` or `E`, unless its row says otherwise:
 *integers* have neither a point nor an exponent, and a prefix is required. Values are those of the numbers, unless a
-form has a [kind](FORMS.md#kinds). Digits of a *radix in front* are of the radix, which the [opening](FORMS.md#openings-and-closings) says:
-`36#Z` is 35. Of a radix that is neither 10 nor a power of two, `parse` has integers, but no `f64`.
+form has a [kind](FORMS.md#kinds). Digits of a *radix in front* are of the radix in the
+[opening](FORMS.md#openings-and-closings): `36#Z` is 35. If it is neither 10 nor a power of two, `parse` has integers,
+but no `f64`.
 
 [languages.py](languages.py) writes this page from the [constants](../rust/src/literal/language/tables.rs). Each language
 of which Debian has a tool is [compared with it](../compare/README.md#languages-and-their-tools).
@@ -68,15 +68,18 @@ def tools():
 
 
 def made():
-    about, compared = documented(), tools()
-    for name, rows in forms().items():
+    about, compared, languages = documented(), tools(), forms()
+    *names, last = (name for name, rows in languages.items() if any("no `-`" not in row for row in rows))
+    signs = f"Numbers have a sign in {', '.join(names)} and {last}. In the other languages, `-` is an operator: they refuse"
+    yield HEAD.replace("SIGNS", textwrap.fill(f"{signs} `-5`, so read what is behind it.", 120, break_on_hyphens=False))
+    for name, rows in languages.items():
         by = "with " + " and ".join(compared[name]) if name in compared else "with a table of its grammar"
         title, text = about[name]
         yield f"\n## {title} (`{name}`)\n\n{text}\nCompared {by}.\n\n| Form | Reads | Values | Suffixes |\n|---|---|---|---|\n{''.join(rows)}"
 
 
 def main():
-    page = HEAD + "".join(made())
+    page = "".join(made())
     if "--check" in sys.argv[1:]:
         sys.exit("run docs/languages.py" if page != PAGE.read_text() else 0)
     PAGE.write_text(page)
