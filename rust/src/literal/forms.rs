@@ -70,8 +70,8 @@ impl<'a> Forms<'a> {
         }
     }
 
-    // Returns what a form reads of `text`. In the library for C, which has one reader for all lists, that is what is between the marks
-    // of the form, if they are there.
+    // Returns what a form reads of `text`. In the library for C, which has one reader for all lists, that is what is
+    // between the opening and the closing of the form, if they are there.
     #[inline(always)]
     pub(crate) const fn inside<'t>(&self, text: &'t [u8], form: usize) -> Option<&'t [u8]> {
         if !cfg!(peltzivar_small) || !self.marked {
@@ -80,8 +80,8 @@ impl<'a> Forms<'a> {
         self.as_slice()[form].between(text)
     }
 
-    // Returns whether the first form is asked before all, whose literal is the number. Texts such as `0x1F` are most often none.
-    // The library for C and the page, which set `peltzivar_small`, have no copy for it.
+    // Returns whether the first form is tried before the list is asked: it seldom reads texts such as `0x1F`. The library
+    // for C and the page, which set `peltzivar_small`, have no second copy of the reader for this.
     #[inline(always)]
     fn asks_first(&self, text: &[u8]) -> bool {
         !cfg!(peltzivar_small) && !self.marked && (self.as_slice().len() == 1 || !has_letter_behind_zero(text))
@@ -293,8 +293,8 @@ impl FormError {
         FormError { form: 0, name: "", opened: 0, error: Ok(error) }
     }
 
-    /// Returns why what is between the [opening][Form::with_opening] and the [closing][Form::with_closing] is not a literal of the syntax,
-    /// or `None` if one of both is not there, or is followed by more. All indexes count from the beginning of the text.
+    /// Returns why what is between the [opening][Form::with_opening] and the [closing][Form::with_closing] is not a literal
+    /// of the syntax, or `None` if there is a [mark][Self::mark]. All indexes count from the beginning of the text.
     #[must_use]
     pub const fn error(&self) -> Option<ReadError> {
         match &self.error {
@@ -303,8 +303,8 @@ impl FormError {
         }
     }
 
-    /// Returns what is not there: the opening, the closing, or the end of the text behind the closing, or `None` if the syntax refuses
-    /// what is between.
+    /// Returns what was expected: the opening, the closing, or the end of the text behind the closing, or `None` if the
+    /// syntax refuses what is between.
     #[must_use]
     pub const fn mark(&self) -> Option<Mark> {
         match &self.error {
@@ -313,7 +313,7 @@ impl FormError {
         }
     }
 
-    /// Returns the range of the bytes to show, as [`ReadError::span`] does, or the character that is not that of the opening or closing.
+    /// Returns the range of the bytes to show, as [`ReadError::span`] does: of a [mark][Self::mark], the wrong character.
     #[must_use]
     pub const fn span(&self) -> Range<usize> {
         let Range { start, end } = match &self.error {

@@ -267,7 +267,7 @@ impl Literal<'_> {
     /// Returns the value by the kind, if it is not the number that the literal represents.
     #[inline(never)]
     pub(crate) fn other_value(&self) -> Option<Other> {
-        if self.is_whole() {
+        if self.has_integer_kind() {
             let Ok(own) = own_numeral(self) else { return Some(Other::TooLarge) };
             let value = own.as_i128()?;
             let written = integer_numeral(self)?.as_i128();
@@ -296,13 +296,13 @@ impl Literal<'_> {
     }
 
     /// Returns whether the literal is an integer of a kind that is not exact.
-    const fn is_whole(&self) -> bool {
+    const fn has_integer_kind(&self) -> bool {
         !matches!(self.integer_kind(), IntegerKind::Exact)
     }
 
     /// Returns whether the literal is worth a single as a float.
     const fn is_single(&self) -> bool {
-        matches!(self.kind().floats(), FloatKind::Single) && !self.is_whole()
+        matches!(self.kind().floats(), FloatKind::Single) && !self.has_integer_kind()
     }
 }
 
@@ -352,11 +352,13 @@ macro_rules! floats {
                 const fn $worth(&self, double: bool, bits: u64) -> Result<$type, ValueError> {
                     let size = if double { f64::from_bits(bits) as $type } else { f32::from_bits(bits as u32) as $type };
                     let (size, negative) = match own_numeral(self) {
-                        Err(kind) if self.is_whole() => return Err(self.error::<$type>(kind)),
-                        Ok(Numeral { negative, magnitude: Magnitude::Word(own) }) if self.is_whole() => (own as $type, negative),
+                        Err(kind) if self.has_integer_kind() => return Err(self.error::<$type>(kind)),
+                        Ok(Numeral { negative, magnitude: Magnitude::Word(own) }) if self.has_integer_kind() => {
+                            (own as $type, negative)
+                        }
                         _ => (size, self.is_negative()),
                     };
-                    if !self.is_whole() {
+                    if !self.has_integer_kind() {
                         if let Some(kind) = beyond(self.kind().limits(), size.is_infinite(), size == 0.0, self) {
                             return Err(self.error::<$type>(kind));
                         }
