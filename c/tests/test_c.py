@@ -14,7 +14,7 @@ C, TOP = TESTS.parent, TESTS.parent.parent
 SHARED = pathlib.Path(os.environ["PELTZIVAR_LIBRARY"]).absolute()
 ARCHIVE = SHARED.with_suffix(".a")
 HEADER = "".join((C / it).read_text() for it in ("peltzivar.h", "peltzivar_words.h"))
-PAGE = (TOP / "docs/C-AND-PYTHON.md").read_text()
+PAGE = (TOP / "docs/C.md").read_text()
 STRICT = ["-Wall", "-Wextra", "-Wpedantic", "-Wconversion", "-Wshadow", "-Werror", "-pthread", "-I", C]
 SANITIZERS = ["-g", "-fsanitize=address,undefined", "-fno-sanitize-recover=all"]
 COMPILERS = {"gcc": "c99 c11 c17 c2x", "clang": "c99 c11 c17 c2x", "g++": "c++11 c++14 c++17 c++20"}
@@ -143,7 +143,7 @@ class Programs(unittest.TestCase):
     def test_the_examples_print_what_the_page_shows(self):
         self.made("cc", C / "example.c", ARCHIVE, name="example")
         shutil.copy(C / "example.py", self.folder)
-        page = "".join((TOP / "docs" / it).read_text() for it in ("C-AND-PYTHON.md", "PYTHON.md"))
+        page = "".join((TOP / "docs" / it).read_text() for it in ("C.md", "PYTHON.md"))
         shown = re.findall(r"^    \$ (.*example.*)\n((?:    (?!\$).*\n)+)", page, re.M)
         self.assertTrue(shown)
         environment = {**os.environ, "PYTHONPATH": str(C)}

@@ -10,7 +10,7 @@ import unittest
 import zipfile
 
 C = pathlib.Path(__file__).resolve().parent.parent
-PAGE, PYTHON, README = ((C.parent / path).read_text() for path in ("docs/C-AND-PYTHON.md", "docs/PYTHON.md", "README.md"))
+PAGE, PYTHON, README = ((C.parent / path).read_text() for path in ("docs/C.md", "docs/PYTHON.md", "README.md"))
 INSTALL, BUILD, PACKAGES = re.findall(r"^```sh\n(.*?)^```", PAGE + PYTHON, re.M | re.S)
 CMAKE = "cmake_minimum_required(VERSION 3.10)\nproject(it C)\nadd_executable(example example.c)\n"
 CMAKE += re.search(r"((?:^    (?:find_package|target_link).*\n)+)", PAGE, re.M)[1]

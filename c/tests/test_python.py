@@ -127,7 +127,7 @@ class Words(unittest.TestCase):
         self.assertEqual((f"{Format():>36}", f"{Format():#034x}"), (f"  {Format()}", "0x00000a0000000000000000000000000c"))
         self.assertEqual((repr(Format.no_special), f"{Rule(7)}"), ("<field no_special>", "PUNCTUATION_DIFFERS"))
         self.assertEqual(doctest.testmod(peltzivar).failed, 0)
-        self.assertEqual(sum(doctest.testfile(str(TOP / "docs" / it), module_relative=False).failed for it in ("C-AND-PYTHON.md", "PYTHON.md")), 0)
+        self.assertEqual(sum(doctest.testfile(str(TOP / "docs" / it), module_relative=False).failed for it in ("C.md", "PYTHON.md")), 0)
 
     def test_options(self):
         self.assertIsNone(Format().check_options("e", "."))
