@@ -57,14 +57,11 @@
 //! contract. From this code, a program in the repository generated the files that begin with `Made by`. In the
 //! documentation, `Proved of the source` heads what the contracts of a call state.
 //!
-//! All other files are written by hand. They have [`Settings`], [`NumberFormat`] with the calls of [`mod@format`],
-//! [`Language`][literal::Language], the iterators and conversions, the names and texts of values (`name`, `condition`,
-//! `text`, `Display`, `FromStr` and `Debug`), absent bytes as `None`, the getters of [`Format`], which call those of its
-//! view, [`Literal`][literal::Literal] around the parts that the proved code finds, `parse`, `try_from`, `to_i64` and
-//! `to_f64` around the conversions that are proved, `is_incomplete`, `span`, `settings` and `text` of
-//! [`ReadError`][literal::ReadError], `sentence`, `grammar` and `regex` of a [`Syntax`][literal::Syntax], the methods that
-//! panic, and the tests of slices in [`ascii`]. A build of this crate proves nothing. You trust the program that generated
-//! the files, the handwritten parts and `rustc`.
+//! All other files are written by hand: [`Settings`], [`NumberFormat`] with the calls of [`mod@format`],
+//! [`Language`][literal::Language], traits, iterators and texts, the tests of slices in [`ascii`], `sentence`, `grammar` and
+//! `regex` of a [`Syntax`][literal::Syntax], and what is around proved calls, such as `parse` around those that read and
+//! convert. A build of this crate proves nothing. You trust the program that generated the files, the handwritten parts
+//! and `rustc`.
 #![no_std]
 #![forbid(unsafe_code)]
 

@@ -351,14 +351,13 @@ macro_rules! floats {
                 /// Returns the value by the kind, where `bits` are those of the number without its sign, as an `f64` or `f32`.
                 const fn $worth(&self, double: bool, bits: u64) -> Result<$type, ValueError> {
                     let size = if double { f64::from_bits(bits) as $type } else { f32::from_bits(bits as u32) as $type };
+                    let is_own = self.has_integer_kind();
                     let (size, negative) = match own_numeral(self) {
-                        Err(kind) if self.has_integer_kind() => return Err(self.error::<$type>(kind)),
-                        Ok(Numeral { negative, magnitude: Magnitude::Word(own) }) if self.has_integer_kind() => {
-                            (own as $type, negative)
-                        }
+                        Err(kind) if is_own => return Err(self.error::<$type>(kind)),
+                        Ok(Numeral { negative, magnitude: Magnitude::Word(own) }) if is_own => (own as $type, negative),
                         _ => (size, self.is_negative()),
                     };
-                    if !self.has_integer_kind() {
+                    if !is_own {
                         if let Some(kind) = beyond(self.kind().limits(), size.is_infinite(), size == 0.0, self) {
                             return Err(self.error::<$type>(kind));
                         }
