@@ -2,7 +2,7 @@
 
 use peltzivar::format::{CASE_SENSITIVE_SPECIAL, DIGIT_SEPARATOR_FLAG_MASK, NO_SPECIAL};
 use peltzivar::literal::{
-    Condition, Forms, Language, Literal, Number, ReadError, ReadErrorKind, Sign, Specials, Spelling, Syntax,
+    Condition, Form, Forms, Language, Literal, Number, ReadError, ReadErrorKind, Sign, Specials, Spelling, Syntax,
     ValueError, ValueErrorKind,
 };
 use peltzivar::{Edit, FlagSetter, Format, FormatView, NumberFormatBuilder, Part, Rule, Settings};
@@ -231,6 +231,7 @@ fn causes_are_those_of_the_page() {
 #[test]
 fn sentences_name_what_is_seen() {
     let lines = include_str!("sentences.txt").lines().filter(|line| !line.is_empty() && !line.starts_with('#'));
+    has_each_condition(lines.clone().flat_map(|line| line.split([' ', '='])));
     let lines = lines.map(|line| match Vec::from_iter(line.split('|').map(str::trim))[..] {
         [settings, text, sentence, shown] => (settings, text, sentence, shown),
         _ => panic!("{line}"),
@@ -311,8 +312,9 @@ fn languages_answer_as_their_grammars_and_tools_do() {
     }
     let forms = Language::ALL.iter().flat_map(|it| (0..it.forms().as_slice().len()).map(move |form| (it, form)));
     let wanted = forms.flat_map(|(it, form)| [(it, form, true), (it, form, false)]);
-    let missing = wanted.filter(|it| !seen.contains(it)).map(|it| (it.0, it.0.forms()[it.1].opening(), it.2));
-    assert_eq!(Vec::from_iter(missing), [], "forms without a row that is a number of theirs, or that is none");
+    let named = |it: Form| format!("{}, `{}`", it.name(), String::from_utf8_lossy(it.opening().as_bytes()));
+    let missing = wanted.filter(|it| !seen.contains(it)).map(|it| (it.0, named(it.0.forms()[it.1]), it.2));
+    assert_eq!(Vec::from_iter(missing), [], "forms without a row that is a number of theirs (true), or that is none");
 }
 
 /// A word, a sign, a spelling, and texts that are this special value, or none if there is no spelling.
@@ -384,6 +386,7 @@ fn sentences_on_syntaxes_state_each_difference() {
             [&*sentence, "decimal; NaN", phrases].map(|it| HashSet::<_>::from_iter(it.split("; ")));
         assert_eq!(&found ^ &usual, wanted, "{settings}");
     }
+    has_each_condition(rows.iter().flat_map(|it| it.0.split([' ', '='])));
     let has_row = |flag: &&FlagSetter| rows.iter().any(|it| it.0.contains(&format!("{flag}=")));
     assert_eq!(FlagSetter::FLAGS.iter().find(|it| !has_row(it)), None);
     let settings = "digit_separator=39 integer_internal_digit_separator=true integer_group_size=3 \
