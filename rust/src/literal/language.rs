@@ -243,9 +243,8 @@ impl fmt::Debug for Language {
     }
 }
 
-/// Defines the constants: the documentation, the name and the title of each, the name, the opening, the syntax, the suffixes and the kind of
-/// each form, those of forms that differ in their radix alone, which is between two texts in their openings, the special values, if there are
-/// any, and rules for tokens, if the language has them.
+/// Defines the constants: documentation, name, title, and forms with their openings, closings, suffixes and kinds; then
+/// forms that differ in their radix alone, special values, and rules for tokens, if there are any.
 macro_rules! languages {
     ($($(#[$about:meta])+ $name:ident: $title:literal = {
         $($form:literal $(behind $opening:literal)? $(before $closing:literal)? $(only_read $only:literal)?: $syntax:expr
