@@ -88,7 +88,7 @@ impl Syntax {
         })
     }
 
-    // Returns why `text`, of which reading stopped at `stop`, is not a literal, in one copy.
+    // Returns why `text`, of which reading stopped at `stop`, is not a literal. A program has this code once.
     #[inline(never)]
     const fn refuse_literal<'t>(&self, text: &'t [u8], stop: Stopped) -> Result<Literal<'t>, ReadError> {
         stop.refuse(self, text)
@@ -107,13 +107,13 @@ impl Syntax {
         }
     }
 
-    // Returns what `begin` returns for any syntax, in one copy.
+    // Returns what `begin` returns for any syntax. A program has this code once.
     #[inline(never)]
     pub(crate) const fn begin_any(&self, text: &[u8], fronts: bool) -> Begun {
         self.begin(false, text, fronts)
     }
 
-    // Returns what `begin` returns for any syntax, from one copy only in the library for C, which sets `peltzivar_small`.
+    // Returns what `begin` returns for any syntax. The library for C, which sets `peltzivar_small`, has this code once.
     #[inline(always)]
     pub(crate) const fn begin_small(&self, text: &[u8], fronts: bool) -> Begun {
         if cfg!(peltzivar_small) {
@@ -174,7 +174,7 @@ impl Syntax {
 }
 
 impl Stopped {
-    // Returns whether reading stops for good where it has come in a usual syntax, and `text` is not a literal.
+    // Returns whether a usual syntax refuses `text` where reading has come: no step leads on, and it is not a literal.
     #[inline(never)]
     pub(crate) const fn is_refused(self, syntax: &Syntax, text: &[u8]) -> bool {
         let Stopped { size, read } = self;
@@ -185,13 +185,13 @@ impl Stopped {
         }
     }
 
-    // Returns why `text` is not a literal, as `refuse` does, in its place.
+    // Returns why `text` is not a literal, as `refuse` does. The error is made where the caller keeps it, and not copied.
     #[inline(always)]
     pub(crate) const fn error(self, syntax: &Syntax, text: &[u8]) -> ReadError {
         ReadError { spot: self.spot(syntax, text) }
     }
 
-    // Returns what `step` returns, in one copy.
+    // Returns what `step` returns. A program has this code once.
     #[inline(never)]
     pub(crate) const fn step_any(self, syntax: &Syntax, text: &[u8], group: Group) -> Option<(Role, Stopped, Group)> {
         self.step(syntax, text, group)

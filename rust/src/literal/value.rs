@@ -412,7 +412,7 @@ impl Syntax {
         }
     }
 
-    // Returns what is known at once of a text that may be a decimal literal of a kind. It need not be in memory to have a value,
+    // Returns what is known at once of a text that may be a decimal literal of a kind. The literal is not stored in memory,
     // unless its digits have to be looked at again. With up to 19 digits, a number fits 64 bits.
     #[inline(always)]
     pub(crate) fn parse_decimal<T: FromLiteral>(&self, kind: Kind, text: &[u8]) -> Decimal<T> {
