@@ -53,20 +53,6 @@ impl PartialEq for ShortText {
 
 impl Eq for ShortText {}
 
-/// Compares the text.
-impl PartialEq<str> for ShortText {
-    fn eq(&self, other: &str) -> bool {
-        self.as_str() == other
-    }
-}
-
-/// Returns [`as_str`][ShortText::as_str].
-impl AsRef<str> for ShortText {
-    fn as_ref(&self) -> &str {
-        self.as_str()
-    }
-}
-
 impl hash::Hash for ShortText {
     fn hash<H: hash::Hasher>(&self, state: &mut H) {
         self.as_str().hash(state);

@@ -50,9 +50,7 @@ fn edits_make_the_fields_of_their_word() {
         let builder = NumberFormatBuilder::from_word(word);
         assert_eq!(edits[..count].iter().copied().collect::<NumberFormatBuilder>(), builder);
         // Each edit is of another field, so their order does not matter.
-        let mut other: NumberFormatBuilder = edits[2..].iter().collect();
-        other.extend(&edits[..1]);
-        other.extend(edits[1..2].iter().copied());
+        let other = NumberFormatBuilder::from_iter(edits[..count].iter().rev().copied());
         assert_eq!((other, other.view().word()), (builder, builder.build_unchecked()));
     }
 }

@@ -5,7 +5,7 @@ use peltzivar::literal::{
     Condition, Forms, Language, Literal, Number, ReadError, ReadErrorKind, Sign, Specials, Spelling, Syntax,
     ValueError, ValueErrorKind,
 };
-use peltzivar::{Edit, FlagSetter, Format, FormatView, NumberFormatBuilder, Part, Rule, Settings};
+use peltzivar::{edits, Edit, FlagSetter, Format, FormatView, NumberFormatBuilder, Part, Rule, Settings};
 use std::collections::HashSet;
 use std::slice;
 
@@ -102,8 +102,7 @@ fn settings_end_the_cause(error: ReadError, syntax: Syntax, text: &[u8]) {
     assert_eq!(settings.iter().fold(0, |mask, edit| mask | edit.mask()), error.mask(), "{text:?}");
     let size = if matches!(error.kind(), ReadErrorKind::Separator(..)) { 1 } else { settings.len().max(1) };
     for edits in settings.chunks(size) {
-        let mut builder = NumberFormatBuilder::from(syntax.format());
-        builder.extend(edits);
+        let builder = edits::apply_all(NumberFormatBuilder::from(syntax.format()), edits);
         // The options and the conditions stay.
         let edited = syntax.to_string().replace(&syntax.format().to_string(), &builder.view().to_string());
         let result = edited.parse::<Syntax>().unwrap().read(text);
