@@ -233,23 +233,6 @@ fn plain_texts_are_decimal() {
     }
 }
 
-/// What is promised of the digits that follow is right behind each digit and each separator.
-#[test]
-fn hints_are_right_behind_each_digit() {
-    let format = NumberFormatBuilder::new().digit_separator(b'_'.try_into().ok()).digit_separator_flags(true);
-    let syntax = Syntax::new(format.build_format().unwrap(), b'e', b'.').unwrap();
-    for (size, bits) in (1..=7).flat_map(|size| (0..1 << size).map(move |bits| (size, bits))) {
-        let text: String = (0..size).map(|at| if bits >> at & 1 == 1 { '1' } else { '_' }).collect();
-        let Ok(literal) = syntax.read(&text) else { continue };
-        let mut digits = literal.digits(Part::Integer);
-        loop {
-            let ((least, most), count) = (digits.size_hint(), digits.clone().count());
-            assert!(least <= count && Some(count) <= most, "{text}");
-            let Some(_) = digits.next() else { break };
-        }
-    }
-}
-
 /// A condition is set once in the text of a syntax, whichever of its values it has.
 #[test]
 fn a_condition_is_set_once() {
