@@ -1732,9 +1732,7 @@ class _Language(_Several, _Named):
     each language, with its standard, and what no format can accept.
     `Language("c#")` finds a language by its name or its title, whatever the case of ASCII letters is.
 
-    Numbers have a sign in CLOJURE, COMMON_LISP, CSS, CSV_DE, CSV_EN, FORTRAN, JSON, JSON5, NIM, POSTSCRIPT, RUBY, SCHEME,
-    SQL, SWIFT, TOML, XML_SCHEMA, YAML and YAML_1_1. In the other languages, `-` is an operator: they refuse `-5`, so read
-    what is behind it.
+    Where `-` is an operator, as in C, numbers have no sign: the language refuses `-5`, so read what is behind it.
     """
 
     def __init__(self, name: str) -> None:

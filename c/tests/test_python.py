@@ -736,12 +736,6 @@ class Lists(unittest.TestCase):
                 values, wrong, _ = forms.column(texts, code, errors="coerce", fill=7)
                 self.assertEqual(([*values], len(wrong)), (fits, fits.count(7)), (syntax, kind))
 
-    def test_pages_and_help_name_the_languages_whose_numbers_have_a_sign(self):
-        names = [it.name for it in Language if not all(form.no_negative_mantissa_sign for form in it.forms.values())]
-        sentence = f"Numbers have a sign in {', '.join(names[:-1])} and {names[-1]}. In the other languages, `-` is an operator"
-        for text in (Language.__doc__, *((TOP / it).read_text() for it in ("c/peltzivar.h", "docs/LANGUAGES.md"))):
-            self.assertIn(sentence, " ".join(re.sub(r"^ \*", "", text, flags=re.M).split()))
-
     def test_offsets_of_other_formats_are_refused(self):
         given = [memoryview(struct.pack(f"3{it}", 0, 1, 2)).cast("B").cast(it) for it in "bBhHiIlLqQnNfd?"]
         given += [array(it, [0, 1, 2]) for it in "bBhHiIlLqQfd"] + [bytearray(3), memoryview(b"\0\1\2").cast("c")]
