@@ -1,5 +1,5 @@
 //! What users read and set, over the lists that the library has: texts with each padding, sentences at each limit,
-//! settings of each setter, integers of each type, and the code of each byte. Expected results are those of std or of a
+//! settings of each setter, limits of each type, and the code of each byte. Expected results are those of std or of a
 //! page, or are worked out here.
 
 use peltzivar::literal::*;
@@ -156,25 +156,6 @@ fn integers(radix: u8) -> Syntax {
 macro_rules! each_type {
     ($type:ident => $code:block) => { each_type!($type $code u8 u16 u32 u64 usize u128 i8 i16 i32 i64 isize i128) };
     ($type:ident $code:block $($name:ident)*) => { $({ type $type = $name; $code })* };
-}
-
-/// Integers at the limits of their types are written as std reads them, with uppercase digits and no other bytes.
-#[test]
-fn integers_at_limits_are_read_by_std() {
-    for radix in 2..=36 {
-        let forms = [Form::new("", integers(radix))];
-        let forms = Forms::new_or_panic(&forms);
-        each_type!(Type => {
-            for value in [Type::MIN, Type::MIN + 1, (0 as Type).wrapping_sub(1), 0, 1, Type::MAX - 1, Type::MAX] {
-                let text = forms[0].syntax().format_integer(value, Style::PLAIN).unwrap().to_string();
-                assert_eq!(forms.format_integer(value, Style::PLAIN).unwrap().to_string(), text);
-                let digits = text.trim_start_matches('-').trim_start_matches(|it| value != 0 && it == '0');
-                let sign = if value.to_string().starts_with('-') { "-" } else { "" };
-                assert_eq!(text, format!("{sign}{}", digits.to_uppercase()));
-                assert_eq!(Type::from_str_radix(&text, radix.into()), Ok(value), "{text}");
-            }
-        });
-    }
 }
 
 /// A type without limits.
