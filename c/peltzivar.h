@@ -107,9 +107,7 @@ typedef struct peltzivar_syntax peltzivar_syntax;
  * whatever the case of ASCII letters is, or a null pointer if there is none. They last as long as the program.
  * LANGUAGES.md describes each, such as which C `C` is.
  *
- * Numbers have a sign in CLOJURE, COMMON_LISP, CSS, CSV_DE, CSV_EN, FORTRAN, JSON, JSON5, NIM, POSTSCRIPT, RUBY, SCHEME,
- * SQL, SWIFT, TOML, XML_SCHEMA, YAML and YAML_1_1. In the other languages, `-` is an operator: they refuse `-5`, so read
- * what is behind it. */
+ * Where `-` is an operator, as in C, numbers have no sign: the language refuses `-5`, so read what is behind it. */
 const peltzivar_forms *peltzivar_language(const char *name, size_t len);
 
 /* Return the forms of a language. A program that calls these alone has only the forms of these languages in it. */

@@ -15,6 +15,7 @@ import textwrap
 TOP = pathlib.Path(__file__).resolve().parent.parent
 PAGE = TOP / "docs/LANGUAGES.md"
 TABLES = TOP / "rust/src/literal/language/tables.rs"
+RECORDS = TOP / "rust/tests/known/languages.txt"
 HEAD = """<!-- Made by docs/languages.py: run that program. -->
 
 # Languages
@@ -60,10 +61,10 @@ def forms():
 
 
 def tools():
-    """Returns the tools of each language, as compare/README.md names them."""
-    found = {}
-    for name, tool in re.findall(r"^\| (\w+) \| (?:`|none:).*? \| (.*?) \|", (TOP / "compare/README.md").read_text(), re.M):
-        found.setdefault(name, []).append(tool)
+    """Returns the tools of each language, with the version that answered, as their records name them."""
+    found, aside = {}, r"^info: |^Welcome to | \(.*?\)| \[.*?\]|  .*| --.*| for .*|\.$"
+    for name, version in re.findall(r"^# (\w+), [^:]*: (.*)$", RECORDS.read_text(), re.M):
+        found.setdefault(name, []).append(re.sub(aside, "", version))
     return found
 
 

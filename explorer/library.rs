@@ -206,7 +206,7 @@ fn numbers(states: &'static str, lines: &[u8]) -> String {
 fn offered(states: &'static str, lines: &[u8]) -> String {
     let (Some(all), Some(line)) = (List::of(states_of(states)), lines_of(lines).next()) else { return "[]".into() };
     let lines = &lines[line.text.len() + usize::from(line.is_refused)..];
-    let form = all.forms().read(line.text).map_or_else(|error| error.form(), |number| number.form().unwrap_or(0));
+    let form = all.forms().read(line.text).map_or_else(|error| error.form, |number| number.form().unwrap_or(0));
     let offers = offers(all.states[form], &all.lines(form, lines), line);
     list(offers.into_iter().map(|state| format!("{{{}}}", parts_of(state))))
 }
@@ -245,7 +245,7 @@ fn told(read: Result<Number<'_>, FormError>, text: &[u8]) -> String {
             format!(r#""is":"{is}",{},"form":{}"#, value(value_of(number)), number.form().unwrap_or(0))
         }
         Err(it) => {
-            let (form, mask, Range { start, end }) = (it.form(), word(it.mask()), it.span());
+            let (form, mask, Range { start, end }) = (it.form, word(it.mask()), it.span());
             let (end, error) = (start + utf8(&text[start..end]).encode_utf16().count(), reason_of(it));
             format!(r#""form":{form},"error":{error},"mask":{mask},"start":{start},"end":{end}"#)
         }

@@ -210,13 +210,6 @@ class Header(unittest.TestCase):
             self.assertEqual(calls, [LIBRARY.peltzivar_language(it, len(it)) for it in all_names])
         self.assertEqual(len({*calls}), len(re.findall(r"peltzivar_language_\w+\(void\)", HEADER)))
 
-    def test_numbers_in_comments(self):
-        words = " ".join(re.sub(r"^ \* ", "", HEADER, flags=re.M).split())
-        most, more = map(int, re.search(r"`0x` followed by 1 to (\d+) hex.*? and at least (\d+) hexadecimal digits", words).groups())
-        for number, error in ((most, "SUCCESS"), (more - 1, "SUCCESS"), (most + 1, "OVERFLOW"), (more, "OVERFLOW")):
-            parsed = LIBRARY.peltzivar_parse_word(b"0x" + b"1" * number, number + 2, None, None)
-            self.assertEqual(parsed, self.numbers("(SUCCESS|OVERFLOW)")[error], number)
-
     def test_all_versions_are_the_same(self):
         number = LIBRARY.peltzivar_version()  # That of cargo.
         version = ".".join(map(str, number.to_bytes(3, "big")))

@@ -123,27 +123,6 @@ impl FromIterator<Edit> for NumberFormatBuilder {
     }
 }
 
-/// Applies the edits to a new builder, in order.
-impl<'a> FromIterator<&'a Edit> for NumberFormatBuilder {
-    fn from_iter<I: IntoIterator<Item = &'a Edit>>(edits: I) -> Self {
-        edits.into_iter().copied().collect()
-    }
-}
-
-/// Applies the edits to the builder, in order.
-impl Extend<Edit> for NumberFormatBuilder {
-    fn extend<I: IntoIterator<Item = Edit>>(&mut self, edits: I) {
-        *self = edits.into_iter().fold(*self, apply);
-    }
-}
-
-/// Applies the edits to the builder, in order.
-impl<'a> Extend<&'a Edit> for NumberFormatBuilder {
-    fn extend<I: IntoIterator<Item = &'a Edit>>(&mut self, edits: I) {
-        self.extend(edits.into_iter().copied());
-    }
-}
-
 impl Rule {
     /// All rules, in the order in which they are checked.
     pub const ALL: &'static [Rule] = &RULES;

@@ -5,7 +5,7 @@ mod random;
 
 use peltzivar::format::FLAG_MASK;
 use peltzivar::literal::{
-    Condition, Conditions, ExponentStyle, Form, FromLiteral, Language, Style, Syntax, WriteError, WriteFloat,
+    Condition, Conditions, ExponentStyle, FromLiteral, Language, Style, Syntax, WriteError, WriteFloat,
 };
 use peltzivar::Format;
 use random::Random;
@@ -185,22 +185,6 @@ fn rounded_floats_without_an_exponent_have_up_to_800_digits() {
         json.format_float(f64::MAX, Style::PLAIN.decimals(255)).unwrap().to_string(),
         format!("{:.255}", f64::MAX)
     );
-}
-
-#[test]
-fn each_float_form_of_ada_reads_floats_with_a_point() {
-    let state = &mut Random::new(20_261_131);
-    let forms = Language::ADA.forms();
-    let has_floats = |radix: u32| radix == 10 || radix.is_power_of_two();
-    let syntaxes = forms.as_slice().iter().map(Form::syntax);
-    for syntax in syntaxes.filter(|it| it.point().is_some() && has_floats(it.format().mantissa_radix())) {
-        for value in [1e16, 1e-7, 1e300, 5e-324, 0.5, 12.0] {
-            is_read_back::<f64>(value, &syntax, Style::PLAIN.point());
-        }
-        for _ in 0..count() {
-            is_read_back::<f64>(float(state), &syntax, Style::PLAIN.point());
-        }
-    }
 }
 
 /// Returns a pseudo-random syntax whose radix and exponent base are 10 or powers of two.

@@ -1,5 +1,5 @@
 //! What users read and set, over the lists that the library has: texts with each padding, sentences at each limit,
-//! settings of each setter, integers of each type, and the code of each byte. Expected results are those of std or of a
+//! settings of each setter, limits of each type, and the code of each byte. Expected results are those of std or of a
 //! page, or are worked out here.
 
 use peltzivar::literal::*;
@@ -158,25 +158,6 @@ macro_rules! each_type {
     ($type:ident $code:block $($name:ident)*) => { $({ type $type = $name; $code })* };
 }
 
-/// Integers at the limits of their types are written as std reads them, with uppercase digits and no other bytes.
-#[test]
-fn integers_at_limits_are_read_by_std() {
-    for radix in 2..=36 {
-        let forms = [Form::new("", integers(radix))];
-        let forms = Forms::new_or_panic(&forms);
-        each_type!(Type => {
-            for value in [Type::MIN, Type::MIN + 1, (0 as Type).wrapping_sub(1), 0, 1, Type::MAX - 1, Type::MAX] {
-                let text = forms[0].syntax().format_integer(value, Style::PLAIN).unwrap().to_string();
-                assert_eq!(forms.format_integer(value, Style::PLAIN).unwrap().to_string(), text);
-                let digits = text.trim_start_matches('-').trim_start_matches(|it| value != 0 && it == '0');
-                let sign = if value.to_string().starts_with('-') { "-" } else { "" };
-                assert_eq!(text, format!("{sign}{}", digits.to_uppercase()));
-                assert_eq!(Type::from_str_radix(&text, radix.into()), Ok(value), "{text}");
-            }
-        });
-    }
-}
-
 /// A type without limits.
 #[derive(Debug)]
 struct Unlimited;
@@ -229,23 +210,6 @@ fn plain_texts_are_decimal() {
         for text in ["1", "1.1", "1^1", "1.1^-1"] {
             let is_plain = syntax.read(text).unwrap().plain().is_some();
             assert_eq!(is_plain, text == "1" || three == [10; 3], "{three:?} {text}");
-        }
-    }
-}
-
-/// What is promised of the digits that follow is right behind each digit and each separator.
-#[test]
-fn hints_are_right_behind_each_digit() {
-    let format = NumberFormatBuilder::new().digit_separator(b'_'.try_into().ok()).digit_separator_flags(true);
-    let syntax = Syntax::new(format.build_format().unwrap(), b'e', b'.').unwrap();
-    for (size, bits) in (1..=7).flat_map(|size| (0..1 << size).map(move |bits| (size, bits))) {
-        let text: String = (0..size).map(|at| if bits >> at & 1 == 1 { '1' } else { '_' }).collect();
-        let Ok(literal) = syntax.read(&text) else { continue };
-        let mut digits = literal.digits(Part::Integer);
-        loop {
-            let ((least, most), count) = (digits.size_hint(), digits.clone().count());
-            assert!(least <= count && Some(count) <= most, "{text}");
-            let Some(_) = digits.next() else { break };
         }
     }
 }

@@ -5,7 +5,7 @@ use peltzivar::literal::{
     Condition, Form, Forms, Language, Literal, Number, ReadError, ReadErrorKind, Sign, Specials, Spelling, Syntax,
     ValueError, ValueErrorKind,
 };
-use peltzivar::{Edit, FlagSetter, Format, FormatView, NumberFormatBuilder, Part, Rule, Settings};
+use peltzivar::{edits, Edit, FlagSetter, Format, FormatView, NumberFormatBuilder, Part, Rule, Settings};
 use std::collections::HashSet;
 use std::slice;
 
@@ -53,8 +53,7 @@ fn has_parts(literal: Literal<'_>, format: Format) {
         let (wanted, digits) = (Vec::from_iter(values), literal.digits(part).map(u32::from));
         let (least, most) = digits.size_hint();
         assert!(least <= wanted.len() && Some(wanted.len()) <= most);
-        assert!(digits.clone().eq(wanted.iter().copied()), "{literal:?}");
-        assert!(digits.rev().eq(wanted.into_iter().rev()), "{literal:?}");
+        assert!(digits.eq(wanted), "{literal:?}");
     }
 }
 
@@ -102,8 +101,7 @@ fn settings_end_the_cause(error: ReadError, syntax: Syntax, text: &[u8]) {
     assert_eq!(settings.iter().fold(0, |mask, edit| mask | edit.mask()), error.mask(), "{text:?}");
     let size = if matches!(error.kind(), ReadErrorKind::Separator(..)) { 1 } else { settings.len().max(1) };
     for edits in settings.chunks(size) {
-        let mut builder = NumberFormatBuilder::from(syntax.format());
-        builder.extend(edits);
+        let builder = edits::apply_all(NumberFormatBuilder::from(syntax.format()), edits);
         // The options and the conditions stay.
         let edited = syntax.to_string().replace(&syntax.format().to_string(), &builder.view().to_string());
         let result = edited.parse::<Syntax>().unwrap().read(text);
@@ -121,9 +119,9 @@ fn flags_accept_and_reject_the_texts_of_the_page() {
     let mut flags = FlagSetter::FLAGS.iter();
     for row in table(FORMAT, "The flags") {
         let [bit, name, _, _, with, accepted, rejected] = row[..] else { panic!("{row:?}") };
-        let flag = name.parse::<FlagSetter>().unwrap();
+        let flag = *flags.next().unwrap();
         let mask = Edit::Flag(flag, true).mask();
-        assert_eq!((Some(&flag), bit), (flags.next(), mask.ilog2().to_string().as_str()));
+        assert_eq!((flag.name(), mask.ilog2().to_string().as_str()), (name, bit));
         let allows = mask >> 32 != 0;
         for (text, is_accepted) in both(accepted, rejected) {
             for (value, wanted) in [(true, is_accepted), (false, !allows)] {

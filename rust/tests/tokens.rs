@@ -148,31 +148,6 @@ fn languages_of_data_have_no_tokens() {
     assert_eq!(Vec::from_iter(found), none);
 }
 
-/// A token that is all of a text and has no suffix is what `read` returns, and `read` takes no form that needs a suffix.
-#[test]
-fn a_whole_token_without_a_suffix_is_read() {
-    for language in Language::ALL {
-        let mut texts = vec![String::new()];
-        for _ in 0..3 {
-            texts = texts.iter().flat_map(|it| "01.ejx_+".chars().map(move |last| format!("{it}{last}"))).collect();
-            for text in &texts {
-                let Ok(token) = language.token(text) else { continue };
-                let read = language.read(text);
-                if token.rest.is_empty() {
-                    assert_eq!(read.is_ok(), token.suffix.is_empty(), "{language}: {text}");
-                }
-                if let (true, Ok(number)) = (token.rest.is_empty(), read) {
-                    assert_eq!(
-                        (number.literal(), number.form()),
-                        (Some(token.literal), Some(token.form)),
-                        "{language}: {text}"
-                    );
-                }
-            }
-        }
-    }
-}
-
 #[test]
 fn rules_are_those_of_the_list() {
     const WORDS: Suffixes =

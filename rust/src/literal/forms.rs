@@ -326,18 +326,6 @@ impl FormError {
         self.opened + start..self.opened + end
     }
 
-    /// Returns the index of the form.
-    #[must_use]
-    pub const fn form(&self) -> usize {
-        self.form
-    }
-
-    /// Returns the name of the form.
-    #[must_use]
-    pub const fn name(&self) -> &'static str {
-        self.name
-    }
-
     /// Returns the kind, as [`ReadError::kind`] does, or `None` if a [mark][Self::mark] is not there.
     #[must_use]
     pub const fn kind(&self) -> Option<ReadErrorKind> {

@@ -23,45 +23,6 @@ fn edits_are_read_back() {
     }
 }
 
-/// Each byte is a number. The separator, the prefix and the suffix may be a character between quotes.
-#[test]
-fn each_byte_setter_reads_numbers_and_some_read_characters() {
-    #[rustfmt::skip]
-    let numbers = [
-        ("0x5F", 0x5F), ("0x5f", 0x5F), ("0x0", 0), ("0xff", 255), ("0x10", 16),
-        ("0", 0), ("16", 16), ("016", 16), ("255", 255), (" 16", 16), ("\t\n0x10\r\x0C ", 16),
-    ];
-    let characters = [("'_'", 0x5F), ("'''", 0x27), ("' '", 0x20), ("'='", 0x3D), ("'~' ", 0x7E)];
-    #[rustfmt::skip]
-    let refused = [
-        "''", "'", "'ab'", "'_", "_'", "\"_\"", "'\u{E9}'", "\u{E9}", "'\0'", "'\t'", "'\x1F'", "'\x7F'",
-        "x", "_", "true", "0x", "0X5F", "0xg1", "0x1g", "0x-1", "0x_", "x5F", "5F", "-1", "+1", "1_0", "", "NONE",
-        "\x0B1", "\u{A0}1", "1 6", "0x 5F",
-        "0x100", "0x05F", "256", "0016", "99999999999999999999", "0xFFFFFFFFFFFFFFFFFFFFFFFFFFFFFFFFF",
-    ];
-    for setter in Setter::ALL.iter().filter(|setter| setter.kind() != ArgumentKind::Flag) {
-        // Each call that takes a value skips white space at both ends.
-        let read = |value: &str| -> Option<Edit> {
-            let edit = setter.parse(value).ok();
-            assert_eq!(Edit::from_setting(&format!("\t{}\r ", setter.name()), value).ok(), edit, "{setter:?} {value}");
-            assert_eq!(format!("\n{} ={value}", setter.name()).parse().ok(), edit, "{setter:?} {value}");
-            edit
-        };
-        for (value, byte) in numbers {
-            assert_eq!(read(value), setter.with_byte(byte), "{setter:?} {value}");
-        }
-        let takes_characters = setter.kind() == ArgumentKind::OptionalCharacter;
-        for (value, byte) in characters {
-            assert_eq!(read(value), setter.with_byte(byte).filter(|_| takes_characters), "{setter:?} {value}");
-        }
-        for value in refused {
-            assert_eq!(read(value), None, "{setter:?} {value}");
-        }
-        let is_optional = setter.kind() != ArgumentKind::Number;
-        assert_eq!(read("none"), setter.with_byte(0).filter(|_| is_optional), "{setter:?}");
-    }
-}
-
 /// The sentence of a refused setting, which names the setter and what it takes.
 #[test]
 fn a_refused_setting_has_a_sentence() {
