@@ -364,6 +364,12 @@ static void read_alike(const peltzivar_forms *forms, const peltzivar_forms *othe
     VALUES_ALIKE(double, f64)
     VALUES_ALIKE(float, f32)
     stops[is_read || is_special ? 255 : error.form]++;
+    /* The list of a language is kept, and that of a copy is read in each call. */
+    peltzivar_token token, same;
+    const bool is_token = peltzivar_forms_token(forms, from, len, &token, &error);
+    CHECK(peltzivar_forms_token(others, from, len, &same, &why) == is_token);
+    if (is_token) CHECK(token.size == same.size && token.suffix.start == same.suffix.start && token.literal.form == same.literal.form);
+    else CHECK(error.valid_up_to == why.valid_up_to && error.form == why.form);
 }
 
 /* Each language has a name by which it is found, and forms, which read the same as a copy. */

@@ -88,9 +88,9 @@ CONST = ("lexical_literal/src/stop.rt", "affix.rt", "marked.rt", "marks.rt", "li
 
 # Functions that are inlined in plain Rust, and of which the library for C has one copy.
 ONE_COPY = {
-    "affix.rt": "opened", "exclude.rt": "excludes lacks_longer", "lexical_value/src/float.rt": "beyond", "lexical_literal/src/stop.rt": "front step",
+    "affix.rt": "opened", "exclude.rt": "excludes is_over", "lexical_value/src/float.rt": "beyond", "lexical_literal/src/stop.rt": "front step",
     "lexical_value/src/kind.rt": "keeps", "marked.rt": r"\w+", "marks.rt": r"\w+", "reasons.rt": "clash reason_for", "scaled.rt": "settled",
-    "step.rt": "admits role_at step_as", "suffix.rt": r"\w+", "token.rt": r"\w+",
+    "step.rt": "admits step_as", "suffix.rt": "is_word_byte", "token.rt": r"\w+",
 }  # fmt: skip
 
 # Texts that plain Rust replaces in every file, wherever they occur.
@@ -181,6 +181,8 @@ REPLACED += [
     # Texts that are refused need it alone, and one copy is enough for all calls.
     ("lexical_literal/src/stop.rt", "    const fn step(", "    pub(crate) const fn step("),
     ("lexical_literal/src/stop.rt", "#[inline(always)]\n    pub(crate) const fn go_on(", "#[inline(never)]\n    pub(crate) const fn go_on("),
+    # The library for C asks it for each byte that may end a token.
+    ("feature_format/roles.rt", "const fn is_byte(", "#[inline(always)]\nconst fn is_byte("),
     # The loop over the bytes of an opening is a loop in the library for C.
     ("affix.rt", "    #[inline(always)]\n    const fn spells(", "    #[cfg_attr(peltzivar_small, inline(never))]\n    #[cfg_attr(not(peltzivar_small), inline(always))]\n    const fn spells("),
     # An error is made in its place.

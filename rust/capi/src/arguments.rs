@@ -49,7 +49,7 @@ impl<T> Out<T> {
     }
 
     /// Writes the value, unless the pointer is null.
-    pub fn write(self, value: T) {
+    pub fn write(&self, value: T) {
         if !self.0.is_null() {
             // SAFETY: C passed the pointer, and it points to an object of this type, as the comment of the type states.
             unsafe { self.0.write_unaligned(value) }

@@ -3,9 +3,11 @@
 use crate::arguments::{input, Out};
 use crate::literals::Syntax;
 use crate::names::{at, start, texts};
-use crate::tokens::{affix, first, Constant, Laid, Memory, Reader, Stop, SuffixKind, Suffixes, Tokens};
+use crate::tokens::{affix, first, written, Constant, Laid, Reader, Stop, SuffixKind, Suffixes, Tokens, Unit};
+use core::cell::UnsafeCell;
 use core::ffi::CStr;
 use core::mem::MaybeUninit;
+use core::sync::atomic::{AtomicBool, AtomicPtr, Ordering};
 use core::{ptr, slice};
 use peltzivar::literal::{self, FloatKind, FloatLimits, IntegerKind, Kind, Language, Sign, Special, Spelling};
 
@@ -179,11 +181,12 @@ const _: () = assert!(size_of::<Form>() == 72 && size_of::<Forms>() == 80);
 /// The most forms.
 const MOST: usize = 64;
 
-/// The forms of a language in C, and in Rust, with the spellings.
+/// The forms of a language in C, and in Rust, with the spellings, and where those with suffixes are kept if it has tokens.
 #[repr(C)]
 struct LanguageForms {
     shown: Forms,
     read: literal::Forms<'static>,
+    kept: Option<&'static Kept>,
 }
 
 // SAFETY: all pointers point to constants.
@@ -237,16 +240,37 @@ pub type Given<'a> = Result<&'a literal::Forms<'a>, &'static str>;
 /// `forms` must be null or forms that a C caller passes.
 #[inline(always)]
 pub unsafe fn by<R>(forms: *const Forms, then: impl FnOnce(Given<'_>) -> R) -> R {
-    let mut list = [const { MaybeUninit::uninit() }; MOST];
-    let found = if forms.is_null() {
-        None
-    } else if ptr::eq((&raw const (*forms).language).read_unaligned(), forms) {
-        // SAFETY: only the forms of languages have their own address.
-        Some(unsafe { (*forms.cast::<LanguageForms>()).read })
-    } else {
-        own(&forms.read_unaligned(), &mut list)
-    };
-    then(found.as_ref().ok_or(REFUSED))
+    let (mut list, mut own) = ([const { MaybeUninit::uninit() }; MOST], None);
+    then(given(forms, &mut list, &mut own))
+}
+
+/// Returns the forms, of which those that are not of a language are written to these places.
+#[inline(never)]
+unsafe fn given<'a>(
+    forms: *const Forms,
+    list: &'a mut [MaybeUninit<literal::Form>; MOST],
+    to: &'a mut Option<literal::Forms<'a>>,
+) -> Given<'a> {
+    if forms.is_null() {
+        return Err(REFUSED);
+    }
+    if let Some(language) = language(forms) {
+        return Ok(&language.read);
+    }
+    let it = forms.read_unaligned();
+    if let (Some(forms), Some(specials), [0, 0]) =
+        (forms_of(it.forms, it.count, list), it.specials.spellings(), it.reserved)
+    {
+        *to = literal::Forms::new(forms).map(|it| it.with_specials(specials));
+    }
+    to.as_ref().ok_or(REFUSED)
+}
+
+/// Returns the language of which these are the forms.
+#[inline(always)]
+unsafe fn language(forms: *const Forms) -> Option<&'static LanguageForms> {
+    // SAFETY: only the forms of languages have their own address.
+    ptr::eq((&raw const (*forms).language).read_unaligned(), forms).then(|| unsafe { &*forms.cast() })
 }
 
 /// Why forms are refused.
@@ -258,34 +282,88 @@ const REFUSED: &str = "the forms are null, not 1 to 64, or have an unknown kind,
 /// # Safety
 ///
 /// `forms` must be null or forms that a C caller passes.
-#[inline(never)]
 pub unsafe fn with_tokens(forms: *const Forms, then: &mut dyn FnMut(Given<'_>)) {
-    let (mut list, mut behind) = ([const { MaybeUninit::uninit() }; MOST], [const { MaybeUninit::uninit() }; MOST]);
-    let (mut memory, mut tokens) = (Memory::NEW, None);
-    let mut reader = Reader::of(&mut memory);
-    let found = (|| {
-        let given = if forms.is_null() { return None } else { forms.read_unaligned() };
-        let own = suffixed(given.forms, given.count, &mut list, &mut reader).and_then(literal::Forms::new)?;
-        if !given.tokens.is_null() {
-            let rules = given.tokens.read_unaligned();
-            let needing = match rules.count {
-                0 => &[],
-                count => suffixed(rules.forms, count, &mut behind, &mut reader)?,
-            };
-            let made = literal::Tokens::new(needing, reader.words(rules.following)?);
-            let [back, to_letters, follows] = rules.flags.map(|it| it != 0);
-            let made = made.gives_points_back(back).any_word_follows(follows);
-            let made = if to_letters { made.gives_points_to_letters() } else { made };
-            tokens = Some(made).filter(|_| rules.reserved == [0; 5]);
-            tokens?;
-        }
-        (given.reserved == [0; 2] && given.specials.reserved == [0; 8]).then_some(own)
-    })();
-    let found = match &tokens {
-        Some(tokens) => found.map(|it| it.with_tokens(tokens)),
-        None => found,
+    match kept(forms) {
+        Some(list) => then(Ok(list)),
+        None => with_own(forms, then),
+    }
+}
+
+/// Does the same by reading the forms.
+#[inline(never)]
+unsafe fn with_own(forms: *const Forms, then: &mut dyn FnMut(Given<'_>)) {
+    // More than the most forms, words, kinds and stops take.
+    let mut memory = [Unit::uninit(); 4096];
+    then(listed(forms, &mut Reader::of(&mut memory)).ok_or(REFUSED));
+}
+
+/// The list of a language with its suffixes, or null until the first call that needs it has made it in this memory.
+struct Kept {
+    list: AtomicPtr<literal::Forms<'static>>,
+    is_begun: AtomicBool,
+    memory: UnsafeCell<[Unit; 512]>,
+}
+
+// SAFETY: the call that has begun writes the memory, and others read it when the list is there.
+unsafe impl Sync for Kept {}
+
+impl Kept {
+    const fn new() -> Kept {
+        let (list, is_begun) = (AtomicPtr::new(ptr::null_mut()), AtomicBool::new(false));
+        Kept { list, is_begun, memory: UnsafeCell::new([Unit::uninit(); 512]) }
+    }
+}
+
+/// Returns the list of a language with its suffixes, or `None` if these are other forms, or another call makes it just now.
+#[inline(always)]
+unsafe fn kept(forms: *const Forms) -> Option<&'static literal::Forms<'static>> {
+    let language = if forms.is_null() { None } else { language(forms) };
+    let LanguageForms { read, kept, .. } = language?;
+    let Some(kept) = kept else { return Some(read) };
+    // SAFETY: nothing writes a list that is there.
+    unsafe { kept.list.load(Ordering::Acquire).as_ref() }.or_else(|| make(forms, kept))
+}
+
+/// Makes the list of a language, unless another call has begun it.
+#[cold]
+#[inline(never)]
+unsafe fn make(forms: *const Forms, kept: &'static Kept) -> Option<&'static literal::Forms<'static>> {
+    if kept.is_begun.swap(true, Ordering::Relaxed) {
+        return None;
+    }
+    // SAFETY: no other call has the memory before the list is there.
+    let list = listed(forms, &mut Reader::of(unsafe { &mut *kept.memory.get() }));
+    debug_assert!(list.is_some(), "the memory is enough for each language");
+    kept.list.store(ptr::from_ref(list?).cast_mut(), Ordering::Release);
+    list
+}
+
+/// Returns the forms with their suffixes and rules for tokens, or `None` if they are refused.
+///
+/// # Safety
+///
+/// `forms` must be null or forms that a C caller passes, and the memory of the reader must outlive the use of the list.
+#[inline(never)]
+unsafe fn listed(forms: *const Forms, reader: &mut Reader) -> Option<&'static literal::Forms<'static>> {
+    let given = if forms.is_null() { return None } else { forms.read_unaligned() };
+    let list = literal::Forms::new(suffixed(given.forms, given.count, reader)?)?;
+    if given.reserved != [0; 2] || given.specials.reserved != [0; 8] {
+        return None;
+    }
+    if given.tokens.is_null() {
+        return reader.keep(list);
+    }
+    let rules = given.tokens.read_unaligned();
+    let needing = match rules.count {
+        0 => &[],
+        count => suffixed(rules.forms, count, reader)?,
     };
-    then(found.as_ref().ok_or(REFUSED));
+    let made = literal::Tokens::new(needing, reader.words(rules.following)?);
+    let [back, to_letters, follows] = rules.flags.map(|it| it != 0);
+    let made = made.gives_points_back(back).any_word_follows(follows);
+    let made = if to_letters { made.gives_points_to_letters() } else { made };
+    let tokens = reader.keep(made).filter(|_| rules.reserved == [0; 5])?;
+    reader.keep(list.with_tokens(tokens))
 }
 
 /// Returns whether integers may be written with words behind them.
@@ -303,19 +381,6 @@ pub unsafe fn has_written(forms: *const Forms) -> bool {
     !forms.is_null() && count <= MOST && (0..count).map(suffixes).any(has)
 }
 
-/// Returns forms that are not those of a language, or `None` if they are refused.
-///
-/// # Safety
-///
-/// A C caller passes them.
-#[inline(never)]
-unsafe fn own<'a>(it: &Forms, list: &'a mut [MaybeUninit<literal::Form>; MOST]) -> Option<literal::Forms<'a>> {
-    if it.reserved != [0; 2] {
-        return None;
-    }
-    Some(literal::Forms::new(forms_of(it.forms, it.count, list)?)?.with_specials(it.specials.spellings()?))
-}
-
 /// Returns an array of forms without their suffixes, or `None` if they are refused.
 ///
 /// # Safety
@@ -325,9 +390,9 @@ unsafe fn own<'a>(it: &Forms, list: &'a mut [MaybeUninit<literal::Form>; MOST]) 
 unsafe fn forms_of(
     forms: *const Form,
     count: usize,
-    list: &mut [MaybeUninit<literal::Form>; MOST],
+    list: &mut [MaybeUninit<literal::Form>],
 ) -> Option<&'static [literal::Form]> {
-    if count > MOST || forms.is_null() {
+    if count > list.len() || forms.is_null() {
         return None;
     }
     for (index, to) in list.iter_mut().take(count).enumerate() {
@@ -341,23 +406,19 @@ unsafe fn forms_of(
 ///
 /// # Safety
 ///
-/// As for `forms_of`. The memory of the reader must outlive the use of the slice, too.
+/// As for `forms_of`. The memory of the reader must outlive the use of the slice.
 #[inline(never)]
-unsafe fn suffixed(
-    forms: *const Form,
-    count: usize,
-    list: &mut [MaybeUninit<literal::Form>; MOST],
-    reader: &mut Reader,
-) -> Option<&'static [literal::Form]> {
+unsafe fn suffixed(forms: *const Form, count: usize, reader: &mut Reader) -> Option<&'static [literal::Form]> {
+    let list = if count > MOST { return None } else { reader.take(count)? };
     forms_of(forms, count, list)?;
-    for (index, to) in list.iter_mut().take(count).enumerate() {
+    for (index, to) in list.iter_mut().enumerate() {
         if let Some(suffixes) = reader.suffixes(forms.add(index).read_unaligned().suffixes)? {
             // SAFETY: `forms_of` has written it.
             to.write(unsafe { to.assume_init() }.with_suffixes(suffixes));
         }
     }
-    // SAFETY: so many are written.
-    Some(unsafe { slice::from_raw_parts(list.as_ptr().cast(), count) })
+    // SAFETY: all are written.
+    Some(unsafe { written(list) })
 }
 
 /// Defines a call for each language, so that a program that calls one has the forms of this one alone.
@@ -404,6 +465,7 @@ macro_rules! languages {
                     flags: [BEHIND.2[0] as u8, BEHIND.2[1] as u8, BEHIND.2[2] as u8],
                     reserved: [0; 5],
                 };
+                static KEPT: Kept = Kept::new();
                 static FORMS: LanguageForms = LanguageForms {
                     shown: Forms {
                         forms: SHOWN.0.as_ptr(),
@@ -414,6 +476,7 @@ macro_rules! languages {
                         tokens: if RULES.is_some() { &raw const TOKENS } else { ptr::null() },
                     },
                     read: literal::Forms::new_or_panic(&READ).with_specials(SPELLED),
+                    kept: if RULES.is_some() { Some(&KEPT) } else { None },
                 };
                 (&raw const FORMS).cast()
             }

@@ -135,6 +135,13 @@ impl ReadError {
     pub fn at(valid_up_to: usize, form: usize, refusal: Refusal<FormError>) -> ReadError {
         Made::new(Reached { valid_up_to, form: form as u8 }, refusal)
     }
+
+    /// Returns the error of a form.
+    #[cold]
+    #[inline(never)]
+    pub fn of(why: FormError) -> ReadError {
+        ReadError::at(why.valid_up_to(), why.form, Refusal::Library(why))
+    }
 }
 
 /// A literal, with its parts. It borrows its text.
@@ -306,7 +313,7 @@ unsafe fn number<'a>(
 ) -> Option<Number<'a>> {
     match input(text, len).ok_or(TOO_LONG).and_then(read) {
         Ok(Ok(number)) => return Some(number),
-        Ok(Err(why)) => error.write(ReadError::at(why.valid_up_to(), why.form, Refusal::Library(why))),
+        Ok(Err(why)) => error.write(ReadError::of(why)),
         Err(sentence) => error.write(ReadError::at(0, 0, Refusal::Argument(sentence))),
     }
     None

@@ -1,12 +1,12 @@
 //! The call that reads a token, and what the header has for it: suffixes, stops, and rules of a list.
 
 use crate::arguments::{input, write_text, Out};
-use crate::languages::{form_at, numbers_of, with_tokens, Form, Forms, Given, KindNumbers};
+use crate::languages::{form_at, numbers_of, with_tokens, Form, Forms, KindNumbers};
 use crate::literals::{Literal, ReadError, Refusal, Span, TOO_LONG};
 use core::ffi::CStr;
-use core::mem::MaybeUninit;
+use core::mem::{self, MaybeUninit};
 use core::{ptr, slice};
-use peltzivar::literal::{self, Affix, FormError, Kind, TokenError};
+use peltzivar::literal::{self, Affix, TokenError};
 
 /// The kind of numbers with a suffix.
 #[repr(C)]
@@ -72,117 +72,104 @@ const _: () = assert!(size_of::<Tokens>() == 32 && size_of::<Token>() == 368 && 
 /// The most words, kinds and stops of all forms of a list.
 const MOST: usize = 256;
 
-/// Items in memory of a caller, one after another.
-struct Room<T> {
-    start: *mut T,
-    len: usize,
-}
+/// A piece of memory, which is aligned for all that lists have.
+pub type Unit = MaybeUninit<u128>;
 
-impl<T> Room<T> {
-    fn of(memory: &mut [MaybeUninit<T>; MOST]) -> Room<T> {
-        Room { start: memory.as_mut_ptr().cast(), len: 0 }
-    }
-
-    /// Adds an item, unless there are too many.
-    fn push(&mut self, item: T) -> Option<()> {
-        if self.len == MOST {
-            return None;
-        }
-        // SAFETY: there is memory for so many items, and no slice has this one.
-        unsafe { self.start.add(self.len).write(item) };
-        self.len += 1;
-        Some(())
-    }
-
-    /// Returns the items from an index on.
-    ///
-    /// # Safety
-    ///
-    /// The memory must outlive the use of the slice.
-    unsafe fn since<'a>(&self, index: usize) -> &'a [T] {
-        slice::from_raw_parts(self.start.add(index), self.len - index)
-    }
-}
-
-/// Memory for the words of a list during a call.
-pub struct Memory {
-    words: [MaybeUninit<&'static [u8]>; MOST],
-    kinds: [MaybeUninit<(&'static [u8], Kind)>; MOST],
-    stops: [MaybeUninit<literal::Stop>; MOST],
-    suffixes: [MaybeUninit<literal::Suffixes>; MOST],
-}
-
-impl Memory {
-    pub const NEW: Memory = Memory {
-        words: [const { MaybeUninit::uninit() }; MOST],
-        kinds: [const { MaybeUninit::uninit() }; MOST],
-        stops: [const { MaybeUninit::uninit() }; MOST],
-        suffixes: [const { MaybeUninit::uninit() }; MOST],
-    };
-}
-
-/// What reads suffixes of C. It returns `None` if there are too many, or if they are refused.
+/// What reads lists of C into memory. It returns `None` if there is too much, or if it is refused.
 pub struct Reader {
-    words: Room<&'static [u8]>,
-    kinds: Room<(&'static [u8], Kind)>,
-    stops: Room<literal::Stop>,
-    suffixes: Room<literal::Suffixes>,
-    last: *const Suffixes,
+    memory: &'static mut [Unit],
+    words: usize,
+    kinds: usize,
+    stops: usize,
+    last: (*const Suffixes, Option<&'static literal::Suffixes>),
 }
 
 impl Reader {
-    pub fn of(memory: &mut Memory) -> Reader {
-        let Memory { words, kinds, stops, suffixes } = memory;
-        let (words, kinds, stops) = (Room::of(words), Room::of(kinds), Room::of(stops));
-        Reader { words, kinds, stops, suffixes: Room::of(suffixes), last: ptr::null() }
+    /// Reads into memory of a caller.
+    ///
+    /// # Safety
+    ///
+    /// The memory must outlive the use of what is read.
+    pub unsafe fn of(memory: &mut [Unit]) -> Reader {
+        let memory = slice::from_raw_parts_mut(memory.as_mut_ptr(), memory.len());
+        Reader { memory, words: MOST, kinds: MOST, stops: MOST, last: (ptr::null(), None) }
+    }
+
+    /// Returns memory for so many items, if there is enough.
+    pub fn take<T>(&mut self, count: usize) -> Option<&'static mut [MaybeUninit<T>]> {
+        const { assert!(align_of::<T>() <= align_of::<Unit>()) };
+        let units = (count * size_of::<T>()).div_ceil(size_of::<Unit>());
+        let (taken, rest) = mem::take(&mut self.memory).split_at_mut_checked(units)?;
+        self.memory = rest;
+        // SAFETY: so many units have memory for the items, and nothing else has it.
+        Some(unsafe { slice::from_raw_parts_mut(taken.as_mut_ptr().cast(), count) })
+    }
+
+    /// Returns the item in this memory.
+    pub fn keep<T>(&mut self, item: T) -> Option<&'static T> {
+        Some(self.take(1)?[0].write(item))
     }
 
     /// Returns the words of a string.
     ///
     /// # Safety
     ///
-    /// A C caller passes the string, and the memory outlives the use of the words.
+    /// A C caller passes the string.
     pub unsafe fn words(&mut self, text: *const u8) -> Option<&'static [&'static [u8]]> {
-        let begin = self.words.len;
-        for word in string(text).split(|it| *it == b' ').filter(|it| !it.is_empty()) {
-            self.words.push(word)?;
+        let words = string(text).split(|it| *it == b' ').filter(|it| !it.is_empty());
+        let count = words.clone().count();
+        self.words = self.words.checked_sub(count)?;
+        let all = self.take(count)?;
+        for (word, to) in words.zip(&mut *all) {
+            to.write(word);
         }
-        Some(self.words.since(begin))
+        Some(written(all))
     }
 
     /// Returns suffixes, of which there are none if the pointer is null.
     ///
     /// # Safety
     ///
-    /// A C caller passes them, and the memory outlives their use.
+    /// A C caller passes them.
     pub unsafe fn suffixes(&mut self, given: *const Suffixes) -> Option<Option<&'static literal::Suffixes>> {
         if given.is_null() {
             return Some(None);
         }
-        if self.suffixes.len == 0 || !ptr::eq(given, self.last) {
+        if !ptr::eq(given, self.last.0) {
             let it = given.read_unaligned();
             if it.reserved != [0; 14] {
                 return None;
             }
             let [integers, floats] = [self.words(it.words[0])?, self.words(it.words[1])?];
-            let (kinds, stops) = (self.kinds.len, self.stops.len);
-            for index in 0..it.kind_count {
+            self.kinds = self.kinds.checked_sub(it.kind_count)?;
+            let kinds = self.take(it.kind_count)?;
+            for (index, to) in kinds.iter_mut().enumerate() {
                 let SuffixKind { word, kind, reserved } = it.kinds.add(index).read_unaligned();
-                self.kinds.push((string(word), kind.kind().filter(|_| reserved == [0; 4])?))?;
+                to.write((string(word), kind.kind().filter(|_| reserved == [0; 4])?));
             }
-            for index in 0..it.stop_count {
+            self.stops = self.stops.checked_sub(it.stop_count)?;
+            let stops = self.take(it.stop_count)?;
+            for (index, to) in stops.iter_mut().enumerate() {
                 let Stop { bytes: [last, next, second], reserved } = it.stops.add(index).read_unaligned();
                 let stop = literal::Stop::new(string(last), string(next), string(second));
-                self.stops.push(Some(stop).filter(|_| reserved == [0; 8])?)?;
+                to.write(Some(stop).filter(|_| reserved == [0; 8])?);
             }
-            let made = literal::Suffixes::new(integers, floats, self.stops.since(stops));
+            let made = literal::Suffixes::new(integers, floats, written(stops));
             let made = made.either_case(it.either_case != 0).whole_words(it.whole_words != 0).any_word(string(it.any));
-            let made = made.with_written(self.words(it.written)?);
-            self.suffixes.push(made.with_kinds(self.kinds.since(kinds)))?;
-            self.last = given;
+            let made = made.with_written(self.words(it.written)?).with_kinds(written(kinds));
+            self.last = (given, Some(self.keep(made)?));
         }
-        Some(self.suffixes.since(self.suffixes.len - 1).first())
+        Some(self.last.1)
     }
+}
+
+/// Returns the items.
+///
+/// # Safety
+///
+/// All must be written.
+pub unsafe fn written<T>(items: &[MaybeUninit<T>]) -> &[T] {
+    slice::from_raw_parts(items.as_ptr().cast(), items.len())
 }
 
 /// Returns the bytes of a string. A null pointer has none.
@@ -420,63 +407,60 @@ pub struct Constant<T>(pub T);
 // SAFETY: all pointers point to constants.
 unsafe impl<T> Sync for Constant<T> {}
 
-/// A token, or where reading stopped, the index of a form, and why there is none.
-type Read<'a> = Result<Token<'a>, (usize, usize, Refusal<FormError>)>;
-
-/// Returns the token that a text begins with. An error of a suffix has words of the caller, and is passed to `print`.
-#[allow(clippy::result_large_err, reason = "the library allocates nothing")]
-fn token<'a>(forms: Given<'_>, text: &'a [u8], print: &mut dyn FnMut(&TokenError)) -> Read<'a> {
-    let forms = forms.map_err(|sentence| (0, 0, Refusal::Argument(sentence)))?;
-    match forms.token_bytes(text) {
-        Ok(it) => {
-            let size = text.len() - it.rest.len();
-            let suffix = Span { start: size - it.suffix.len(), end: size };
-            let (literal, rest) = (Literal::of(it.literal, it.form), it.rest.as_ptr());
-            Ok(Token { literal, suffix, size, rest, reserved: [0; 2] })
-        }
-        Err(TokenError::Literal(why)) => Err((why.valid_up_to(), why.form, Refusal::Library(why))),
-        Err(why @ TokenError::UnknownSuffix { form, start, end, .. }) => {
-            print(&why);
-            Err((start, form, Refusal::Suffix { start, end }))
-        }
-        Err(TokenError::Stopped { form, start, end }) => Err((start, form, Refusal::Stop { start, end })),
-        Err(TokenError::NotAToken { end }) => Err((end, 0, Refusal::Point { end })),
-        Err(_) => Err((0, 0, Refusal::Argument("these forms have no tokens"))),
+impl<'a> Token<'a> {
+    #[inline(always)]
+    fn of(token: literal::Token<'a>, len: usize) -> Token<'a> {
+        let size = len - token.rest.len();
+        let suffix = Span { start: size - token.suffix.len(), end: size };
+        let literal = Literal::of(token.literal, token.form);
+        Token { literal, suffix, size, rest: token.rest.as_ptr(), reserved: [0; 2] }
     }
 }
 
-/// Does the same by forms of C.
+/// Returns the error that C gets. An error of a suffix has words of the caller, which it does not keep.
+#[cold]
 #[inline(never)]
-#[allow(clippy::result_large_err, reason = "the library allocates nothing")]
-unsafe fn found<'a>(forms: *const Forms, text: *const u8, len: usize, print: &mut dyn FnMut(&TokenError)) -> Read<'a> {
-    let mut read = Err((0, 0, Refusal::Argument(TOO_LONG)));
-    if let Some(text) = input(text, len) {
-        with_tokens(forms, &mut |forms| read = token(forms, text, print));
+fn error_of(why: TokenError) -> ReadError {
+    match why {
+        TokenError::Literal(why) => ReadError::of(why),
+        TokenError::UnknownSuffix { form, start, end, .. } => {
+            ReadError::at(start, form, Refusal::Suffix { start, end })
+        }
+        TokenError::Stopped { form, start, end } => ReadError::at(start, form, Refusal::Stop { start, end }),
+        TokenError::NotAToken { end } => ReadError::at(end, 0, Refusal::Point { end }),
+        _ => ReadError::at(0, 0, Refusal::Argument("these forms have no tokens")),
     }
-    read
 }
 
 calls! {
     fn peltzivar_forms_token(
         forms: *const Forms, text: *const u8, len: usize, out: Out<Token>, error: Out<ReadError>
     ) -> bool {
-        match found(forms, text, len, &mut |_| ()) {
-            Ok(token) => {
-                out.write(token);
-                true
-            }
-            Err((valid_up_to, form, refusal)) => {
-                error.write(ReadError::at(valid_up_to, form, refusal));
-                false
-            }
-        }
+        let mut is_token = false;
+        with_tokens(forms, &mut |forms| match (input(text, len).ok_or(TOO_LONG), forms) {
+            (Ok(text), Ok(forms)) => match forms.token_bytes(text) {
+                Ok(token) => {
+                    out.write(Token::of(token, len));
+                    is_token = true;
+                }
+                Err(why) => error.write(error_of(why)),
+            },
+            (Err(sentence), _) | (_, Err(sentence)) => error.write(ReadError::at(0, 0, Refusal::Argument(sentence))),
+        });
+        is_token
     }
 
     fn peltzivar_token_error_text(
         forms: *const Forms, text: *const u8, len: usize, to: *mut u8, to_len: usize
     ) -> usize {
-        let mut size = None;
-        let found = found(forms, text, len, &mut |why| size = Some(write_text(to, to_len, Some(why))));
-        size.unwrap_or_else(|| write_text(to, to_len, found.err().as_ref().map(|it| &it.2)))
+        let mut size = 0;
+        with_tokens(forms, &mut |forms| {
+            let refusal = match (input(text, len).ok_or(TOO_LONG), forms) {
+                (Ok(text), Ok(forms)) => forms.token_bytes(text).err().map(Refusal::Library),
+                (Err(sentence), _) | (_, Err(sentence)) => Some(Refusal::Argument(sentence)),
+            };
+            size = write_text(to, to_len, refusal);
+        });
+        size
     }
 }

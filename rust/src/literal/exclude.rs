@@ -89,13 +89,13 @@ pub(crate) const fn sign_size(text: &[u8]) -> usize {
 
 // Returns whether no front of `text` with more than `size` bytes is a literal: there is not the prefix that is required, or the text ends
 // behind them, or a byte follows that plays no role. If they are more than a sign, no literal begins with more.
-#[cfg_attr(not(peltzivar_small), inline(always))]
+#[inline(always)]
 pub(crate) const fn lacks_longer(grammar: Grammar, text: &[u8], size: usize) -> bool {
     lacks_prefix(grammar, text) || is_over(grammar, text, size)
 }
 
 // Returns whether the text ends behind the first `size` bytes, or a byte follows that plays no role.
-#[inline(always)]
+#[cfg_attr(not(peltzivar_small), inline(always))]
 pub(crate) const fn is_over(grammar: Grammar, text: &[u8], size: usize) -> bool {
     match byte_at(text, size) {
         None => true,

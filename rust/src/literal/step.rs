@@ -385,7 +385,7 @@ pub(crate) const fn after(read: Summary, zero: bool, role: Role) -> Summary {
 }
 
 // Returns the role of `byte` after a front that ends in `part`, where digits are those of the radix of `part`.
-#[cfg_attr(not(peltzivar_small), inline(always))]
+#[inline(always)]
 pub const fn role_at(grammar: Grammar, part: Part, byte: u8) -> Option<Role> {
     if is_digit(grammar, part, byte) {
         Some(Role::Digit)

@@ -140,7 +140,7 @@ impl Suffixes {
 }
 
 // Returns the length of the longest suffix with which `text` begins, or 0 if there is none.
-#[cfg_attr(not(peltzivar_small), inline(always))]
+#[inline(always)]
 pub(crate) const fn suffix_size(suffixes: Option<&'static Suffixes>, float: bool, text: &[u8]) -> usize {
     match suffixes {
         None => 0,
@@ -192,7 +192,7 @@ const fn kind_among(either: bool, kinds: &[(&[u8], Kind)], word: &[u8], kind: Ki
 
 // Returns whether what is behind the number that ends at `end` may not follow it, where any word may follow or none. None may follow a
 // point.
-#[cfg_attr(not(peltzivar_small), inline(always))]
+#[inline(always)]
 pub(crate) const fn is_stopped(words: bool, suffixes: Option<&'static Suffixes>, text: &[u8], end: usize) -> bool {
     (if words && !has_point(byte_before(text, end)) { has_digit_at(text, end) } else { has_word_byte(text, end) })
         || match suffixes {
@@ -202,7 +202,7 @@ pub(crate) const fn is_stopped(words: bool, suffixes: Option<&'static Suffixes>,
 }
 
 // Returns whether the byte at `index` is one of a word.
-#[cfg_attr(not(peltzivar_small), inline(always))]
+#[inline(always)]
 pub(crate) const fn has_word_byte(text: &[u8], index: usize) -> bool {
     match byte_at(text, index) {
         None => false,

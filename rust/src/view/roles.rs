@@ -164,6 +164,7 @@ const fn is_sign(byte: u8) -> bool {
 
 // Returns whether `byte` is `own` or, if `case_sensitive` is false, the same letter in the other case. Returns `false`
 // if `own` is 0, which means absent.
+#[inline(always)]
 const fn is_byte(own: u8, case_sensitive: bool, byte: u8) -> bool {
     own != 0 && (byte == own || !case_sensitive && byte.eq_ignore_ascii_case(&own))
 }
