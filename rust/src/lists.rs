@@ -123,6 +123,13 @@ impl FromIterator<Edit> for NumberFormatBuilder {
     }
 }
 
+/// Applies the edits to a new builder, in order.
+impl<'a> FromIterator<&'a Edit> for NumberFormatBuilder {
+    fn from_iter<I: IntoIterator<Item = &'a Edit>>(edits: I) -> Self {
+        edits.into_iter().copied().collect()
+    }
+}
+
 impl Rule {
     /// All rules, in the order in which they are checked.
     pub const ALL: &'static [Rule] = &RULES;

@@ -998,6 +998,7 @@ const _: () = { fn has() where NumberFormatBuilder: Debug {} };
 const _: () = { fn has() where NumberFormatBuilder: Default {} };
 const _: () = { fn has() where NumberFormatBuilder: Eq {} };
 const _: () = { fn has() where NumberFormatBuilder: From<Format> {} };
+const _: () = { fn has() where NumberFormatBuilder: FromIterator<&'static Edit> {} };
 const _: () = { fn has() where NumberFormatBuilder: FromIterator<Edit> {} };
 const _: () = { fn has() where NumberFormatBuilder: Hash {} };
 const _: () = { fn has() where NumberFormatBuilder: PartialEq {} };

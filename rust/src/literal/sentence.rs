@@ -66,13 +66,13 @@ impl ReadError {
     ///
     /// ```
     /// use peltzivar::literal::Syntax;
-    /// use peltzivar::{Format, FormatError, NumberFormatBuilder};
+    /// use peltzivar::{edits, Format, FormatError, NumberFormatBuilder};
     ///
     /// let syntax = Syntax::new(Format::default(), b'e', b'.')?;
     /// let error = syntax.read("1e").unwrap_err();
     /// assert!(error.is_incomplete());
-    /// let mut builder = NumberFormatBuilder::from(Format::default());
-    /// builder.extend(error.settings()); // required_exponent_digits=false
+    /// // The setting is required_exponent_digits=false.
+    /// let builder = error.settings().fold(NumberFormatBuilder::from(Format::default()), edits::apply);
     /// assert!(Syntax::new(builder.build_format()?, b'e', b'.')?.read("1e").is_ok());
     /// # Ok::<(), FormatError>(())
     /// ```
