@@ -1,7 +1,7 @@
 //! Conversions of words, edits and setters from and to text, and implementations of the trait `core::error::Error`.
 
 use core::str::FromStr;
-use core::{fmt, hash};
+use core::fmt;
 
 use crate::edits::{Edit, EditError, FlagSetter};
 use crate::error::Error;
@@ -42,20 +42,6 @@ impl FromStr for Format {
 impl fmt::Display for ShortText {
     fn fmt(&self, f: &mut fmt::Formatter<'_>) -> fmt::Result {
         f.pad(self.as_str())
-    }
-}
-
-impl PartialEq for ShortText {
-    fn eq(&self, other: &Self) -> bool {
-        self.as_str() == other.as_str()
-    }
-}
-
-impl Eq for ShortText {}
-
-impl hash::Hash for ShortText {
-    fn hash<H: hash::Hasher>(&self, state: &mut H) {
-        self.as_str().hash(state);
     }
 }
 
