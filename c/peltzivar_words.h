@@ -177,13 +177,30 @@ typedef struct {
 static const peltzivar_word PELTZIVAR_STANDARD = PELTZIVAR_STANDARD_INIT;
 static const peltzivar_fields PELTZIVAR_NEW_FIELDS = PELTZIVAR_NEW_FIELDS_INIT;
 
+/* Applies the edits, in order, to a copy of PELTZIVAR_NEW_FIELDS, packs it, writes the word to *out and returns true.
+ * If a setter is unknown, returns false and leaves *out unchanged. The word may be unlawful (see peltzivar_check). */
+PELTZIVAR_MUST_USE bool peltzivar_build(const peltzivar_edit *edits, size_t len, peltzivar_word *out);
+
+/* Applies the edits, in order, to the fields that peltzivar_fields_of returns, packs them, writes the word to *out and
+ * returns true. If a setter is unknown, returns false and leaves *out unchanged. Since absent exponent bytes are
+ * filled, and packing may drop the digit separator, two calls do not always give the same word as one call with all of
+ * the edits. A first call that sets the digit separator drops it, since no flag allows it before the second call. */
+PELTZIVAR_MUST_USE bool peltzivar_edit_word(
+    peltzivar_word format, const peltzivar_edit *edits, size_t len, peltzivar_word *out);
+
 /* Returns PELTZIVAR_SUCCESS if a word is lawful, and otherwise the error of the first rule that it breaks. */
 peltzivar_error peltzivar_check(peltzivar_word format);
 
 /* Returns the normal form of a word: the same fields, except that the mantissa radix replaces each absent exponent
- * byte, that the digit separator is 0 if no digit separator flag is set, and that all reserved bits are 0. Words with
- * the same normal form are the same format. */
+ * byte, that the digit separator is 0 if no digit separator flag is set, and that all reserved bits are 0. */
 peltzivar_word peltzivar_normal_form(peltzivar_word format);
+
+/* Returns whether two words have the same normal form. */
+bool peltzivar_same_format(peltzivar_word a, peltzivar_word b);
+
+/* If the normal form of a word is lawful, writes it to *out and returns PELTZIVAR_SUCCESS. Otherwise, returns the error
+ * of the first rule that the normal form breaks, and leaves *out unchanged. */
+PELTZIVAR_MUST_USE peltzivar_error peltzivar_migrate(peltzivar_word format, peltzivar_word *out);
 
 /* Returns whether a word is one that peltzivar_pack can return: all its reserved bits are 0, and at least one of its
  * digit separator flags is set unless its digit separator is 0. */
@@ -225,8 +242,7 @@ size_t peltzivar_error_text(peltzivar_error error, size_t index, char *text, siz
 peltzivar_fields peltzivar_fields_of(peltzivar_word format);
 
 /* Applies the edits, in order, to *fields, which is input and output, and returns true. If a setter is unknown, returns
- * false and leaves *fields unchanged. To edit a word, pass the fields of peltzivar_fields_of, and pack them once, after
- * all edits: a digit separator is dropped where no flag allows it yet. */
+ * false and leaves *fields unchanged. */
 PELTZIVAR_MUST_USE bool peltzivar_edit_fields(peltzivar_fields *fields, const peltzivar_edit *edits, size_t len);
 
 /* Packs the fields into a word and returns the word, whether or not it is lawful. Packing sets the reserved bits to 0.
@@ -242,6 +258,10 @@ peltzivar_word peltzivar_pack(const peltzivar_fields *fields);
  * peltzivar_read_settings takes `exponent` and `point`, which are not fields. */
 PELTZIVAR_MUST_USE bool peltzivar_parse_edit(const char *text, size_t len, peltzivar_edit *out);
 
+/* Parses the value of base_prefix alone, such as `'p'`, `0x70`, `112` or `none`, which is 0, writes the byte to *out
+ * and returns true. Otherwise, returns false and leaves *out unchanged. White space at both ends is skipped. */
+PELTZIVAR_MUST_USE bool peltzivar_parse_byte(const char *text, size_t len, uint8_t *out);
+
 /* Writes the reason why peltzivar_parse_edit rejects a string, such as "no_special takes `true` or `false`", or
  * "unknown setting name; did you mean `base_suffix`?". The string has len bytes, and the buffer `to` has to_len bytes.
  * If peltzivar_parse_edit accepts it, writes an empty string. */
@@ -253,6 +273,9 @@ size_t peltzivar_edit_text(peltzivar_edit edit, char *text, size_t len);
 
 /* Returns the name of a setter, such as "digit_separator": its constant in lowercase, without PELTZIVAR_SET_. */
 const char *peltzivar_setter_name(peltzivar_setter setter);
+
+/* Returns the setter with a name of len bytes, or PELTZIVAR_NO_SETTER. radix is another name of mantissa_radix. */
+peltzivar_setter peltzivar_setter_of_name(const char *name, size_t len);
 
 /* Returns a mask of the bits that a setter writes. The mask is 0 if the setter is unknown. */
 peltzivar_word peltzivar_setter_mask(peltzivar_setter setter);
@@ -332,6 +355,15 @@ typedef struct {
 
 /* Returns where a part of a number may have digit separators. If there is no such part, all members are false. */
 peltzivar_separators peltzivar_separators_of(peltzivar_word format, peltzivar_part part);
+
+/* Returns whether a byte is the digit separator of a word in which at least one digit separator flag is set. */
+bool peltzivar_is_separator(peltzivar_word format, uint8_t byte);
+
+/* Returns whether the base prefix matches a byte, as PELTZIVAR_RULE_PUNCTUATION_DIFFERS states. */
+bool peltzivar_is_base_prefix(peltzivar_word format, uint8_t byte);
+
+/* Returns whether the base suffix matches a byte, as PELTZIVAR_RULE_PUNCTUATION_DIFFERS states. */
+bool peltzivar_is_base_suffix(peltzivar_word format, uint8_t byte);
 
 /* The roles of a byte in a number. */
 typedef uint8_t peltzivar_role;

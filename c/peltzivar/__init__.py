@@ -546,6 +546,18 @@ class FormatView(metaclass=_Class):
         """Returns where a part of a number may have digit separators, such as `separators(Part.FRACTION).internal`."""
         return Separators(*_c.separators_of(self._halves, _typed("part", part, Part).value))
 
+    def is_separator(self, byte: Byte) -> bool:
+        """Returns whether a byte is the digit separator, and some flag allows it."""
+        return bool(_c.is_separator(self._halves, _byte("a byte", byte)))
+
+    def is_base_prefix(self, byte: Byte) -> bool:
+        """Returns whether the base prefix matches a byte. A letter matches both cases unless it is case-sensitive."""
+        return bool(_c.is_base_prefix(self._halves, _byte("a byte", byte)))
+
+    def is_base_suffix(self, byte: Byte) -> bool:
+        """Returns whether the base suffix matches a byte. A letter matches both cases unless it is case-sensitive."""
+        return bool(_c.is_base_suffix(self._halves, _byte("a byte", byte)))
+
     def role_of(self, byte: Byte, *, exponent: Byte = 0, point: Byte = 0) -> Optional[Role]:
         """Returns the first role that a byte has in numbers with this exponent character and this decimal point, or
         None. An option that is 0 matches no byte. If this is a `Format` and the options fit it, no byte has two

@@ -812,6 +812,9 @@ static PyType_Spec LITERAL = {"peltzivar._peltzivar.Found", sizeof(Literal), 0,
     it(flag, TRUTH(peltzivar_flag(w, a))) \
     it(mantissa_digit, digit(peltzivar_mantissa_digit(w, a))) \
     it(exponent_digit, digit(peltzivar_exponent_digit(w, a))) \
+    it(is_separator, TRUTH(peltzivar_is_separator(w, a))) \
+    it(is_base_prefix, TRUTH(peltzivar_is_base_prefix(w, a))) \
+    it(is_base_suffix, TRUTH(peltzivar_is_base_suffix(w, a))) \
     it(role_of, PyLong_FromLong(peltzivar_role_of(w, a, b, c))) \
     it(separators_of, separators(peltzivar_separators_of(w, a))) \
     it(fields_of, fields(peltzivar_fields_of(w))) \

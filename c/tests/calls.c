@@ -76,15 +76,18 @@ static void test_setters(void) {
         const peltzivar_edit edits[] = {{104, 7}, {setter, 200}};
         const char *const name = peltzivar_setter_name(setter);
         const bool is_known = flags || byte;
+        peltzivar_word word = {1, 2};
         peltzivar_fields fields = PELTZIVAR_NEW_FIELDS;
         if (is_known && number < 128) CHECK(number < 64 ? flags == 1ull << number : byte == 0xFFull << (number - 64));
         CHECK(peltzivar_edit_fields(&fields, edits, 2) == is_known && (fields.mantissa_radix == 10) != is_known);
-        fields = peltzivar_fields_of(ZERO);
-        CHECK(peltzivar_edit_fields(&fields, edits, 2) == is_known);
-        const peltzivar_word word = peltzivar_pack(&fields);
-        CHECK(word.low == flags && peltzivar_flag(word, setter) == (flags != 0) && (*name != 0) == is_known);
+        CHECK(peltzivar_build(edits, 2, &word) == is_known && is_word(word, 2, 1) != is_known);
+        CHECK(peltzivar_edit_word(ZERO, edits, 2, &word) == is_known && word.low == (is_known ? flags : 1));
+        CHECK(peltzivar_flag(word, setter) == (flags != 0));
+        CHECK((*name != 0) == is_known && (peltzivar_setter_of_name(name, strlen(name)) == setter || !is_known));
         CHECK((peltzivar_edit_text(edits[1], NULL, 0) != 0) == is_known);
     }
+    CHECK(peltzivar_setter_of_name("radix=", 5) == PELTZIVAR_SET_MANTISSA_RADIX);
+    CHECK(peltzivar_setter_of_name("radix", 4) == PELTZIVAR_NO_SETTER);
 }
 
 static void test_words(void) {
@@ -93,10 +96,13 @@ static void test_words(void) {
     peltzivar_edit found[3];
     peltzivar_fields fields = PELTZIVAR_NEW_FIELDS;
     peltzivar_word word = {1, 2};
+    uint8_t byte = 7;
     size_t index = 7;
     fields.flags |= 1ull << 63;
     CHECK(is_word(peltzivar_pack(&fields), 0x00000A0000000000, 0xC));
-    CHECK(is_word(peltzivar_normal_form(RESERVED), 0x0A0A0A0000000000, 0xC));
+    CHECK(peltzivar_migrate(ZERO, &word) == PELTZIVAR_INVALID_MANTISSA_RADIX && is_word(word, 2, 1));
+    CHECK(!peltzivar_migrate(RESERVED, &word) && is_word(word, 0x0A0A0A0000000000, 0xC));
+    CHECK(peltzivar_same_format(PELTZIVAR_STANDARD, RESERVED) && !peltzivar_same_format(PELTZIVAR_STANDARD, ZERO));
     memset(found, '#', sizeof found);
     CHECK(peltzivar_edits_of(hexadecimal, found, 1) == 2 && found[0].setter == 0 && found[0].value == 1);
     CHECK(found[1].setter == '#' && peltzivar_edits_of(hexadecimal, found, SIZE_MAX) == 2);
@@ -113,8 +119,12 @@ static void test_words(void) {
     }
     CHECK(WRITES("", peltzivar_error_text(UINT32_MAX, 0, text, sizeof text)) && !*peltzivar_description(49));
     CHECK(!*peltzivar_description(UINT32_MAX) && !*peltzivar_rule_condition(UINT32_MAX) && !*peltzivar_part_name(255));
+    word = ZERO;
     /* The longest source: all flags differ from their defaults, radixes have three digits, and other bytes are '!'. */
     CHECK(peltzivar_source(longest, source, sizeof source) == strlen(source) && strlen(source) < sizeof source - 1);
+    CHECK(peltzivar_parse_byte("'p'", 3, &byte) && byte == 'p' && !peltzivar_parse_byte("256", 3, &byte) && byte == 'p');
+    CHECK(peltzivar_parse_byte("\t2 ", 3, &byte) && byte == 2 && !peltzivar_parse_byte("\v2", 2, &byte) && byte == 2);
+    CHECK(peltzivar_parse_byte("none", 4, &byte) && byte == 0 && peltzivar_parse_byte("0x2e", 4, &byte) && byte == '.');
     CHECK(peltzivar_role_of(RESERVED, 'e', '.', 255) == PELTZIVAR_ROLE_NONE && !peltzivar_separators_of(RESERVED, 255).internal);
 }
 
@@ -589,18 +599,22 @@ static void test_null(void) {
     CHECK(peltzivar_read_settings("radix", SIZE_MAX, &syntax) == 1 && syntax.exponent == 3);
     CHECK(!peltzivar_read_settings(NULL, 0, NULL) && !peltzivar_read_settings(NULL, 0, &syntax) && syntax.exponent == 'e');
     CHECK(peltzivar_settings_lines("radix=2\nradix=3", 15, 0, to, 1) == 2 && to[0] == 0 && to[1] == 7);
-    CHECK(peltzivar_edit_fields(&fields, NULL, 0) && is_word(peltzivar_pack(&fields), 0x00000A0000000000, 0xC));
+    CHECK(peltzivar_edit_fields(&fields, NULL, 0) && peltzivar_build(NULL, 0, &word));
+    CHECK(is_word(word, 0x00000A0000000000, 0xC));
+    CHECK(peltzivar_edit_word(RESERVED, NULL, 0, &word) && is_word(word, 0x0A0A0A0000000000, 0xC));
     CHECK(peltzivar_parse_word(NULL, 0, &word, NULL) == PELTZIVAR_EMPTY);
     CHECK(!peltzivar_parse_edit(NULL, 0, &edit) && edit.value == 16);
+    CHECK(peltzivar_setter_of_name(NULL, 0) == PELTZIVAR_NO_SETTER);
     CHECK(peltzivar_word_text(ZERO, NULL, 0) == 34 && peltzivar_source(ZERO, NULL, 0) > 40);
     CHECK(peltzivar_error_text(0, 0, NULL, 0) == 23 && peltzivar_edit_text(edit, NULL, 0) == 17);
-    CHECK(!peltzivar_edits_of(PELTZIVAR_STANDARD, NULL, 0));
+    CHECK(!peltzivar_edits_of(PELTZIVAR_STANDARD, NULL, 0) && !peltzivar_parse_byte(NULL, 0, NULL));
     CHECK(peltzivar_setting_error_text(NULL, 0, NULL, 0) == strlen("expected NAME=VALUE"));
     CHECK(peltzivar_reason_text(ZERO, 0, NULL, 0) > 40 && peltzivar_note_text(&fields, 0, NULL, 0) == 0);
     CHECK(peltzivar_options_reason_text(ZERO, 'e', 'e', 0, NULL, 0) > 40);
-    CHECK(!peltzivar_parse_word("0x1", 3, NULL, NULL));
+    CHECK(peltzivar_build(NULL, 0, NULL) && !peltzivar_parse_word("0x1", 3, NULL, NULL) && !peltzivar_build(&edit, SIZE_MAX, &word));
     CHECK(!peltzivar_edit_fields(&fields, &edit, SIZE_MAX / 2) && !peltzivar_parse_edit("radix=2", SIZE_MAX, &edit));
     CHECK(peltzivar_parse_word("0x1", SIZE_MAX, &word, NULL) == PELTZIVAR_OVERFLOW && edit.value == 16);
+    CHECK(peltzivar_setter_of_name("radix", SIZE_MAX) == PELTZIVAR_NO_SETTER);
     CHECK(peltzivar_word_text(ZERO, text, SIZE_MAX) == strlen(text));
 }
 

@@ -51,8 +51,8 @@ static peltzivar_word draw_word(void) {
     peltzivar_word word = PELTZIVAR_STANDARD;
     for (uint64_t count = draw() % 12; count > 0; count--) {
         const peltzivar_edit edits[] = {draw_edit(), draw_edit()};
-        peltzivar_fields fields = peltzivar_fields_of(word);
-        if (peltzivar_edit_fields(&fields, edits, 2)) word = peltzivar_pack(&fields);
+        const peltzivar_word before = word;
+        CHECK(peltzivar_edit_word(word, edits, 2, &word) || is_same(word, before));
     }
     if (draw() % 4 == 0) word.low ^= draw() & draw() & draw();
     if (draw() % 4 == 0) word.high ^= draw() & draw() & draw();
@@ -68,14 +68,13 @@ static void test_word(peltzivar_word word) {
     text[draw() % len] = (char)draw();
     CHECK(!peltzivar_parse_word(text, len, &other, &index) || index < len);
     const peltzivar_word normal = peltzivar_normal_form(word);
-    CHECK(is_same(peltzivar_normal_form(normal), normal));
-    WRITE(peltzivar_error_text, peltzivar_check(normal), 7);
+    CHECK(peltzivar_same_format(word, normal) && peltzivar_migrate(word, &other) == peltzivar_check(normal));
+    WRITE(peltzivar_error_text, peltzivar_migrate(word, &other), 7);
     WRITE(peltzivar_source, word);
     const size_t count = peltzivar_edits_of(word, NULL, 0), room = (size_t)draw() % (count + 1);
     peltzivar_edit *const edits = malloc(count * sizeof *edits + 1);
-    peltzivar_fields fields = PELTZIVAR_NEW_FIELDS;
-    CHECK(edits && peltzivar_edits_of(word, edits, count) == count && peltzivar_edit_fields(&fields, edits, count));
-    CHECK(is_same(peltzivar_pack(&fields), word) == peltzivar_is_built(word) && peltzivar_edits_of(word, edits, room) == count);
+    CHECK(edits && peltzivar_edits_of(word, edits, count) == count && peltzivar_build(edits, count, &other));
+    CHECK(is_same(other, word) == peltzivar_is_built(word) && peltzivar_edits_of(word, edits, room) == count);
     free(edits);
 }
 
@@ -308,12 +307,11 @@ static void test_numbers(peltzivar_word word) {
         peltzivar_description(it), peltzivar_rule_condition(it), peltzivar_value_description(it), peltzivar_write_description(it)};
     peltzivar_fields fields = peltzivar_fields_of(word);
     for (int i = 0; i < 8; i++) CHECK(strlen(texts[i]) < PELTZIVAR_TEXT_SIZE);
-    CHECK(!*name == !(mask.low | mask.high) && peltzivar_flag(word, it) == !!(word.low & mask.low));
-    CHECK(is_same(peltzivar_normal_form(word), peltzivar_pack(&fields)) && peltzivar_edit_fields(&fields, &edit, 1) == !!*name && !peltzivar_separators_of(word, it | 4).internal);
+    CHECK(!*name == !(mask.low | mask.high) && (!*name || peltzivar_setter_of_name(name, strlen(name)) == it) && peltzivar_flag(word, it) == !!(word.low & mask.low));
+    CHECK(peltzivar_same_format(word, peltzivar_pack(&fields)) && peltzivar_edit_fields(&fields, &edit, 1) == !!*name && !peltzivar_separators_of(word, it | 4).internal);
     const bool is_digit = (peltzivar_mantissa_digit(word, it) & peltzivar_exponent_digit(word, it)) != PELTZIVAR_NO_DIGIT, is_sign = it == '+' || it == '-';
-    const peltzivar_role role = peltzivar_role_of(word, 0, 0, it);
-    CHECK(is_digit ? role == 1 : is_sign ? role == 2 : role == 0 || (3 <= role && role <= 5));
-    CHECK(peltzivar_version() == PELTZIVAR_VERSION_NUMBER);
+    CHECK(peltzivar_role_of(word, 0, 0, it) == (is_digit ? 1 : is_sign ? 2 : peltzivar_is_separator(word, it) ? 3 : peltzivar_is_base_prefix(word, it) ? 4
+        : peltzivar_is_base_suffix(word, it) ? 5 : 0) && peltzivar_version() == PELTZIVAR_VERSION_NUMBER);
 }
 
 /* A text is a special value only if it is a spelling with other signs, cases and separators. */
@@ -372,6 +370,7 @@ static void test_settings(void) {
     const bool is_read = peltzivar_parse_edit(setting, len, &read);
     WRITE(peltzivar_setting_error_text, setting, len);
     CHECK(is_read == !*text && (is_read || (read.setter == 7 && read.value == 9)));
+    CHECK(peltzivar_parse_byte(setting, len, &read.value) || is_read || read.value == 9);
     free(setting);
 }
 

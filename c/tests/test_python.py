@@ -144,9 +144,9 @@ class Words(unittest.TestCase):
     def test_bytes_are_numbers_or_characters(self):
         view = FormatView.of(radix=16, exponent_radix=10, base_prefix="x", base_suffix="H", case_sensitive_base_prefix=True,
                              digit_separator="_", fraction_internal_digit_separator=True)  # fmt: skip
-        for role, characters in ((Role.PREFIX, "x"), (Role.SUFFIX, "Hh"), (Role.SEPARATOR, "_")):
-            self.assertEqual("".join(it for it in map(chr, range(128)) if view.role_of(it) is role), characters)
-            self.assertEqual([it for it in range(256) if view.role_of(it) is view.role_of(bytes([it])) is role], [ord(it) for it in characters])
+        for call, characters in ((view.is_base_prefix, "x"), (view.is_base_suffix, "Hh"), (view.is_separator, "_")):
+            self.assertEqual("".join(filter(call, map(chr, range(128)))), characters)
+            self.assertEqual([it for it in range(256) if call(it) and call(bytes([it]))], [ord(it) for it in characters])
         self.assertEqual([view.mantissa_digit(it) for it in ("0", "9", b"a", "f", "A", b"F", "g", "G", 66)], [0, 9, 10, 15, 10, 15, None, None, 11])
         self.assertEqual([view.exponent_digit(it) for it in "09a"], [0, 9, None])
         for byte in range(256):
@@ -570,7 +570,7 @@ class Wrong(unittest.TestCase):
     def test_other_objects_are_refused_by_name(self):
         view, syntax = FormatView((1 << 128) - 1), Syntax(Format())
         calls = {
-            "a byte": [view.mantissa_digit, view.role_of, syntax.role_of],
+            "a byte": [view.is_separator, view.mantissa_digit, view.role_of, syntax.role_of],
             "a format word": [FormatView, Format, Format.parse],
             "a setting|=|unknown|takes": [Edit, Format().edit, Syntax.of, Syntax.notes_of],
             "a text|here$|expected": [syntax.read, syntax.read_prefix, Language.JSON.read],

@@ -16,6 +16,7 @@ checked: Format = FormatView.parse("0x0A0A0A0000000000000000000000000C").check()
 digits: Tuple[Optional[int], Optional[int]] = view.mantissa_digit("f"), view.exponent_digit(b"f")
 separators: Separators = view.separators(Part.INTEGER)
 allowed: Tuple[bool, bool, bool, bool] = separators.internal, separators.leading, separators.trailing, separators.consecutive
+marks: Tuple[bool, bool, bool] = view.is_separator("_"), view.is_base_prefix(b"x"), view.is_base_suffix(104)
 role: Optional[Role] = view.role_of("p", exponent=b"p", point=46)
 edit: Edit = view.edits()[0]
 edited: Tuple[Setter, Union[bool, int, str, None], str, int] = edit.setter, edit.value, edit.name, edit.mask

@@ -2,14 +2,19 @@
 
 use crate::arguments::{input, item, write_list, write_text, Out};
 use crate::literals::Syntax;
-use crate::numbers::{setter_of, NumberedEdit, Setter, Word};
+use crate::numbers::{setter_number, setter_of, NumberedEdit, Setter, Word, NO_SETTER};
 use core::fmt::Display;
 use core::str::from_utf8;
-use peltzivar::{Edit, EditError, Finding, FindingKind, LineError, Settings};
+use peltzivar::{edits, Edit, EditError, Finding, FindingKind, LineError, Settings};
 
-/// Parses a setting. One that is too long or not UTF-8 is read as a setting with an unknown name.
+/// Returns a string. One that is too long or not UTF-8 is read as a setting with an unknown name.
+unsafe fn string<'a>(text: *const u8, len: usize) -> &'a str {
+    input(text, len).and_then(|it| from_utf8(it).ok()).unwrap_or("=")
+}
+
+/// Parses a setting.
 unsafe fn parsed(text: *const u8, len: usize) -> Result<Edit, EditError> {
-    input(text, len).and_then(|it| from_utf8(it).ok()).unwrap_or("=").parse()
+    string(text, len).parse()
 }
 
 /// What takes a sentence and lines, and returns what a call returns.
@@ -65,6 +70,14 @@ calls! {
 
     fn peltzivar_edit_text(edit: NumberedEdit, text: *mut u8, len: usize) -> usize {
         write_text(text, len, edit.edit())
+    }
+
+    fn peltzivar_parse_byte(text: *const u8, len: usize, out: Out<u8>) -> bool {
+        out.write_some(edits::Setter::DigitSeparator.parse(string(text, len)).ok().map(Edit::argument_byte))
+    }
+
+    fn peltzivar_setter_of_name(name: *const u8, len: usize) -> Setter {
+        edits::Setter::from_name(string(name, len)).map_or(NO_SETTER, setter_number)
     }
 
     fn peltzivar_setter_mask(setter: Setter) -> Word { setter_of(setter).map_or(0, |it| it.mask()).into() }

@@ -21,6 +21,12 @@ pub struct Separators {
     consecutive: bool,
 }
 
+/// Applies the edits in order. Returns `None` if an edit has an unknown setter, or if there are too many.
+unsafe fn edited(builder: NumberFormatBuilder, edits: *const NumberedEdit, len: usize) -> Option<NumberFormatBuilder> {
+    let apply = |it, edit: &NumberedEdit| Some(edits::apply(it, edit.edit()?));
+    input(edits, len)?.iter().try_fold(builder, apply)
+}
+
 fn reason_at(format: Word, index: usize) -> Option<Reason> {
     item(format.view().reasons(), index)
 }
@@ -41,8 +47,20 @@ calls! {
             | part(env!("CARGO_PKG_VERSION_PATCH"))
     }
 
+    fn peltzivar_build(edits: *const NumberedEdit, len: usize, out: Out<Word>) -> bool {
+        let builder = edited(NumberFormatBuilder::new(), edits, len);
+        out.write_some(builder.map(|it| it.build_unchecked()))
+    }
+
+    fn peltzivar_edit_word(format: Word, edits: *const NumberedEdit, len: usize, out: Out<Word>) -> bool {
+        let builder = edited(NumberFormatBuilder::rebuild(format.number()), edits, len);
+        out.write_some(builder.map(|it| it.build_unchecked()))
+    }
+
     fn peltzivar_check(format: Word) -> ErrorNumber { error_number(format.view().error()) }
     fn peltzivar_normal_form(format: Word) -> Word { edits::normal_form(format.number()).into() }
+    fn peltzivar_same_format(a: Word, b: Word) -> bool { edits::same_format(a.number(), b.number()) }
+    fn peltzivar_migrate(format: Word, out: Out<Word>) -> ErrorNumber { out.write_ok(edits::migrate(format.number())) }
     fn peltzivar_is_built(format: Word) -> bool { edits::is_built(format.number()) }
 
     fn peltzivar_edits_of(format: Word, out: *mut NumberedEdit, len: usize) -> usize {
@@ -59,8 +77,7 @@ calls! {
     fn peltzivar_pack(fields: &Fields) -> Word { fields.builder().build_unchecked().into() }
 
     fn peltzivar_edit_fields(fields: &mut Fields, edits: *const NumberedEdit, len: usize) -> bool {
-        let apply = |it, edit: &NumberedEdit| Some(edits::apply(it, edit.edit()?));
-        let builder = input(edits, len).and_then(|edits| edits.iter().try_fold(fields.builder(), apply));
+        let builder = edited(fields.builder(), edits, len);
         builder.map(|it| *fields = it.into()).is_some()
     }
 
@@ -137,6 +154,10 @@ calls! {
         let peltzivar::Separators { internal, leading, trailing, consecutive, .. } = format.view().separators(*part);
         Separators { internal, leading, trailing, consecutive }
     }
+
+    fn peltzivar_is_separator(format: Word, byte: u8) -> bool { format.view().is_separator(byte) }
+    fn peltzivar_is_base_prefix(format: Word, byte: u8) -> bool { format.view().is_base_prefix(byte) }
+    fn peltzivar_is_base_suffix(format: Word, byte: u8) -> bool { format.view().is_base_suffix(byte) }
 
     fn peltzivar_role_of(format: Word, exponent: u8, decimal_point: u8, byte: u8) -> u8 {
         let role = format.view().role_of(exponent, decimal_point, byte);
