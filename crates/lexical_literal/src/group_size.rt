@@ -2,11 +2,11 @@
 
 ghost use Rattle.std.specs.Prelude.{◌≡◌, ◌<◌, ◌≤◌, ◌^◌, Some, length, take};
 ghost use Rattle.lexical_literal.specs.Additions.GroupSize.{first_group, group_allows, follows, group_after, grow, grown, most};
-ghost use Rattle.lexical_literal.specs.Groups.{first_fits, has_size, has_sizes, higher, inner_fits, last_fits};
+ghost use Rattle.lexical_literal.specs.Groups.{first_fits, has_size, higher, inner_fits, last_fits};
 ghost use Rattle.lexical_literal.specs.Notation.{notation_of};
 
 use crate::step::role_at;
-use crate::syntax::{Condition, Grammar};
+use crate::syntax::{Condition, Grammar, has_sizes};
 use lexical_util::format::{Part, Role};
 
 // The group of digits that is being read: its part, whether a separator is before it, and the number of its digits.
@@ -33,15 +33,6 @@ pub(crate) const fn has_size(grammar: Grammar, part: Part) -> bool
         Part::Fraction => grammar.conditions.has(Condition::FractionGroupSize),
         Part::Exponent => false,
     }
-}
-
-// Returns whether a condition is on groups of some part.
-#[inline(always)]
-pub(crate) const fn has_sizes(grammar: Grammar) -> bool
-    ensures { result ≡ has_sizes (notation_of grammar) }
-{
-    grammar.conditions.has(Condition::IntegerGroupSize)
-        || grammar.conditions.has(Condition::FractionGroupSize)
 }
 
 // Returns the number of a condition.

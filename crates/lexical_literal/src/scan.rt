@@ -10,7 +10,7 @@ ghost use Rattle.lexical_literal.specs.Notation.{Notation, radix_of};
 ghost use Rattle.lexical_literal.specs.Additions.Stop.{HasFound};
 ghost use Rattle.lexical_literal.specs.Additions.Scan.{IsAt, IsBegun, IsDecimal, IsDigitAt, IsOpened, IsOver, IsPassed, IsReadOn, IsReady, IsRefused};
 ghost use Rattle.lexical_literal.specs.Additions.Scan.{IsRunOn, IsSeparated, IsSign, behind_sign, counts_of, fresh, has_first, is_first, is_free, at_stage};
-ghost use Rattle.lexical_literal.specs.Additions.Scan.{may_read, up_to};
+ghost use Rattle.lexical_literal.specs.Additions.Scan.{may_read};
 ghost use Rattle.lexical_literal.specs.Additions.GroupSize.{steps_of};
 ghost use Rattle.lexical_literal.specs.Additions.Literal.{AreSums, IsMantissa, IsSummed, cut};
 ghost use Rattle.lexical_literal.specs.Additions.Step.{Cuts, after_mark, after_point, awaits_integer, cuts_of, has_digit, is_bare, is_fresh};
@@ -183,7 +183,7 @@ const fn sum_with(grammar: Grammar, decimal: bool, part: Part, sum: u64, value: 
     ensures { result ≡ (sum * radix_of (raw grammar.word) part % 2 ^ 64 + value) % 2 ^ 64 }
 {
     let radix = if decimal { 10 } else { radix_of(grammar, part) };
-    add(sum, radix, value)
+    add(sum, radix as u64, value)
 }
 
 // Returns the run with one more digit, whose byte is the last of `bytes` more.
@@ -215,18 +215,6 @@ const fn with_digit(
         },
         ..run
     }
-}
-
-// Returns the run with as many digits more as bytes, up to the index `size`, which then represent `value`.
-#[inline(always)]
-const fn up_to(run: Reading, size: usize, value: u64) -> Reading
-    requires size { run.size ≤ size }
-    requires digits { run.sum.digits ≤ run.size }
-    ensures { result ≡ up_to run size value }
-{
-    let digits = run.sum.digits + (size - run.size);
-    let sum = Sum { digits, value };
-    Reading { size, sum, ..run }
 }
 
 // Returns the value of the digit behind a separator at `index`, if a separator may be there.
@@ -279,7 +267,9 @@ const fn more_digits(
         value = sum_with(grammar, decimal, part, value, digit);
         size += 1;
     }
-    up_to(begun, size, value)
+    let digits = begun.sum.digits + (size - begun.size);
+    let sum = Sum { digits, value };
+    Reading { size, sum, ..begun }
 }
 
 // Reads the digits that follow others, and separators between them. They do not change the stage.

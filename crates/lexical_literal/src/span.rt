@@ -8,10 +8,9 @@ ghost use Rattle.lexical_literal.specs.Additions.Explained.{grammar_at, marks_at
 ghost use Rattle.lexical_literal.specs.Notation.{notation_of};
 
 use crate::cause::{Place, ReadErrorKind, Spot};
-use crate::group_size::has_sizes;
 use crate::step::{Summary, is_digit};
 use crate::stop::front_of;
-use crate::syntax::{Condition, Grammar};
+use crate::syntax::{Condition, Grammar, has_sizes};
 use lexical_util::error::Error;
 use lexical_util::format::Part;
 

@@ -10,7 +10,7 @@ ghost use Rattle.lexical_util.specs.Layout.{separators_in};
 ghost use Rattle.lexical_literal.specs.Additions.GroupSize.{steps_of};
 ghost use Rattle.lexical_literal.specs.declared.syntax.Condition.TheVariants as conditions;
 ghost use Rattle.lexical_literal.specs.Additions.Step.{after_point, digits_of, part_of, role_at, piece_number, piece_of, has_digit, may_follow, admits};
-ghost use Rattle.lexical_literal.specs.Additions.Step.{finishes, forbids_plus, gap_fits, awaits_integer, is_negative, is_signed, lacks_prefix, is_run};
+ghost use Rattle.lexical_literal.specs.Additions.Step.{forbids_plus, gap_fits, awaits_integer, is_negative, is_signed, lacks_prefix, is_run};
 ghost use Rattle.lexical_literal.specs.Additions.Step.{leads, leads_to_prefix, needs_exponent, continues, ends, is_complete, move_by, step, takes, after};
 
 use crate::group_size::has_size;
@@ -110,12 +110,12 @@ pub(crate) const fn digit_value(grammar: Grammar, part: Part, byte: u8) -> Optio
 
 // Returns the radix of the digits of `part`.
 #[inline(always)]
-pub(crate) const fn radix_of(grammar: Grammar, part: Part) -> u64
+pub(crate) const fn radix_of(grammar: Grammar, part: Part) -> u32
     ensures { result ≡ radix_of (raw grammar.word) part }
 {
     match part {
-        Part::Exponent => grammar.view().exponent_radix() as u64,
-        _ => grammar.view().mantissa_radix() as u64,
+        Part::Exponent => grammar.view().exponent_radix(),
+        _ => grammar.view().mantissa_radix(),
     }
 }
 
@@ -335,7 +335,8 @@ pub(crate) const fn is_complete(grammar: Grammar, read: Summary) -> bool
 {
     let part = part_of(read.stage);
     (read.ended || (ends(grammar, read) && continues(grammar, part, read.stage, Role::Suffix)))
-        && finishes(grammar.conditions, read)
+        && !(grammar.conditions.has(Condition::BasePrefix) && lacks_prefix(read.stage))
+        && (!grammar.conditions.has(Condition::BaseSuffix) || read.ended)
 }
 
 // Returns whether the base prefix may still follow, or what is left of it.
@@ -404,15 +405,6 @@ const fn some_admit(conditions: Conditions, read: Summary, byte: u8, role: Role)
             && is_negative(part_of(read.stage), byte == b'+', role))
         && (!needs_zero || leads(zero, role))
         && (!needs_decimal || leads(byte <= b'9', role))
-}
-
-// Returns whether the conditions let a literal end.
-#[inline(always)]
-const fn finishes(conditions: Conditions, read: Summary) -> bool
-    ensures { result ≡ finishes (has conditions) read }
-{
-    !(conditions.has(Condition::BasePrefix) && lacks_prefix(read.stage))
-        && (!conditions.has(Condition::BaseSuffix) || read.ended)
 }
 
 // Returns whether some literal goes on with a byte that has the role `role`, and is a plus sign if `plus` is true.

@@ -17,12 +17,12 @@ ghost use Rattle.lexical_literal.specs.declared.cause.Refusal.{Refusal};
 ghost use Rattle.lexical_literal.specs.declared.group_size.Group.{Group};
 
 use crate::cause::{ReadError, Spot};
-use crate::group_size::{FIRST, Group, group_after, group_allows, grow, has_sizes};
+use crate::group_size::{FIRST, Group, group_after, group_allows, grow};
 use crate::literal::Sums;
 use crate::scan::{is_decimal, scan};
 use crate::span::spot;
 use crate::step::{Piece, START, Summary, is_complete, part_of, piece_number, piece_of, step};
-use crate::syntax::{Grammar, Syntax, is_usual};
+use crate::syntax::{Grammar, Syntax, has_sizes, is_usual};
 use lexical_util::format::{Part, Role};
 
 // What has been read of a text part after part. If `complete` is true, it is a literal, its parts have the lengths `counts`, and its

@@ -9,6 +9,7 @@ ghost use Rattle.lexical_util.specs.Options.{OptionsFit, IsOptionsError};
 ghost use Rattle.lexical_util.specs.declared.lawful.Rejected.TheVariants as rejected;
 ghost use Rattle.lexical_literal.specs.Additions.Scan.{HasSizes, IsReady, IsUsual};
 ghost use Rattle.lexical_literal.specs.Additions.GroupSize.{steps_of};
+ghost use Rattle.lexical_literal.specs.Groups.{has_sizes};
 ghost use Rattle.lexical_literal.specs.declared.syntax.Condition.{Condition};
 ghost use Rattle.lexical_literal.specs.declared.syntax.Condition.TheVariants as conditions;
 ghost use Rattle.lexical_literal.specs.declared.syntax.Options.{Options};
@@ -123,7 +124,7 @@ impl Conditions {
     pub const fn has(self, condition: Condition) -> bool
         ensures { result ≡ has self condition }
     {
-        self.number(condition) != 0
+        self.numbers[condition as usize] != 0
     }
 
     /// Returns the same conditions with another number of `condition`, or without it if `number` is 0.
@@ -406,6 +407,15 @@ impl Syntax {
             conditions: self.conditions,
         }
     }
+}
+
+// Returns whether a condition is on groups of some part.
+#[inline(always)]
+pub(crate) const fn has_sizes(grammar: Grammar) -> bool
+    ensures { result ≡ has_sizes (notation_of grammar) }
+{
+    grammar.conditions.has(Condition::IntegerGroupSize)
+        || grammar.conditions.has(Condition::FractionGroupSize)
 }
 
 // The bits of a format that most decimal formats share, and their values: neither a sign nor an exponent is required, there is no

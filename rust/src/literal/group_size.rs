@@ -3,7 +3,7 @@
 //! Sizes of digit groups: how many digits are between the separators of a part, and which bytes may follow.
 
 use crate::literal::step::role_at;
-use crate::literal::syntax::{Condition, Grammar};
+use crate::literal::syntax::{has_sizes, Condition, Grammar};
 use crate::word::{Part, Role};
 
 // The group of digits that is being read: its part, whether a separator is before it, and the number of its digits.
@@ -24,12 +24,6 @@ pub(crate) const fn has_size(grammar: Grammar, part: Part) -> bool {
         Part::Fraction => grammar.conditions.has(Condition::FractionGroupSize),
         Part::Exponent => false,
     }
-}
-
-// Returns whether a condition is on groups of some part.
-#[inline(always)]
-pub(crate) const fn has_sizes(grammar: Grammar) -> bool {
-    grammar.conditions.has(Condition::IntegerGroupSize) || grammar.conditions.has(Condition::FractionGroupSize)
 }
 
 // Returns the number of a condition.

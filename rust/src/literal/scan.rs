@@ -112,7 +112,7 @@ const fn value_at(grammar: Grammar, decimal: bool, text: &[u8], part: Part, inde
 #[inline(always)]
 const fn sum_with(grammar: Grammar, decimal: bool, part: Part, sum: u64, value: u32) -> u64 {
     let radix = if decimal { 10 } else { radix_of(grammar, part) };
-    add(sum, radix, value)
+    add(sum, radix as u64, value)
 }
 
 // Returns the run with one more digit, whose byte is the last of `bytes` more.
@@ -123,14 +123,6 @@ const fn with_digit(grammar: Grammar, decimal: bool, part: Part, run: Reading, v
         sum: Sum { digits: run.sum.digits + 1, value: sum_with(grammar, decimal, part, run.sum.value, value) },
         ..run
     }
-}
-
-// Returns the run with as many digits more as bytes, up to the index `size`, which then represent `value`.
-#[inline(always)]
-const fn up_to(run: Reading, size: usize, value: u64) -> Reading {
-    let digits = run.sum.digits + (size - run.size);
-    let sum = Sum { digits, value };
-    Reading { size, sum, ..run }
 }
 
 // Returns the value of the digit behind a separator at `index`, if a separator may be there.
@@ -152,7 +144,9 @@ const fn more_digits(grammar: Grammar, decimal: bool, text: &[u8], part: Part, b
         value = sum_with(grammar, decimal, part, value, digit);
         size += 1;
     }
-    up_to(begun, size, value)
+    let digits = begun.sum.digits + (size - begun.size);
+    let sum = Sum { digits, value };
+    Reading { size, sum, ..begun }
 }
 
 // Reads the digits that follow others, and separators between them. They do not change the stage.

@@ -4,10 +4,9 @@
 
 use crate::error::Error;
 use crate::literal::cause::{Place, ReadErrorKind, Spot};
-use crate::literal::group_size::has_sizes;
 use crate::literal::step::{is_digit, Summary};
 use crate::literal::stop::front_of;
-use crate::literal::syntax::{Condition, Grammar};
+use crate::literal::syntax::{has_sizes, Condition, Grammar};
 use crate::word::Part;
 
 // A kind of bytes.

@@ -87,10 +87,10 @@ pub(crate) const fn digit_value(grammar: Grammar, part: Part, byte: u8) -> Optio
 
 // Returns the radix of the digits of `part`.
 #[inline(always)]
-pub(crate) const fn radix_of(grammar: Grammar, part: Part) -> u64 {
+pub(crate) const fn radix_of(grammar: Grammar, part: Part) -> u32 {
     match part {
-        Part::Exponent => grammar.view().exponent_radix() as u64,
-        _ => grammar.view().mantissa_radix() as u64,
+        Part::Exponent => grammar.view().exponent_radix(),
+        _ => grammar.view().mantissa_radix(),
     }
 }
 
@@ -265,7 +265,8 @@ const fn continues(grammar: Grammar, part: Part, stage: Stage, role: Role) -> bo
 pub(crate) const fn is_complete(grammar: Grammar, read: Summary) -> bool {
     let part = part_of(read.stage);
     (read.ended || (ends(grammar, read) && continues(grammar, part, read.stage, Role::Suffix)))
-        && finishes(grammar.conditions, read)
+        && !(grammar.conditions.has(Condition::BasePrefix) && lacks_prefix(read.stage))
+        && (!grammar.conditions.has(Condition::BaseSuffix) || read.ended)
 }
 
 // Returns whether the base prefix may still follow, or what is left of it.
@@ -321,13 +322,6 @@ const fn some_admit(conditions: Conditions, read: Summary, byte: u8, role: Role)
         && !(conditions.has(Condition::NegativeSign) && is_negative(part_of(read.stage), byte == b'+', role))
         && (!needs_zero || leads(zero, role))
         && (!needs_decimal || leads(byte <= b'9', role))
-}
-
-// Returns whether the conditions let a literal end.
-#[inline(always)]
-const fn finishes(conditions: Conditions, read: Summary) -> bool {
-    !(conditions.has(Condition::BasePrefix) && lacks_prefix(read.stage))
-        && (!conditions.has(Condition::BaseSuffix) || read.ended)
 }
 
 // Returns whether some literal goes on with a byte that has the role `role`, and is a plus sign if `plus` is true.

@@ -3,12 +3,12 @@
 //! Where reading a text stops, and whether that is a literal: what has begun, and what has stopped.
 
 use crate::literal::cause::{ReadError, Spot};
-use crate::literal::group_size::{group_after, group_allows, grow, has_sizes, Group, FIRST};
+use crate::literal::group_size::{group_after, group_allows, grow, Group, FIRST};
 use crate::literal::literal::Sums;
 use crate::literal::scan::{is_decimal, scan};
 use crate::literal::span::spot;
 use crate::literal::step::{is_complete, part_of, piece_number, piece_of, step, Piece, Summary, START};
-use crate::literal::syntax::{is_usual, Grammar, Syntax};
+use crate::literal::syntax::{has_sizes, is_usual, Grammar, Syntax};
 use crate::word::{Part, Role};
 
 // What has been read of a text part after part. If `complete` is true, it is a literal, its parts have the lengths `counts`, and its

@@ -99,7 +99,7 @@ impl Conditions {
     /// Returns whether `condition` is one of them.
     #[must_use]
     pub const fn has(self, condition: Condition) -> bool {
-        self.number(condition) != 0
+        self.numbers[condition as usize] != 0
     }
 
     /// Returns the same conditions with another number of `condition`, or without it if `number` is 0.
@@ -311,6 +311,12 @@ impl Syntax {
     pub(crate) const fn as_grammar(&self) -> Grammar {
         Grammar { word: self.format.word(), options: self.options, conditions: self.conditions }
     }
+}
+
+// Returns whether a condition is on groups of some part.
+#[inline(always)]
+pub(crate) const fn has_sizes(grammar: Grammar) -> bool {
+    grammar.conditions.has(Condition::IntegerGroupSize) || grammar.conditions.has(Condition::FractionGroupSize)
 }
 
 // The bits of a format that most decimal formats share, and their values: neither a sign nor an exponent is required, there is no

@@ -34,7 +34,3 @@ loop-digit-preserved c =
           (both_runs (steps_of g) radix text c.args.part begun run (pushed radix run v 1) now.on
           (more_digit g text c.args.part run v c.requires.ready.roles c.requires.run c.requires.part c.in-Some.ensures.some)));
     }
-
-pub returns-clause-run : goal.returns-clause-run
-returns-clause-run c = subst (IsRunOn (steps_of c.args.grammar) (radix_of (raw c.args.grammar.word) c.args.part) c.args.text.now c.args.part c.args.begun)
-    (sym c.up_to.ensures) c.loop-digit.invariant.on
