@@ -1,15 +1,16 @@
 -- The names that most proofs of this crate cite, passed on from one place. Declares nothing.
-pub use Rattle.lexical_forms.specs.Additions.Forms.{IsFurthestForm, sign_size}
+pub use Rattle.lexical_forms.specs.Additions.Forms.{IsFurthestForm, reach, sign_size}
 pub use Rattle.lexical_forms.specs.Additions.Token.{IsWithin}
 pub use Rattle.lexical_forms.specs.FormList.{FormList}
-pub use Rattle.lexical_forms.specs.Forms.{NoForm, ReadsForm, reach}
+pub use Rattle.lexical_forms.specs.Forms.{NoForm, ReadsForm}
 pub use Rattle.lexical_forms.specs.Token.{IsAhead, ReadsSyntax}
 pub use Rattle.lexical_forms.specs.declared.form.Form.{Form}
 pub use Rattle.lexical_forms.specs.declared.token.Candidate.{Candidate}
 pub use Rattle.lexical_literal.specs.Additions.Stop.{IsCountedFront, IsMeasured, IsStopped}
+pub use Rattle.lexical_literal.specs.Additions.GroupSize.{with_rules}
 pub use Rattle.lexical_literal.specs.Additions.Literal.{AreSums, cut}
 pub use Rattle.lexical_literal.specs.Additions.Step.{Cuts, HasLengths, cuts_of, role_at}
-pub use Rattle.lexical_literal.specs.Cause.{IsRefusal, bare, is_byte, is_stray, with_rules}
+pub use Rattle.lexical_literal.specs.Cause.{IsRefusal, bare, is_byte, is_stray}
 pub use Rattle.lexical_literal.specs.Front.{IsFront, IsValidUpTo, NoFront, NoLiteral, ReadsFront}
 pub use Rattle.lexical_literal.specs.Literal.{Literal, Reads, is_absent, is_float, is_none_or_one, is_none_or_prefix, is_present, text_of}
 pub use Rattle.lexical_literal.specs.Notation.{Notation, notation_of, set_of_role}

@@ -89,14 +89,11 @@ pub record IsGreatest (P : Form → ℕ → Type 0) (forms : List Form) (index s
   pub before : All (λ form. (other : ℕ) → P form other → other < size) (take index forms)
   pub others : All (λ form. (other : ℕ) → P form other → other ≤ size) forms
 
--- `reach error` is twice the number of bytes that are right, and 1 more unless the cause is a wrong byte or a required prefix is not there.
-abbrev pub reach : Refusal → ℕ
-reach error = 2 * error.valid_up_to + (if is_stray error then 0 else 1)
-
--- `reach_in opened error` is the same for an error behind `opened` bytes. An opening or a closing that is not there counts as a wrong byte.
+-- `reach_in opened error` is twice the number of bytes that are right, and 1 more unless the cause is a wrong byte, or a required prefix, an opening
+-- or a closing is not there.
 abbrev pub reach_in : ℕ → Option Refusal → ℕ
 reach_in opened None = 2 * opened
-reach_in opened (Some error) = 2 * opened + reach error
+reach_in opened (Some error) = 2 * opened + (2 * error.valid_up_to + (if is_stray error then 0 else 1))
 
 -- `right_in opened error` is the number of bytes that are right.
 abbrev pub right_in : ℕ → Option Refusal → ℕ

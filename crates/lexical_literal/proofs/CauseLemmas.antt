@@ -3,7 +3,8 @@ use Rattle.lexical_literal.proofs.Common.{ℕ, ◌≡◌, ◌<◌, ◌+◌, ◌^
 use Rattle.lexical_literal.proofs.Common.{refl, sym, ap, ◌∙◌, arith, nat_tests, false≢true, cases_Bool, eqb-true, ByteSet, Flag, bit, raw, Record, list_any}
 use Rattle.lexical_literal.proofs.Common.{Notation, ◌==◌, if◌then◌else◌, length, mask_of, no_condition, bare, index_behind, is_one_of, number_separator_flags}
 use Rattle.lexical_literal.proofs.Common.{requirement_flags, with_rules, list_any-append, or_parts, w128, bit_not, flag_bits, part, SEPARATORS}
-use Rattle.lexical_literal.specs.Cause.{flag_at, leading_zero_flags}
+use Rattle.lexical_literal.specs.Additions.Explained.{leading_zero_flags}
+use Rattle.lexical_literal.specs.Cause.{flag_at}
 use Rattle.std.proofs.lemmas.Nat.Bits.{bit_at_and, bit_at_or, bit_at_not, bit_at-zero, bit_at-pow_same, bit_at-pow_other}
 use Rattle.std.proofs.Math.Nat.{mod-lt}
 use Rattle.std.proofs.lemmas.Nat.{and_assoc}

@@ -3,7 +3,7 @@ pub use Rattle.lexical_literal.specs.Additions.Causes.{IsWeaker, kind_set, lets,
 pub use Rattle.lexical_literal.specs.Additions.Explained.{blame, cases, grammar_at, group_at, mask_of, otherwise, refusal_of, requirements, separators}
 pub use Rattle.lexical_literal.specs.Additions.Explained.{some_unmet, spot_of, unmet}
 pub use Rattle.lexical_literal.specs.Additions.GroupSize.{IsReadOf, first_group, follows, goes, group_after, group_allows, grow, grown, is_size, most}
-pub use Rattle.lexical_literal.specs.Additions.GroupSize.{role_next, steps_of, unsized}
+pub use Rattle.lexical_literal.specs.Additions.GroupSize.{role_next, steps_of, unsized, with_rules}
 pub use Rattle.lexical_literal.specs.Additions.Literal.{AreSums, cut}
 pub use Rattle.lexical_literal.specs.Additions.Scan.{HasRoles, HasSizes, IsAt, IsBegun, IsDigitAt, IsOpened, IsReadOn, IsReady, IsRefused, IsRunOn, at_stage}
 pub use Rattle.lexical_literal.specs.Additions.Scan.{counts_of, integer_counts, is_free, may_read, up_to}
@@ -14,9 +14,9 @@ pub use Rattle.lexical_literal.specs.Additions.Step.{is_signed, lacks_prefix, ma
 pub use Rattle.lexical_literal.specs.Additions.Step.{part_of, piece_number, piece_of, role_at, start, step, step_by, takes, takes_in, tally_by, walk}
 pub use Rattle.lexical_literal.specs.Additions.Step.{with_prefix}
 pub use Rattle.lexical_literal.specs.Additions.Stop.{HasBegun, HasFound, IsCountedFront, IsLongest, IsMeasured, IsStopped, IsUnderway}
-pub use Rattle.lexical_literal.specs.Cause.{Allows, IsCause, IsRefusal, IsUnmet, Marks, adding, bare, binds, case_set, error_of, first_in, first_unmet}
+pub use Rattle.lexical_literal.specs.Cause.{Allows, IsCause, IsRefusal, IsUnmet, Marks, adding, bare, binds, case_set, error_of, first_unmet}
 pub use Rattle.lexical_literal.specs.Cause.{index_behind, is_at, is_byte, is_one_of, lowest, marks_of, number_separator_flags, requirement_flags, requiring}
-pub use Rattle.lexical_literal.specs.Cause.{span_of, tail_of, with_rules}
+pub use Rattle.lexical_literal.specs.Cause.{span_of, tail_of}
 pub use Rattle.lexical_literal.specs.Front.{IsFront, IsValidUpTo, NoFront, NoLiteral, ReadsFront}
 pub use Rattle.lexical_literal.specs.Groups.{has_size, has_sizes, inner_fits, is_grouped, last_fits}
 pub use Rattle.lexical_literal.specs.Literal.{IsLiteral, IsSpelled, Literal, Reads, condition, is_absent, is_float, is_minus, is_none_or_one, is_none_or_prefix}

@@ -1,8 +1,9 @@
 -- The bytes to show for a text that is refused are of the text.
 use Rattle.lexical_literal.proofs.Common.{ℕ, ◌≡◌, ◌≤◌, ◌+◌, List, [], ◌∷◌, take, Option, None, Some, get_or, sym, subst, arith, length-take-le, take_more}
 use Rattle.lexical_literal.proofs.Common.{ByteSet, Flag, Notation, notation_of, Condition, Grammar, common_steps, length, if◌then◌else◌, IsRefusal}
-use Rattle.lexical_literal.proofs.Common.{index_behind, marks_of, span_of, ReadErrorKind, Refusal, first_in, slice_get, Marks}
+use Rattle.lexical_literal.proofs.Common.{index_behind, marks_of, span_of, ReadErrorKind, Refusal, slice_get, Marks}
 use Rattle.lexical_literal.specs.Cause.{wrong_end}
+use Rattle.std.specs.List.{position_or_len}
 use Rattle.std.proofs.Math.Seq.{take-length}
 use Rattle.std.proofs.lemmas.Option.{slice_get_within}
 use Rattle.lexical_literal.proofs.CauseLemmas.{behind_more}
@@ -17,7 +18,7 @@ module _ (A : ByteSet) where
       → index_behind A text ≡ (if A (get_or text k 0) then length text else index_behind A (take k text))
   behind_last text k size = grind (arith, common_steps, length-take-le, take-length, take_more, behind_more)
 
-  first_within : (text : List ℕ) → first_in A text ≤ length text
+  first_within : (text : List ℕ) → position_or_len A text ≤ length text
   first_within [] = omega arith
   first_within (b ∷ text) = let more = first_within text in grind arith
 

@@ -1,9 +1,9 @@
 -- Why a text is not a literal: the cause, the flags and conditions that are to blame, and the bytes to show.
 use Rattle.std.specs.Prelude.{ℕ, ◌≡◌, ◌+◌, ◌^◌, ◌==◌, ◌&&◌, ◌↔◌, ◌⊎◌, ◌||◌, not, Bool}
-use Rattle.std.specs.Prelude.{true, false, if◌then◌else◌, IsTrue, List, [], ◌∷◌, ◌++◌, drop, length, nat_lt}
+use Rattle.std.specs.Prelude.{true, false, if◌then◌else◌, IsTrue, List, [], ◌∷◌, ◌++◌, drop, length, map, nat_lt}
 use Rattle.std.specs.Prelude.{sum_by, take, slice_get, Option, Some, None}
 use Rattle.std.specs.Int.{w128, trailing_zeros}
-use Rattle.std.specs.List.{find, list_any}
+use Rattle.std.specs.List.{find, list_any, position_or_len}
 use Rattle.std.specs.Option.{unwrap_or}
 use Rattle.lexical_util.specs.Ascii.{ByteSet}
 use Rattle.lexical_util.specs.declared.error.Error.{Error}
@@ -17,7 +17,7 @@ use Rattle.lexical_util.specs.declared.format_flags.Part.TheVariants as parts
 use Rattle.lexical_literal.specs.Front.{IsFront, IsValidUpTo, NoLiteral}
 use Rattle.lexical_literal.specs.Groups.{has_sizes}
 use Rattle.lexical_literal.specs.Literal.{Literal, Reads}
-use Rattle.lexical_literal.specs.Notation.{all_conditions, Notation, has, is_same, kept}
+use Rattle.lexical_literal.specs.Notation.{all_conditions, Notation, has, order}
 use Rattle.lexical_literal.specs.declared.syntax.Condition.{Condition}
 use Rattle.lexical_literal.specs.declared.syntax.Condition.TheVariants as conditions
 use Rattle.lexical_literal.specs.declared.syntax.Conditions.{Conditions}
@@ -37,10 +37,6 @@ requirement_flags =
     layout.no_positive_exponent_sign ∷ layout.required_exponent_sign ∷ layout.no_exponent_without_fraction ∷
     layout.no_integer_leading_zeros ∷ layout.no_float_leading_zeros ∷ layout.required_exponent_notation ∷ []
 
--- `leading_zero_flags` lists the two flags on leading zeros.
-abbrev pub leading_zero_flags : List Flag
-leading_zero_flags = layout.no_integer_leading_zeros ∷ layout.no_float_leading_zeros ∷ []
-
 -- `number_separator_flags` lists the flags that allow a digit separator in a number.
 abbrev pub number_separator_flags : List Flag
 number_separator_flags =
@@ -50,20 +46,16 @@ number_separator_flags =
 abbrev pub is_one_of : List Flag → Flag → Bool
 is_one_of fs f = list_any (λ g. bit g == bit f) fs
 
--- `with_rules m flag condition` is `m` with just the flags for which `flag` is true, and the conditions for which `condition` is true.
-abbrev pub with_rules : Notation → (Flag → Bool) → (Condition → Bool) → Notation
-with_rules m flag condition = record m { flag = flag; condition = condition }
-
 -- `bare m` is `m` without the flags that require something, and without conditions.
 abbrev pub bare : Notation → Notation
-bare m = with_rules m (λ g. m.flag g && not (is_one_of requirement_flags g)) (λ c. false)
+bare m = record m { flag = λ g. m.flag g && not (is_one_of requirement_flags g); condition = λ c. false }
 
 -- `adding f m` is `m` with the flag `f`, and `requiring c m` is `m` with the condition `c`.
 abbrev pub adding : Flag → Notation → Notation
-adding f m = with_rules m (λ g. (bit g == bit f) || m.flag g) m.condition
+adding f m = record m { flag = λ g. (bit g == bit f) || m.flag g }
 
 abbrev pub requiring : Condition → Notation → Notation
-requiring c m = with_rules m m.flag (λ d. is_same c d || m.condition d)
+requiring c m = record m { condition = λ d. (order c == order d) || m.condition d }
 
 -- THE CAUSE
 
@@ -94,7 +86,7 @@ module _ (m : Notation) (front : List ℕ) (next : Option ℕ) where
   pub record RefusesJointly (f : Flag) : Type 0 where
     pub none_alone : (g : Flag) → RefusesAlone g → ⊥
     pub none_unmet : (c : Condition) → IsUnmet c → ⊥
-    pub zeros : IsTrue (binds m f && is_one_of leading_zero_flags f)
+    pub zeros : IsTrue (binds m f && is_one_of (layout.no_integer_leading_zeros ∷ layout.no_float_leading_zeros ∷ []) f)
 
   -- `IsRequirement blamed` holds if only requirements refuse `next`, and if the flags `blamed` are those that refuse it alone, or else jointly.
   pub record IsRequirement (blamed : Flag → Bool) : Type 0 where
@@ -115,10 +107,6 @@ case_set layout.case_sensitive_exponent m byte = m.exponent_character byte
 case_set layout.case_sensitive_base_prefix m byte = m.prefix byte
 case_set layout.case_sensitive_base_suffix m byte = m.suffix byte
 case_set _ m byte = false
-
--- `last_part m front` is the part of a number that `front` ends in.
-abbrev pub last_part : Notation → List ℕ → Part
-last_part m front = if list_any m.exponent_character front then parts.Exponent else (if list_any m.point front then parts.Fraction else parts.Integer)
 
 -- The byte `byte` cannot follow the text `front`.
 module _ (m : Notation) (front : List ℕ) (byte : ℕ) where
@@ -154,7 +142,7 @@ module _ (m : Notation) (front : List ℕ) (byte : ℕ) where
 -- `IsMissing m front part blamed` holds if digits of `part` are missing behind `front`, and no flag is to blame.
 pub record IsMissing (m : Notation) (front : List ℕ) (part : Part) (blamed : Flag → Bool) : Type 0 where
   pub refused : NoLiteral (bare m) front
-  pub last : part ≡ last_part m front
+  pub last : part ≡ (if list_any m.exponent_character front then parts.Exponent else (if list_any m.point front then parts.Fraction else parts.Integer))
   pub none : (f : Flag) → blamed f ≡ false
 
 -- `IsCause m front next cause blamed` holds if `cause`, by the flags `blamed`, is why `next` cannot follow `front`, or `front` alone is not a literal.
@@ -172,11 +160,6 @@ IsCause _ _ _ _ _ = ⊥
 abbrev pub index_behind : ByteSet → List ℕ → ℕ
 index_behind A [] = 0
 index_behind A (byte ∷ text) = if A byte || list_any A text then 1 + index_behind A text else 0
-
--- `first_in A text` is the index of the first byte of `text` that is in `A`, or the length of `text` if none is.
-abbrev pub first_in : ByteSet → List ℕ → ℕ
-first_in A [] = 0
-first_in A (byte ∷ text) = if A byte then 0 else 1 + first_in A text
 
 -- `flag_at number` is the flag with the bit `number`, and `lowest mask` that with the lowest bit of `mask`, or `special_digit_separator` if there is none.
 abbrev pub flag_at : ℕ → Flag
@@ -199,7 +182,7 @@ abbrev pub marks_of : Notation → List ℕ → Marks
 marks_of m front = record {
   size = length front;
   exponent = index_behind (λ byte. not (m.separator byte || signs byte)) front;
-  first = first_in (m.digit parts.Integer) (take (index_behind (λ byte. not (m.separator byte)) front) front);
+  first = position_or_len (m.digit parts.Integer) (take (index_behind (λ byte. not (m.separator byte)) front) front);
   run = index_behind (λ byte. not (m.separator byte)) front;
   group = if has_sizes m then index_behind (λ byte. not (m.digit parts.Integer byte)) front else 0;
 }
@@ -299,7 +282,7 @@ pub record IsRefusal (m : Notation) (text : List ℕ) (error : Refusal) : Type 0
   pub cause : IsCause m (take error.valid_up_to text) (slice_get text error.valid_up_to) error.kind (raw error.mask).flag
   pub conditions : (c : Condition) → IsTrue (has error.conditions c) ↔ IsUnmet m (take error.valid_up_to text) (slice_get text error.valid_up_to) c
   -- Conditions have the numbers of the syntax.
-  pub numbers : error.conditions ≡ kept (has error.conditions) m.number
+  pub numbers : error.conditions ≡ record { numbers = map (λ c. if has error.conditions c then m.number c else 0) all_conditions }
   -- No bit of the mask is set but those of flags.
   pub mask : error.mask ≡ sum_by (λ f. if (raw error.mask).flag f then 2 ^ bit f else 0) layout.flags
   pub span : (error.start, error.end)

@@ -113,8 +113,7 @@ condition conditions.NegativeSign m l = is_absent l.sign || is_plus l.sign
 condition conditions.IntegerGroupSize m l = is_grouped m parts.Integer l.integer
 condition conditions.HigherGroupSize m l = true
 condition conditions.FractionGroupSize m l = is_grouped m parts.Fraction l.fraction
-condition conditions.LeadingZero m l = begins conditions.LeadingZero m l
-condition conditions.DecimalFirstDigit m l = begins conditions.DecimalFirstDigit m l
+condition c m l = begins c m l
 
 -- `IsSpelled m l` holds if each part of `l` is spelled as `m` allows, if the parts go together, and if they are as each flag that is set requires.
 pub record IsSpelled (m : Notation) (l : Literal) : Type 0 where

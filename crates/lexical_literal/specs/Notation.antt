@@ -1,11 +1,12 @@
 -- How numbers are written: the bytes that play each role, the flags, and the conditions.
-use Rattle.std.specs.Prelude.{ℕ, ◌≡◌, ◌↔◌, ◌==◌, ◌||◌, Bool, true, false, not, IsTrue, if◌then◌else◌, nat_lt, List, [], ◌∷◌, map, Option, Some, None, get_or}
+use Rattle.std.specs.Prelude.{ℕ, ◌≡◌, ◌↔◌, ◌==◌, ◌&&◌, ◌||◌, Bool, true, false, not, IsTrue, if◌then◌else◌, nat_lt, List, [], ◌∷◌, map, Option, Some, None, get_or}
+use Rattle.std.specs.List.{list_any}
 use Rattle.lexical_util.specs.Ascii.{ByteSet}
 use Rattle.lexical_util.specs.Digits.{byte_value}
 use Rattle.lexical_util.specs.Layout as layout
 use Rattle.lexical_util.specs.Layout.{Flag}
-use Rattle.lexical_util.specs.Record.{Record, raw, effective_exponent_radix}
-use Rattle.lexical_util.specs.Roles as sets
+use Rattle.lexical_util.specs.Record.{Record, effective, raw}
+use Rattle.lexical_util.specs.Roles.{cased, signs}
 use Rattle.lexical_util.specs.declared.feature_format.roles.Role.{Role}
 use Rattle.lexical_util.specs.declared.feature_format.roles.Role.TheVariants as roles
 use Rattle.lexical_util.specs.declared.format_flags.Part.{Part}
@@ -31,17 +32,17 @@ pub record Notation : Type 0 where
 
 -- `radix_of r part` is the radix of the digits of `part` in the format `r`.
 abbrev pub radix_of : Record → Part → ℕ
-radix_of r parts.Exponent = effective_exponent_radix r
+radix_of r parts.Exponent = effective (r.byte layout.exponent_radix) (r.byte layout.mantissa_radix)
 radix_of r _ = r.byte layout.mantissa_radix
 
 -- `point_of options` is the decimal point, and `exponent_character_of r options` the exponent character in the format `r`. Without options, both are empty.
 abbrev pub point_of : Option Options → ByteSet
 point_of None byte = false
-point_of (Some options) byte = sets.point options.point byte
+point_of (Some options) byte = cased true options.point byte
 
 abbrev pub exponent_character_of : Record → Option Options → ByteSet
 exponent_character_of r None byte = false
-exponent_character_of r (Some options) byte = sets.exponent r options.exponent byte
+exponent_character_of r (Some options) byte = cased (r.flag layout.case_sensitive_exponent) options.exponent byte
 
 -- `lacks_options options` is true if there are no options, so that literals are integers.
 abbrev pub lacks_options : Option Options → Bool
@@ -88,9 +89,9 @@ notation_of g = record {
   condition = has g.conditions;
   number = number_of g.conditions;
   digit = λ part byte. nat_lt (byte_value byte) (radix_of (raw g.word) part);
-  separator = sets.used_separator (raw g.word);
-  prefix = sets.prefix (raw g.word);
-  suffix = sets.suffix (raw g.word);
+  separator = λ byte. list_any (raw g.word).flag layout.digit_separator_flags && cased true ((raw g.word).byte layout.digit_separator) byte;
+  prefix = cased ((raw g.word).flag layout.case_sensitive_base_prefix) ((raw g.word).byte layout.base_prefix);
+  suffix = cased ((raw g.word).flag layout.case_sensitive_base_suffix) ((raw g.word).byte layout.base_suffix);
   point = point_of g.options;
   exponent_character = exponent_character_of (raw g.word) g.options;
   integers_only = lacks_options g.options;
@@ -99,7 +100,7 @@ notation_of g = record {
 -- `set_of_role m role` is the set of the bytes that play `role`.
 abbrev pub set_of_role : Notation → Role → ByteSet
 set_of_role m roles.Digit byte = m.digit parts.Integer byte || m.digit parts.Fraction byte || m.digit parts.Exponent byte
-set_of_role m roles.Sign byte = sets.signs byte
+set_of_role m roles.Sign byte = signs byte
 set_of_role m roles.Separator byte = m.separator byte
 set_of_role m roles.Prefix byte = m.prefix byte
 set_of_role m roles.Suffix byte = m.suffix byte

@@ -7,9 +7,9 @@ ghost use Rattle.lexical_util.specs.Roles.{other_case};
 ghost use Rattle.lexical_literal.specs.Additions.Causes.{is_at_gap, lets, place_of};
 ghost use Rattle.lexical_literal.specs.Additions.Explained.{alone, blame, cases, grammar_at, group_at, mask_of, refusal_of, requirements, separators, unmet};
 ghost use Rattle.lexical_literal.specs.Additions.Explained.{zeros};
-ghost use Rattle.lexical_literal.specs.Additions.GroupSize.{goes, group_allows, role_next, unsized};
+ghost use Rattle.lexical_literal.specs.Additions.GroupSize.{goes, group_allows, role_next, unsized, with_rules};
 ghost use Rattle.lexical_literal.specs.Additions.Step.{part_of, role_at};
-ghost use Rattle.lexical_literal.specs.Cause.{adding, bare, binds, case_set, first_unmet, with_rules};
+ghost use Rattle.lexical_literal.specs.Cause.{adding, bare, binds, case_set, first_unmet};
 ghost use Rattle.lexical_literal.specs.Cause.{is_byte, is_stray};
 ghost use Rattle.lexical_literal.specs.Notation.{has, kept, notation_of, number_of};
 

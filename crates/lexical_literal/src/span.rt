@@ -1,8 +1,9 @@
 //! The bytes to show for a cause, and the error of `lexical-util`.
 
 ghost use Rattle.std.specs.Prelude.{◌≡◌, ◌<◌, ◌^◌};
+ghost use Rattle.std.specs.List.{position_or_len};
 ghost use Rattle.lexical_literal.specs.Additions.Causes.{kind_set};
-ghost use Rattle.lexical_literal.specs.Cause.{condition_span, error_of, first_in, flag_at, index_behind, is_in, marks_of, requirement_error};
+ghost use Rattle.lexical_literal.specs.Cause.{condition_span, error_of, flag_at, index_behind, is_in, marks_of, requirement_error};
 ghost use Rattle.lexical_literal.specs.Cause.{requirement_span, span_of, wrong_end};
 ghost use Rattle.lexical_literal.specs.Additions.Explained.{grammar_at, marks_at, spot_of};
 ghost use Rattle.lexical_literal.specs.Notation.{notation_of};
@@ -57,7 +58,7 @@ const fn index_behind(grammar: Grammar, kind: ByteKind, text: &[u8]) -> usize
 // Returns the index of the first byte of a kind, or the length of `text` if there is none.
 #[inline(always)]
 const fn first(grammar: Grammar, kind: ByteKind, text: &[u8]) -> usize
-    ensures { result ≡ first_in (kind_set (notation_of grammar) kind) text.now }
+    ensures { result ≡ position_or_len (kind_set (notation_of grammar) kind) text.now }
 {
     let mut rest = text;
     while let [byte, more @ ..] = rest {

@@ -7,9 +7,9 @@ use Rattle.lexical_util.specs.Roles.{other_case, signs}
 use Rattle.lexical_util.specs.declared.feature_format.roles.Role.{Role}
 use Rattle.lexical_util.specs.declared.feature_format.roles.Role.TheVariants as roles
 use Rattle.lexical_literal.specs.Additions.Stop.{IsCountedFront, IsStopped}
-use Rattle.lexical_literal.specs.Cause.{Explained, IsRefusal}
+use Rattle.lexical_literal.specs.Cause.{Explained, IsRefusal, is_stray}
 use Rattle.lexical_forms.specs.Affix.{IsOpened, IsOpenedTo}
-use Rattle.lexical_forms.specs.Forms.{HasFront, IsFirst, IsFormError, IsGreatest, KeepsError, LacksClosing, NoForm, OpensIn, Reaches, ReadsIn, reach}
+use Rattle.lexical_forms.specs.Forms.{HasFront, IsFirst, IsFormError, IsGreatest, KeepsError, LacksClosing, NoForm, OpensIn, Reaches, ReadsIn}
 use Rattle.lexical_literal.specs.Front.{IsValidBy, IsValidUpTo, NoFrontBy, NoLiteral, NoneBy}
 use Rattle.lexical_literal.specs.Literal.{Literal, Reads}
 use Rattle.lexical_literal.specs.Read.{Read}
@@ -22,6 +22,10 @@ use Rattle.lexical_literal.specs.declared.stop.Found.{Found}
 use Rattle.lexical_literal.specs.declared.stop.Stopped.{Stopped}
 use Rattle.lexical_forms.specs.declared.form.Form.{Form}
 use Rattle.lexical_forms.specs.declared.marks.Unclosed.{Unclosed}
+
+-- `reach error` is twice the number of bytes that are right, and 1 more unless the cause is a wrong byte or a required prefix is not there.
+abbrev pub reach : Refusal → ℕ
+reach error = 2 * error.valid_up_to + (if is_stray error then 0 else 1)
 
 -- `sign_size text` is the length of the sign with which `text` begins.
 abbrev pub sign_size : List ℕ → ℕ

@@ -1,6 +1,7 @@
 -- What an error answers, computed from where reading stopped.
-use Rattle.std.specs.Prelude.{ℕ, ◌+◌, ◌-◌, ◌==◌, ◌&&◌, not, nat_lt, if◌then◌else◌, Bool, Option, Some, None, List, get_or}
+use Rattle.std.specs.Prelude.{ℕ, ◌+◌, ◌-◌, ◌==◌, ◌&&◌, not, nat_lt, if◌then◌else◌, Bool, Option, Some, None, List, [], ◌∷◌, get_or}
 use Rattle.std.specs.List.{list_any}
+use Rattle.lexical_util.specs.Layout as layout
 use Rattle.lexical_util.specs.Layout.{Flag}
 use Rattle.lexical_util.specs.Record.{word_of}
 use Rattle.lexical_util.specs.Roles.{other_case}
@@ -8,7 +9,7 @@ use Rattle.lexical_literal.specs.Additions.Causes.{is_at_gap, place_of}
 use Rattle.lexical_literal.specs.Additions.GroupSize.{goes}
 use Rattle.lexical_literal.specs.Additions.Step.{part_of, role_at}
 use Rattle.lexical_literal.specs.Cause.{Explained, Marks, adding, bare, binds, case_set, error_of, first_unmet, is_one_of}
-use Rattle.lexical_literal.specs.Cause.{leading_zero_flags, lowest, marks_of, number_separator_flags, requiring, span_of}
+use Rattle.lexical_literal.specs.Cause.{lowest, marks_of, number_separator_flags, requiring, span_of}
 use Rattle.lexical_literal.specs.Notation.{all_conditions, Notation, kept, notation_of}
 use Rattle.lexical_literal.specs.declared.cause.Blame.{Blame}
 use Rattle.lexical_literal.specs.declared.cause.ReadErrorKind.TheVariants as causes
@@ -30,6 +31,10 @@ alone m s g next f = binds m f && not (goes (adding f (bare m)) s g next)
 -- `unmet m s g next c` is true if the condition `c` alone refuses what cannot follow `s`.
 abbrev pub unmet : Notation → Summary → Group → Option ℕ → Condition → Bool
 unmet m s g next c = m.condition c && (goes (bare m) s g next && not (goes (requiring c (bare m)) s g next))
+
+-- `leading_zero_flags` lists the two flags on leading zeros.
+abbrev pub leading_zero_flags : List Flag
+leading_zero_flags = layout.no_integer_leading_zeros ∷ layout.no_float_leading_zeros ∷ []
 
 -- `zeros m f` is true if the flag `f` is on leading zeros, and requires something.
 abbrev pub zeros : Notation → Flag → Bool

@@ -1,11 +1,12 @@
 -- What has been read of the digit groups of a part, and which bytes may follow.
 use Rattle.std.specs.Prelude.{ℕ, ◌≡◌, ◌↔◌, Bool, true, false, not, ◌+◌, ◌&&◌, ◌||◌, nat_lt, if◌then◌else◌, List, [], ◌∷◌, Option, Some, None}
+use Rattle.std.specs.List.{list_any}
 use Rattle.lexical_util.specs.Layout.{Flag, separators_in}
 use Rattle.lexical_util.specs.declared.feature_format.roles.Role.{Role}
 use Rattle.lexical_util.specs.declared.feature_format.roles.Role.TheVariants as roles
 use Rattle.lexical_util.specs.declared.format_flags.Part.{Part}
 use Rattle.lexical_util.specs.declared.format_flags.Part.TheVariants as parts
-use Rattle.lexical_literal.specs.Cause.{Allows, is_one_of, last_part, with_rules}
+use Rattle.lexical_literal.specs.Cause.{Allows, is_one_of}
 use Rattle.lexical_literal.specs.Groups.{first_fits, has_size, has_sizes, higher, inner_fits, last_fits}
 use Rattle.lexical_literal.specs.Notation.{Notation, notation_of}
 use Rattle.lexical_literal.specs.Additions.Causes.{IsWeaker, lets}
@@ -17,6 +18,10 @@ use Rattle.lexical_literal.specs.declared.syntax.Condition.TheVariants as condit
 use Rattle.lexical_literal.specs.declared.syntax.Grammar.{Grammar}
 
 -- THE NOTATION WITHOUT SIZES OF GROUPS
+
+-- `with_rules m flag condition` is `m` with just the flags for which `flag` is true, and the conditions for which `condition` is true.
+abbrev pub with_rules : Notation → (Flag → Bool) → (Condition → Bool) → Notation
+with_rules m flag condition = record m { flag = flag; condition = condition }
 
 -- `is_size c` is true if the condition `c` is on sizes of groups.
 abbrev pub is_size : Condition → Bool
@@ -99,4 +104,5 @@ goes m s g next = lets (unsized m) s next && group_allows m g (role_next m g.par
 pub record IsReadOf (m : Notation) (s : Summary) (g : Group) (front : List ℕ) : Type 0 where
   pub decides : (next : Option ℕ) (A : Flag → Bool) (D : Condition → Bool) → IsWeaker m A D
       → (goes (with_rules m A D) s g next ≡ true) ↔ Allows (with_rules m A D) front next
-  pub part : s.ended ≡ false → part_of s.stage ≡ last_part m front
+  pub part : s.ended ≡ false → part_of s.stage
+      ≡ (if list_any m.exponent_character front then parts.Exponent else (if list_any m.point front then parts.Fraction else parts.Integer))
