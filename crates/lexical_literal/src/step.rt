@@ -15,7 +15,6 @@ ghost use Rattle.lexical_literal.specs.Additions.Step.{leads, leads_to_prefix, n
 
 use crate::group_size::has_size;
 use crate::syntax::{Condition, Conditions, Grammar};
-use lexical_base::digit::char_to_digit;
 use lexical_util::format::{Part, Role};
 use lexical_util::format_flags::digit_separator;
 
@@ -103,7 +102,10 @@ pub const fn is_digit(grammar: Grammar, part: Part, byte: u8) -> bool
 pub(crate) const fn digit_value(grammar: Grammar, part: Part, byte: u8) -> Option<u32>
     ensures { result ≡ digit_of byte (radix_of (raw grammar.word) part) }
 {
-    char_to_digit(byte, radix_of(grammar, part))
+    match part {
+        Part::Exponent => grammar.view().exponent_digit(byte),
+        _ => grammar.view().mantissa_digit(byte),
+    }
 }
 
 // Returns the radix of the digits of `part`.

@@ -2,7 +2,6 @@
 
 //! A step of reading: what has been read of a number, changed by one byte.
 
-use crate::digit::char_to_digit;
 use crate::format_flags::digit_separator;
 use crate::literal::group_size::has_size;
 use crate::literal::syntax::{Condition, Conditions, Grammar};
@@ -80,7 +79,10 @@ pub const fn is_digit(grammar: Grammar, part: Part, byte: u8) -> bool {
 // Returns the value of `byte` as a digit of `part`, or `None` if it is none.
 #[inline(always)]
 pub(crate) const fn digit_value(grammar: Grammar, part: Part, byte: u8) -> Option<u32> {
-    char_to_digit(byte, radix_of(grammar, part))
+    match part {
+        Part::Exponent => grammar.view().exponent_digit(byte),
+        _ => grammar.view().mantissa_digit(byte),
+    }
 }
 
 // Returns the radix of the digits of `part`.
