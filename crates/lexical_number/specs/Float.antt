@@ -1,10 +1,7 @@
 -- Formats of floats, powers of two, and powers as fractions.
-use Rattle.std.specs.Prelude.{ℕ, ◌*◌, ◌%◌, ◌^◌, ◌==◌, ◌||◌, Bool, false, from_bits, if◌then◌else◌}
+use Rattle.std.specs.Prelude.{ℕ, ◌^◌, ◌==◌, ◌||◌, Bool, if◌then◌else◌}
 use Rattle.std.specs.Float.{Float, Format, binary32, binary64, float_zero}
 use Rattle.std.specs.Float.Ieee.{eq}
-use lib.Ieee.{down, fin, up}
-use lib.Ieee.Exact.{HasValue}
-use Rattle.core.specs.Dec2flt.Rounding.{IsNearestBits}
 
 -- `format_of double` is the format of `f64` if `double` is true, and of `f32` otherwise.
 abbrev pub format_of : Bool → Format
@@ -13,16 +10,6 @@ format_of double = if double then binary64 else binary32
 -- `is_zero x` is true if `x` is 0 or -0.
 abbrev pub is_zero : Float → Bool
 is_zero x = eq x float_zero
-
--- `is_whole x` is true if the float `x` is an integer, with a sign.
-abbrev pub is_whole : Float → Bool
-is_whole (fin s m e) = m * up e % down e == 0
-is_whole _ = false
-
--- `HasSize f bits num den` holds if the float of `f` with these bits is `num` over `den`, which is read as this float.
-pub record HasSize (f : Format) (bits num den : ℕ) : Type 0 where
-  pub near : IsNearestBits f num den bits
-  pub value : HasValue (from_bits f bits) false num den
 
 -- `is_power_of_two n` is true if `n` is 2, 4, 8, 16 or 32.
 abbrev pub is_power_of_two : ℕ → Bool
