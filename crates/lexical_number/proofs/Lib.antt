@@ -10,5 +10,5 @@ mod ScalingLemmas
 mod TenLemmas
 mod FareyLemmas
 mod RowLemmas
-mod ReadLemmas
-mod ShortestLemmas
+pub mod ReadLemmas
+pub mod ShortestLemmas

@@ -14,7 +14,6 @@ ghost use Rattle.lexical_value.specs.Value.{SameDigits, SameValue, denominator, 
 use lexical_util::laws::{byte_facts, normal_form_facts};
 
 /// States on what the value of a literal does not depend, and what the value of an integer is.
-#[tactic(auto, using(crate::proofs::KindLemmas::wraps_by))]
 pub fn value_facts()
     // Equivalent words give a literal the same value. The words may be any.
     ensures same_word { (a b : ℕ) → normal_form_of a ≡ normal_form_of b → (l : Literal)

@@ -1,4 +1,5 @@
 -- A float as an odd number times a power of two, and its digits in a radix that is a power of two.
+use Rattle.lexical_writer.proofs.Common.{div-div-eq-div-mul, pow-suc}
 use Rattle.lexical_writer.proofs.Common.{Bool, Grammar, HasUnits, IsExponent, IsWrittenWith, None, Option, Record, Some, Style, ap, arith, cases_lt}
 use Rattle.lexical_writer.proofs.Common.{div-add-mod', effective_exponent_base, eq-zero-or-pos, eq_of_mul-eq-mul_right, false, if◌then◌else◌, inl, inr, is_long}
 use Rattle.lexical_writer.proofs.Common.{is_shown, is_some, lt-ltb, mod-eq_of_lt, mod-lt, mul-le-mul_left, mul-le-mul_right, mul-lt-mul_of_pos_right, mul-pos}
@@ -41,6 +42,28 @@ moved_units n k b p low least = sym (rounded_whole _ (2 ^ low) _ (one-le-pow low
 -- A number without its twos is odd.
 pub odd : (n : ℕ) → 0 < n → n < 2 ^ 64 → n / 2 ^ (count_trailing_zeros 64 n % 64) % 2 ≡ 1
 odd n some small = let t = bit_at-trailing_zeros w64 n some small in ap (λ z. n / 2 ^ z % 2) (mod-eq_of_lt t.0) ∙ t.1
+
+pub few_twos : (n : ℕ) → 0 < n → n < 2 ^ 64 → count_trailing_zeros 64 n < 64
+few_twos n some small = (bit_at-trailing_zeros w64 n some small).0
+
+-- A number has so many twos, up to all.
+pub without_twos : (n z : ℕ) → 0 < n → n < 2 ^ 64 → z ≤ count_trailing_zeros 64 n → n ≡ n / 2 ^ z * 2 ^ z
+without_twos n zero some small most = omega arith
+without_twos n (suc z) some small most =
+    let bit = (bit_at-trailing_zeros w64 n some small).2 z (omega (arith, most)) in
+    let half : n / 2 ^ suc z ≡ n / 2 ^ z / 2 = ap (λ p. n / p) (pow-suc 2 z) ∙ sym (div-div-eq-div-mul n (2 ^ z) 2) in
+    omega (
+      arith,
+      without_twos n z some small (omega (arith, most)),
+      ap (λ q. q * 2 ^ z) {x = n / 2 ^ z} {y = n / 2 ^ suc z * 2} (omega (arith, bit, half)),
+      ap (λ p. n / 2 ^ suc z * p) (pow-suc 2 z),
+    )
+
+-- So many twos move to the power.
+pub shifted : (n z a b p q : ℕ) → n ≡ n / 2 ^ z * 2 ^ z → z + a + q ≡ b + p → n * 2 ^ a * 2 ^ q ≡ n / 2 ^ z * 2 ^ b * 2 ^ p
+shifted n z a b p q parts sum =
+    let left = ap (λ x. x * 2 ^ q) (powers 2 z a (z + a) refl) ∙ powers 2 (z + a) q (b + p) sum in
+    omega (arith, ap (λ n. n * 2 ^ a * 2 ^ q) parts, ap (λ x. n / 2 ^ z * x) left, ap (λ x. n / 2 ^ z * x) (powers 2 b p (b + p) refl))
 
 -- An odd number times fewer twos than a digit has is no multiple of the radix.
 pub odd_left : (n u b : ℕ) → n % 2 ≡ 1 → u < b → 0 < n * 2 ^ u % 2 ^ b
@@ -230,9 +253,10 @@ exponent_is r o n k bits places E Z base some all naught plain below least same 
 pub binary_written : (g : Grammar) (style : Style) (x E Z places units : ℕ) (shown far long negative : Bool) (e : ℕ)
     → HasUnits g style false x (2 ^ 1200) false 0 places units
     → (allows_exponent g ≡ true → IsExponent (raw g.word) style.decimals x (2 ^ 1200) (nat_lt E Z) (size E Z)) → far ≡ is_far (raw g.word) x (2 ^ 1200)
-    → long ≡ is_long (raw g.word) places units → shown ≡ is_shown g style (size E Z) far long → negative ≡ (shown && nat_lt E Z)
+    → long ≡ is_long (raw g.word) places units → (allows_exponent g ≡ false → long ≡ false) → shown ≡ is_shown g style (size E Z) far long
+    → negative ≡ (shown && nat_lt E Z)
     → e ≡ (if shown then size E Z else 0) → IsWrittenWith g style x (2 ^ 1200) shown negative e
-binary_written g style x E Z places units shown far long negative e plain first is_far_is is_long_is decided sign is = record {
+binary_written g style x E Z places units shown far long negative e plain first is_far_is is_long_is few decided sign is = record {
   places = places;
   units = units;
   plain = plain;
@@ -240,5 +264,6 @@ binary_written g style x E Z places units shown far long negative e plain first 
   size = size E Z;
   first = λ allows _. first allows;
   decided = decided ∙ (λ i. is_shown g style (size E Z) (is_far_is i) (is_long_is i));
+  short = λ never. sym is_long_is ∙ few never;
   same = λ here. (sign ∙ ap (λ s. s && nat_lt E Z) here ∙ refl, is ∙ ap (λ s. if s then size E Z else 0) here);
 }

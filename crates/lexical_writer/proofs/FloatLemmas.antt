@@ -1,24 +1,29 @@
 -- Digits with a point, zeros around them and an exponent have the value of the literal that is written.
+use Rattle.lexical_writer.proofs.Common.{HasShape, length, div-add-mod', first_error, le-ltb, lt-leb, mod-eq_of_lt, refusal, ◌≢◌}
 use Rattle.lexical_writer.proofs.Common.{Amount, Bool, Err, Grammar, HasNumber, IfOk, IsCutTo, IsFloatOf, IsLaidOut, IsRounded, Layout, List, Literal, None, Ok}
 use Rattle.lexical_writer.proofs.Common.{Option, Power, Record, Result, Some, Style, WriteError, [], ap, append_assoc, arith, cond, cons_option, decimals_in}
-use Rattle.lexical_writer.proofs.Common.{denominator, digit_of, digits_in, drop, effective_exponent_base, effective_exponent_radix, emax, eq-eqb}
-use Rattle.lexical_writer.proofs.Common.{eq-zero-or-pos, eq_of_mul-eq-mul_right, false, false≢true, filter_map-append, format_of, given_fraction, if◌then◌else◌}
-use Rattle.lexical_writer.proofs.Common.{inl, inr, is_binary, is_decimal, is_minus, is_present, is_some, lacks_options, laid_out, least_places, length}
+use Rattle.lexical_writer.proofs.Common.{denominator, digit_of, digits_in, drop, effective_exponent_base, effective_exponent_radix, eq-eqb}
+use Rattle.lexical_writer.proofs.Common.{eq-zero-or-pos, eq_of_mul-eq-mul_right, false, false≢true, filter_map-append, given_fraction}
+use Rattle.lexical_writer.proofs.Common.{if◌then◌else◌, inl, inr, is_binary, is_decimal, is_minus, is_present, is_some, lacks_options, laid_out, least_places}
 use Rattle.lexical_writer.proofs.Common.{length-append, literal_of, low, mantissa, mod-lt, mul-le-mul_right, mul-pos, nat_lt, nat_tests, nearest, no_power, not}
 use Rattle.lexical_writer.proofs.Common.{number, number_after_append, number_from_digits, number_from_digits_after, numerator, one-le-pow, pow-add}
 use Rattle.lexical_writer.proofs.Common.{pow-le-pow_right, pow-suc, pow-zero, power, prec, raised_down, raised_up, raw, refl, replicate, round, round_same}
 use Rattle.lexical_writer.proofs.Common.{rounded, scale, size_of, subst, suc, sym, take, take-append-drop, true, unwrap_or, values_of, wished_places, zero, ℕ}
-use Rattle.lexical_writer.proofs.Common.{ℤ, ◌%◌, ◌&&◌, ◌*◌, ◌++◌, ◌+◌, ◌-◌, ◌/◌, ◌<◌, ◌==◌, ◌^◌, ◌||◌, ◌∙◌, ◌∷◌, ◌≡◌, ◌≢◌, ◌≤◌}
+use Rattle.lexical_writer.proofs.Common.{◌%◌, ◌&&◌, ◌*◌, ◌++◌, ◌+◌, ◌-◌, ◌/◌, ◌<◌, ◌==◌, ◌^◌, ◌||◌, ◌∙◌, ◌∷◌, ◌≡◌, ◌≢◌, ◌≤◌}
 use Rattle.std.proofs.Math.Nat.{div-eq_of_lt-le, div-lt_iff_lt-mul, mod-eq-sub-div-mul}
 use Rattle.std.proofs.lemmas.Bool.{ne_eqb}
-use lib.Ieee.{Float, Format, down, down as below, fin, hid, inf, is_nan, nan, odd, of_bits, of_fields, ones, top, up}
-use lib.Ieee.Exact.{HasValue, odd_sign, round_exact}
+use Rattle.std.specs.Prelude.{IfErr, IsErrAnd}
+use lib.Ieee.{Float, Format, fin, hid, inf, is_nan, nan, neg, odd, of_bits, of_fields, ones, top}
+use lib.Ieee.Exact.{HasValue, odd_sign}
 use lib.Dec.{eqb, leb}
-use lib.IntN.{negsuc, pos}
-use lib.Pow.{shl_lt}
 use Rattle.lexical_literal.specs.Read.{exponent}
 use Rattle.lexical_util.specs.Layout as layout
-use Rattle.lexical_writer.specs.Amount.{IsBroken, IsFinite, IsTextOf, power_if}
+use Rattle.core.proofs.dec2flt.Patterns.{neg-round}
+use Rattle.lexical_number.specs.Float.{is_power_of_two}
+use Rattle.lexical_number.specs.Shortest.{is_whole}
+use Rattle.lexical_writer.specs.Amount.{IsFinite, IsTextOf, IsWorth, float_error, power_if, with_minus}
+use Rattle.lexical_writer.specs.declared.layout.WriteError.TheVariants as errors
+use native.Mathlib.Nat.{dvd-mul_right, mod-mod_of_dvd, mul-mod_left}
 use Rattle.lexical_writer.specs.Layout.{allows_exponent}
 use Rattle.lexical_writer.specs.Rounded.{HasDecimals}
 use Rattle.lexical_writer.proofs.ConversionLemmas.{size_values, zero_scaled}
@@ -79,17 +84,6 @@ record HasParts (r : Record) (l : Literal) (n places : ℕ) (negative : Bool) (e
 pub twos : (i j : ℕ) → i ≤ j → 2 ^ i ≤ 2 ^ j
 twos i j less = pow-le-pow_right (omega arith) less
 
--- A number of few bits times a power of two, over another one, is a float.
-pub exact : (double : Bool) (s : Bool) (n bits up down : ℕ) → n < 2 ^ prec (format_of double) → n < 2 ^ bits → bits + up ≤ suc (emax (format_of double))
-    → down ≤ low (format_of double)
-    → HasValue (round (format_of double) s (n * 2 ^ up) (2 ^ down)) s (n * 2 ^ up) (2 ^ down)
-exact double s n bits up down small short few fits =
-    let f = format_of double in
-    let j = up + low f - down in
-    round_exact f s (n * 2 ^ up) (2 ^ down) n j (one-le-pow down 2 (omega arith)) small
-    (omega (arith, shl_lt bits j short, twos (bits + j) (low f + suc (emax f)) (omega (arith, few))))
-    (omega (arith, ap (λ p. n * p) (sym (pow-add 2 up (low f)) ∙ ap (λ k. 2 ^ k) {x = up + low f} {y = j + down} (omega (arith, fits)) ∙ pow-add 2 j down)))
-
 -- A number that is cut to halves of its units is rounded to units.
 pub halved : (num den q : ℕ) (more : Bool) → IsCutTo (num * 2) q more den
     → q / 2 + (if nat_lt 2 (q % 4) || (q % 4 == 1 && more) then 1 else 0) ≡ rounded num den
@@ -130,6 +124,11 @@ halved num den q more cut = elim (eq-zero-or-pos (q % 2)) [
 -- Radixes in which floats are written are at least 2, and their bases are not 0.
 some_radixes : (r : Record) → (is_decimal r.byte || is_binary r.byte) ≡ true → (2 ≤ r.byte layout.mantissa_radix) × (0 < effective_exponent_base r)
 some_radixes r is = grind (arith, nat_tests)
+
+-- Other radixes than 10 are powers of two, as their bases are.
+pub binary_radixes : (r : Record) → (is_decimal r.byte || is_binary r.byte) ≡ true → r.byte layout.mantissa_radix ≢ 10
+    → (is_power_of_two (r.byte layout.mantissa_radix) ≡ true) × (is_power_of_two (effective_exponent_base r) ≡ true)
+binary_radixes r is other = (grind (arith, nat_tests, is, other), grind (arith, nat_tests, is, other))
 
 -- The base of radix 10 is 10.
 pub base_ten : (r : Record) → (is_decimal r.byte || is_binary r.byte) ≡ true → r.byte layout.mantissa_radix ≡ 10 → effective_exponent_base r ≡ 10
@@ -198,15 +197,6 @@ amount_nearest f x g style l supported plain is =
     (omega (arith, ap (λ n. is.1 * n) below, ap (λ n. n * p.factor) exact, ap (λ n. n * is.2) above))
     ∙ ap (λ sign. round f sign (numerator r.byte l) (denominator r.byte l)) (sym (it.number.sign ∙ it.sign))
 
--- The value of a float is that of each fraction that is equal to it.
-pub rescaled : (x : Float) (s : Bool) (w l num den : ℕ) → 0 < l → num * l ≡ w * den → HasValue x s w l → HasValue x s num den
-rescaled nan s w l num den p h v = v
-rescaled (inf t) s w l num den p h v = v
-rescaled (fin t m e) s w l num den p h v = (
-  v.0,
-  eq_of_mul-eq-mul_right l p (m * up e * den) (num * down e) (omega (arith, ap (λ x. x * den) v.1, ap (λ x. x * down e) h)),
-)
-
 -- The number of decimals is that of the style.
 pub decimals_are : (g : Grammar) (style : Style) (shown : Bool) (n : ℕ) → style.decimals ≡ Some n → least_places g style shown ≡ decimals_in g n
 decimals_are g style shown n wished = ap (λ o. if lacks_options g.options then 0 else wished_places o (style.point || not shown)) wished
@@ -244,6 +234,11 @@ amount_rounded f x g style n l supported wished is =
       ]);
       decimals = subst (λ k. HasDecimals r l k is.1 is.2) places rounded_to;
     }
+
+-- What follows from an error that is passed on.
+pub residual : {A : Type 0} (result : Result A WriteError) (Q P : WriteError → Type 0) → IsErrAnd result Q → ((e : WriteError) → Q e → P e) → IfErr result P
+residual (Ok it) Q P is follows = tt
+residual (Err error) Q P is follows = follows error is
 
 -- What follows from what a layout is, and from the number that it has.
 pub if_numbered : (g : Grammar) (style : Style) (amount : Amount) (P : Layout → Type 0) (result : Result Layout WriteError)
@@ -293,16 +288,121 @@ not_number nan is negative it = it.2
 not_number (inf t) is negative it = it.2
 not_number (fin t m e) is negative it = false≢true is
 
--- A float that is an odd number over a power of two above 1 is not whole.
-pub broken : (x : Float) (s : Bool) (n up down : ℕ) → 0 < down → n % 2 ≡ 1 → up ≡ 0 → HasValue x s (n * 2 ^ up) (2 ^ down) → IsBroken x
-broken nan s n up down some odd none value = absurd value
-broken (inf t) s n up down some odd none value = absurd value
-broken (fin t m e) s n up down some odd none value = λ negative k whole.
-    let same : k * 2 ^ down ≡ n * 2 ^ up = eq_of_mul-eq-mul_right (below e) (positive e) (k * 2 ^ down) (n * 2 ^ up)
-    (omega (arith, value.1, ap (λ v. v * 2 ^ down) whole.1)) in
-    let half : 2 ^ down ≡ 2 ^ (down - 1) * 2 = ap (λ d. 2 ^ d) {x = down} {y = suc (down - 1)} (omega (arith, some)) ∙ pow-suc 2 (down - 1) in
-    omega (arith, odd, same, ap (λ p. k * p) half, ap (λ i. n * 2 ^ i) none, ap (λ p. n * p) (pow-zero 2))
+-- The float with some bits is that of its size, with its sign.
+pub of_sign : (f : Format) (b : ℕ) → of_bits f b ≡ with_minus (leb (top f) b) (of_bits f (b % top f))
+unfolding of_bits of_fields odd neg
+of_sign f b = signed (leb (top f) b) (b % top f / hid f) (b % hid f) ∙ sym (ap (with_minus (leb (top f) b)) size)
   where
-    positive : (e : ℤ) → 0 < below e
-    positive (pos k) = omega arith
-    positive (negsuc k) = one-le-pow (suc k) 2 (omega arith)
+    small : b % top f < top f
+    small = mod-lt b {m = top f} (mul-pos (one-le-pow (prec f - 1) 2 (omega arith)) (omega arith))
+
+    size : of_bits f (b % top f) ≡ of_fields f false (b % top f / hid f) (b % hid f)
+    size = λ i. of_fields f (lt-leb (top f) (b % top f) small i) (mod-eq_of_lt small i / hid f)
+        (mod-mod_of_dvd (hid f) b (dvd-mul_right (hid f) (suc (ones f))) i)
+
+    minus : (x t : ℕ) → of_fields f true x t ≡ neg (of_fields f false x t)
+    minus zero zero = refl
+    minus zero (suc t) = refl
+    minus (suc x) t = go (eqb (suc x) (ones f)) (eqb t 0) (hid f + t)
+      where
+        go : (last none : Bool) (q : ℕ) → cond last (cond none (inf true) nan) (odd (prec f) true q x (low f))
+            ≡ neg (cond last (cond none (inf false) nan) (odd (prec f) false q x (low f)))
+        go true true q = refl
+        go true false q = refl
+        go false none zero = refl
+        go false none (suc q) = refl
+
+    signed : (s : Bool) (x t : ℕ) → of_fields f s x t ≡ with_minus s (of_fields f false x t)
+    signed true x t = minus x t
+    signed false x t = refl
+
+-- What holds of a float without its sign holds with it.
+pub minus_value : (x : Float) (s : Bool) (num den : ℕ) → HasValue x false num den → HasValue (with_minus s x) s num den
+unfolding neg
+minus_value x false num den value = value
+minus_value nan true num den value = value
+minus_value (inf t) true num den value = value
+minus_value (fin t m e) true num den value = (ap not value.0, value.1)
+
+pub minus_whole : (x : Float) (s : Bool) → is_whole (with_minus s x) ≡ is_whole x
+unfolding neg
+minus_whole x false = refl
+minus_whole nan true = refl
+minus_whole (inf t) true = refl
+minus_whole (fin t m e) true = refl
+
+pub minus_worth : (f : Format) (x : Float) (g : Grammar) (style : Style) (s : Bool) (num den : ℕ) → IsWorth f x g style false num den
+    → IsWorth f (with_minus s x) g style s num den
+minus_worth f x g style s num den it = record {
+  some = it.some;
+  near = λ plain. near s (it.near plain);
+  exact = elim it.exact [ inl value ↦ inl (minus_value x s num den value) | inr other ↦ inr other ];
+  whole = λ is. it.whole (sym (minus_whole x s) ∙ is);
+}
+  where
+    near : (s : Bool) → x ≡ round f false num den → with_minus s x ≡ round f s num den
+    near true is = ap neg is ∙ neg-round f num den
+    near false is = is
+
+-- A float that is not refused has no sign, no fraction and no exponent that is refused.
+pub not_refused : (g : Grammar) (style : Style) (amount : Amount) (fraction shown minus : Bool) (e places num den units : ℕ)
+    → float_error g style amount.negative fraction ≡ None → (fraction ≡ false → num % den ≡ 0) → 0 < den
+    → HasShape g style num den shown minus e places units → (shown ≡ false → e ≡ 0) → is_some amount.fraction ≡ nat_lt 0 places
+    → amount.exponent ≡ power_if shown minus e → refusal g amount ≡ None
+not_refused g style amount fraction shown minus e places num den units none whole some form hidden digits power =
+    allowed _ _ _ (parts _ _ _ none).0 (left (lacks_options g.options) (is_some amount.fraction) no_fraction)
+    (left (lacks_options g.options || (raw g.word).flag layout.no_exponent_notation) (is_some amount.exponent) no_exponent)
+  where
+    R : ℕ
+    R = (raw g.word).byte layout.mantissa_radix
+
+    parts : (sign fraction last : Bool) → first_error sign fraction last errors.Radix ≡ None → (sign ≡ false) × (fraction ≡ false)
+    parts true fraction last none = absurd (false≢true (sym (ap is_some none)))
+    parts false true last none = absurd (false≢true (sym (ap is_some none)))
+    parts false false last none = (refl, refl)
+
+    allowed : (sign fraction last : Bool) → sign ≡ false → fraction ≡ false → last ≡ false → first_error sign fraction last errors.Exponent ≡ None
+    allowed sign fraction last a b c = λ i. first_error (a i) (b i) (c i) errors.Exponent
+
+    left : (a b : Bool) → (a ≡ true → b ≡ false) → (a && b) ≡ false
+    left true b is = is refl
+    left false b is = refl
+
+    never : (a b s : Bool) → s ≡ (a && b) → a ≡ false → s ≡ false
+    never a b s is off = is ∙ ap (λ a. a && b) off
+
+    unshown : (lacks_options g.options || (raw g.word).flag layout.no_exponent_notation) ≡ true → shown ≡ false
+    unshown is = never (allows_exponent g) _ shown form.1.decided (ap not is)
+
+    no_exponent : (lacks_options g.options || (raw g.word).flag layout.no_exponent_notation) ≡ true → is_some amount.exponent ≡ false
+    no_exponent is = ap is_some power ∙ ap (λ s. is_some (power_if s minus e)) (unshown is)
+
+    one : (s : Bool) (B : ℕ) → (raised_up s B 0 ≡ 1) × (raised_down s B 0 ≡ 1)
+    one true B = (refl, pow-zero B)
+    one false B = (pow-zero B, refl)
+
+    no_places : lacks_options g.options ≡ true → places ≡ 0
+    no_places is = elim form.0.last [
+      | inl same ↦ same ∙ ap (λ l. if l then 0 else wished_places style.decimals (style.point || not shown)) is
+      | inr other ↦
+          let whole_fraction = (λ i. (sym is i && not (is_some (sym other.0 i))) && fraction) ∙ (parts _ _ _ none).1 in
+          let zero = hidden (unshown (ap (λ l. l || (raw g.word).flag layout.no_exponent_notation) is)) in
+          let n = num / den in
+          let number : num ≡ n * den = omega (arith, div-add-mod' num den, whole whole_fraction) in
+          let B = effective_exponent_base (raw g.word) in
+          let exact : units * (den * 1) ≡ num * R ^ places * 1 = subst (λ u. units * (den * u) ≡ num * R ^ places * 1) (one minus B).0
+          (subst (λ d. units * (den * raised_up minus B 0) ≡ num * R ^ places * d) (one minus B).1
+          (subst (λ e. units * (den * raised_up minus B e) ≡ num * R ^ places * raised_down minus B e) zero (form.0.exact other.0))) in
+          let value : units ≡ n * R ^ places = eq_of_mul-eq-mul_right den some units (n * R ^ places) (omega (arith, exact, ap (λ m. m * R ^ places) number)) in
+          elim (eq-zero-or-pos places) [
+            | inl none ↦ none
+            | inr more ↦
+                let last : n * R ^ places ≡ n * R ^ (places - 1) * R =
+                omega (arith, ap (λ p. n * p) (ap (λ k. R ^ k) {x = places} {y = suc (places - 1)} (omega (arith, more)) ∙ pow-suc R (places - 1))) in
+                let rest : units % R ≡ 0 = ap (λ u. u % R) (value ∙ last) ∙ mul-mod_left (n * R ^ (places - 1)) R in
+                absurd (omega (arith, other.2, rest))
+          ]
+    ]
+
+    no_fraction : lacks_options g.options ≡ true → is_some amount.fraction ≡ false
+    no_fraction is = digits ∙ le-ltb 0 places (let zero = no_places is in omega (arith, zero))

@@ -179,6 +179,7 @@ short_shape g style d up down last e places shown far radix base plain is size_i
     size = size (up + last) down;
     first = λ _ _. rw plain (exponent_in (raw g.word) d up down last base is);
     decided = decided ∙ (λ i. is_shown g style (size_is i) (far_at i) (sym long i));
+    short = λ _. long;
     same = same shown;
   },
 )

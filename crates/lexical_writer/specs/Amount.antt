@@ -1,8 +1,8 @@
 -- A float as an amount, to which the rules for literals apply then.
 use Rattle.std.specs.Prelude.{ℕ, ◌≡◌, ◌+◌, ◌-◌, ◌*◌, ◌%◌, ◌^◌, ◌<◌, ◌≤◌, ◌&&◌, ◌||◌, ◌⊎◌, ◌++◌, not, nat_le, nat_lt, if◌then◌else◌, Bool, true, false, is_some}
-use Rattle.std.specs.Prelude.{length, List, Option, None, Some, unwrap_or}
+use Rattle.std.specs.Prelude.{length, List, Option, None, Some, unwrap_or, ◌≢◌}
 use Rattle.std.specs.Float.{Float, Format}
-use Rattle.std.specs.Float.Ieee.{round}
+use Rattle.std.specs.Float.Ieee.{neg, round}
 use Rattle.std.specs.Int.Digits.{number_from_digits}
 use lib.Ieee.Exact.{HasValue}
 use Rattle.lexical_util.specs.Layout as layout
@@ -13,6 +13,7 @@ use Rattle.lexical_literal.specs.declared.syntax.Condition.TheVariants as condit
 use Rattle.lexical_literal.specs.declared.syntax.Grammar.{Grammar}
 use Rattle.lexical_value.specs.Float.{is_binary, is_decimal}
 use Rattle.lexical_number.specs.Float.{raised_down, raised_up}
+use Rattle.lexical_number.specs.Shortest.{is_whole}
 use Rattle.lexical_number.specs.Number.{number, places as digit_count}
 use Rattle.lexical_writer.specs.Digits.{values_of}
 use Rattle.lexical_writer.specs.Layout.{HasNumber, allows_exponent, first_error, given_fraction, laid_out, needs_exponent, one_if}
@@ -108,6 +109,8 @@ pub record IsWrittenWith (g : Grammar) (style : Style) (num den : ℕ) (shown ne
   pub size : ℕ
   pub first : allows_exponent g ≡ true → (shown || asks style.exponent) ≡ true → IsExponent (raw g.word) style.decimals num den sign size
   pub decided : shown ≡ is_shown g style size (is_far (raw g.word) num den) (is_long (raw g.word) places units)
+  -- A number that is too long without an exponent has one.
+  pub short : allows_exponent g ≡ false → is_long (raw g.word) places units ≡ false
   pub same : shown ≡ true → (negative ≡ sign) × (e ≡ size)
 
 -- `units_at num den places e` is `num` over `den` and over ten to the power of `e - 400`, in units of the last of `places` decimal digits
@@ -143,22 +146,29 @@ float_error g style negative fraction = first_error (negative && has g.condition
 abbrev pub IsFinite : Float → Bool → Type 0
 IsFinite x negative = (num : ℕ) × (den : ℕ) × HasValue x negative num den
 
--- `IsBroken x` holds if the float `x` is not whole.
-abbrev pub IsBroken : Float → Type 0
-IsBroken x = (negative : Bool) → (n : ℕ) → HasValue x negative n 1 → ⊥
+-- `with_minus negative x` is the float `x`, or `-x` if `negative` is true.
+abbrev pub with_minus : Bool → Float → Float
+with_minus negative x = if negative then neg x else x
 
--- `is_limit g error` is true if `error` can be that of a float that is not refused: `Long` where no exponent is allowed, and `Radix` for digits
--- that are not read as the float.
-abbrev pub is_limit : Grammar → WriteError → Bool
-is_limit g errors.Long = not (allows_exponent g)
-is_limit g errors.Radix = true
-is_limit g _ = false
+-- `IsLong g style num den` holds if `num` over `den` has more than 800 digits in `g` by `style`, and no literal has an exponent.
+pub record IsLong (g : Grammar) (style : Style) (num den : ℕ) : Type 0 where
+  pub never : allows_exponent g ≡ false
+  pub places : ℕ
+  pub units : ℕ
+  pub plain : HasUnits g style false num den false 0 places units
+  pub long : is_long (raw g.word) places units ≡ true
+
+-- `IsTooLong x g style negative` holds if the float `x`, which has a minus sign if `negative` is true, is long in `g` by `style`. In radix
+-- 10, none is.
+abbrev pub IsTooLong : Float → Grammar → Style → Bool → Type 0
+IsTooLong x g style negative = (num : ℕ) × (den : ℕ) × HasValue x negative num den × IsLong g style num den
+    × ((raw g.word).byte layout.mantissa_radix ≢ 10)
 
 -- `IsFloatError x g style error` holds if `error` is why no literal of `g` is written for the float `x` by `style`, the first that applies.
 abbrev pub IsFloatError : Float → Grammar → Style → WriteError → Type 0
 IsFloatError x g style error = ((error ≡ errors.Special) × ((negative : Bool) → IsFinite x negative → ⊥))
-    ⊎ ((negative : Bool) × (fraction : Bool) × IsFinite x negative × (fraction ≡ true → IsBroken x)
-    × ((float_error g style negative fraction ≡ Some error) ⊎ ((float_error g style negative fraction ≡ None) × (is_limit g error ≡ true))))
+    ⊎ ((negative : Bool) × IsFinite x negative × ((float_error g style negative (not (is_whole x)) ≡ Some error)
+    ⊎ ((float_error g style negative (not (is_whole x)) ≡ None) × (error ≡ errors.Long) × IsTooLong x g style negative)))
 
 -- `HasShape g style num den shown negative e places units` holds if `num` over `den` is written in `g` by `style` with these digits, of which
 -- `places` are behind the point, and with the exponent `e`, if it is `shown`.
@@ -198,13 +208,14 @@ pub record IsWorth (f : Format) (x : Float) (g : Grammar) (style : Style) (negat
   pub some : 0 < den
   pub near : style.decimals ≡ None → x ≡ round f negative num den
   pub exact : HasValue x negative num den ⊎ ((style.decimals ≡ None) × ((raw g.word).byte layout.mantissa_radix ≡ 10))
+  pub whole : is_whole x ≡ true → num % den ≡ 0
 
--- `IsFormOf f x g style negative bytes after shown minus e places` holds if `bytes`, with `after` zeros behind them, are the digits of what is
--- written of the float `x`, of which `places` are behind the point, with the exponent `e`, if it is `shown`.
-abbrev pub IsFormOf : Format → Float → Grammar → Style → Bool → List ℕ → ℕ → Bool → Bool → ℕ → ℕ → Type 0
-IsFormOf f x g style negative bytes after shown minus e places =
+-- `IsFormOf f x g style bytes after shown minus e places` holds if `bytes`, with `after` zeros behind them, are the digits of what is written
+-- of the float `x`, without its sign, of which `places` are behind the point, with the exponent `e`, if it is `shown`.
+abbrev pub IsFormOf : Format → Float → Grammar → Style → List ℕ → ℕ → Bool → Bool → ℕ → ℕ → Type 0
+IsFormOf f x g style bytes after shown minus e places =
     let radix = (raw g.word).byte layout.mantissa_radix in
-    (num : ℕ) × (den : ℕ) × IsWorth f x g style negative num den × HasShape g style num den shown minus e places (number radix bytes * radix ^ after)
+    (num : ℕ) × (den : ℕ) × IsWorth f x g style false num den × HasShape g style num den shown minus e places (number radix bytes * radix ^ after)
     × (digit_count radix bytes ≡ length bytes)
 
 -- `IsFloatOf f x g style l` holds if the literal `l` is what is written for the float `x` of `f` by `style`.

@@ -1,19 +1,21 @@
 //! How a float is written in a radix that is a power of two.
 
 ghost use Rattle.std.specs.Prelude.{◌≡◌, suc, ◌+◌, ◌-◌, ◌*◌, ◌/◌, ◌%◌, ◌^◌, ◌<◌, ◌≤◌, ◌&&◌, ◌||◌, if◌then◌else◌, nat_le, nat_lt, true, is_some};
-ghost use Rattle.std.specs.Prelude.{None, IfErr, IfOk, IfSome};
+ghost use Rattle.std.specs.Prelude.{None, IfErr, IfOk};
+ghost use Rattle.std.specs.Float.Ieee.{hid, ones};
+ghost use Rattle.lexical_number.specs.Float.{format_of, is_power_of_two};
+ghost use Rattle.lexical_number.specs.Shortest.{HasSize};
 ghost use Rattle.lexical_util.specs.Layout as layout;
 ghost use Rattle.lexical_util.specs.Record.{effective_exponent_base, raw};
-ghost use Rattle.lexical_writer.specs.Amount.{HasShape, HasUnits, is_limit};
+ghost use Rattle.lexical_writer.specs.Amount.{HasShape, HasUnits, IsLong};
 ghost use Rattle.lexical_writer.specs.Rounded.{rounded};
+ghost use Rattle.lexical_writer.specs.declared.layout.WriteError.TheVariants as errors;
 
-use crate::checked::Exact;
 use crate::form::{Shape, is_shown, least_places};
 use crate::layout::{Style, WriteError, allows_exponent};
 use crate::rounded::over_power;
 use lexical_literal::syntax::Syntax;
-use lexical_number::scaling::bits_of;
-use lexical_number::shortest::Units;
+use lexical_number::shortest::units_of;
 
 // A float without its sign: an odd number, or 0, times two to the power of `power - 1200`. A digit of its radix has so many bits, and
 // its exponent base is two to the power of `base_bits`.
@@ -32,12 +34,15 @@ pub(crate) struct Binary {
 // What is added to the exponent of a power of two. Each number of bits of a digit divides it.
 const RAISED: u64 = 1200;
 
-// Returns a float as an odd number, or 0, times two to the power of what is returned, less 1200.
-fn odd_of(units: Units) -> (u64, u64)
+// Returns the float with these bits as an odd number, or 0, times two to the power of what is returned, less 1200.
+fn odd_of(double: bool, size: u64) -> (u64, u64)
+    requires { size < ones (format_of double) * hid (format_of double) }
+    ensures size { HasSize (format_of double) size (result.0 * 2 ^ result.1) (2 ^ 1200) }
     ensures odd { 0 < result.0 → result.0 % 2 ≡ 1 }
     ensures zero { result.0 ≡ 0 → result.1 ≡ 1200 }
     ensures limits { (result.0 < 2 ^ 53) × (result.1 < 4000) }
 {
+    let units = units_of(double, size);
     if units.size == 0 {
         return (0, RAISED);
     }
@@ -45,30 +50,34 @@ fn odd_of(units: Units) -> (u64, u64)
     (units.size >> zeros, units.scale + zeros + RAISED - 1074)
 }
 
+// Returns the number of bits of a digit of a radix that is a power of two.
+const fn bits_in(radix: u32) -> u64
+    requires { is_power_of_two radix ≡ true }
+    ensures { (radix ≡ 2 ^ result) × (1 ≤ result) × (result ≤ 5) }
+{
+    match radix {
+        2 => 1,
+        4 => 2,
+        8 => 3,
+        16 => 4,
+        _ => 5,
+    }
+}
+
 impl Binary {
-    // Returns a float in a radix and with an exponent base, if both are powers of two.
-    pub(crate) fn of(units: Units, radix: u32, base: u32) -> Option<Binary>
-        ensures { IfSome result (λ it. (radix ≡ 2 ^ it.bits) × (base ≡ 2 ^ it.base_bits)) }
+    // Returns the float with these bits in a radix and with an exponent base that are powers of two.
+    pub(crate) fn of(double: bool, size: u64, radix: u32, base: u32) -> Binary
+        requires size { size < ones (format_of double) * hid (format_of double) }
+        requires radixes { (is_power_of_two radix ≡ true) × (is_power_of_two base ≡ true) }
+        ensures size { HasSize (format_of double) size (result.number * 2 ^ result.power) (2 ^ 1200) }
+        ensures radixes { (radix ≡ 2 ^ result.bits) × (base ≡ 2 ^ result.base_bits) }
     {
-        let bits = bits_of(radix)?;
-        let base_bits = bits_of(base)?;
-        let (number, power) = odd_of(units);
-        Some(Binary {
+        let (number, power) = odd_of(double, size);
+        Binary {
             number,
             power,
-            bits: bits as u64,
-            base_bits: base_bits as u64,
-        })
-    }
-
-    // Returns the float as a number times a power of two, over another one.
-    pub(crate) fn exact(&self) -> Exact
-        ensures { result.number * 2 ^ result.up * 2 ^ 1200 ≡ self.now.number * 2 ^ self.now.power * 2 ^ result.down }
-    {
-        Exact {
-            number: self.number,
-            up: self.power.saturating_sub(RAISED),
-            down: RAISED.saturating_sub(self.power),
+            bits: bits_in(radix),
+            base_bits: bits_in(base),
         }
     }
 
@@ -198,11 +207,11 @@ impl Binary {
         requires base { effective_exponent_base (raw syntax.now.word) ≡ 2 ^ self.now.base_bits }
         ensures form { IfOk result (λ it. HasShape syntax.now style (self.now.number * 2 ^ self.now.power) (2 ^ 1200) it.1.shown it.1.negative it.1.exponent
             it.1.places (it.0 * (raw syntax.now.word).byte layout.mantissa_radix ^ it.1.after)) }
-        ensures limit { IfErr result (λ error. is_limit syntax.now error ≡ true) }
+        ensures long { IfErr result (λ error. (error ≡ errors.Long) × IsLong syntax.now style (self.now.number * 2 ^ self.now.power) (2 ^ 1200)) }
     {
         let (number, plain) = self.form(syntax, style, false, 0);
         let long = (plain.places > 799) | self.reaches(number, plain.after as u64, 800 * self.bits);
-        if long && !allows_exponent(syntax) {
+        if long & !allows_exponent(syntax) {
             return Err(WriteError::Long);
         }
         let exponent = self.exponent(style, least_places(syntax, style, true) as u64);

@@ -20,8 +20,7 @@ ghost use Rattle.lexical_writer.specs.Choice.{IsReadBack, IsReadWith, IsReal, Is
 ghost use Rattle.lexical_writer.specs.declared.layout.ExponentStyle.TheVariants as exponents;
 ghost use Rattle.lexical_writer.specs.declared.layout.Style.{Style as Wishes};
 
-use crate::checked::is_integer;
-use crate::float::format_float;
+use crate::float::{format_float, is_integer};
 use crate::float_digits::FloatDigits;
 use crate::integer::WrittenInteger;
 use crate::layout::{ExponentStyle, Layout, Style, WriteError, needs_exponent};

@@ -2,11 +2,10 @@
 
 ghost use Rattle.std.specs.Prelude.{◌≡◌, ◌+◌, ◌*◌, ◌%◌, ◌^◌, ◌<◌, ◌≤◌, ◌++◌, ◌⊎◌, ℕ, false, true, is_some, length, length as count, None, nat_lt, unwrap_or};
 ghost use Rattle.std.specs.Int.Digits.{digits_of, number_from_digits};
-ghost use Rattle.std.specs.Float.Ieee.{hid, ones};
 ghost use Rattle.lexical_util.specs.Layout as layout;
 ghost use Rattle.lexical_util.specs.Record.{effective_exponent_base, raw};
 ghost use Rattle.lexical_literal.specs.Literal.{is_present};
-ghost use Rattle.lexical_number.specs.Float.{format_of, raised_down, raised_up};
+ghost use Rattle.lexical_number.specs.Float.{raised_down, raised_up};
 ghost use Rattle.lexical_number.specs.Number.{number, places as digit_count};
 ghost use Rattle.lexical_writer.specs.Digits.{values_of};
 ghost use Rattle.lexical_writer.specs.Amount.{HasShape, is_shown, is_wanted, least_places, power_if};
@@ -19,7 +18,7 @@ use crate::layout::{
 };
 use crate::run::Source;
 use lexical_literal::syntax::Syntax;
-use lexical_number::shortest::{Decimal, shortest};
+use lexical_number::shortest::Decimal;
 
 // How the digits of a number are written: with zeros behind them, with a point before the last of all these digits, and with an
 // exponent, if it is shown.
@@ -120,15 +119,6 @@ pub(crate) fn least_places(syntax: &Syntax, style: Style, shown: bool) -> usize
         Some(decimals) => decimals as usize,
         None => (style.point || !shown) as usize,
     }
-}
-
-// Returns the decimal number of a float with these bits. Programs have one copy of this.
-#[inline(never)]
-pub(crate) fn decimal_of(double: bool, size: u64) -> Decimal
-    requires { size < ones (format_of double) * hid (format_of double) }
-    ensures { result.exponent ≤ 340 }
-{
-    shortest(double, size)
 }
 
 // Returns the exponents of ten above and below the line of a decimal number.

@@ -6,7 +6,6 @@
 #![tactic(auto)]
 
 pub mod binary;
-pub mod checked;
 pub mod choice;
 pub mod digits;
 pub mod float;

@@ -3,9 +3,7 @@
 //! How a float is written in a radix that is a power of two.
 
 use crate::literal::syntax::Syntax;
-use crate::literal::value::number::scaling::bits_of;
-use crate::literal::value::number::shortest::Units;
-use crate::literal::writer::checked::Exact;
+use crate::literal::value::number::shortest::units_of;
 use crate::literal::writer::form::{is_shown, least_places, Shape};
 use crate::literal::writer::layout::{allows_exponent, Style, WriteError};
 use crate::literal::writer::rounded::over_power;
@@ -23,8 +21,9 @@ pub(crate) struct Binary {
 // What is added to the exponent of a power of two. Each number of bits of a digit divides it.
 const RAISED: u64 = 1200;
 
-// Returns a float as an odd number, or 0, times two to the power of what is returned, less 1200.
-fn odd_of(units: Units) -> (u64, u64) {
+// Returns the float with these bits as an odd number, or 0, times two to the power of what is returned, less 1200.
+fn odd_of(double: bool, size: u64) -> (u64, u64) {
+    let units = units_of(double, size);
     if units.size == 0 {
         return (0, RAISED);
     }
@@ -32,18 +31,22 @@ fn odd_of(units: Units) -> (u64, u64) {
     (units.size >> zeros, units.scale + zeros + RAISED - 1074)
 }
 
-impl Binary {
-    // Returns a float in a radix and with an exponent base, if both are powers of two.
-    pub(crate) fn of(units: Units, radix: u32, base: u32) -> Option<Binary> {
-        let bits = bits_of(radix)?;
-        let base_bits = bits_of(base)?;
-        let (number, power) = odd_of(units);
-        Some(Binary { number, power, bits: bits as u64, base_bits: base_bits as u64 })
+// Returns the number of bits of a digit of a radix that is a power of two.
+const fn bits_in(radix: u32) -> u64 {
+    match radix {
+        2 => 1,
+        4 => 2,
+        8 => 3,
+        16 => 4,
+        _ => 5,
     }
+}
 
-    // Returns the float as a number times a power of two, over another one.
-    pub(crate) fn exact(&self) -> Exact {
-        Exact { number: self.number, up: self.power.saturating_sub(RAISED), down: RAISED.saturating_sub(self.power) }
+impl Binary {
+    // Returns the float with these bits in a radix and with an exponent base that are powers of two.
+    pub(crate) fn of(double: bool, size: u64, radix: u32, base: u32) -> Binary {
+        let (number, power) = odd_of(double, size);
+        Binary { number, power, bits: bits_in(radix), base_bits: bits_in(base) }
     }
 
     // Returns the number over a power of two, in units of the last of so many digits behind the point, as a number with zeros behind its
@@ -122,7 +125,7 @@ impl Binary {
     pub(crate) fn digits(&self, syntax: &Syntax, style: Style) -> Result<(u64, Shape), WriteError> {
         let (number, plain) = self.form(syntax, style, false, 0);
         let long = (plain.places > 799) | self.reaches(number, plain.after as u64, 800 * self.bits);
-        if long && !allows_exponent(syntax) {
+        if long & !allows_exponent(syntax) {
             return Err(WriteError::Long);
         }
         let exponent = self.exponent(style, least_places(syntax, style, true) as u64);

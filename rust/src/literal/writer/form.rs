@@ -3,7 +3,7 @@
 //! How the digits of a float are written.
 
 use crate::literal::syntax::Syntax;
-use crate::literal::value::number::shortest::{shortest, Decimal};
+use crate::literal::value::number::shortest::Decimal;
 use crate::literal::writer::float_digits::split;
 use crate::literal::writer::layout::{allows_exponent, is_whole, needs_exponent, Amount, ExponentStyle, Power, Style};
 use crate::literal::writer::run::Source;
@@ -75,12 +75,6 @@ pub(crate) fn least_places(syntax: &Syntax, style: Style, shown: bool) -> usize 
         Some(decimals) => decimals as usize,
         None => (style.point || !shown) as usize,
     }
-}
-
-// Returns the decimal number of a float with these bits. Programs have one copy of this.
-#[inline(never)]
-pub(crate) fn decimal_of(double: bool, size: u64) -> Decimal {
-    shortest(double, size)
 }
 
 // Returns the exponents of ten above and below the line of a decimal number.

@@ -1,18 +1,21 @@
 -- The digits are those of the decimal number, which is read as the float.
 use Rattle.lexical_writer.proofs.Common.{HasShape, ap, arith, inr, length, number, number_digits_of, number_from_digits, places, raised_down, raised_up, raw}
-use Rattle.lexical_writer.proofs.Common.{refl, subst, sym, ◌*◌, ◌^◌, ◌∙◌, ◌≡◌}
+use Rattle.lexical_writer.proofs.Common.{subst, sym, ◌%◌, ◌*◌, ◌^◌, ◌∙◌, ◌≡◌}
 use Rattle.lexical_util.specs.Layout as layouts
 use Rattle.lexical_writer.proofs.FloatLemmas.{some_down}
 use Rattle.lexical_writer.proofs.float.decimal_digits.Goals as goal
 
-pub returns-clause-form : goal.returns-clause-form
-returns-clause-form g c =
+pub returns : goal.returns
+returns c =
     let s = c.args.syntax.now in
-    let d = c.args.decimal.digits in
+    let decimal = c.shortest-decimal in
+    let d = decimal.result.digits in
+    let minus = decimal.result.negative in
+    let e = decimal.result.exponent in
     let bytes = c.put_word-bytes.result.now in
     let form = c.decimal_form-form.result in
-    let num = d * raised_up c.args.decimal.negative 10 c.args.decimal.exponent in
-    let den = raised_down c.args.decimal.negative 10 c.args.decimal.exponent in
+    let num = d * raised_up minus 10 e in
+    let den = raised_down minus 10 e in
     let radix = c.requires.radix.0 in
     let units : number ((raw s.word).byte layouts.mantissa_radix) bytes * (raw s.word).byte layouts.mantissa_radix ^ form.after ≡ d * 10 ^ form.after =
     (λ i. number (radix i) bytes * radix i ^ form.after)
@@ -20,9 +23,10 @@ returns-clause-form g c =
       num,
       den,
       record {
-        some = some_down c.args.decimal.negative 10 c.args.decimal.exponent (omega arith);
-        near = λ _. c.if-not-is_nearest.ensures refl;
+        some = some_down minus 10 e (omega arith);
+        near = λ _. decimal.ensures.near.0;
         exact = inr (c.requires.plain, radix);
+        whole = λ is. ap (λ minus. num % raised_down minus 10 e) (decimal.ensures.whole is) ∙ omega arith;
       },
       subst (HasShape s c.args.style num den form.shown form.negative form.exponent form.places) (sym units) c.decimal_form-form.ensures,
       subst (λ r. places r bytes ≡ length bytes) (sym radix) c.put_word-bytes.ensures.places,

@@ -1,83 +1,158 @@
--- What is not refused is supported, and what is written of a float has its value.
-use Rattle.lexical_writer.proofs.Common.{Bool, Err, Grammar, IfErr, IfOk-weaker, Layout, None, Ok, Result, Style, WriteError, ap, arith, false, false≢true}
-use Rattle.lexical_writer.proofs.Common.{first_error, format_of, inl, inr, literal_of, not, subst, sym, true, ◌&&◌, ◌∙◌, ◌≡◌}
-use Rattle.std.specs.Prelude.{IsErrAnd}
+-- What is not refused is supported and laid out, and what is written of a float has its value.
+use Rattle.lexical_writer.proofs.Common.{Amount, Option, Style, false, refl}
+use lib.Ieee.Exact.{HasValue}
+use Rattle.lexical_writer.specs.Amount.{IsWorth}
+use Rattle.lexical_writer.proofs.Common.{Bool, Err, Grammar, IfErr, IfOk-weaker, IsFloatOf, IsLaidOut, Layout, None, Ok, Result, WriteError, ap, arith}
+use Rattle.lexical_writer.proofs.Common.{false≢true, first_error, format_of, inl, inr, is_some, literal_of, not, raw, subst, sym, true, ◌∙◌, ◌≡◌}
+use Rattle.std.specs.Prelude.{from_bits}
 use lib.Ieee.{Float}
-use Rattle.lexical_writer.specs.Amount.{IsFinite, IsFloatError, float_error, is_limit}
+use Rattle.lexical_number.specs.Shortest.{is_whole}
+use Rattle.lexical_util.specs.Layout as layouts
+use Rattle.lexical_util.specs.declared.format_flags.Part.TheVariants as part
+use Rattle.lexical_writer.specs.Amount.{IsFloatError, float_error, with_minus}
+use Rattle.lexical_writer.specs.Layout.{refusal}
 use Rattle.lexical_writer.specs.declared.layout.WriteError.TheVariants as errors
-use Rattle.lexical_writer.proofs.FloatLemmas.{amount_nearest, amount_rounded}
-use Rattle.lexical_writer.proofs.float.format_float.Goals.{else-is_whole, then-is_whole}
+use Rattle.lexical_writer.proofs.FloatLemmas.{amount_nearest, amount_rounded, if_numbered, minus_value, minus_whole, minus_worth, not_refused, residual}
+use Rattle.lexical_writer.proofs.LiteralLemmas.{radixes}
 use Rattle.lexical_writer.proofs.float.format_float.Goals as goal
 
 supports : (sign fraction s : Bool) → first_error sign fraction (not s) errors.Radix ≡ None → s ≡ true
 supports sign fraction s none = grind arith
 
-no_fraction : (sign other fraction last : Bool) → first_error sign (other && fraction) last errors.Radix ≡ None
-    → first_error sign (other && false) last errors.Radix ≡ None
-no_fraction sign other fraction last none = grind arith
-
 pub digits_in-requires-clause-supported : goal.digits_in-requires-clause-supported
 digits_in-requires-clause-supported g c = supports _ _ _ (sym c.refusal.ensures ∙ c.in_default-refusal.is)
 
 pub returns-clause-amount : goal.returns-clause-amount
-returns-clause-amount g c = c.write_amount.ensures.amount (format_of g.F.Float.DOUBLE) (g.F.Float.value c.args.value) c.in_ok-bytes.ensures.form
+returns-clause-amount g c =
+    let s = c.args.syntax.now in
+    let f = format_of g.F.Float.DOUBLE in
+    let x = g.F.Float.value c.args.value in
+    let form = c.in_ok-bytes.ensures.form in
+    let shape = c.in_ok-bytes.form in
+    let amount = c.amount_in in
+    let radix = (raw s.word).byte layouts.mantissa_radix in
+    let two = (radixes s.word c.lay_out.ensures.lawful.lawful part.Integer).0 in
+    let negative = c.in-Some.negative in
+    let double = c.DOUBLE-double in
+    let value = c.in-Some.ensures.value ∙ ap (λ d. with_minus negative (from_bits (format_of d) c.in-Some.size)) (sym double.ensures) in
+    if_numbered s c.args.style amount.result (λ layout. IsFloatOf f x s c.args.style (literal_of layout)) c.lay_out.result
+    c.lay_out.ensures.parts c.lay_out.ensures.number
+    (λ layout is has. (
+      negative,
+      form.0,
+      form.1,
+      subst (λ d. IsWorth (format_of d) x s c.args.style negative form.0 form.1) double.ensures
+          (subst (λ x. IsWorth (format_of double.result) x s c.args.style negative form.0 form.1) (sym value)
+          (minus_worth (format_of double.result) (from_bits (format_of double.result) c.in-Some.size) s c.args.style negative form.0 form.1 form.2)),
+      record {
+        amount = amount.result;
+        sign = amount.ensures.sign;
+        is = record {
+          shown = shape.shown;
+          negative = shape.negative;
+          e = shape.exponent;
+          places = shape.places;
+          units = _;
+          form = form.3;
+          hidden = shape.hidden;
+          number = amount.ensures.number radix two form.4;
+          count = amount.ensures.places radix form.4;
+          some = amount.ensures.some;
+          integer = amount.ensures.integer radix two form.4;
+          power = amount.ensures.power;
+        };
+        number = has;
+        text = is;
+      },
+    ))
 
 pub returns-clause-value : goal.returns-clause-value
 returns-clause-value g c plain =
     let f = format_of g.F.Float.DOUBLE in
     let x = g.F.Float.value c.args.value in
     let supported = supports _ _ _ (sym c.refusal.ensures ∙ c.in_default-refusal.is) in
-    IfOk-weaker c.write_amount.result _ _ (λ layout it. amount_nearest f x c.args.syntax.now c.args.style (literal_of layout) supported plain it)
-    (c.write_amount.ensures.amount f x c.in_ok-bytes.ensures.form)
+    IfOk-weaker c.lay_out.result _ _ (λ layout it. amount_nearest f x c.args.syntax.now c.args.style (literal_of layout) supported plain it)
+    (returns-clause-amount g c)
 
 pub returns-clause-rounded : goal.returns-clause-rounded
 returns-clause-rounded g c n wished =
     let f = format_of g.F.Float.DOUBLE in
     let x = g.F.Float.value c.args.value in
     let supported = supports _ _ _ (sym c.refusal.ensures ∙ c.in_default-refusal.is) in
-    IfOk-weaker c.write_amount.result _ _ (λ layout it. amount_rounded f x c.args.syntax.now c.args.style n (literal_of layout) supported wished it)
-    (c.write_amount.ensures.amount f x c.in_ok-bytes.ensures.form)
+    IfOk-weaker c.lay_out.result _ _ (λ layout it. amount_rounded f x c.args.syntax.now c.args.style n (literal_of layout) supported wished it)
+    (returns-clause-amount g c)
+
+-- The reason is that of the float with its sign.
+refusal_is : (x y : Float) (g : Grammar) (style : Style) (negative : Bool) (error : Option WriteError) → y ≡ with_minus negative x
+    → error ≡ float_error g style negative (not (is_whole x)) → float_error g style negative (not (is_whole y)) ≡ error
+refusal_is x y g style negative error is refused =
+    ap (λ w. float_error g style negative (not w)) (ap is_whole is ∙ minus_whole x negative) ∙ sym refused
 
 pub returns-clause-some : goal.returns-clause-some
 returns-clause-some g c =
-    let not_refused = sym c.refusal.ensures ∙ c.in_default-refusal.is in
-    IfOk-weaker c.write_amount.result _ _ (λ layout _. (c.in-Some.negative, c.in-Some.ensures.finite, no_fraction _ _ _ _ not_refused))
-    c.write_amount.ensures.literal
+    let it = c.in-Some in
+    let double = c.DOUBLE-double in
+    let value = it.ensures.value ∙ ap (λ d. with_minus it.negative (from_bits (format_of d) it.size)) (sym double.ensures) in
+    let none = refusal_is (from_bits (format_of double.result) it.size) (g.F.Float.value c.args.value) c.args.syntax.now c.args.style it.negative None
+    value (sym c.in_default-refusal.is ∙ c.refusal.ensures) in
+    IfOk-weaker c.lay_out.result _ _ (λ layout _. (it.negative, it.ensures.finite, none)) c.lay_out.ensures.literal
 
--- A float that is not refused has the error of a limit.
-limited : (x : Float) (g : Grammar) (style : Style) (negative fraction : Bool) → IsFinite x negative → float_error g style negative fraction ≡ None
-    → (error : WriteError) → is_limit g error ≡ true → IsFloatError x g style error
-limited x g style negative fraction finite none error limit =
-    inr (negative, false, finite, (λ is. absurd (false≢true is)), inr (no_fraction _ _ fraction _ none, limit))
+-- A float with digits is laid out.
+laid : (g : Grammar) (style : Style) (amount : Amount) (result : Result Layout WriteError) (Q : WriteError → Type 0) → IsLaidOut g style amount result
+    → refusal g amount ≡ None → IfErr result Q
+laid g style amount (Ok layout) Q is none = tt
+laid g style amount (Err error) Q is none = absurd (false≢true (ap is_some (sym none ∙ is)))
 
-of_result : (g : Grammar) (P : WriteError → Type 0) (result : Result Layout WriteError) → IfErr result (λ error. error ≡ errors.Radix)
-    → ((error : WriteError) → is_limit g error ≡ true → P error) → IfErr result P
-of_result g P (Ok layout) is then = tt
-of_result g P (Err error) is then = then error (ap (is_limit g) is)
-
-residual : (result : Result Layout WriteError) (Q P : WriteError → Type 0) → IsErrAnd result Q → ((e : WriteError) → Q e → P e) → IfErr result P
-residual (Ok layout) Q P is then = tt
-residual (Err error) Q P is then = then error is
-
-pub returns-in_err-bytes-clause-error : goal.returns-in_err-bytes-clause-error
-returns-in_err-bytes-clause-error g c =
-    residual c.from_residual.result _ (IsFloatError (g.F.Float.value c.args.value) c.args.syntax.now c.args.style) c.from_residual.ensures.1
-    (λ error same. limited (g.F.Float.value c.args.value) c.args.syntax.now c.args.style _ _ c.in-Some.ensures.finite
-    (sym c.refusal.ensures ∙ c.in_default-refusal.is) error (subst (λ e. is_limit c.args.syntax.now e ≡ true) (sym same) c.in_err-bytes.ensures.limit))
+not_false : (b : Bool) → not b ≡ false → b ≡ true
+not_false true is = refl
+not_false false is = absurd (false≢true (sym is))
 
 pub returns-clause-error : goal.returns-clause-error
 returns-clause-error g c =
-    of_result c.args.syntax.now _ c.write_amount.result c.write_amount.ensures.limit (limited (g.F.Float.value c.args.value) c.args.syntax.now c.args.style _ _
-    c.in-Some.ensures.finite (sym c.refusal.ensures ∙ c.in_default-refusal.is))
+    let it = c.in-Some in
+    let form = c.in_ok-bytes.ensures.form in
+    let shape = c.in_ok-bytes.form in
+    let g' = c.args.syntax.now in
+    let amount = c.amount_in in
+    let whole = is_whole (from_bits (format_of c.DOUBLE-double.result) it.size) in
+    laid g' c.args.style amount.result c.lay_out.result _ c.lay_out.ensures.parts
+    (not_refused g' c.args.style amount.result (not whole) shape.shown shape.negative shape.exponent shape.places form.0 form.1 _
+    (ap (λ s. float_error g' c.args.style s (not whole)) amount.ensures.sign ∙ sym c.refusal.ensures ∙ c.in_default-refusal.is)
+    (λ is. form.2.whole (not_false whole is)) form.2.some form.3 shape.hidden amount.ensures.some amount.ensures.power)
+
+pub returns-in_err-bytes-clause-error : goal.returns-in_err-bytes-clause-error
+returns-in_err-bytes-clause-error g c =
+    let it = c.in-Some in
+    let x = g.F.Float.value c.args.value in
+    let size = from_bits (format_of c.DOUBLE-double.result) it.size in
+    let value = it.ensures.value ∙ ap (λ d. with_minus it.negative (from_bits (format_of d) it.size)) (sym c.DOUBLE-double.ensures) in
+    let long = c.in_err-bytes.ensures.long in
+    let too = long.1 in
+    let none = refusal_is size x c.args.syntax.now c.args.style it.negative None value (sym c.in_default-refusal.is ∙ c.refusal.ensures) in
+    residual c.from_residual.result _ (IsFloatError x c.args.syntax.now c.args.style) c.from_residual.ensures.1
+    (λ error same. inr (
+      it.negative,
+      it.ensures.finite,
+      inr (
+        none,
+        same ∙ long.0,
+        (
+          too.0,
+          too.1,
+          subst (λ x. HasValue x it.negative too.0 too.1) (sym value) (minus_value size it.negative too.0 too.1 too.2),
+          too.3,
+          too.4,
+        ),
+      ),
+    ))
 
 pub returns-in-Some-refusal-clause-error : goal.returns-in-Some-refusal-clause-error
-returns-in-Some-refusal-clause-error g c = inr (
-  c.in-Some.negative,
-  c.if-is_whole.fraction,
-  c.in-Some.ensures.finite,
-  (λ is. elim c.if-is_whole.branch [
-    | then-is_whole w ↦ w.has_fraction-fraction.ensures (sym w.fraction-is ∙ is)
-    | else-is_whole w ↦ absurd (false≢true (sym w.if-is_whole.false ∙ sym w.fraction-is ∙ is))
-  ]),
-  inl (sym c.refusal.ensures ∙ c.in-Some-refusal.is),
-)
+returns-in-Some-refusal-clause-error g c =
+    let it = c.in-Some in
+    let size = from_bits (format_of c.DOUBLE-double.result) it.size in
+    let value = it.ensures.value ∙ ap (λ d. with_minus it.negative (from_bits (format_of d) it.size)) (sym c.DOUBLE-double.ensures) in
+    inr (
+      it.negative,
+      it.ensures.finite,
+      inl (refusal_is size (g.F.Float.value c.args.value) c.args.syntax.now c.args.style it.negative _ value (sym c.in-Some-refusal.is ∙ c.refusal.ensures)),
+    )

@@ -1,10 +1,31 @@
 -- An odd number over a power of two is not whole.
-use Rattle.lexical_writer.proofs.FloatLemmas.{broken}
+use Rattle.lexical_writer.proofs.Common.{ap, arith, eq-zero-or-pos, format_of, inl, inr, nat_lt, nat_tests, not, one-le-pow, pow-suc, pow-zero, suc}
+use Rattle.lexical_writer.proofs.Common.{sym, div-add-mod', ℕ, ◌%◌, ◌*◌, ◌-◌, ◌/◌, ◌<◌, ◌==◌, ◌^◌, ◌∙◌, ◌≡◌}
+use Rattle.std.specs.Prelude.{from_bits}
+use Rattle.lexical_number.proofs.ReadLemmas.{whole_is}
 use Rattle.lexical_writer.proofs.float.has_fraction.Goals as goal
 
-pub returns-then-exact-gt0 : goal.returns-then-exact-gt0
-returns-then-exact-gt0 g c same =
-    let exact = c.exact_of-exact in
-    let odd = exact.ensures.odd c.if-exact-gt0.true in
-    broken (g.F.Float.value c.args.value) c.args.negative exact.result.number exact.result.up exact.result.down c.if-exact-gt0.true odd.0 odd.1
-    (c.is_exact.ensures.value same)
+broken : (n up down : ℕ) → (0 < down → (n % 2 ≡ 1) × (up ≡ 0)) → nat_lt 0 down ≡ not (n * 2 ^ up % 2 ^ down == 0)
+broken n up down odd = elim (eq-zero-or-pos down) [
+  | inl z ↦
+      let one : n * 2 ^ up % 2 ^ down ≡ 0 = ap (λ d. n * 2 ^ up % 2 ^ d) z ∙ omega arith in
+      grind (arith, nat_tests, z, one)
+  | inr more ↦
+      let it = odd more in
+      let half : 2 ^ down ≡ 2 ^ (down - 1) * 2 = ap (λ d. 2 ^ d) {x = down} {y = suc (down - 1)} (omega (arith, more)) ∙ pow-suc 2 (down - 1) in
+      let number : n * 2 ^ up ≡ n = ap (λ i. n * 2 ^ i) it.1 ∙ ap (λ p. n * p) (pow-zero 2) ∙ omega arith in
+      let parts = div-add-mod' (n * 2 ^ up) (2 ^ down) in
+      let some : 0 < n * 2 ^ up % 2 ^ down = elim (eq-zero-or-pos (n * 2 ^ up % 2 ^ down)) [
+        | inl none ↦ absurd (omega (arith, parts, none, number, it.0, ap (λ p. n * 2 ^ up / 2 ^ down * p) half))
+        | inr some ↦ some
+      ] in
+      grind (arith, nat_tests, more, some)
+]
+
+pub returns : goal.returns
+returns c =
+    let exact = c.exact_of in
+    let it = exact.result in
+    broken it.number it.up it.down exact.ensures.odd
+    ∙ sym (ap not (whole_is (from_bits (format_of c.args.double) c.args.size) _ (it.number * 2 ^ it.up) (2 ^ it.down) (one-le-pow it.down 2 (omega arith))
+    exact.ensures.size.value))

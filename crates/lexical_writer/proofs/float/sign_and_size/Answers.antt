@@ -3,7 +3,8 @@ use Rattle.lexical_writer.proofs.Common.{Bool, Option, ap, arith, format_of, nat
 use Rattle.std.specs.Prelude.{IfNone}
 use lib.Ieee.{hid, of_bits, ones, top}
 use Rattle.lexical_writer.specs.Amount.{IsFinite}
-use Rattle.lexical_writer.proofs.FloatLemmas.{finite, not_number, special}
+use Rattle.lexical_writer.proofs.FloatLemmas.{finite, not_number, of_sign, special}
+use Rattle.lexical_writer.specs.Amount.{with_minus}
 use Rattle.lexical_writer.proofs.float.sign_and_size.Goals as goal
 
 pub returns-in_err-bits-clause-special : goal.returns-in_err-bits-clause-special
@@ -29,3 +30,10 @@ returns-else-size-infinity-clause-special g c negative is =
     let most = c.infinity.ensures.value ∙ ap (λ d. ones (format_of d) * hid (format_of d)) c.DOUBLE-2.ensures in
     let least : ones f * hid f ≤ bits % top f = subst (λ s. ones f * hid f ≤ bits % s) sign (omega (arith, c.if-size-infinity.false, most)) in
     special f bits least negative (subst (λ x. IsFinite x negative) (sym c.in_ok-bits.ensures.value) is)
+
+pub returns-then-size-infinity-clause-value : goal.returns-then-size-infinity-clause-value
+returns-then-size-infinity-clause-value g c =
+    let f = format_of g.F.Float.DOUBLE in
+    let bits = c.in_ok-bits.bits in
+    let sign : c.sign_bit-sign.result ≡ top f = c.sign_bit-sign.ensures ∙ ap (λ d. top (format_of d)) c.DOUBLE.ensures in
+    sym c.in_ok-bits.ensures.value ∙ of_sign f bits ∙ sym (ap (λ s. with_minus (nat_le s bits) (of_bits f (bits % s))) sign)
