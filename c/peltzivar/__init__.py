@@ -1534,11 +1534,11 @@ class Suffixes(metaclass=_Class):
     between them, in this case or in either one, and with `whole_words` a suffix is the whole word behind a number, so
     that `1if` has no suffix `i`. Words have letters, digits, `_`, characters that are not ASCII, and those of
     `word_bytes`, such as `-` for `2n-1` of CSS. One that begins with a digit of the form, such as `5k`, is never found.
-    Any word that begins with a character of `any` is a suffix, too, as in `1_km`. `kinds` has the kinds of numbers by their suffixes, a dict or pairs. A number is not a token if it is
-    at one of the `stops`: if it ends in a character of the first string, one of the second follows, and then one of the
-    third. An empty string asks for nothing. `written` has the words that `format_number` may write behind an integer:
-    the first with which `token` reads all of the text as the number. Raises ValueError for another character in a word,
-    and for a null character.
+    Any word that begins with a character of `any` is a suffix, too, as in `1_km`. `kinds` has the kinds of numbers by
+    their suffixes, a dict or pairs. A number is not a token if it is at one of the `stops`: if it ends in a character
+    of the first string, one of the second follows, and then one of the third. An empty string asks for nothing.
+    `written` has the words that `format_number` may write behind an integer: the first with which `token` reads all of
+    the text as the number. Raises ValueError for another character in a word, and for a null character.
 
         >>> words = Suffixes("u8 i8", "f32", kinds={"f32": Kind(single=True)}, stops=[("", ".", "0123456789")])
         >>> forms = Forms([("number", Syntax(Format()))], suffixes={"number": words}, tokens=Tokens())

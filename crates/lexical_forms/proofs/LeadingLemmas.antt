@@ -351,7 +351,8 @@ module _ (list : FormList) (t : Tokens) (text : List ℕ) (index : ℕ) (form : 
               let less = is.before.1 in
               let low = size_before false (get_or (take index list.forms) k d) is.before.0 (is.before.2 k d below) s e other in
               shorter s e size (size + more) (omega (arith, low, less))
-              (end_within false (get_or (take index list.forms) k d) (All-take HasNoWord index list.forms no_word k d below) s e (omega (arith, low, less)) other);
+              (end_within false (get_or (take index list.forms) k d) (All-take HasNoWord index list.forms no_word k d below)
+              s e (omega (arith, low, less)) other);
           others = λ k d below s e other.
               let low = size_within false (get_or list.forms k d) (near k d below) s e other in
               no_longer s e size (size + more) low (end_within false (get_or list.forms k d) (no_word k d below) s e low other);

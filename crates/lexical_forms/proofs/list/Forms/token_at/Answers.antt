@@ -1,5 +1,6 @@
 -- The front has the parts and the sums that were counted, and is the literal of the token.
-use Rattle.lexical_forms.proofs.Common.{◌∙◌, ◌≡◌, ◌+◌, FormList, ap, drop, false, slice_get, take, refl, sym, subst, arith, Reads, notation_of, raw, IsMeasured, AreSums, cut, cuts_of, ReadsSyntax}
+use Rattle.lexical_forms.proofs.Common.{◌∙◌, ◌≡◌, ◌+◌, FormList, ap, drop, false, slice_get, take}
+use Rattle.lexical_forms.proofs.Common.{refl, sym, subst, arith, Reads, notation_of, raw, IsMeasured, AreSums, cut, cuts_of, ReadsSyntax}
 use Rattle.std.proofs.lemmas.List.{drop-drop}
 use Rattle.lexical_forms.specs.Additions.Token.{go_on_with}
 use Rattle.lexical_literal.specs.Cause.{is_in}
