@@ -631,9 +631,10 @@ typedef struct {
 
 /* The suffixes of a form, which only peltzivar_forms_token reads: words directly behind integers and behind floats, in
  * this case or, with either_case, in either one. With whole_words, a suffix is the whole word behind a number, and `1if`
- * has no suffix `i`. A string of words has spaces between them, as in "u8 u16". Words have letters, digits, `_` and
- * bytes from 128 up, and others are never found, nor is one that begins with a digit of its form. Any word that begins
- * with a byte of the string `any` is a suffix, too, as in `1_km`. A string may be null.
+ * has no suffix `i`. A string of words has spaces between them, as in "u8 u16". Words have letters, digits, `_`, bytes
+ * from 128 up and those of the string `word_bytes`, such as "-" for `2n-1` of CSS, and others are never found, nor is
+ * one that begins with a digit of its form. Any word that begins with a byte of the string `any` is a suffix, too, as
+ * in `1_km`. A string may be null.
  *
  * The words of the string `written`, such as "L" for Java, may be written behind an integer that the forms do not have
  * without one: the first with which peltzivar_forms_token reads all of the text as the number. */
@@ -644,7 +645,8 @@ typedef struct {
     const peltzivar_stop *stops;
     size_t stop_count;
     bool either_case, whole_words;
-    uint8_t reserved[14];
+    uint8_t reserved[6];
+    const char *word_bytes;
 } peltzivar_suffixes;
 
 /* A form of numbers, such as `0x1F`: its name, which may be null, its syntax, its kind, by which the values of its

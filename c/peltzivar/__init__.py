@@ -1532,13 +1532,13 @@ class Kind(metaclass=_Class):
 class Suffixes(metaclass=_Class):
     """The suffixes of a form, which only `token` reads: words directly behind `integers` and `floats`, with spaces
     between them, in this case or in either one, and with `whole_words` a suffix is the whole word behind a number, so
-    that `1if` has no suffix `i`. Words have letters, digits, `_` and characters that are not ASCII. One that begins with
-    a digit of the form, such as `5k`, is never found. Any word that begins with a character of `any` is a suffix, too,
-    as in `1_km`. `kinds` has the kinds of numbers by their suffixes, a dict or pairs. A number is not a token if it is
-    at one of the `stops`: if it ends in a character of the first string, one of the second follows, and then one of the
-    third. An empty string asks for nothing. `written` has the words that `format_number` may write behind an integer:
-    the first with which `token` reads all of the text as the number. Raises ValueError for another character in a word,
-    and for a null character.
+    that `1if` has no suffix `i`. Words have letters, digits, `_`, characters that are not ASCII, and those of
+    `word_bytes`, such as `-` for `2n-1` of CSS. One that begins with a digit of the form, such as `5k`, is never found.
+    Any word that begins with a character of `any` is a suffix, too, as in `1_km`. `kinds` has the kinds of numbers by
+    their suffixes, a dict or pairs. A number is not a token if it is at one of the `stops`: if it ends in a character
+    of the first string, one of the second follows, and then one of the third. An empty string asks for nothing.
+    `written` has the words that `format_number` may write behind an integer: the first with which `token` reads all of
+    the text as the number. Raises ValueError for another character in a word, and for a null character.
 
         >>> words = Suffixes("u8 i8", "f32", kinds={"f32": Kind(single=True)}, stops=[("", ".", "0123456789")])
         >>> forms = Forms([("number", Syntax(Format()))], suffixes={"number": words}, tokens=Tokens())
@@ -1554,6 +1554,7 @@ class Suffixes(metaclass=_Class):
     either_case: bool = False
     written: str = ""
     whole_words: bool = False
+    word_bytes: str = ""
 
     def __post_init__(self) -> None:
         pairs = self.kinds.items() if isinstance(self.kinds, Mapping) else self.kinds
@@ -1563,26 +1564,27 @@ class Suffixes(metaclass=_Class):
         [_typed(name, vars(self)[name], bool) for name in ("either_case", "whole_words")]
         if any(len(stop) != 3 for stop in self.stops):
             raise ValueError(f"a stop has three strings: {self.stops}")
-        texts = self.integers, self.floats, self.any, self.written
+        texts = self.integers, self.floats, self.any, self.written, self.word_bytes
         [_string(it) for it in (*texts, *(it for stop in self.stops for it in stop))]
         words = [*self.integers.split(" "), *self.floats.split(" "), *(it for it, _ in self.kinds)]
-        if wrong := [it for it in words if any(it.isascii() and not it.isalnum() and it != "_" for it in it)]:
+        known = "_" + self.word_bytes
+        if wrong := [it for it in words if any(it.isascii() and not it.isalnum() and it not in known for it in it)]:
             raise ValueError(f"a suffix has letters, digits, `_` and characters that are not ASCII: {wrong[0]!r}")
 
     def _members(self) -> Tuple[Any, ...]:
         """Returns the members of the structure."""
         stops = tuple(tuple(map(_string, stop)) for stop in self.stops)
         kinds = tuple((_string(it), *kind._numbers()) for it, kind in self.kinds)
-        texts = self.integers, self.floats, self.any, self.written
+        texts = self.integers, self.floats, self.any, self.written, self.word_bytes
         return *map(_string, texts), kinds, stops, int(self.either_case), int(self.whole_words)
 
     @classmethod
     def _of(cls, *members: Any) -> Suffixes:
         *texts, kinds, stops, either_case, whole_words = members
-        integers, floats, any, written = map(_shown, texts)
+        integers, floats, any, written, word_bytes = map(_shown, texts)
         named = [(_shown(word), Kind._of(*numbers)) for word, *numbers in kinds]
         shown = [[*map(_shown, it)] for it in stops]
-        return cls(integers, floats, any, named, shown, bool(either_case), written, bool(whole_words))
+        return cls(integers, floats, any, named, shown, bool(either_case), written, bool(whole_words), word_bytes)
 
 
 @dataclass(frozen=True)

@@ -63,7 +63,7 @@ IS(specials) S(specials, nan) S(specials, inf) S(specials, infinity) }};
 IS(suffix_kind) S(suffix_kind, word) B(suffix_kind, integer_kind) B(suffix_kind, integer_bits)
     B(suffix_kind, float_kind) B(suffix_kind, float_limits) }};
 IS(stop) S(stop, last) S(stop, next) S(stop, second) }};
-IS(suffixes) S(suffixes, integers) S(suffixes, floats) S(suffixes, any) S(suffixes, written)
+IS(suffixes) S(suffixes, integers) S(suffixes, floats) S(suffixes, any) S(suffixes, written) S(suffixes, word_bytes)
     ARRAY(suffixes, kinds, kind_count, suffix_kind) ARRAY(suffixes, stops, stop_count, stop)
     B(suffixes, either_case) B(suffixes, whole_words) }};
 IS(form) S(form, name) OF('>', form, syntax, syntax) B(form, integer_kind) B(form, integer_bits) B(form, float_kind)

@@ -413,7 +413,7 @@ static void test_languages(void) {
 static void test_tokens(void) {
     static const peltzivar_suffix_kind kinds[] = {{"u8", PELTZIVAR_INTEGERS_WRAP, 8, PELTZIVAR_FLOATS_NEAREST, PELTZIVAR_LIMITS_NONE, {0}}};
     static const peltzivar_stop stops[] = {{"8", "-", NULL, {0}}};
-    static const peltzivar_suffixes suffixes = {"u u8", NULL, "k", NULL, kinds, 1, stops, 1, true, false, {0}};
+    static const peltzivar_suffixes suffixes = {"u u8", NULL, "k", NULL, kinds, 1, stops, 1, true, false, {0}, "-"};
     static const peltzivar_tokens rules = {NULL, 0, "if in", true, false, false, {0}};
     peltzivar_form form = language("RUST")->forms[0];
     peltzivar_forms forms = forms_of(&form, 1);
@@ -428,7 +428,7 @@ static void test_tokens(void) {
     CHECK(peltzivar_forms_token(&forms, "200U8;", 6, &token, &error) && token.size == 5 && *token.rest == ';' && token.suffix.start == 3 && token.suffix.end == 5);
     CHECK(token.literal.size == 3 && !peltzivar_to_i64(&token.literal, &value) && value == -56);
     CHECK(peltzivar_forms_token(&forms, "1..2", 4, &token, NULL) && token.size == 1 && peltzivar_forms_token(&forms, "1if", 3, &token, NULL) && token.size == 1);
-    CHECK(peltzivar_forms_token(&forms, "1km ", 4, &token, NULL) && token.literal.size == 1 && token.suffix.end == 3);
+    CHECK(peltzivar_forms_token(&forms, "1k-m ", 5, &token, NULL) && token.literal.size == 1 && token.suffix.end == 4);
     CHECK(!peltzivar_forms_token(&forms, "1abc", 4, NULL, &error) && error.valid_up_to == 1 && peltzivar_explain(&error, &why));
     CHECK(why.kind == PELTZIVAR_KIND_SUFFIX && why.span.start == 1 && why.span.end == 4 && why.code == PELTZIVAR_INVALID_DIGIT && why.index == 1);
     CHECK(!peltzivar_forms_token(&forms, "1u8-", 4, NULL, &error) && peltzivar_explain(&error, &why) && why.kind == PELTZIVAR_KIND_STOP);
@@ -439,6 +439,7 @@ static void test_tokens(void) {
     CHECK(WRITES("", peltzivar_token_error_text(&forms, "1", 1, text, sizeof text)) && peltzivar_token_error_text(NULL, "1", 1, text, sizeof text));
     CHECK(peltzivar_forms_token(language("JAVA"), "08f+", 4, &token, NULL) && token.literal.form == 5 && token.size == 3);
     CHECK(!strcmp(language("JAVA")->tokens->forms[0].suffixes->floats, "f d") && language("JAVA")->tokens->count == 1 && !language("JSON")->tokens);
+    CHECK(!strcmp(language("CSS")->forms[0].suffixes->word_bytes, "-") && !language("JAVA")->forms[0].suffixes->word_bytes);
     CHECK(!peltzivar_forms_token(NULL, "1", 1, &token, &error) && !peltzivar_forms_token(&forms, "1", SIZE_MAX, &token, &error));
 }
 

@@ -327,6 +327,8 @@ class Literals(unittest.TestCase):
         forms = Forms({"": point}, suffixes={"": words}, tokens=Tokens(octal))
         self.assertEqual((forms.token("0.1f").literal.value, forms.token("17o").literal.value, forms.token("17o").literal.form), (0.10000000149011612, 15, "octal"))
         self.assertRaisesRegex(LiteralError, "the number cannot end here", forms.token, "1.5f--")
+        percent = Forms({"": point}, suffixes={"": Suffixes("% n-1", word_bytes="%-")}, tokens=Tokens())
+        self.assertEqual([percent.token(it).suffix for it in ("2%;", "2n-1", "2-1")], ["%", "n-1", ""])
         self.assertRaisesRegex(ValueError, "no tokens", Forms({"": point}).token, "1")
         self.assertRaisesRegex(ValueError, "no form", Forms, {"": point}, suffixes={"x": words})
         for most in (256, 257):
@@ -661,7 +663,7 @@ SYNTAX = Syntax.of(base_prefix="x", base_suffix="h", digit_separator="_", intern
 FIRST = {Forms: {"forms": {"a": SYNTAX}}, Syntax: {"format": SYNTAX.format}}
 NEEDS = {"modulo": {"wraps": 8}, "higher_group_size": {"integer_group_size": 4}}
 SPELLED = dict.fromkeys(("nan", "inf", "infinity"), "x")
-WORDS = dict.fromkeys(("integers", "floats", "any", "written"), "x")
+WORDS = dict.fromkeys(("integers", "floats", "any", "written", "word_bytes"), "x")
 CHANGES = {
     Kind: {"at_most": 8, "wraps": 8, "modulo": True, "single": True, "limits": "both"},
     Specials: SPELLED,

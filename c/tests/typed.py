@@ -55,7 +55,7 @@ forms: Forms = Forms([("", syntax)], nan="NaN", inf=None, infinity="Infinity", k
 kind: Kind = Kind(at_most=7, single=True, limits="both")
 of_kind: Tuple[Optional[int], Optional[int], bool, bool, Optional[str]] = kind.at_most, literal.kind.wraps, kind.modulo, kind.single, kind.limits
 kinds: Dict[str, Kind] = forms.kinds
-suffixes: Suffixes = Suffixes(integers="u8", floats="f", any="_", kinds={"f": kind}, stops=[("", ".", "0")], either_case=True, written="u8", whole_words=True)
+suffixes: Suffixes = Suffixes(integers="u8", floats="f", any="_", kinds={"f": kind}, stops=[("", ".", "0")], either_case=True, written="u8", whole_words=True, word_bytes="-")
 affixes: Affixes = Affixes(opening="16#", closing="#", case_sensitive_opening=True, case_sensitive_closing=True)
 between: Forms = Forms({"ada": integers}, affixes={"ada": affixes}, only_read=["ada"])
 of_affixes: Tuple[Dict[str, Affixes], Sequence[str], str, str] = between.affixes, between.only_read, affixes.opening, affixes.closing

@@ -52,6 +52,7 @@ fn suffixes(of: &Suffixes) -> String {
         [byte] => words.push(format!("words that begin with `{}`", *byte as char)),
         _ => words.push(String::from("any word")),
     }
+    words.extend((!of.word_bytes().is_empty()).then(|| format!("with `{}` in words", of.word_bytes().escape_ascii())));
     words.extend(of.written().iter().map(|it| format!("written with `{}`", String::from_utf8_lossy(it))));
     words.join(", ")
 }

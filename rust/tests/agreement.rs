@@ -37,8 +37,13 @@ const OPENINGS: [&[u8]; 9] = [b"0", b"0x", b"x", b"1", b"12", b"0Xe5", b"-", b"e
 const CLOSINGS: [&[u8]; 8] = [b"q", b" ", b";", b";;", b"h", b"Qe5", b"'1.", b"x0x"];
 
 /// Suffixes of half of the forms, and words that may follow numbers.
-const WORDS: Suffixes = Suffixes::new(&[b"u8", b"x", b"D0"], &[b"f", b"f1"], &[]);
-static SUFFIXES: [Suffixes; 2] = [WORDS, WORDS.whole_words(true)];
+const WORDS: Suffixes = Suffixes::new(&[b"u8", b"x", b"D0", b"x-", b"-"], &[b"f", b"f1", b"f,f"], &[]);
+static SUFFIXES: [Suffixes; 4] = [
+    WORDS,
+    WORDS.whole_words(true),
+    WORDS.whole_words(true).with_word_bytes(b"-"),
+    WORDS.any_word(b"h,").with_word_bytes(b"-,"),
+];
 const FOLLOWING: [&[u8]; 2] = [b"inf", b"x"];
 
 /// What points are given back to.
@@ -67,7 +72,7 @@ fn form(random: &mut Random, are_marked: bool) -> Form {
         Affix::new(bytes).unwrap().case_sensitive(bytes.iter().any(u8::is_ascii_uppercase))
     };
     if random.one_in(2) {
-        form = form.with_suffixes(&SUFFIXES[usize::from(random.one_in(3))]);
+        form = form.with_suffixes(&SUFFIXES[usize::from(random.byte(0, 3))]);
     }
     if are_marked && random.one_in(2) {
         form = form.with_opening(mark(random, &OPENINGS));
@@ -216,9 +221,14 @@ fn is_word_byte(byte: u8) -> bool {
     byte.is_ascii_alphanumeric() || byte == b'_' || byte >= 128
 }
 
-/// The length of the word with which a text begins.
-fn word(text: &[u8]) -> usize {
-    text.iter().take_while(|it| is_word_byte(**it)).count()
+/// The length of the word with which a text begins. It may have more bytes.
+fn word(text: &[u8], more: &[u8]) -> usize {
+    text.iter().take_while(|it| is_word_byte(**it) || more.contains(it)).count()
+}
+
+/// The bytes that words of a form have besides.
+fn more(form: &Form) -> &'static [u8] {
+    form.suffixes().map_or(&[][..], Suffixes::word_bytes)
 }
 
 /// Whether the byte at an index is the point of a form.
@@ -239,9 +249,13 @@ fn candidate(form: &Form, needs: bool, back: Back, text: &[u8]) -> Option<(usize
     }
     let literal = between(form, &text[..size])?;
     let words = form.suffixes().map_or(&[][..], |it| if literal.is_float() { it.floats() } else { it.integers() });
-    let is_whole = form.suffixes() == Some(&SUFFIXES[1]);
-    let is_suffix = |it: &&&[u8]| text[size..].starts_with(it) && (!is_whole || it.len() == word(&text[size..]));
-    let suffix = words.iter().filter(is_suffix).map(|it| it.len()).max().unwrap_or(0);
+    let (behind, whole) = (&text[size..], word(&text[size..], more(form)));
+    let is_whole = form.suffixes().is_some_and(|it| SUFFIXES[1..3].contains(it));
+    let is_suffix =
+        |it: &&&[u8]| behind.starts_with(it) && if is_whole { it.len() == whole } else { it.len() <= whole };
+    let any = form.suffixes().is_some_and(|it| behind.first().is_some_and(|byte| it.begins_any_word().contains(byte)));
+    let listed = words.iter().filter(is_suffix).map(|it| it.len()).max().unwrap_or(0);
+    let suffix = if any { whole } else { listed };
     (suffix > 0 || !needs).then_some((size, size + suffix))
 }
 
@@ -259,7 +273,7 @@ fn token(case: &Case, text: &[u8]) -> Ended {
     let chosen = candidates.max_by_key(|it| it.0);
     let fails = || {
         let furthest = list.into_iter().map(|form| right(form, text)).max().unwrap();
-        let end = furthest + word(&text[furthest..]);
+        let end = furthest + word(&text[furthest..], b"");
         let part = &text[..end];
         if list.into_iter().any(|form| between(form, part).is_some()) {
             return Err((end..end, "the decimal point belongs to what follows".into()));
@@ -267,7 +281,7 @@ fn token(case: &Case, text: &[u8]) -> Ended {
         let (_, (_, _, span, [sentence, _])) = error_in(list, part);
         Err((span, sentence))
     };
-    let Some(((end, size, Reverse(index)), _)) = chosen else { return fails() };
+    let Some(((end, size, Reverse(index)), form)) = chosen else { return fails() };
     let behind = &text[end..];
     let goes_on = |form: &Form| {
         let right = right(form, text);
@@ -275,7 +289,7 @@ fn token(case: &Case, text: &[u8]) -> Ended {
         let name = two && text.get(right).is_some_and(|it| *it == b'.' || it.is_ascii_alphabetic());
         right > end && !(*back != Back::Never && (right == end + 1 || name) && is_point(form, text, end))
     };
-    let follows = word(behind);
+    let follows = word(behind, b"");
     let may = *any_word_follows && !text[..end].ends_with(b".");
     let stops = follows > 0 && (!may || behind[0].is_ascii_digit());
     if FOLLOWING.contains(&&behind[..follows]) || !(list.into_iter().any(goes_on) || stops) {
@@ -283,7 +297,7 @@ fn token(case: &Case, text: &[u8]) -> Ended {
     } else if list.into_iter().any(goes_on) || (size == end && behind[0].is_ascii_digit()) {
         fails()
     } else {
-        Err((size..end + follows, "unknown suffix".into()))
+        Err((size..end + word(behind, more(form)), "unknown suffix".into()))
     }
 }
 

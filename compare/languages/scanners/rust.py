@@ -35,10 +35,10 @@ def numbers(work, path):
 
 def sizes(work, texts):
     """Returns the lengths of the numbers that texts begin with."""
-    lines = "".join(f"{text}\n" for text in texts)
-    (work / "texts").write_text(lines)
+    (work / "texts").write_text("".join(f"{text}\n" for text in texts))
     compiled(work, "main.rs", "rust::sizes!();\nfn main() {}\n")
     found = (work / "sizes").read_text().split()
+    lines = "".join(f"{text * (size != '-')}\n" for text, size in zip(texts, found, strict=True))
     for error in compiled(work, "lines.rs", f"macro_rules! all {{ ($($it:tt)*) => {{}} }}\nall! {{\n{lines}}}\nfn main() {{}}\n"):
         for span in error["spans"]:
             index = span["line_start"] - 3

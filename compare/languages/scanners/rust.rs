@@ -3,14 +3,16 @@ extern crate proc_macro;
 
 use proc_macro::{Literal, TokenStream, TokenTree};
 use std::fs;
+use std::panic::catch_unwind;
 
 /// Returns what the environment has of a name.
 fn path(name: &str) -> String {
     std::env::var(name).expect(name)
 }
 
+/// Returns the length of the number that a text begins with, or `-`. At texts such as `1r#`, the lexer panics.
 fn size(text: &str) -> String {
-    match text.parse::<TokenStream>().ok().and_then(|it| it.into_iter().next()) {
+    match catch_unwind(|| text.parse::<TokenStream>().ok()).ok().flatten().and_then(|it| it.into_iter().next()) {
         Some(TokenTree::Literal(it)) => it.to_string().len().to_string(),
         _ => "-".into(),
     }

@@ -6,7 +6,7 @@ use Rattle.lexical_forms.proofs.Common.{Form, FormList, is_float}
 use Rattle.lexical_literal.specs.Cause.{is_in}
 use Rattle.lexical_forms.specs.FormList.{have_marks}
 use Rattle.lexical_forms.specs.Forms.{IsFirst, NoForm, ReadsForm, ReadsIn}
-use Rattle.lexical_forms.specs.Suffix.{suffix_size, word_size}
+use Rattle.lexical_forms.specs.Suffix.{more_of, suffix_size, word_size}
 use Rattle.lexical_forms.specs.Token.{IsCandidate, IsChosen, IsToken, gives_back, is_shorter, takes_point}
 use Rattle.lexical_forms.specs.declared.list.Tokens.{Tokens}
 use Rattle.lexical_forms.specs.declared.token.Token.{Token}
@@ -25,7 +25,7 @@ no_more : (form : Form) (float : Bool) (text : List ℕ) (size : ℕ) → length
 no_more form float text size past =
     let less = suffix_within form.suffixes float (drop size text) in
     let none = no_word (drop size text) (let left = length-drop size text in omega (arith, left, past)) in omega (arith, less, none) where
-      no_word : (text : List ℕ) → length text ≡ 0 → word_size text ≡ 0
+      no_word : (text : List ℕ) → length text ≡ 0 → word_size (more_of form.suffixes) text ≡ 0
       no_word [] none = refl
       no_word (byte ∷ text) none = absurd (omega (arith, none))
 

@@ -157,7 +157,7 @@ number_is list text i read own is format same kind = record {
 }
 
 -- A form of a list without marks has none.
-no_one : (a b : Bool) → (a || b) ≡ false → (a ≡ false) × (b ≡ false)
+pub no_one : (a b : Bool) → (a || b) ≡ false → (a ≡ false) × (b ≡ false)
 no_one false b is = (refl, is)
 no_one true b is = absurd (false≢true (sym is))
 

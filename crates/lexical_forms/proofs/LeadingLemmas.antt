@@ -6,17 +6,18 @@ use Rattle.lexical_forms.proofs.Common.{if◌then◌else◌, IsTrue, length, sli
 use Rattle.lexical_forms.proofs.Common.{FormList, ReadsSyntax, IsFront, IsValidUpTo, NoFront, NoLiteral, IsAhead, Form, Stopped, Candidate}
 use Rattle.lexical_forms.specs.Additions.Forms.{NoFrontPast, PlaysNoRole}
 use Rattle.lexical_literal.specs.Additions.Literal.{HasSums, before_exponent}
-use Rattle.lexical_forms.specs.Additions.Token.{FrontsWithin, IsLeading, IsNear, IsPicked, has_float, has_prefix}
+use Rattle.lexical_forms.specs.Additions.Token.{FrontsWithin, IsLeading, IsNear, IsPicked, go_on_with, has_float, has_prefix}
 use Rattle.lexical_forms.specs.Token.{HasFrontOfSyntax}
 use Rattle.lexical_forms.specs.Token.{IsCandidate, IsToken, gives_back, is_alone, is_shorter, takes_point}
 use Rattle.std.specs.Borrow.{Bor}
 use Rattle.std.specs.Prelude.{not, option_map, unwrap_or}
 use Rattle.std.proofs.lemmas.List.{drop-take, length-append, take-take}
+use Rattle.std.proofs.lemmas.List.Elements.{All-take}
 use Rattle.std.proofs.lemmas.Option.{slice_get_within}
 use Rattle.lexical_literal.specs.Additions.GroupSize.{goes}
 use Rattle.lexical_literal.specs.Cause.{is_in}
-use Rattle.lexical_forms.specs.Suffix.{any_word_size, begins, byte_before, if_whole, is_digit, is_point, is_stopped, is_word_byte, kind_with}
-use Rattle.lexical_forms.specs.Suffix.{longest_word, meets, suffix_size, word_size}
+use Rattle.lexical_forms.specs.Suffix.{byte_before, is_digit, is_in_word, is_point, is_stopped, is_word_byte, kind_with}
+use Rattle.lexical_forms.specs.Suffix.{longest_word, meets, more_of, suffix_in, suffix_size, word_size}
 use Rattle.std.specs.List.{list_any}
 use Rattle.lexical_forms.specs.declared.list.PointsBack.{PointsBack}
 use Rattle.lexical_forms.specs.declared.list.PointsBack.TheVariants as points
@@ -27,53 +28,49 @@ use Rattle.lexical_forms.specs.declared.suffix.Suffixes.{Suffixes}
 use Rattle.lexical_literal.specs.declared.syntax.Condition.TheVariants as conditions
 use Rattle.lexical_forms.specs.declared.token.Token.{Token}
 use Rattle.lexical_forms.proofs.ExcludeLemmas.{BeginsPrefixed, front_sign, no_role_excludes, prefix_begins}
+use Rattle.lexical_forms.proofs.FormLemmas.{no_one}
 use Rattle.lexical_forms.proofs.OpeningLemmas.{begins_whole, both, front_byte}
 use Rattle.lexical_forms.proofs.TokenLemmas.{float_is, some_is, token_is}
 
 -- A suffix is in the word with which the text begins.
-begins_within : (either : Bool) (word text : List ℕ) → begins either word text ≡ true → length word ≤ word_size text
-begins_within either [] text is = omega arith
-begins_within either (letter ∷ word) [] is = grind arith
-begins_within either (letter ∷ word) (byte ∷ text) is = let less = begins_within either word text in grind arith
+longest_within : (either : Bool) (words : List (Bor (List ℕ))) (text : List ℕ) (most : ℕ) → longest_word either words text most ≤ most
+longest_within either [] text most = omega arith
+longest_within either (word ∷ words) text most = let rest = longest_within either words text most in grind (arith, nat_tests)
 
-longest_within : (either : Bool) (words : List (Bor (List ℕ))) (text : List ℕ) → longest_word either words text ≤ word_size text
-longest_within either [] text = omega arith
-longest_within either (word ∷ words) text =
-    let rest = longest_within either words text in let own = begins_within either word.now text in grind arith
+suffix_in_within : (it : Suffixes) (float : Bool) (text : List ℕ) (whole : ℕ) → suffix_in it float text whole ≤ whole
+suffix_in_within it float text whole =
+    let longest = longest_within it.either_case (if float then it.floats.now else it.integers.now) text whole in grind arith
 
-any_within : (begin text : List ℕ) → any_word_size begin text ≤ word_size text
-any_within begin [] = omega arith
-any_within begin (byte ∷ text) = grind arith
-
-whole_within : (whole : Bool) (text : List ℕ) (size : ℕ) → if_whole whole text size ≤ size
-whole_within whole text size = go (whole && not (size == word_size text)) where
-  go : (b : Bool) → (if b then 0 else size) ≤ size
-  go true = omega arith
-  go false = omega arith
-
-pub suffix_within : (suffixes : Option (Bor Suffixes)) (float : Bool) (text : List ℕ) → suffix_size suffixes float text ≤ word_size text
+pub suffix_within : (suffixes : Option (Bor Suffixes)) (float : Bool) (text : List ℕ) → suffix_size suffixes float text ≤ word_size (more_of suffixes) text
 suffix_within None float text = omega arith
-suffix_within (Some it) float text =
-    let any = any_within it.now.any.now text in
-    let floats = longest_within it.now.either_case it.now.floats.now text in
-    let integers = longest_within it.now.either_case it.now.integers.now text in
-    let whole = whole_within it.now.whole_words text (longest_word it.now.either_case (if float then it.now.floats.now else it.now.integers.now) text) in
-    grind arith
+suffix_within (Some it) float text = suffix_in_within it.now float text (word_size it.now.more.now text)
 
--- A word ends where no byte of a word follows.
-word_within : (text : List ℕ) (index end : ℕ) → index ≤ end → is_in is_word_byte (slice_get text end) ≡ false
-    → index + word_size (drop index text) ≤ end
-word_within [] ℕ.zero end order none = omega arith
-word_within [] (ℕ.suc index) end order none = omega (arith, order)
-word_within (byte ∷ text) ℕ.zero ℕ.zero order none = grind arith
-word_within (byte ∷ text) ℕ.zero (ℕ.suc end) order none = let rest = word_within text 0 end (omega arith) none in grind arith
-word_within (byte ∷ text) (ℕ.suc index) ℕ.zero order none = omega (arith, order)
-word_within (byte ∷ text) (ℕ.suc index) (ℕ.suc end) order none = let rest = word_within text index end (omega (arith, order)) none in omega (arith, rest)
+module _ (more : List ℕ) where
+  -- A word ends where no byte of a word follows.
+  word_within : (text : List ℕ) (index end : ℕ) → index ≤ end → is_in (is_in_word more) (slice_get text end) ≡ false
+      → index + word_size more (drop index text) ≤ end
+  word_within [] ℕ.zero end order none = omega arith
+  word_within [] (ℕ.suc index) end order none = omega (arith, order)
+  word_within (byte ∷ text) ℕ.zero ℕ.zero order none = grind arith
+  word_within (byte ∷ text) ℕ.zero (ℕ.suc end) order none = let rest = word_within text 0 end (omega arith) none in grind arith
+  word_within (byte ∷ text) (ℕ.suc index) ℕ.zero order none = omega (arith, order)
+  word_within (byte ∷ text) (ℕ.suc index) (ℕ.suc end) order none = let rest = word_within text index end (omega (arith, order)) none in omega (arith, rest)
 
-pub no_suffix : (suffixes : Option (Bor Suffixes)) (float : Bool) (text : List ℕ) → is_in is_word_byte (slice_get text 0) ≡ false
-    → 0 ≡ suffix_size suffixes float text
-no_suffix suffixes float text none =
-    let word = word_within text 0 0 (omega arith) none in let suffix = suffix_within suffixes float text in omega (arith, word, suffix)
+-- A byte that words of forms have is one of the first form, or of the others.
+pub first_or_rest : (forms : List Form) (d : Form) (byte : ℕ) → 1 ≤ length forms → go_on_with forms byte
+    ≡ (list_any (λ it. it == byte) (more_of (get_or forms 0 d).suffixes) || go_on_with (drop 1 forms) byte)
+first_or_rest [] d byte some = absurd (omega (arith, some))
+first_or_rest (form ∷ forms) d byte some = refl
+
+-- No word of a form goes on where a byte is none of any word, and none that a form has besides.
+no_word_of_form : (forms : List Form) (byte : Option ℕ) → is_in is_word_byte byte ≡ false
+    → is_in (go_on_with forms) byte ≡ false
+    → All (λ form. is_in (is_in_word (more_of form.suffixes)) byte ≡ false) forms
+no_word_of_form forms None word none i d inside = refl
+no_word_of_form [] (Some byte) word none i d inside = absurd (omega (arith, inside))
+no_word_of_form (form ∷ forms) (Some byte) word none ℕ.zero d inside = grind arith
+no_word_of_form (form ∷ forms) (Some byte) word none (ℕ.suc i) d inside =
+    no_word_of_form forms (Some byte) word (no_one _ _ none).1 i d (omega (arith, inside))
 
 module _ (m : Notation) (text : List ℕ) where
   -- No literal goes on behind a byte that plays no role.
@@ -311,15 +308,22 @@ module _ (list : FormList) (t : Tokens) (text : List ℕ) (index : ℕ) (form : 
       let size_is = other.size_is in omega (arith, longest, part, size_is)
 
   module _ (more : ℕ) (more_is : more ≡ suffix_size form.suffixes (has_float counts) (drop size text)) (inside : size + more ≤ length text)
-      (ended : is_stopped false form.suffixes text (size + more) ≡ false) where
-    no_word : is_in is_word_byte (slice_get text (size + more)) ≡ false
-    no_word = no_word_of _ _ ended
+      (ended : is_stopped false form.suffixes text (size + more) ≡ false) (plain : is_in (go_on_with list.forms) (slice_get text (size + more)) ≡ false)
+      (suffixed : is_in (go_on_with t.forms.now) (slice_get text (size + more)) ≡ false) where
+    abbrev HasNoWord : Form → Type 0
+    HasNoWord g = is_in (is_in_word (more_of g.suffixes)) (slice_get text (size + more)) ≡ false
+
+    no_word : All HasNoWord list.forms
+    no_word = no_word_of_form list.forms _ (no_word_of _ _ ended) plain
+
+    no_word_behind : All HasNoWord t.forms.now
+    no_word_behind = no_word_of_form t.forms.now _ (no_word_of _ _ ended) suffixed
 
     -- Each candidate ends at the same byte, or before.
-    end_within : (needs : Bool) (g : Form) (s e : ℕ) → s ≤ size → IsCandidate t.gives_points_back needs text g s e → e ≤ size + more
-    end_within needs g s e low other =
+    end_within : (needs : Bool) (g : Form) → HasNoWord g → (s e : ℕ) → s ≤ size → IsCandidate t.gives_points_back needs text g s e → e ≤ size + more
+    end_within needs g none s e low other =
         let suffix = suffix_within g.suffixes (is_float other.literal) (drop s text) in
-        let word = word_within text s (size + more) (omega (arith, low)) no_word in
+        let word = word_within (more_of g.suffixes) text s (size + more) (omega (arith, low)) none in
         let end = other.end_is in omega (arith, suffix, word, end)
 
     candidate : IsCandidate t.gives_points_back false text form size (size + more)
@@ -347,14 +351,15 @@ module _ (list : FormList) (t : Tokens) (text : List ℕ) (index : ℕ) (form : 
               let less = is.before.1 in
               let low = size_before false (get_or (take index list.forms) k d) is.before.0 (is.before.2 k d below) s e other in
               shorter s e size (size + more) (omega (arith, low, less))
-              (end_within false (get_or (take index list.forms) k d) s e (omega (arith, low, less)) other);
+              (end_within false (get_or (take index list.forms) k d) (All-take HasNoWord index list.forms no_word k d below)
+              s e (omega (arith, low, less)) other);
           others = λ k d below s e other.
               let low = size_within false (get_or list.forms k d) (near k d below) s e other in
-              no_longer s e size (size + more) low (end_within false (get_or list.forms k d) s e low other);
+              no_longer s e size (size + more) low (end_within false (get_or list.forms k d) (no_word k d below) s e low other);
         },
         λ k d below s e other.
             let low = size_within true (get_or t.forms.now k d) (near_behind k d below) s e other in
-            no_longer s e size (size + more) low (end_within true (get_or t.forms.now k d) s e low other),
+            no_longer s e size (size + more) low (end_within true (get_or t.forms.now k d) (no_word_behind k d below) s e low other),
       );
       measured = measured;
       order = omega arith;

@@ -9,7 +9,7 @@ use Rattle.lexical_forms.specs.Forms.{IsFirst}
 use Rattle.lexical_forms.specs.Token.{AllShorter, IsChosen, IsFollowed, IsOver, IsCut, IsRefused, IsToken, IsTokenError, IsCandidate, NoCandidate, NoLonger}
 use Rattle.lexical_forms.specs.Additions.Token.{IsBestMade, IsBestOf, IsEnd, IsMade, IsOwn, IsPicked, NoOwn, better, goes_on, has_float, suffixed, whole}
 use Rattle.lexical_literal.specs.Cause.{is_in}
-use Rattle.lexical_forms.specs.Suffix.{is_digit, is_stopped, is_word_byte, kind_with, stop_end, suffix_size, suffix_words}
+use Rattle.lexical_forms.specs.Suffix.{is_digit, is_stopped, is_word_byte, kind_with, more_of, stop_end, suffix_size, suffix_words}
 use Rattle.lexical_forms.specs.Token.{gives_back, is_shorter}
 use Rattle.lexical_forms.specs.Forms.{ReadsIn}
 use Rattle.lexical_literal.specs.Front.{NoneBy}
@@ -417,7 +417,7 @@ module _ (list : FormList) (t : Tokens) (text : List ℕ) where
                 subst (λ n. IsCut list t text n form c.size start false) (sym e.1)
                     (subst (λ n. IsCut list t text index form c.size n false) here (cut false other)),
                 subst (λ n. is_in is_word_byte (slice_get text n) ≡ false) here e.0,
-                subst (λ n. end ≡ stop_end text n) here e.3,
+                subst (λ n. end ≡ stop_end (more_of form.suffixes) text n) here e.3,
               )
           ended errors.NoTokens e = absurd e
           ended (errors.Literal error) e = absurd e

@@ -15,6 +15,14 @@ abbrev pub is_word_byte : ByteSet
 is_word_byte byte =
     (nat_le 48 byte && nat_le byte 57) || (nat_le 65 byte && nat_le byte 90) || (byte == 95) || (nat_le 97 byte && nat_le byte 122) || nat_le 128 byte
 
+-- `is_in_word more byte` is true if `byte` is a byte of a word, or one of `more`, the bytes that words of a form have besides.
+abbrev pub is_in_word : List ℕ → ByteSet
+is_in_word more byte = list_any (λ it. it == byte) more || is_word_byte byte
+
+-- `more_of suffixes` lists the bytes that their words have besides.
+abbrev pub more_of : Option (Bor Suffixes) → List ℕ
+more_of suffixes = unwrap_or (option_map (λ (it : Bor Suffixes). it.now.more.now) suffixes) []
+
 -- `is_digit byte` is true if `byte` is a decimal digit.
 abbrev pub is_digit : ByteSet
 is_digit byte = nat_le 48 byte && nat_le byte 57
@@ -27,50 +35,45 @@ is_point byte = byte == 46
 abbrev pub is_letter : ByteSet
 is_letter byte = (nat_le 65 byte && nat_le byte 90) || (nat_le 97 byte && nat_le byte 122)
 
--- `word_size text` is the number of bytes of a word with which `text` begins.
-abbrev pub word_size : List ℕ → ℕ
-word_size [] = 0
-word_size (byte ∷ text) = if is_word_byte byte then 1 + word_size text else 0
+-- `word_size more text` is the number of bytes of a word, which may have the bytes `more`, with which `text` begins.
+abbrev pub word_size : List ℕ → List ℕ → ℕ
+word_size more [] = 0
+word_size more (byte ∷ text) = if is_in_word more byte then 1 + word_size more text else 0
 
--- `stop_end text index` is the index behind the byte at `index` and the word that follows it, or `index` at the end of `text`.
-abbrev pub stop_end : List ℕ → ℕ → ℕ
-stop_end text index = if nat_lt index (length text) then index + 1 + word_size (drop (index + 1) text) else index
+-- `stop_end more text index` is the index behind the byte at `index` and the word that follows it, or `index` at the end of `text`.
+abbrev pub stop_end : List ℕ → List ℕ → ℕ → ℕ
+stop_end more text index = if nat_lt index (length text) then index + 1 + word_size more (drop (index + 1) text) else index
 
--- `begins either word text` is true if `text` begins with `word`, letter case aside if `either` is true, and if these are bytes of a word.
+-- `begins either word text` is true if `text` begins with `word`, letter case aside if `either` is true.
 abbrev pub begins : Bool → List ℕ → List ℕ → Bool
 begins either [] text = true
 begins either (letter ∷ word) [] = false
-begins either (letter ∷ word) (byte ∷ text) =
-    is_word_byte byte && (if either then eq_ignore_ascii_case letter byte else letter == byte) && begins either word text
+begins either (letter ∷ word) (byte ∷ text) = (if either then eq_ignore_ascii_case letter byte else letter == byte) && begins either word text
 
--- `longest_word either words text` is the length of the longest of `words` with which `text` begins, or 0 if it begins with none.
-abbrev pub longest_word : Bool → List (Bor (List ℕ)) → List ℕ → ℕ
-longest_word either [] text = 0
-longest_word either (word ∷ words) text =
-    if begins either word.now text && nat_lt (longest_word either words text) (length word.now) then length word.now else longest_word either words text
-
--- `any_word_size begin text` is the number of bytes of the word with which `text` begins, or 0 if its first byte is none of `begin`.
-abbrev pub any_word_size : List ℕ → List ℕ → ℕ
-any_word_size begin [] = 0
-any_word_size begin (byte ∷ text) = if list_any (λ it. it == byte) begin then word_size (byte ∷ text) else 0
+-- `longest_word either words text most` is the length of the longest of `words`, of at most `most` bytes, with which `text` begins, or 0 if it
+-- begins with none.
+abbrev pub longest_word : Bool → List (Bor (List ℕ)) → List ℕ → ℕ → ℕ
+longest_word either [] text most = 0
+longest_word either (word ∷ words) text most =
+    if nat_le (length word.now) most && begins either word.now text && nat_lt (longest_word either words text most) (length word.now) then length word.now
+    else longest_word either words text most
 
 -- `suffix_words suffixes float` lists the words that are suffixes behind a float or else an integer.
 abbrev pub suffix_words : Option (Bor Suffixes) → Bool → List (Bor (List ℕ))
 suffix_words None float = []
 suffix_words (Some it) float = if float then it.now.floats.now else it.now.integers.now
 
--- `if_whole whole text size` is `size`, or 0 if `whole` is true and the word with which `text` begins has another length.
-abbrev pub if_whole : Bool → List ℕ → ℕ → ℕ
-if_whole whole text size = if whole && not (size == word_size text) then 0 else size
-
 -- `suffix_size suffixes float text` is the length of the longest suffix with which `text` begins, behind a float or else an
--- integer, or 0 if there is none, or if the whole word is to be one and is none.
+-- integer, or 0 if there is none, or if the whole word is to be one and is none. `suffix_in it float text whole` is that of a word of `whole` bytes.
+abbrev pub suffix_in : Suffixes → Bool → List ℕ → ℕ → ℕ
+suffix_in it float text whole =
+    if is_in (λ byte. list_any (λ it. it == byte) it.any.now) (slice_get text 0) then whole
+    else (let longest = longest_word it.either_case (if float then it.floats.now else it.integers.now) text whole in
+    if it.whole_words && not (longest == whole) then 0 else longest)
+
 abbrev pub suffix_size : Option (Bor Suffixes) → Bool → List ℕ → ℕ
 suffix_size None float text = 0
-suffix_size (Some it) float text =
-    if any_word_size it.now.any.now text == 0
-    then if_whole it.now.whole_words text (longest_word it.now.either_case (if float then it.now.floats.now else it.now.integers.now) text)
-    else any_word_size it.now.any.now text
+suffix_size (Some it) float text = suffix_in it.now float text (word_size it.now.more.now text)
 
 -- `kind_with suffixes word kind` is the kind of a number with the suffix `word`: that of the first word which is this one, letter case aside if the
 -- suffixes are read in either case, and `kind` if none is.
@@ -81,7 +84,7 @@ kind_with (Some it) word kind = unwrap_or (option_map (λ it. it.1)
 
 -- `is_followed words text` is true if the word with which `text` begins is one of `words`.
 abbrev pub is_followed : List (Bor (List ℕ)) → List ℕ → Bool
-is_followed words text = list_any (λ word. begins false word.now text && (length word.now == word_size text)) words
+is_followed words text = list_any (λ word. begins false word.now text && (length word.now == word_size [] text)) words
 
 -- `byte_before text index` is the byte before the one at `index`, or `None` if there is none.
 abbrev pub byte_before : List ℕ → ℕ → Option ℕ

@@ -1,6 +1,6 @@
 -- Tokens: numbers that a text begins with, each with its suffix, and whatever follows.
 use Rattle.std.specs.Prelude.{ℕ, ◌≡◌, ◌+◌, ◌-◌, ◌==◌, ◌&&◌, ◌||◌, ◌<◌, ◌⊎◌, Bool, true, false, if◌then◌else◌, nat_lt, IsTrue, IsSomeAnd, List, Option, Some}
-use Rattle.std.specs.Prelude.{None, All, Result, Ok, Err, drop, length, slice_get, take}
+use Rattle.std.specs.Prelude.{[], None, All, Result, Ok, Err, drop, length, slice_get, take}
 use Rattle.std.specs.Borrow.{Bor}
 use Rattle.lexical_util.specs.Ascii.{ByteSet}
 use Rattle.lexical_literal.specs.Cause.{is_in}
@@ -10,8 +10,8 @@ use Rattle.lexical_literal.specs.Front.{IsValidUpTo, ReadsFront}
 use Rattle.lexical_literal.specs.Read.{Read}
 use Rattle.lexical_literal.specs.Literal.{Literal, Reads, is_float}
 use Rattle.lexical_literal.specs.Notation.{Notation, notation_of}
-use Rattle.lexical_forms.specs.Suffix.{byte_before, is_digit, is_followed, is_letter, is_stopped, is_word_byte, kind_with, stop_end, suffix_size, suffix_words}
-use Rattle.lexical_forms.specs.Suffix.{word_size}
+use Rattle.lexical_forms.specs.Suffix.{byte_before, is_digit, is_followed, is_letter, is_stopped, is_word_byte, kind_with, more_of, stop_end}
+use Rattle.lexical_forms.specs.Suffix.{suffix_size, suffix_words, word_size}
 use Rattle.lexical_forms.specs.declared.form.Form.{Form}
 use Rattle.lexical_forms.specs.declared.list.PointsBack.{PointsBack}
 use Rattle.lexical_forms.specs.declared.list.PointsBack.TheVariants as points
@@ -145,7 +145,7 @@ module _ (list : FormList) (t : Tokens) (text : List ℕ) where
   -- `IsWordUpTo size` holds if the form of the list that goes furthest in `text` stops in a word that ends at `size`.
   abbrev pub IsWordUpTo : ℕ → Type 0
   IsWordUpTo size = (index : ℕ) × (stop : ℕ) × IsGreatest (λ form n. IsValidUpTo (notation_of form.syntax) text n) list.forms index stop
-      × (size ≡ stop + word_size (drop stop text))
+      × (size ≡ stop + word_size [] (drop stop text))
 
   -- `IsTokenError error` holds if `error` says why `text` begins with no token: a form is to blame, or behind the longest candidate a word follows that
   -- is not one of the suffixes of its form, and ends at `end`, or a byte that may not follow, and then maybe a word.
@@ -154,10 +154,10 @@ module _ (list : FormList) (t : Tokens) (text : List ℕ) where
   IsTokenError (errors.Literal error) = IsRefused × ((size : ℕ) × IsWordUpTo size × IsFormError list.forms (take size text) error)
   IsTokenError (errors.NotAToken end) = IsRefused × IsWordUpTo end × (NoForm list.forms (take end text) → ⊥)
   IsTokenError (errors.UnknownSuffix index start end suffixes) = (form : Form) × (behind : ℕ) × IsCut index form start behind false
-      × (is_in is_word_byte (slice_get text behind) ≡ true) × (end ≡ stop_end text behind)
+      × (is_in is_word_byte (slice_get text behind) ≡ true) × (end ≡ stop_end (more_of form.suffixes) text behind)
       × ((l : Literal) × Reads (notation_of form.syntax) l (take start text) × (suffixes.now ≡ suffix_words form.suffixes (is_float l)))
   IsTokenError (errors.Stopped index start end) = (form : Form) × (size : ℕ) × IsCut index form size start false
-      × (is_in is_word_byte (slice_get text start) ≡ false) × (end ≡ stop_end text start)
+      × (is_in is_word_byte (slice_get text start) ≡ false) × (end ≡ stop_end (more_of form.suffixes) text start)
 
 -- `IsReadByTokens list tokens text result` holds if `result` is the token that `text` begins with, or says why there is none: without rules, there
 -- are no tokens.

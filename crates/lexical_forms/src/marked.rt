@@ -90,7 +90,7 @@ impl<'a> Forms<'a> {
             form += 1;
         }
         let (_, rest) = text.split_at(size);
-        let end = size + word_size(rest);
+        let end = size + word_size(&[], rest);
         let (word, _) = text.split_at(end);
         match self.find_marked(word) {
             Err(furthest) => TokenError::Literal(self.error_at(word, furthest)),

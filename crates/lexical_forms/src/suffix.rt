@@ -4,8 +4,8 @@ ghost use Rattle.std.specs.Prelude.{◌≡◌, ◌==◌, ◌&&◌, [], ◌+◌, 
 ghost use Rattle.std.specs.Char.{eq_ignore_ascii_case};
 ghost use Rattle.std.specs.List.{find, list_any};
 ghost use Rattle.lexical_literal.specs.Cause.{is_in};
-ghost use Rattle.lexical_forms.specs.Suffix.{admits, any_word_size, begins, byte_before, is_digit, is_followed, is_letter, is_point, is_stopped, is_word_byte};
-ghost use Rattle.lexical_forms.specs.Suffix.{kind_with, longest_word, meets, suffix_size, suffix_words, word_size};
+ghost use Rattle.lexical_forms.specs.Suffix.{admits, begins, byte_before, is_digit, is_followed, is_in_word, is_letter, is_point, is_stopped};
+ghost use Rattle.lexical_forms.specs.Suffix.{is_word_byte, kind_with, longest_word, meets, more_of, suffix_size, suffix_words, word_size};
 
 use lexical_literal::kind::Kind;
 use lexical_literal::stop::byte_at;
@@ -53,6 +53,7 @@ pub struct Suffixes {
     either_case: bool,
     whole_words: bool,
     any: &'static [u8],
+    more: &'static [u8],
     stops: &'static [Stop],
     kinds: &'static [(&'static [u8], Kind)],
     written: &'static [&'static [u8]],
@@ -72,6 +73,7 @@ impl Suffixes {
         ensures case { result.either_case ≡ false }
         ensures whole { result.whole_words ≡ false }
         ensures any { result.any.now ≡ [] }
+        ensures more { result.more.now ≡ [] }
         ensures stops { result.stops ≡ stops.entry }
         ensures kinds { result.kinds.now ≡ [] }
         ensures written { result.written.now ≡ [] }
@@ -82,6 +84,7 @@ impl Suffixes {
             either_case: false,
             whole_words: false,
             any: &[],
+            more: &[],
             stops,
             kinds: &[],
             written: &[],
@@ -119,6 +122,15 @@ impl Suffixes {
             any: begins,
             ..self
         }
+    }
+
+    /// Sets the bytes that words of this form have besides letters, digits, `_` and bytes from 128 up, such as `-` for CSS, where `n-1` is the
+    /// suffix of `2n-1`. They do not stop a number: `1-1` ends before `-`.
+    #[must_use]
+    pub const fn with_word_bytes(self, more: &'static [u8]) -> Suffixes
+        ensures { result ≡ record self { more = more.entry } }
+    {
+        Suffixes { more, ..self }
     }
 
     /// Sets the kinds of numbers with these suffixes. With others, and without one, a number has the kind of its form.
@@ -178,22 +190,32 @@ impl Suffixes {
         self.any
     }
 
+    /// Returns the bytes that words have besides letters, digits, `_` and bytes from 128 up.
+    #[must_use]
+    pub const fn word_bytes(&self) -> &'static [u8]
+        ensures { result ≡ self.now.more }
+    {
+        self.more
+    }
+
     // Returns the length of the longest suffix with which `text` begins, or 0 if there is none.
     const fn size(&self, float: bool, text: &[u8]) -> usize
         ensures size { result ≡ suffix_size (Some self.entry) float text.now }
         ensures within { result ≤ length text.now }
     {
-        let size = any_word_size(self.any, text);
-        if size == 0 {
-            let words = if float { self.floats } else { self.integers };
-            let longest = longest_word(self.either_case, words, text);
-            if self.whole_words && longest != word_size(text) {
-                0
-            } else {
-                longest
-            }
+        let whole = word_size(self.more, text);
+        if whole == 0 {
+            return 0;
+        }
+        if is_one_at(self.any, text, 0) {
+            return whole;
+        }
+        let words = if float { self.floats } else { self.integers };
+        let longest = longest_word(self.either_case, words, text, whole);
+        if self.whole_words && longest != whole {
+            0
         } else {
-            size
+            longest
         }
     }
 }
@@ -210,13 +232,7 @@ pub(crate) const fn suffix_size(
 {
     match suffixes {
         None => 0,
-        Some(suffixes) => {
-            if has_word_byte(text, 0) {
-                suffixes.size(float, text)
-            } else {
-                0
-            }
-        }
+        Some(suffixes) => suffixes.size(float, text),
     }
 }
 
@@ -278,6 +294,27 @@ pub(crate) const fn is_stopped(
     }) || match suffixes {
         None => false,
         Some(suffixes) => is_one_met(suffixes.stops, text, end),
+    }
+}
+
+// Returns the bytes that words of suffixes have besides.
+#[inline(always)]
+pub(crate) const fn more_of(suffixes: Option<&'static Suffixes>) -> &'static [u8]
+    ensures { result.now ≡ more_of suffixes.entry }
+{
+    match suffixes {
+        None => &[],
+        Some(it) => it.more,
+    }
+}
+
+// Returns whether `byte` is one that words of suffixes have besides.
+pub(crate) const fn adds(suffixes: Option<&'static Suffixes>, byte: u8) -> bool
+    ensures { result ≡ list_any (λ it. it == byte) (more_of suffixes.entry) }
+{
+    match suffixes {
+        None => false,
+        Some(it) => has_byte(it.more, byte),
     }
 }
 
@@ -366,6 +403,17 @@ const fn admits(bytes: &[u8], byte: Option<u8>) -> bool
     }
 }
 
+// Returns whether the byte at `index` is one of `bytes`.
+#[inline(always)]
+const fn is_one_at(bytes: &[u8], text: &[u8], index: usize) -> bool
+    ensures { result ≡ is_in (λ byte. list_any (λ it. it == byte) bytes.now) (slice_get text.now index) }
+{
+    match byte_at(text, index) {
+        None => false,
+        Some(byte) => has_byte(bytes, byte),
+    }
+}
+
 // Returns whether `byte` is one of `bytes`.
 const fn has_byte(bytes: &[u8], byte: u8) -> bool
     ensures { result ≡ list_any (λ it. it == byte) bytes.now }
@@ -384,6 +432,14 @@ pub(crate) const fn is_word_byte(byte: u8) -> bool
     matches!(byte, b'0'..=b'9' | b'A'..=b'Z' | b'_' | b'a'..=b'z' | 128..)
 }
 
+// Returns whether `byte` is one of a word, or one of `more`.
+#[inline(always)]
+const fn is_in_word(more: &[u8], byte: u8) -> bool
+    ensures { result ≡ is_in_word more.now byte }
+{
+    is_word_byte(byte) || has_byte(more, byte)
+}
+
 // Returns whether `byte` is a letter.
 pub(crate) const fn is_letter(byte: u8) -> bool
     ensures { result ≡ is_letter byte }
@@ -391,44 +447,30 @@ pub(crate) const fn is_letter(byte: u8) -> bool
     byte.is_ascii_alphabetic()
 }
 
-// Returns the number of bytes of a word with which `text` begins.
-pub(crate) const fn word_size(text: &[u8]) -> usize
-    ensures size { result ≡ word_size text.now }
+// Returns the number of bytes of a word, which may have the bytes `more`, with which `text` begins.
+pub(crate) const fn word_size(more: &[u8], text: &[u8]) -> usize
+    ensures size { result ≡ word_size more.now text.now }
     ensures within { result ≤ length text.now }
 {
     let mut rest = text;
-    while let [byte, more @ ..] = rest {
-        if !is_word_byte(*byte) {
+    while let [byte, behind @ ..] = rest {
+        if !is_in_word(more, *byte) {
             return text.len() - rest.len();
         }
-        rest = more;
+        rest = behind;
     }
     text.len()
 }
 
-// Returns the number of bytes of a word with which `text` begins, if its first byte is one of `begins`, or 0 otherwise.
-const fn any_word_size(begins: &[u8], text: &[u8]) -> usize
-    ensures size { result ≡ any_word_size begins.now text.now }
-    ensures within { result ≤ length text.now }
-{
-    match text {
-        [byte, ..] if has_byte(begins, *byte) => word_size(text),
-        _ => 0,
-    }
-}
-
-// Returns whether `text` begins with `word`, letter case aside if `either` is true, and if these are bytes of a word.
+// Returns whether `text` begins with `word`, letter case aside if `either` is true.
 const fn begins(either: bool, word: &[u8], text: &[u8]) -> bool
-    ensures begins { result ≡ begins either word.now text.now }
-    ensures within { IsTrue result → length word.now ≤ length text.now }
+    ensures { result ≡ begins either word.now text.now }
 {
     match word {
         [] => true,
         [letter, word @ ..] => match text {
             [] => false,
-            [byte, text @ ..] => {
-                is_same(either, *letter, *byte) && is_word_byte(*byte) && begins(either, word, text)
-            }
+            [byte, text @ ..] => is_same(either, *letter, *byte) && begins(either, word, text),
         },
     }
 }
@@ -444,15 +486,15 @@ const fn is_same(either: bool, letter: u8, byte: u8) -> bool
     }
 }
 
-// Returns the length of the longest of `words` with which `text` begins, or 0 if it begins with none.
-const fn longest_word(either: bool, words: &[&[u8]], text: &[u8]) -> usize
-    ensures size { result ≡ longest_word either words.now text.now }
-    ensures within { result ≤ length text.now }
+// Returns the length of the longest of `words`, of at most `most` bytes, with which `text` begins, or 0 if it begins with none.
+const fn longest_word(either: bool, words: &[&[u8]], text: &[u8], most: usize) -> usize
+    ensures size { result ≡ longest_word either words.now text.now most }
+    ensures within { result ≤ most }
 {
     let mut longest = 0;
     let mut rest = words;
     while let [word, more @ ..] = rest {
-        if longest < word.len() && begins(either, word, text) {
+        if longest < word.len() && word.len() <= most && begins(either, word, text) {
             longest = word.len();
         }
         rest = more;
@@ -467,7 +509,8 @@ pub(crate) const fn is_followed(words: &[&[u8]], text: &[u8]) -> bool
     match words {
         [] => false,
         [word, rest @ ..] => {
-            (begins(false, word, text) && word.len() == word_size(text)) || is_followed(rest, text)
+            (begins(false, word, text) && word.len() == word_size(&[], text))
+                || is_followed(rest, text)
         }
     }
 }

@@ -10,7 +10,7 @@ ghost use Rattle.lexical_literal.specs.Additions.Step.{cuts_of};
 ghost use Rattle.lexical_forms.specs.Additions.Token.{AreNear, FrontsWithin, IsBestOf, IsEnd, IsLeading, IsMade};
 ghost use Rattle.lexical_forms.specs.Additions.Token.{IsNear, IsOwn, IsPicked, IsWithin, NoOwn, better};
 ghost use Rattle.lexical_forms.specs.Additions.Token.{goes_on};
-ghost use Rattle.lexical_forms.specs.Additions.Token.{has_float, suffixed, whole};
+ghost use Rattle.lexical_forms.specs.Additions.Token.{go_on_with, has_float, suffixed, whole};
 ghost use Rattle.lexical_literal.specs.Cause.{is_in};
 ghost use Rattle.lexical_literal.specs.Notation.{notation_of};
 ghost use Rattle.lexical_forms.specs.FormList.{are_marked};
@@ -23,8 +23,8 @@ use crate::exclude::{has_letter_behind_zero, is_over, lacks_longer, sign_size};
 use crate::form::Form;
 use crate::list::{FormError, Forms, PointsBack, Tokens};
 use crate::suffix::{
-    byte_after, byte_before, has_digit_at, has_word_byte, is_followed, is_letter, is_stopped,
-    is_word_byte, kind_with, suffix_size, suffix_words, word_size,
+    adds, byte_after, byte_before, has_digit_at, has_word_byte, is_followed, is_letter, is_stopped,
+    is_word_byte, kind_with, more_of, suffix_size, suffix_words, word_size,
 };
 use lexical_literal::literal::Literal;
 use lexical_literal::step::is_point;
@@ -247,7 +247,7 @@ impl<'a> Forms<'a> {
     #[inline(always)]
     fn token_at<'t>(
         &self,
-        _tokens: &Tokens,
+        tokens: &Tokens,
         text: &'t [u8],
         it: &Form,
         form: usize,
@@ -256,8 +256,8 @@ impl<'a> Forms<'a> {
         requires within { begun.at.size ≤ length text.now }
         requires measured { IsMeasured (notation_of it.now.syntax) (take begun.at.size text.now) begun.counts }
         requires sums { AreSums (raw it.now.syntax.word) (cut (take begun.at.size text.now) (cuts_of begun.counts)) begun.sums }
-        requires leading { IsLeading self.now _tokens.now text.now form it.now begun.at.size }
-        ensures { ForSome result (IsToken self.now _tokens.now text.now) }
+        requires leading { IsLeading self.now tokens.now text.now form it.now begun.at.size }
+        ensures { ForSome result (IsToken self.now tokens.now text.now) }
     {
         let Begun {
             at,
@@ -267,7 +267,15 @@ impl<'a> Forms<'a> {
         } = begun;
         let (front, rest) = text.split_at(at.size);
         let more = suffix_size(it.suffixes, is_float(counts), rest);
-        if is_stopped(false, it.suffixes, text, at.size + more) {
+        let end = at.size + more;
+        if is_stopped(false, it.suffixes, text, end) {
+            return None;
+        }
+        let next = byte_at(text, end);
+        if go_on_with(self.forms, next) {
+            return None;
+        }
+        if go_on_with(tokens.forms, next) {
             return None;
         }
         let (suffix, rest) = rest.split_at(more);
@@ -323,7 +331,7 @@ impl<'a> Forms<'a> {
             unreachable!()
         };
         let (_, rest) = text.split_at(stop.size);
-        let end = stop.size + word_size(rest);
+        let end = stop.size + word_size(&[], rest);
         let (word, _) = text.split_at(end);
         match self.find_marked(word) {
             Err(furthest) => TokenError::Literal(self.error_at(word, furthest)),
@@ -355,6 +363,27 @@ fn are_past(
         form += 1;
     }
     true
+}
+
+// Returns whether `byte` is one that words of one of the forms have besides.
+#[inline(always)]
+fn go_on_with(forms: &[Form], byte: Option<u8>) -> bool
+    ensures { result ≡ is_in (go_on_with forms.now) byte }
+{
+    match byte {
+        None => false,
+        Some(byte) => have_byte(forms, byte),
+    }
+}
+
+// Returns whether `byte` is one that words of one of the forms have besides.
+fn have_byte(forms: &[Form], byte: u8) -> bool
+    ensures { result ≡ go_on_with forms.now byte }
+{
+    match forms {
+        [] => false,
+        [form, rest @ ..] => adds(form.suffixes, byte) || have_byte(rest, byte),
+    }
 }
 
 // Returns the larger of two sizes.
@@ -568,29 +597,30 @@ pub(crate) fn stopped(it: &Form, text: &[u8], form: usize, candidate: Candidate)
     ensures { IsEnd it.now text.now form candidate result }
 {
     let Candidate { size, counts, end } = candidate;
+    let behind = stop_end(more_of(it.suffixes), text, end);
     if has_word_byte(text, end) {
         TokenError::UnknownSuffix {
             form,
             start: size,
-            end: stop_end(text, end),
+            end: behind,
             suffixes: suffix_words(it.suffixes, is_float(counts)),
         }
     } else {
         TokenError::Stopped {
             form,
             start: end,
-            end: stop_end(text, end),
+            end: behind,
         }
     }
 }
 
 // Returns the index behind the byte at `index` and the word that follows it, or `index` at the end of `text`.
-fn stop_end(text: &[u8], index: usize) -> usize
-    ensures { result ≡ stop_end text.now index }
+fn stop_end(more: &[u8], text: &[u8], index: usize) -> usize
+    ensures { result ≡ stop_end more.now text.now index }
 {
     if index < text.len() {
         let (_, rest) = text.split_at(index + 1);
-        index + 1 + word_size(rest)
+        index + 1 + word_size(more, rest)
     } else {
         index
     }

@@ -38,7 +38,8 @@ pub struct Suffixes {
     stop_count: usize,
     either_case: u8,
     whole_words: u8,
-    reserved: [u8; 14],
+    reserved: [u8; 6],
+    word_bytes: *const u8,
 }
 
 /// The rules for the tokens of a list, with whether points are given back, to letters alone, and any word may follow.
@@ -137,7 +138,7 @@ impl Reader {
         }
         if !ptr::eq(given, self.last.0) {
             let it = given.read_unaligned();
-            if it.reserved != [0; 14] {
+            if it.reserved != [0; 6] {
                 return None;
             }
             let [integers, floats] = [self.words(it.words[0])?, self.words(it.words[1])?];
@@ -156,7 +157,8 @@ impl Reader {
             }
             let made = literal::Suffixes::new(integers, floats, written(stops));
             let made = made.either_case(it.either_case != 0).whole_words(it.whole_words != 0).any_word(string(it.any));
-            let made = made.with_written(self.words(it.written)?).with_kinds(written(kinds));
+            let made = made.with_written(self.words(it.written)?).with_word_bytes(string(it.word_bytes));
+            let made = made.with_kinds(written(kinds));
             self.last = (given, Some(self.keep(made)?));
         }
         Some(self.last.1)
@@ -223,7 +225,8 @@ impl Laid {
         stop_count: 0,
         either_case: 0,
         whole_words: 0,
-        reserved: [0; 14],
+        reserved: [0; 6],
+        word_bytes: ptr::null(),
     };
 
     /// Lays out the suffixes of forms, where the strings, kinds and stops begin at these addresses.
@@ -323,6 +326,7 @@ impl Laid {
         let (([either_case, whole_words], any, own_kinds, own_stops), [integers, floats]) = (it.rules(), it.words());
         let words = [self.put(integers, base), self.put(floats, base)];
         let (any, written) = (self.put(&[any], base), self.put(it.written(), base));
+        let word_bytes = self.put(&[it.word_bytes()], base);
         while self.kind_count - kind < own_kinds.len() {
             let (word, of) = own_kinds[self.kind_count - kind];
             let word = self.put(&[word], base);
@@ -345,6 +349,7 @@ impl Laid {
             stop_count: own_stops.len(),
             either_case: either_case as u8,
             whole_words: whole_words as u8,
+            word_bytes,
             ..Laid::NONE
         };
         self.ends[self.count] = self.size;

@@ -77,7 +77,7 @@ impl<'a> Forms<'a> {
             form += 1;
         }
         let (_, rest) = text.split_at(size);
-        let end = size + word_size(rest);
+        let end = size + word_size(&[], rest);
         let (word, _) = text.split_at(end);
         if cfg!(peltzivar_small) {
             return self.fault(word, end);

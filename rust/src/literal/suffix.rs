@@ -44,6 +44,7 @@ pub struct Suffixes {
     pub(crate) either_case: bool,
     pub(crate) whole_words: bool,
     pub(crate) any: &'static [u8],
+    more: &'static [u8],
     pub(crate) stops: &'static [Stop],
     pub(crate) kinds: &'static [(&'static [u8], Kind)],
     written: &'static [&'static [u8]],
@@ -58,7 +59,17 @@ impl Suffixes {
         floats: &'static [&'static [u8]],
         stops: &'static [Stop],
     ) -> Suffixes {
-        Suffixes { integers, floats, either_case: false, whole_words: false, any: &[], stops, kinds: &[], written: &[] }
+        Suffixes {
+            integers,
+            floats,
+            either_case: false,
+            whole_words: false,
+            any: &[],
+            more: &[],
+            stops,
+            kinds: &[],
+            written: &[],
+        }
     }
 
     /// Sets whether the words may be in either case.
@@ -77,6 +88,13 @@ impl Suffixes {
     #[must_use]
     pub const fn any_word(self, begins: &'static [u8]) -> Suffixes {
         Suffixes { any: begins, ..self }
+    }
+
+    /// Sets the bytes that words of this form have besides letters, digits, `_` and bytes from 128 up, such as `-` for CSS, where `n-1` is the
+    /// suffix of `2n-1`. They do not stop a number: `1-1` ends before `-`.
+    #[must_use]
+    pub const fn with_word_bytes(self, more: &'static [u8]) -> Suffixes {
+        Suffixes { more, ..self }
     }
 
     /// Sets the kinds of numbers with these suffixes. With others, and without one, a number has the kind of its form.
@@ -122,19 +140,27 @@ impl Suffixes {
         self.any
     }
 
+    /// Returns the bytes that words have besides letters, digits, `_` and bytes from 128 up.
+    #[must_use]
+    pub const fn word_bytes(&self) -> &'static [u8] {
+        self.more
+    }
+
     // Returns the length of the longest suffix with which `text` begins, or 0 if there is none.
     const fn size(&self, float: bool, text: &[u8]) -> usize {
-        let size = any_word_size(self.any, text);
-        if size == 0 {
-            let words = if float { self.floats } else { self.integers };
-            let longest = longest_word(self.either_case, words, text);
-            if self.whole_words && longest != word_size(text) {
-                0
-            } else {
-                longest
-            }
+        let whole = word_size(self.more, text);
+        if whole == 0 {
+            return 0;
+        }
+        if is_one_at(self.any, text, 0) {
+            return whole;
+        }
+        let words = if float { self.floats } else { self.integers };
+        let longest = longest_word(self.either_case, words, text, whole);
+        if self.whole_words && longest != whole {
+            0
         } else {
-            size
+            longest
         }
     }
 }
@@ -144,13 +170,7 @@ impl Suffixes {
 pub(crate) const fn suffix_size(suffixes: Option<&'static Suffixes>, float: bool, text: &[u8]) -> usize {
     match suffixes {
         None => 0,
-        Some(suffixes) => {
-            if has_word_byte(text, 0) {
-                suffixes.size(float, text)
-            } else {
-                0
-            }
-        }
+        Some(suffixes) => suffixes.size(float, text),
     }
 }
 
@@ -199,6 +219,23 @@ pub(crate) const fn is_stopped(words: bool, suffixes: Option<&'static Suffixes>,
             None => false,
             Some(suffixes) => is_one_met(suffixes.stops, text, end),
         }
+}
+
+// Returns the bytes that words of suffixes have besides.
+#[cfg_attr(not(peltzivar_small), inline(always))]
+pub(crate) const fn more_of(suffixes: Option<&'static Suffixes>) -> &'static [u8] {
+    match suffixes {
+        None => &[],
+        Some(it) => it.more,
+    }
+}
+
+// Returns whether `byte` is one that words of suffixes have besides.
+pub(crate) const fn adds(suffixes: Option<&'static Suffixes>, byte: u8) -> bool {
+    match suffixes {
+        None => false,
+        Some(it) => has_byte(it.more, byte),
+    }
 }
 
 // Returns whether the byte at `index` is one of a word.
@@ -270,6 +307,15 @@ const fn admits(bytes: &[u8], byte: Option<u8>) -> bool {
     }
 }
 
+// Returns whether the byte at `index` is one of `bytes`.
+#[cfg_attr(not(peltzivar_small), inline(always))]
+const fn is_one_at(bytes: &[u8], text: &[u8], index: usize) -> bool {
+    match byte_at(text, index) {
+        None => false,
+        Some(byte) => has_byte(bytes, byte),
+    }
+}
+
 // Returns whether `byte` is one of `bytes`.
 const fn has_byte(bytes: &[u8], byte: u8) -> bool {
     match bytes {
@@ -284,38 +330,36 @@ pub(crate) const fn is_word_byte(byte: u8) -> bool {
     matches!(byte, b'0'..=b'9' | b'A'..=b'Z' | b'_' | b'a'..=b'z' | 128..)
 }
 
+// Returns whether `byte` is one of a word, or one of `more`.
+#[cfg_attr(not(peltzivar_small), inline(always))]
+const fn is_in_word(more: &[u8], byte: u8) -> bool {
+    is_word_byte(byte) || has_byte(more, byte)
+}
+
 // Returns whether `byte` is a letter.
 pub(crate) const fn is_letter(byte: u8) -> bool {
     byte.is_ascii_alphabetic()
 }
 
-// Returns the number of bytes of a word with which `text` begins.
-pub(crate) const fn word_size(text: &[u8]) -> usize {
+// Returns the number of bytes of a word, which may have the bytes `more`, with which `text` begins.
+pub(crate) const fn word_size(more: &[u8], text: &[u8]) -> usize {
     let mut rest = text;
-    while let [byte, more @ ..] = rest {
-        if !is_word_byte(*byte) {
+    while let [byte, behind @ ..] = rest {
+        if !is_in_word(more, *byte) {
             return text.len() - rest.len();
         }
-        rest = more;
+        rest = behind;
     }
     text.len()
 }
 
-// Returns the number of bytes of a word with which `text` begins, if its first byte is one of `begins`, or 0 otherwise.
-const fn any_word_size(begins: &[u8], text: &[u8]) -> usize {
-    match text {
-        [byte, ..] if has_byte(begins, *byte) => word_size(text),
-        _ => 0,
-    }
-}
-
-// Returns whether `text` begins with `word`, letter case aside if `either` is true, and if these are bytes of a word.
+// Returns whether `text` begins with `word`, letter case aside if `either` is true.
 const fn begins(either: bool, word: &[u8], text: &[u8]) -> bool {
     match word {
         [] => true,
         [letter, word @ ..] => match text {
             [] => false,
-            [byte, text @ ..] => is_same(either, *letter, *byte) && is_word_byte(*byte) && begins(either, word, text),
+            [byte, text @ ..] => is_same(either, *letter, *byte) && begins(either, word, text),
         },
     }
 }
@@ -329,12 +373,12 @@ const fn is_same(either: bool, letter: u8, byte: u8) -> bool {
     }
 }
 
-// Returns the length of the longest of `words` with which `text` begins, or 0 if it begins with none.
-const fn longest_word(either: bool, words: &[&[u8]], text: &[u8]) -> usize {
+// Returns the length of the longest of `words`, of at most `most` bytes, with which `text` begins, or 0 if it begins with none.
+const fn longest_word(either: bool, words: &[&[u8]], text: &[u8], most: usize) -> usize {
     let mut longest = 0;
     let mut rest = words;
     while let [word, more @ ..] = rest {
-        if longest < word.len() && begins(either, word, text) {
+        if longest < word.len() && word.len() <= most && begins(either, word, text) {
             longest = word.len();
         }
         rest = more;
@@ -346,6 +390,8 @@ const fn longest_word(either: bool, words: &[&[u8]], text: &[u8]) -> usize {
 pub(crate) const fn is_followed(words: &[&[u8]], text: &[u8]) -> bool {
     match words {
         [] => false,
-        [word, rest @ ..] => (begins(false, word, text) && word.len() == word_size(text)) || is_followed(rest, text),
+        [word, rest @ ..] => {
+            (begins(false, word, text) && word.len() == word_size(&[], text)) || is_followed(rest, text)
+        }
     }
 }

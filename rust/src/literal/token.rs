@@ -9,8 +9,8 @@ use crate::literal::literal::Literal;
 use crate::literal::step::is_point;
 use crate::literal::stop::{byte_at, Begun, Found, Stopped};
 use crate::literal::suffix::{
-    byte_after, byte_before, has_digit_at, has_word_byte, is_followed, is_letter, is_stopped, is_word_byte, kind_with,
-    suffix_size, suffix_words, word_size,
+    adds, byte_after, byte_before, has_digit_at, has_word_byte, is_followed, is_letter, is_stopped, is_word_byte,
+    kind_with, more_of, suffix_size, suffix_words, word_size,
 };
 use crate::literal::syntax::Syntax;
 
@@ -213,7 +213,7 @@ impl<'a> Forms<'a> {
     #[cfg_attr(not(peltzivar_small), inline(always))]
     const fn token_at<'t>(
         &self,
-        _tokens: &Tokens,
+        tokens: &Tokens,
         text: &'t [u8],
         it: &Form,
         form: usize,
@@ -222,7 +222,15 @@ impl<'a> Forms<'a> {
         let Begun { at, counts, sums, .. } = begun;
         let (front, rest) = text.split_at(at.size);
         let more = suffix_size(it.suffixes, is_float(counts), rest);
-        if is_stopped(false, it.suffixes, text, at.size + more) {
+        let end = at.size + more;
+        if is_stopped(false, it.suffixes, text, end) {
+            return None;
+        }
+        let next = byte_at(text, end);
+        if go_on_with(self.forms, next) {
+            return None;
+        }
+        if go_on_with(tokens.forms, next) {
             return None;
         }
         let (suffix, rest) = rest.split_at(more);
@@ -262,7 +270,7 @@ impl<'a> Forms<'a> {
     const fn fail(&self, _tokens: &Tokens, text: &[u8], furthest: Option<(usize, Stopped)>) -> TokenError {
         let Some((_, stop)) = furthest else { unreachable!() };
         let (_, rest) = text.split_at(stop.size);
-        let end = stop.size + word_size(rest);
+        let end = stop.size + word_size(&[], rest);
         let (word, _) = text.split_at(end);
         match self.find_marked(word) {
             Err(furthest) => TokenError::Literal(self.error_at(word, furthest)),
@@ -283,6 +291,23 @@ const fn are_past(forms: &[Form], from: usize, but: usize, back: PointsBack, tex
         form += 1;
     }
     true
+}
+
+// Returns whether `byte` is one that words of one of the forms have besides.
+#[cfg_attr(not(peltzivar_small), inline(always))]
+const fn go_on_with(forms: &[Form], byte: Option<u8>) -> bool {
+    match byte {
+        None => false,
+        Some(byte) => have_byte(forms, byte),
+    }
+}
+
+// Returns whether `byte` is one that words of one of the forms have besides.
+const fn have_byte(forms: &[Form], byte: u8) -> bool {
+    match forms {
+        [] => false,
+        [form, rest @ ..] => adds(form.suffixes, byte) || have_byte(rest, byte),
+    }
 }
 
 // Returns the larger of two sizes.
@@ -434,23 +459,24 @@ pub(crate) const fn has_digit(text: &[u8], size: usize, end: usize) -> bool {
 // Returns why what is behind the number with this candidate may not follow it: a word, or otherwise a byte that a stop names.
 pub(crate) const fn stopped(it: &Form, text: &[u8], form: usize, candidate: Candidate) -> TokenError {
     let Candidate { size, counts, end } = candidate;
+    let behind = stop_end(more_of(it.suffixes), text, end);
     if has_word_byte(text, end) {
         TokenError::UnknownSuffix {
             form,
             start: size,
-            end: stop_end(text, end),
+            end: behind,
             suffixes: suffix_words(it.suffixes, is_float(counts)),
         }
     } else {
-        TokenError::Stopped { form, start: end, end: stop_end(text, end) }
+        TokenError::Stopped { form, start: end, end: behind }
     }
 }
 
 // Returns the index behind the byte at `index` and the word that follows it, or `index` at the end of `text`.
-const fn stop_end(text: &[u8], index: usize) -> usize {
+const fn stop_end(more: &[u8], text: &[u8], index: usize) -> usize {
     if index < text.len() {
         let (_, rest) = text.split_at(index + 1);
-        index + 1 + word_size(rest)
+        index + 1 + word_size(more, rest)
     } else {
         index
     }

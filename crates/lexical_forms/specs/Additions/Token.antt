@@ -2,11 +2,13 @@
 use Rattle.std.specs.Prelude.{ℕ, ◌≡◌, ◌+◌, ◌-◌, ◌==◌, ◌&&◌, ◌||◌, not, Bool, if◌then◌else◌, nat_lt, List, Option, Some, None, All, IsSomeAnd}
 use Rattle.std.specs.Prelude.{◌≤◌, ◌<◌, ◌⊎◌, true, false, drop, get_or, length, slice_get, take}
 use Rattle.std.specs.Borrow.{Bor}
+use Rattle.std.specs.List.{list_any}
+use Rattle.lexical_util.specs.Ascii.{ByteSet}
 use Rattle.lexical_literal.specs.Additions.Stop.{IsMeasured}
 use Rattle.lexical_literal.specs.Cause.{is_in}
 use Rattle.lexical_forms.specs.FormList.{FormList}
 use Rattle.lexical_literal.specs.Front.{IsFront, NoLiteral}
-use Rattle.lexical_forms.specs.Suffix.{is_word_byte, stop_end, suffix_size, suffix_words}
+use Rattle.lexical_forms.specs.Suffix.{is_word_byte, more_of, stop_end, suffix_size, suffix_words}
 use Rattle.lexical_forms.specs.declared.suffix.Suffixes.{Suffixes}
 use Rattle.lexical_forms.specs.Token.{HasFrontOfSyntax, IsBest, IsCandidate, IsChosen, NoCandidate, gives_back, is_alone, is_shorter}
 use Rattle.lexical_forms.specs.declared.list.PointsBack.{PointsBack}
@@ -75,10 +77,14 @@ pub record IsPicked (list : FormList) (t : Tokens) (text : List ℕ) (index : �
 -- the form, or another byte.
 abbrev pub IsEnd : Form → List ℕ → ℕ → Candidate → TokenError → Type 0
 IsEnd form text index c (errors.UnknownSuffix i start end suffixes) = (is_in is_word_byte (slice_get text c.end) ≡ true) × (i ≡ index) × (start ≡ c.size)
-    × (end ≡ stop_end text c.end) × (suffixes.now ≡ suffix_words form.suffixes (has_float c.counts))
+    × (end ≡ stop_end (more_of form.suffixes) text c.end) × (suffixes.now ≡ suffix_words form.suffixes (has_float c.counts))
 IsEnd form text index c (errors.Stopped i start end) =
-    (is_in is_word_byte (slice_get text c.end) ≡ false) × (i ≡ index) × (start ≡ c.end) × (end ≡ stop_end text c.end)
+    (is_in is_word_byte (slice_get text c.end) ≡ false) × (i ≡ index) × (start ≡ c.end) × (end ≡ stop_end (more_of form.suffixes) text c.end)
 IsEnd form text index c _ = ⊥
+
+-- `go_on_with forms byte` is true if `byte` is one that words of one of `forms` have besides.
+abbrev pub go_on_with : List Form → ByteSet
+go_on_with forms byte = list_any (λ (form : Form). list_any (λ it. it == byte) (more_of form.suffixes)) forms
 
 -- `whole found size` is `found` if it has `size` bytes, and `None` otherwise.
 abbrev pub whole : Option Found → ℕ → Option Found

@@ -317,14 +317,10 @@ const C_PLUS_PLUS_KINDS: &[(&[u8], Kind)] = &[
     (b"if", Kind::new(IntegerKind::AtMost(64), FloatKind::Single).unwrap()),
 ];
 
-/// Units of CSS: any word, such as `px`. A name may also have `-` and escapes: `1px-x`, `1-x` and `1--x` are refused.
-const CSS_WORDS: Suffixes = Suffixes::new(&[], &[], CSS_STOPS).any_word(&LETTERS);
-const CSS_STOPS: &[Stop] = &[
-    Stop::new(&LETTERS, b"-", b""),
-    Stop::new(b"", b"-", &LETTERS),
-    Stop::new(b"", b"-", b"-\\"),
-    Stop::new(b"", b"\\", b""),
-];
+/// Units of CSS: any word, such as `px` and the `n-1` of `2n-1`. A name may also begin with `-` and have escapes: `1-x`, `1--x` and
+/// `1\78` are refused.
+const CSS_WORDS: Suffixes = Suffixes::new(&[], &[], CSS_STOPS).any_word(&LETTERS).with_word_bytes(b"-");
+const CSS_STOPS: &[Stop] = &[Stop::new(b"", b"-", &LETTERS), Stop::new(b"", b"-", b"-\\"), Stop::new(b"", b"\\", b"")];
 const LETTERS: [u8; 181] = letters();
 
 /// Returns letters, `_` and the bytes from 128 up.
@@ -574,8 +570,8 @@ languages! {
         "binary" behind "#b": integers(2, LISP, Conditions::NONE) => LISP_WORDS,
     } radixes "#" "r" { integers(2, LISP, Conditions::NONE) => LISP_WORDS } => Tokens::new(&[], &[]);
 
-    /// CSS's numbers, with signs (CSS Syntax Module Level 3, 4.3.12). A token has a word as its unit. It ends before `%`, and
-    /// before a `-` that follows a digit: of `1p2-x`, it is `1p2`.
+    /// CSS's numbers, with signs (CSS Syntax Module Level 3, 4.3.12). A token has a word as its unit, which may
+    /// have `-` behind its first byte. One that begins with `-` or has an escape is refused. A token ends before `%`.
     CSS: "CSS" = { "decimal": numbers(b'e', b'.', NumberFormatBuilder::new()
         .no_special(true) // rejects `NaN` and `inf`
         .required_fraction_digits(true) // rejects `1.`, not `.5`

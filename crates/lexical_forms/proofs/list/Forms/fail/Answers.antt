@@ -1,5 +1,5 @@
 -- The word where the form that goes furthest stops is a literal.
-use Rattle.lexical_forms.proofs.Common.{ap, sym, subst, ◌+◌, ◌∙◌, IsFurthestForm, NoForm}
+use Rattle.lexical_forms.proofs.Common.{[], ap, sym, subst, ◌+◌, ◌∙◌, IsFurthestForm, NoForm}
 use Rattle.lexical_forms.specs.Forms.{IsFormError}
 use Rattle.lexical_forms.specs.Suffix.{word_size}
 use Rattle.lexical_forms.proofs.TokenLemmas.{some_form}
@@ -12,7 +12,7 @@ returns-in-Err c =
       c.requires.refused,
       (
         stop + c.word_size.result,
-        (c.in-Some.field-0-0, stop, furthest.0, ap (λ n. stop + n) (c.word_size.ensures.size ∙ ap word_size c.split_at.ensures.back)),
+        (c.in-Some.field-0-0, stop, furthest.0, ap (λ n. stop + n) (c.word_size.ensures.size ∙ ap (word_size []) c.split_at.ensures.back)),
         subst (λ t. IsFormError c.args.self.now.forms t c.error_at.result) c.split_at-2.ensures.front c.error_at.ensures,
       ),
     )
@@ -22,7 +22,7 @@ returns-in-Ok c =
     let furthest = subst (IsFurthestForm c.args.self.now.forms c.args.text.now) c.in-Some.is c.requires.furthest in
     let stop = c.in-Some.stop.size in (
       c.requires.refused,
-      (c.in-Some.field-0-0, stop, furthest.0, ap (λ n. stop + n) (c.word_size.ensures.size ∙ ap word_size c.split_at.ensures.back)),
+      (c.in-Some.field-0-0, stop, furthest.0, ap (λ n. stop + n) (c.word_size.ensures.size ∙ ap (word_size []) c.split_at.ensures.back)),
       λ none. some_form c.args.self.now.forms c.split_at-2.result.0.now c.in-Ok.field-0.0 c.in-Ok.field-0.1 c.in-Ok.ensures.found
           (subst (NoForm c.args.self.now.forms) (sym c.split_at-2.ensures.front) none),
     )

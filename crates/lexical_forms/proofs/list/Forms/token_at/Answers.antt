@@ -1,6 +1,9 @@
 -- The front has the parts and the sums that were counted, and is the literal of the token.
-use Rattle.lexical_forms.proofs.Common.{◌∙◌, ap, drop, take, refl, sym, subst, arith, Reads, notation_of, raw, IsMeasured, AreSums, cut, cuts_of, ReadsSyntax}
+use Rattle.lexical_forms.proofs.Common.{◌∙◌, ◌≡◌, ◌+◌, FormList, ap, drop, false, slice_get, take}
+use Rattle.lexical_forms.proofs.Common.{refl, sym, subst, arith, Reads, notation_of, raw, IsMeasured, AreSums, cut, cuts_of, ReadsSyntax}
 use Rattle.std.proofs.lemmas.List.{drop-drop}
+use Rattle.lexical_forms.specs.Additions.Token.{go_on_with}
+use Rattle.lexical_literal.specs.Cause.{is_in}
 use Rattle.lexical_forms.specs.Suffix.{suffix_size}
 use Rattle.lexical_forms.specs.Token.{IsToken}
 use Rattle.lexical_forms.proofs.LeadingLemmas.{leading_token}
@@ -24,11 +27,14 @@ returns c =
     let front = c.split_at.ensures.front in let back = c.split_at.ensures.back in let kinded = c.with_kind-literal in
     let is = whole_read _ c.split_at.result.0.now counts (subst (λ t. IsMeasured (notation_of it.syntax) t counts) (sym front) c.requires.measured)
     c.literal.result c.literal.ensures in
-    λ token some. subst (IsToken c.args.self.now c.args._tokens.now text) (some_is _ token some)
-    (leading_token c.args.self.now c.args._tokens.now text c.args.form it counts size c.requires.leading c.requires.measured more
+    λ token some. subst (IsToken c.args.self.now c.args.tokens.now text) (some_is _ token some)
+    (leading_token c.args.self.now c.args.tokens.now text c.args.form it counts size c.requires.leading c.requires.measured more
     (c.suffix_size-more.ensures.size ∙ (λ j. suffix_size it.suffixes (c.is_float.ensures j) (back j)))
     (let less = c.suffix_size-more.ensures.within in let long = c.split_at.ensures.back_len in omega (arith, less, long, within))
-    (sym c.if-is_stopped.ensures) _ refl
+    (sym c.if-is_stopped.ensures)
+    (subst (λ (l : FormList). is_in (go_on_with l.forms) (slice_get text (size + more)) ≡ false) c.self.view_is
+    (ap (is_in (go_on_with c.self.inside.forms.now)) (sym c.byte_at-next.ensures) ∙ sym c.if-go_on_with.ensures))
+    (ap (is_in (go_on_with c.args.tokens.now.forms.now)) (sym c.byte_at-next.ensures) ∙ sym c.if-go_on_with-2.ensures) _ refl
     (subst (λ t. ReadsSyntax t kinded.result it) front
     (kinded.ensures.format ∙ is.0, subst (λ l. Reads (notation_of it.syntax) l c.split_at.result.0.now) (sym kinded.ensures.literal) is.1))
     (kinded.ensures.kind ∙ c.kind_with-kind.ensures)

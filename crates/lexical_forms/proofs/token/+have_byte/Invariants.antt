@@ -1,0 +1,5 @@
+use Rattle.std.specs.Prelude.{length}
+use Rattle.lexical_forms.proofs.token.+have_byte.Given as goal
+
+abbrev pub decreases-have_byte : goal.decreases-have_byte
+decreases-have_byte l = length l.forms.now
