@@ -10,7 +10,7 @@ pub use Rattle.lexical_number.specs.Numeral.{size_of}
 pub use Rattle.lexical_util.specs.Record.{Record, effective_exponent_base, effective_exponent_radix, raw}
 pub use Rattle.lexical_value.specs.Float.{is_binary, is_decimal, nearest}
 pub use Rattle.lexical_value.specs.Integer.{IsNoInteger}
-pub use Rattle.lexical_value.specs.Kind.{IsNotWorth, float_worth, format_by, integer_worth, is_exact, limit, width, within, worth, wrapped}
+pub use Rattle.lexical_value.specs.Kind.{IsNotWorth, float_worth, format_by, integer_worth, is_exact, width, within, worth, wrapped}
 pub use Rattle.lexical_value.specs.Scaled.{IsScaled, under}
 pub use Rattle.lexical_value.specs.Value.{denominator, numerator}
 pub use Rattle.lexical_value.specs.declared.integer.ValueErrorKind.{ValueErrorKind}

@@ -1,8 +1,9 @@
 -- The lowest bits of a number, and what literals of the exact kind are worth.
 use Rattle.lexical_value.proofs.Common.{ℕ, ◌≡◌, ◌+◌, ◌-◌, ◌%◌, ◌^◌, ◌<◌, ◌≤◌, ◌||◌, ◌∙◌, Bool, true, false, not, if◌then◌else◌, Some, Ok, Err, arith, ap, refl}
-use Rattle.lexical_value.proofs.Common.{subst, sym, pow-le-pow_right, nat_tests, Record, limit, width, worth, wrapped, Kind, Literal, is_float, is_minus}
+use Rattle.lexical_value.proofs.Common.{subst, sym, pow-le-pow_right, nat_tests, Record, width, worth, wrapped, Kind, Literal, is_float, is_minus}
 use Rattle.lexical_value.proofs.Common.{mantissa, is_exact, integer_worth, within, format_by, round, is_binary, is_decimal, nearest}
 use Rattle.lexical_value.proofs.Common.{IsNoInteger, IsNotWorth, float_worth, ValueErrorKind, inl, inr, ◌*◌, ◌/◌}
+use Rattle.lexical_value.specs.Private.{limit}
 use Rattle.std.proofs.Common.{Result}
 use Rattle.std.proofs.Math.Nat.{mod-add-div', mod-eq_of_lt, mod-lt}
 use Rattle.std.proofs.Math.Pow.{mod-mod-pow}

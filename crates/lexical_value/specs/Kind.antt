@@ -22,10 +22,6 @@ use Rattle.lexical_number.specs.Number.{number}
 use Rattle.lexical_value.specs.declared.integer.ValueErrorKind.{ValueErrorKind}
 use Rattle.lexical_value.specs.declared.integer.ValueErrorKind.TheVariants as kinds
 
--- `limit bits negative` is the largest number of so many bits or, if `negative` is true, one more. It has at most 128 bits.
-abbrev pub limit : ℕ → Bool → ℕ
-limit bits negative = min (if negative then 2 ^ bits else 2 ^ bits - 1) (2 ^ 128 - 1)
-
 -- `width bits` is `bits`. No kind by which numbers wrap has more than 64.
 abbrev pub width : ℕ → ℕ
 width bits = min bits 64
@@ -38,7 +34,8 @@ wrapped bits negative n = if nat_le n (if negative then 2 ^ (bits - 1) else 2 ^ 
 -- `worth kind negative n` is what `n`, or `-n` if `negative` is true, is worth: a sign and a size, or `None` if it is too large.
 abbrev pub worth : IntegerKind → Bool → ℕ → Option (Bool × ℕ)
 worth integers.Exact negative n = Some (negative, n)
-worth (integers.AtMost bits) negative n = if nat_le n (limit bits negative) then Some (negative, n) else None
+worth (integers.AtMost bits) negative n =
+    if nat_le n (min (if negative then 2 ^ bits else 2 ^ bits - 1) (2 ^ 128 - 1)) then Some (negative, n) else None
 worth (integers.Wraps bits) negative n = if nat_lt n (2 ^ min bits 64) then Some (wrapped (min bits 64) negative n) else None
 worth (integers.WrapsModulo bits) negative n = Some (wrapped (min bits 64) negative (n % 2 ^ min bits 64))
 

@@ -1,11 +1,11 @@
 //! What an integer is worth by its kind.
 
 ghost use Rattle.std.specs.Prelude.{◌≡◌, ◌-◌, ◌%◌, ◌^◌, ◌<◌, ◌≤◌, IfSome, IsTrue, Some, false, option_map, true};
-ghost use Rattle.lexical_value.specs.Kind.{limit, width, worth, wrapped};
+ghost use Rattle.lexical_value.specs.Kind.{width, worth, wrapped};
 ghost use Rattle.lexical_number.specs.Numeral.{size_of};
 ghost use Rattle.lexical_number.specs.declared.numeral.Numeral.{Numeral};
 ghost use Rattle.lexical_value.specs.Kind.{is_exact};
-ghost use Rattle.lexical_value.specs.Private.{is_word};
+ghost use Rattle.lexical_value.specs.Private.{is_word, limit};
 
 use lexical_literal::kind::IntegerKind;
 use lexical_number::numeral::{Magnitude, Numeral};
