@@ -76,10 +76,10 @@ suffix_size None float text = 0
 suffix_size (Some it) float text = suffix_in it.now float text (word_size it.now.more.now text)
 
 -- `kind_with suffixes word kind` is the kind of a number with the suffix `word`: that of the first word which is this one, letter case aside if the
--- suffixes are read in either case, and `kind` if none is.
+-- suffixes are read in either case, and `kind` if none is, or without a suffix.
 abbrev pub kind_with : Option (Bor Suffixes) → List ℕ → Kind → Kind
 kind_with None word kind = kind
-kind_with (Some it) word kind = unwrap_or (option_map (λ it. it.1)
+kind_with (Some it) word kind = if length word == 0 then kind else unwrap_or (option_map (λ it. it.1)
     (find (λ first. begins it.now.either_case first.0.now word && (length first.0.now == length word)) it.now.kinds.now)) kind
 
 -- `is_followed words text` is true if the word with which `text` begins is one of `words`.

@@ -4,6 +4,7 @@ ghost use Rattle.std.specs.Prelude.{ℕ, ◌≡◌, ◌<◌, ◌≤◌, ◌+◌,
 ghost use Rattle.std.specs.Prelude.{false, get_or, if◌then◌else◌, length, slice_get};
 ghost use Rattle.lexical_forms.specs.Additions.Forms.{IsBehind, IsFoundForm, IsFoundFrontForm, IsLed, IsLongestPast, IsRefusedAt};
 ghost use Rattle.lexical_forms.specs.Additions.Forms.{Leads, sign_size};
+ghost use Rattle.lexical_forms.specs.Additions.Token.{IsNarrow};
 ghost use Rattle.lexical_forms.specs.FormList.{have_marks};
 ghost use Rattle.lexical_forms.specs.Forms.{HasKind, IsFormError, IsFrontByForms, IsReadByForms, NoForm, Reaches, special_by};
 ghost use Rattle.lexical_literal.specs.Front.{NoLiteral};
@@ -14,6 +15,7 @@ use crate::affix::Affix;
 use crate::exclude::{excludes, has_letter_behind_zero, is_settled, sign_size};
 use crate::form::Form;
 use crate::specials::{Special, Specials};
+use crate::suffix::is_wide;
 use lexical_literal::cause::{ReadError, other_case};
 use lexical_literal::literal::Literal;
 use lexical_literal::stop::{Found, Stopped};
@@ -123,17 +125,21 @@ pub struct Forms<'a> {
     pub(crate) tokens: Option<&'a Tokens>,
     // Whether a form, or one of the tokens, may have an opening or a closing.
     pub(crate) marked: bool,
+    // Whether words behind a form may have other bytes than those of any word.
+    pub(crate) wide: bool,
 }
 
 impl<'a> Model for Forms<'a> {
-    ghost use Rattle.std.specs.Prelude.{◌≡◌, ◌<◌, length};
+    ghost use Rattle.std.specs.Prelude.{◌≡◌, ◌<◌, false, length};
+    ghost use Rattle.lexical_forms.specs.Additions.Token.{IsNarrow};
     ghost use Rattle.lexical_forms.specs.FormList.{FormList, are_marked};
 
     ghost Value = { FormList };
 
     ghost view = { λ it. record { forms = it.forms.now; specials = it.specials; tokens = it.tokens } };
 
-    ghost invariant = { λ it. (0 < length it.forms.now) × (it.marked ≡ are_marked it.forms.now it.tokens) };
+    ghost invariant = { λ it. (0 < length it.forms.now) × (it.marked ≡ are_marked it.forms.now it.tokens)
+        × (it.wide ≡ false → IsNarrow it.forms.now) };
 }
 
 /// A number that has one of several forms.
@@ -238,6 +244,7 @@ impl<'a> Forms<'a> {
             specials,
             tokens: None,
             marked: have_marks(forms),
+            wide: are_wide(forms),
         })
     }
 
@@ -632,6 +639,16 @@ const fn have_marks(forms: &[Form]) -> bool
         form += 1;
     }
     false
+}
+
+// Returns whether words behind one of the forms may have other bytes than those of any word.
+const fn are_wide(forms: &[Form]) -> bool
+    ensures { result ≡ false → IsNarrow forms.now }
+{
+    match forms {
+        [] => false,
+        [form, rest @ ..] => is_wide(form.suffixes) || are_wide(rest),
+    }
 }
 
 // Returns whether a form need not be asked: its first bytes exclude that `text` is a literal, or no error of it goes further than the

@@ -243,6 +243,14 @@ impl<'a> Forms<'a> {
         }
     }
 
+    // Returns whether `byte` is one that words of one of the forms have besides.
+    #[inline(always)]
+    fn go_on_with(&self, byte: Option<u8>) -> bool
+        ensures { result ≡ is_in (go_on_with self.now.forms) byte }
+    {
+        self.wide && go_on_with(self.forms, byte)
+    }
+
     // Returns the token of which `begun` is the literal, of the form with this index, if nothing follows that may not.
     #[inline(always)]
     fn token_at<'t>(
@@ -272,7 +280,7 @@ impl<'a> Forms<'a> {
             return None;
         }
         let next = byte_at(text, end);
-        if go_on_with(self.forms, next) {
+        if self.go_on_with(next) {
             return None;
         }
         if go_on_with(tokens.forms, next) {

@@ -222,7 +222,7 @@ pub(crate) const fn is_stopped(words: bool, suffixes: Option<&'static Suffixes>,
 }
 
 // Returns the bytes that words of suffixes have besides.
-#[cfg_attr(not(peltzivar_small), inline(always))]
+#[inline(always)]
 pub(crate) const fn more_of(suffixes: Option<&'static Suffixes>) -> &'static [u8] {
     match suffixes {
         None => &[],
@@ -308,7 +308,7 @@ const fn admits(bytes: &[u8], byte: Option<u8>) -> bool {
 }
 
 // Returns whether the byte at `index` is one of `bytes`.
-#[cfg_attr(not(peltzivar_small), inline(always))]
+#[inline(always)]
 const fn is_one_at(bytes: &[u8], text: &[u8], index: usize) -> bool {
     match byte_at(text, index) {
         None => false,
@@ -331,7 +331,7 @@ pub(crate) const fn is_word_byte(byte: u8) -> bool {
 }
 
 // Returns whether `byte` is one of a word, or one of `more`.
-#[cfg_attr(not(peltzivar_small), inline(always))]
+#[inline(always)]
 const fn is_in_word(more: &[u8], byte: u8) -> bool {
     is_word_byte(byte) || has_byte(more, byte)
 }

@@ -86,6 +86,10 @@ IsEnd form text index c _ = ⊥
 abbrev pub go_on_with : List Form → ByteSet
 go_on_with forms byte = list_any (λ (form : Form). list_any (λ it. it == byte) (more_of form.suffixes)) forms
 
+-- `IsNarrow forms` holds if words of none of `forms` have other bytes than those of any word.
+abbrev pub IsNarrow : List Form → Type 0
+IsNarrow forms = (byte : ℕ) → go_on_with forms byte ≡ false
+
 -- `whole found size` is `found` if it has `size` bytes, and `None` otherwise.
 abbrev pub whole : Option Found → ℕ → Option Found
 whole None size = None

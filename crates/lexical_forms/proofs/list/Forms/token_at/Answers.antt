@@ -32,8 +32,7 @@ returns c =
     (c.suffix_size-more.ensures.size ∙ (λ j. suffix_size it.suffixes (c.is_float.ensures j) (back j)))
     (let less = c.suffix_size-more.ensures.within in let long = c.split_at.ensures.back_len in omega (arith, less, long, within))
     (sym c.if-is_stopped.ensures)
-    (subst (λ (l : FormList). is_in (go_on_with l.forms) (slice_get text (size + more)) ≡ false) c.self.view_is
-    (ap (is_in (go_on_with c.self.inside.forms.now)) (sym c.byte_at-next.ensures) ∙ sym c.if-go_on_with.ensures))
+    (ap (is_in (go_on_with c.args.self.now.forms)) (sym c.byte_at-next.ensures) ∙ sym c.if-go_on_with.ensures)
     (ap (is_in (go_on_with c.args.tokens.now.forms.now)) (sym c.byte_at-next.ensures) ∙ sym c.if-go_on_with-2.ensures) _ refl
     (subst (λ t. ReadsSyntax t kinded.result it) front
     (kinded.ensures.format ∙ is.0, subst (λ l. Reads (notation_of it.syntax) l c.split_at.result.0.now) (sym kinded.ensures.literal) is.1))
