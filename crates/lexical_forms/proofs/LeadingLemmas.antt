@@ -1,6 +1,6 @@
 -- Tokens that are found by reading the forms of a list once.
 use Rattle.lexical_forms.proofs.Common.{ℕ, ◌≡◌, ◌&&◌, ◌||◌, Bool, true, false, ◌<◌, ◌≤◌, ◌+◌, ◌-◌, inl, inr, List, [], ◌∷◌, ◌++◌, Option, Some, None, All}
-use Rattle.lexical_forms.proofs.Common.{IsSomeAnd, take, drop, get_or, append-nil, refl, sym, subst, ap, ◌∙◌, arith, cases_lt, false≢true, nat_tests}
+use Rattle.lexical_forms.proofs.Common.{IsSomeAnd, take, take_all, drop, get_or, append-nil, refl, sym, subst, ap, ◌∙◌, arith, cases_lt, false≢true, nat_tests}
 use Rattle.lexical_forms.proofs.Common.{length-take-le, All-more, slice_get-get_or, Literal, Reads, is_float, text_of, Notation, notation_of, Record, ◌==◌}
 use Rattle.lexical_forms.proofs.Common.{if◌then◌else◌, IsTrue, length, slice_get, sign_size, IsMeasured, IsStopped, AreSums, cut, Cuts, HasLengths, IsWithin}
 use Rattle.lexical_forms.proofs.Common.{FormList, ReadsSyntax, IsFront, IsValidUpTo, NoFront, NoLiteral, IsAhead, Form, Stopped, Candidate}
@@ -58,9 +58,10 @@ module _ (more : List ℕ) where
 
 -- A byte that words of forms have is one of the first form, or of the others.
 pub first_or_rest : (forms : List Form) (d : Form) (byte : ℕ) → 1 ≤ length forms → go_on_with forms byte
-    ≡ (list_any (λ it. it == byte) (more_of (get_or forms 0 d).suffixes) || go_on_with (drop 1 forms) byte)
+    ≡ (list_any (λ it. it == byte) (more_of (get_or forms 0 d).suffixes) || go_on_with (take (length forms - 1) (drop 1 forms)) byte)
 first_or_rest [] d byte some = absurd (omega (arith, some))
-first_or_rest (form ∷ forms) d byte some = refl
+first_or_rest (form ∷ forms) d byte some = ap (λ rest. list_any (λ it. it == byte) (more_of form.suffixes) || go_on_with rest byte)
+    (sym (take_all (length (form ∷ forms) - 1) forms (omega arith)))
 
 -- No word of a form goes on where a byte is none of any word, and none that a form has besides.
 no_word_of_form : (forms : List Form) (byte : Option ℕ) → is_in is_word_byte byte ≡ false

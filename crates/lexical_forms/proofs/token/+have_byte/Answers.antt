@@ -1,5 +1,5 @@
 -- The first form, or one of the rest.
-use Rattle.lexical_forms.proofs.Common.{ap, arith, drop, false, get_or, sym, ◌==◌, ◌||◌, ◌≡◌, ◌∙◌}
+use Rattle.lexical_forms.proofs.Common.{ap, arith, drop, false, get_or, length, sym, take, ◌-◌, ◌==◌, ◌||◌, ◌≡◌, ◌∙◌}
 use Rattle.lexical_forms.specs.Additions.Token.{go_on_with}
 use Rattle.lexical_forms.specs.Suffix.{more_of}
 use Rattle.std.specs.List.{list_any}
@@ -15,4 +15,4 @@ returns-else-adds t c = let forms = c.args.forms.now in let byte = c.args.byte i
     let cons = first_or_rest forms c.form-item.result byte c.in-len1-up.len_at_least in
     let none : list_any (λ it. it == byte) (more_of (get_or forms 0 c.form-item.result).suffixes) ≡ false =
     (let item = c.form-item.is in let own = c.adds.ensures in let no = c.if-adds.false in grind (arith, item, own, no)) in
-    c.have_byte.ensures ∙ ap (λ b. b || go_on_with (drop 1 forms) byte) (sym none) ∙ sym cons
+    c.have_byte.ensures ∙ ap (λ b. b || go_on_with (take (length forms - 1) (drop 1 forms)) byte) (sym none) ∙ sym cons
