@@ -1,7 +1,7 @@
 //! Conversions of words, edits and setters from and to text, and implementations of the trait `core::error::Error`.
 
-use core::str::FromStr;
 use core::fmt;
+use core::str::FromStr;
 
 use crate::edits::{Edit, EditError, FlagSetter};
 use crate::error::Error;

@@ -9,6 +9,7 @@ use crate::literal::form::Form;
 use crate::literal::literal::Literal;
 use crate::literal::specials::{Special, Specials};
 use crate::literal::stop::{Found, Stopped};
+use crate::literal::suffix::is_wide;
 use crate::literal::syntax::Grammar;
 
 // What a point at the end of a number is given back to: nothing, another point or a word, or a letter.
@@ -81,6 +82,8 @@ pub struct Forms<'a> {
     pub(crate) tokens: Option<&'a Tokens>,
     // Whether a form, or one of the tokens, may have an opening or a closing.
     pub(crate) marked: bool,
+    // Whether words behind a form may have other bytes than those of any word.
+    pub(crate) wide: bool,
 }
 
 /// A number that has one of several forms.
@@ -171,7 +174,7 @@ impl<'a> Forms<'a> {
             return None;
         }
         let specials = Specials { nan: None, inf: None, infinity: None };
-        Some(Forms { forms, specials, tokens: None, marked: have_marks(forms) })
+        Some(Forms { forms, specials, tokens: None, marked: have_marks(forms), wide: are_wide(forms) })
     }
 
     /// Returns the same forms with these special values. The format of the first form decides what flags say of them.
@@ -474,6 +477,14 @@ const fn have_marks(forms: &[Form]) -> bool {
         form += 1;
     }
     false
+}
+
+// Returns whether words behind one of the forms may have other bytes than those of any word.
+const fn are_wide(forms: &[Form]) -> bool {
+    match forms {
+        [] => false,
+        [form, rest @ ..] => is_wide(form.suffixes) || are_wide(rest),
+    }
 }
 
 // Returns whether a form need not be asked: its first bytes exclude that `text` is a literal, or no error of it goes further than the

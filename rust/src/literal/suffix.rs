@@ -192,7 +192,13 @@ pub(crate) const fn suffix_words(suffixes: Option<&'static Suffixes>, float: boo
 pub(crate) const fn kind_with(suffixes: Option<&'static Suffixes>, word: &[u8], kind: Kind) -> Kind {
     match suffixes {
         None => kind,
-        Some(it) => kind_among(it.either_case, it.kinds, word, kind),
+        Some(it) => {
+            if word.len() == 0 {
+                kind
+            } else {
+                kind_among(it.either_case, it.kinds, word, kind)
+            }
+        }
     }
 }
 
@@ -227,6 +233,14 @@ pub(crate) const fn more_of(suffixes: Option<&'static Suffixes>) -> &'static [u8
     match suffixes {
         None => &[],
         Some(it) => it.more,
+    }
+}
+
+// Returns whether words of suffixes have bytes besides.
+pub(crate) const fn is_wide(suffixes: Option<&'static Suffixes>) -> bool {
+    match suffixes {
+        None => false,
+        Some(it) => it.more.len() > 0,
     }
 }
 

@@ -209,6 +209,12 @@ impl<'a> Forms<'a> {
         }
     }
 
+    // Returns whether `byte` is one that words of one of the forms have besides.
+    #[cfg_attr(not(peltzivar_small), inline(always))]
+    const fn go_on_with(&self, byte: Option<u8>) -> bool {
+        self.wide && go_on_with(self.forms, byte)
+    }
+
     // Returns the token of which `begun` is the literal, of the form with this index, if nothing follows that may not.
     #[cfg_attr(not(peltzivar_small), inline(always))]
     const fn token_at<'t>(
@@ -227,7 +233,7 @@ impl<'a> Forms<'a> {
             return None;
         }
         let next = byte_at(text, end);
-        if go_on_with(self.forms, next) {
+        if self.go_on_with(next) {
             return None;
         }
         if go_on_with(tokens.forms, next) {
