@@ -90,7 +90,7 @@ CONST = ("lexical_literal/src/stop.rt", "affix.rt", "marked.rt", "marks.rt", "li
 ONE_COPY = {
     "affix.rt": "opened", "exclude.rt": "excludes is_over", "lexical_value/src/float.rt": "beyond", "lexical_literal/src/stop.rt": "front step",
     "lexical_value/src/kind.rt": "keeps", "marked.rt": r"\w+", "marks.rt": r"\w+", "reasons.rt": "clash reason_for", "scaled.rt": "settled",
-    "step.rt": "admits step_as", "suffix.rt": "is_word_byte", "token.rt": r"\w+",
+    "step.rt": "admits step_as", "suffix.rt": "is_word_byte has_word_byte is_stopped", "token.rt": r"\w+",
 }  # fmt: skip
 
 # Texts that plain Rust replaces in every file, wherever they occur.

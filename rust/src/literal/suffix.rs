@@ -218,7 +218,7 @@ const fn kind_among(either: bool, kinds: &[(&[u8], Kind)], word: &[u8], kind: Ki
 
 // Returns whether what is behind the number that ends at `end` may not follow it, where any word may follow or none. None may follow a
 // point.
-#[inline(always)]
+#[cfg_attr(not(peltzivar_small), inline(always))]
 pub(crate) const fn is_stopped(words: bool, suffixes: Option<&'static Suffixes>, text: &[u8], end: usize) -> bool {
     (if words && !has_point(byte_before(text, end)) { has_digit_at(text, end) } else { has_word_byte(text, end) })
         || match suffixes {
@@ -253,7 +253,7 @@ pub(crate) const fn adds(suffixes: Option<&'static Suffixes>, byte: u8) -> bool 
 }
 
 // Returns whether the byte at `index` is one of a word.
-#[inline(always)]
+#[cfg_attr(not(peltzivar_small), inline(always))]
 pub(crate) const fn has_word_byte(text: &[u8], index: usize) -> bool {
     match byte_at(text, index) {
         None => false,

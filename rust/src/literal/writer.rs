@@ -10,7 +10,6 @@ use crate::literal::{Forms, Literal, Number, Sign, Special, Specials, Spelling, 
 
 #[allow(clippy::question_mark, reason = "as it is proved")]
 mod binary;
-#[allow(clippy::question_mark, reason = "as it is proved")]
 #[allow(
     clippy::exhaustive_structs,
     clippy::manual_map,
