@@ -14,7 +14,7 @@ use crate::error::Error;
 use crate::format_builder::{NumberFormatBuilder, OptionU8};
 use crate::format_flags as flags;
 use crate::format_flags::Part;
-use crate::lawful::Format;
+use crate::lawful::{Format, FormatError};
 use crate::view::{FormatView, Role, Separators};
 
 /// A view of a format word that is known at compile time. It reads the fields of the word, and checks the word.
@@ -69,12 +69,42 @@ impl<const FORMAT: u128> Default for NumberFormat<FORMAT> {
     }
 }
 
-impl From<Format> for NumberFormatBuilder {
-    /// Returns a builder with exactly the fields of the word, as [`from_word`][NumberFormatBuilder::from_word] does.
-    #[inline]
-    fn from(format: Format) -> Self {
-        NumberFormatBuilder::from_word(format.word())
+impl<const FORMAT: u128> From<NumberFormat<FORMAT>> for FormatView {
+    fn from(format: NumberFormat<FORMAT>) -> Self {
+        format.view()
     }
+}
+
+impl TryFrom<u128> for Format {
+    type Error = FormatError;
+
+    fn try_from(word: u128) -> Result<Self, FormatError> {
+        Format::new(word)
+    }
+}
+
+/// Defines conversions. A row has a name, the types, and a value of the second one.
+macro_rules! conversions {
+    ($($(#[$about:meta])* $it:ident: $Source:ident => $Target:ident { $value:expr })*) => {
+        $(
+            impl From<$Source> for $Target {
+                $(#[$about])*
+                #[inline]
+                fn from($it: $Source) -> Self {
+                    $value
+                }
+            }
+        )*
+    };
+}
+
+conversions! {
+    view: FormatView => u128 { view.word() }
+    word: u128 => FormatView { FormatView::new(word) }
+    format: Format => u128 { format.word() }
+    format: Format => FormatView { format.view() }
+    /// Returns a builder with exactly the fields of the word, as [`from_word`][NumberFormatBuilder::from_word] does.
+    format: Format => NumberFormatBuilder { NumberFormatBuilder::from_word(format.word()) }
 }
 
 /// Defines methods that call those of the view. A row has a name, arguments and a result.

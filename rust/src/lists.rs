@@ -130,6 +130,20 @@ impl<'a> FromIterator<&'a Edit> for NumberFormatBuilder {
     }
 }
 
+/// Applies the edits to the builder, in order.
+impl Extend<Edit> for NumberFormatBuilder {
+    fn extend<I: IntoIterator<Item = Edit>>(&mut self, edits: I) {
+        *self = edits.into_iter().fold(*self, apply);
+    }
+}
+
+/// Applies the edits to the builder, in order.
+impl<'a> Extend<&'a Edit> for NumberFormatBuilder {
+    fn extend<I: IntoIterator<Item = &'a Edit>>(&mut self, edits: I) {
+        self.extend(edits.into_iter().copied());
+    }
+}
+
 impl Rule {
     /// All rules, in the order in which they are checked.
     pub const ALL: &'static [Rule] = &RULES;

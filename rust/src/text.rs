@@ -1,9 +1,9 @@
 //! Conversions of words, edits and setters from and to text, and implementations of the trait `core::error::Error`.
 
-use core::fmt;
 use core::str::FromStr;
+use core::{fmt, hash};
 
-use crate::edits::{Edit, EditError, FlagSetter};
+use crate::edits::{nearest, Edit, EditError, Fault, FlagSetter, Setter};
 use crate::error::Error;
 use crate::format_flags::{Part, Rule};
 use crate::lawful::{Format, FormatError, Rejected};
@@ -45,6 +45,34 @@ impl fmt::Display for ShortText {
     }
 }
 
+impl PartialEq for ShortText {
+    fn eq(&self, other: &Self) -> bool {
+        self.as_str() == other.as_str()
+    }
+}
+
+impl Eq for ShortText {}
+
+/// Compares the text.
+impl PartialEq<str> for ShortText {
+    fn eq(&self, other: &str) -> bool {
+        self.as_str() == other
+    }
+}
+
+/// Returns [`as_str`][ShortText::as_str].
+impl AsRef<str> for ShortText {
+    fn as_ref(&self) -> &str {
+        self.as_str()
+    }
+}
+
+impl hash::Hash for ShortText {
+    fn hash<H: hash::Hasher>(&self, state: &mut H) {
+        self.as_str().hash(state);
+    }
+}
+
 /// Prints the text in double quotes.
 impl fmt::Debug for ShortText {
     fn fmt(&self, f: &mut fmt::Formatter<'_>) -> fmt::Result {
@@ -59,6 +87,20 @@ macro_rules! words {
             impl fmt::Display for $Type {
                 fn fmt(&self, f: &mut fmt::Formatter<'_>) -> fmt::Result {
                     f.pad(core::str::from_utf8(&word_text(self.word())).unwrap_or_default())
+                }
+            }
+
+            /// Prints the word as a number.
+            impl fmt::LowerHex for $Type {
+                fn fmt(&self, f: &mut fmt::Formatter<'_>) -> fmt::Result {
+                    fmt::LowerHex::fmt(&self.word(), f)
+                }
+            }
+
+            /// Prints the word as a number.
+            impl fmt::UpperHex for $Type {
+                fn fmt(&self, f: &mut fmt::Formatter<'_>) -> fmt::Result {
+                    fmt::UpperHex::fmt(&self.word(), f)
                 }
             }
         )*
@@ -139,6 +181,18 @@ impl FromStr for Edit {
 
     fn from_str(text: &str) -> Result<Self, EditError> {
         Edit::from_text(text)
+    }
+}
+
+/// Parses the name of a flag setter or group setter.
+impl FromStr for FlagSetter {
+    type Err = EditError;
+
+    fn from_str(name: &str) -> Result<Self, EditError> {
+        match Setter::from_name(name) {
+            Some(Setter::Flag(setter)) => Ok(setter),
+            found => Err(EditError(Fault::UnknownName(nearest(name).filter(|_| found.is_none())))),
+        }
     }
 }
 

@@ -7,7 +7,7 @@ mod random;
 use peltzivar::edits::edits_of;
 use peltzivar::format::{NumberFormatBuilder, BASE_PREFIX_SHIFT, BASE_SUFFIX_SHIFT, STANDARD};
 use peltzivar::literal::{Conditions, Form, FormError, Language, Literal, ReadError, Syntax, WriteError};
-use peltzivar::{Edit, Error, Format, FormatView, Settings};
+use peltzivar::{Edit, Error, FlagSetter, Format, FormatView, Settings};
 use random::Random;
 use std::{iter, num::NonZeroU8, panic};
 
@@ -26,11 +26,11 @@ fn a_format_is_made_of_a_word_a_text_a_view_or_a_builder() {
     for word in words() {
         let (format, view) = (Format::new(word), FormatView::new(word));
         let text = view.to_string();
-        assert_eq!(text.parse(), format, "{text}");
+        assert_eq!((Format::try_from(word), text.parse()), (format, format), "{text}");
         assert_eq!(view.check(), format.map_err(Error::from), "{text}");
         assert!(format.err().is_none_or(|error| error.reasons().eq(view.reasons())), "{text}");
         if let Ok(format) = format {
-            assert_eq!((format.to_string(), format.view(), format.word()), (text, view, word));
+            assert_eq!((format.to_string(), FormatView::from(format), u128::from(format)), (text, view, word));
             let builder = NumberFormatBuilder::from(format);
             assert_eq!(builder, NumberFormatBuilder::from_word(word));
             assert!(format.notes().eq(view.notes()) && builder.notes().eq(view.notes()), "{format}");
@@ -50,7 +50,9 @@ fn edits_make_the_fields_of_their_word() {
         let builder = NumberFormatBuilder::from_word(word);
         assert_eq!(edits[..count].iter().copied().collect::<NumberFormatBuilder>(), builder);
         // Each edit is of another field, so their order does not matter.
-        let other = NumberFormatBuilder::from_iter(edits[..count].iter().rev().copied());
+        let mut other: NumberFormatBuilder = edits[2..].iter().collect();
+        other.extend(&edits[..1]);
+        other.extend(edits[1..2].iter().copied());
         assert_eq!((other, other.view().word()), (builder, builder.build_unchecked()));
     }
 }
@@ -147,8 +149,24 @@ fn a_chain_of_errors_has_each_sentence_once() {
 #[test]
 fn words_are_printed() {
     let (format, view) = (Format::default(), FormatView::new(0xAB));
-    let wanted = format!("  0x{:032X}   0x{STANDARD:032X}", 0xAB);
-    assert_eq!(format!("{view:>36} {format:>36}"), wanted);
+    assert_eq!(format!("{view:>36} {view:x} {view:#X}"), format!("  0x{:032X} ab 0xAB", 0xAB));
+    let printed = format!("  0x{STANDARD:032X} {STANDARD:x} {STANDARD:#X}");
+    assert_eq!(format!("{format:>36} {format:x} {format:#X}"), printed);
+}
+
+#[test]
+fn setters_of_flags_are_parsed() {
+    for setter in FlagSetter::ALL {
+        assert_eq!(setter.to_string().parse(), Ok(*setter));
+    }
+    // Byte setters have no flag.
+    const NEAR: &str = "; did you mean `no_special`?";
+    for (name, near) in [("digit_separator", ""), ("radix", ""), ("no_special ", NEAR), ("NO_SPECIAL", NEAR), ("", "")]
+    {
+        let error = name.parse::<FlagSetter>().unwrap_err();
+        assert_eq!(error.to_string(), format!("unknown setting name{near}"), "{name}");
+    }
+    assert_eq!(format!("{:>12}", FlagSetter::NoSpecial), "  no_special");
 }
 
 #[test]

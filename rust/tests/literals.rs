@@ -53,7 +53,8 @@ fn has_parts(literal: Literal<'_>, format: Format) {
         let (wanted, digits) = (Vec::from_iter(values), literal.digits(part).map(u32::from));
         let (least, most) = digits.size_hint();
         assert!(least <= wanted.len() && Some(wanted.len()) <= most);
-        assert!(digits.eq(wanted), "{literal:?}");
+        assert!(digits.clone().eq(wanted.iter().copied()), "{literal:?}");
+        assert!(digits.rev().eq(wanted.into_iter().rev()), "{literal:?}");
     }
 }
 
@@ -119,9 +120,9 @@ fn flags_accept_and_reject_the_texts_of_the_page() {
     let mut flags = FlagSetter::FLAGS.iter();
     for row in table(FORMAT, "The flags") {
         let [bit, name, _, _, with, accepted, rejected] = row[..] else { panic!("{row:?}") };
-        let flag = *flags.next().unwrap();
+        let flag = name.parse::<FlagSetter>().unwrap();
         let mask = Edit::Flag(flag, true).mask();
-        assert_eq!((flag.name(), mask.ilog2().to_string().as_str()), (name, bit));
+        assert_eq!((Some(&flag), bit), (flags.next(), mask.ilog2().to_string().as_str()));
         let allows = mask >> 32 != 0;
         for (text, is_accepted) in both(accepted, rejected) {
             for (value, wanted) in [(true, is_accepted), (false, !allows)] {

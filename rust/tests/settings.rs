@@ -5,7 +5,7 @@
 #[allow(dead_code)]
 mod settings;
 
-use peltzivar::{Edit, EditErrorKind, FindingKind, Settings};
+use peltzivar::{Edit, EditErrorKind, FindingKind, FlagSetter, Settings};
 use settings::load;
 
 /// The syntax of a file, and the lines that are printed for it. The word of a syntax is in normal form.
@@ -149,8 +149,7 @@ fn reading_ends_at_the_first_error() {
 /// An option shares no bit with a field, so none overrides the other.
 #[test]
 fn options_and_fields_are_apart() {
-    let is_flag = |name: &str| format!("{name}=true").parse::<Edit>().is_ok();
-    let fields = Edit::NAMES.iter().map(|it| (*it, if is_flag(it) { "true" } else { "33" }));
+    let fields = Edit::NAMES.iter().map(|it| (*it, if it.parse::<FlagSetter>().is_ok() { "true" } else { "33" }));
     let conditions =
         peltzivar::literal::Condition::ALL.iter().map(|it| (it.name(), if it.limits().1 == 1 { "true" } else { "3" }));
     for (name, value) in fields.chain(conditions) {

@@ -27,7 +27,8 @@ fn is_same<const W: u128>() {
     let constants =
         [NumberFormat::<W>::DIGIT_SEPARATOR, NumberFormat::<W>::BASE_PREFIX, NumberFormat::<W>::BASE_SUFFIX];
     assert_eq!(constants, numbers, "{W:#034X}");
-    assert_eq!((constant.view(), view.word(), NumberFormat::<W>::rebuild()), (view, W, view.rebuild()));
+    assert_eq!((constant.view(), FormatView::from(constant), FormatView::from(W)), (view, view, view));
+    assert_eq!((view.word(), u128::from(view), NumberFormat::<W>::rebuild()), (W, W, view.rebuild()));
     assert_eq!((format::format_is_valid::<W>(), format::format_error::<W>()), (view.is_valid(), view.error()));
 }
 

@@ -21,7 +21,7 @@ HEAD = """// Made by rust/tools/surface.py from what `cargo doc` shows: run that
 #![allow(dead_code, unused_imports, deprecated, clippy::all)]
 
 use peltzivar::{edits::*, error::*, feature_format::*, format::STANDARD, format_builder::*, literal::*, source::*, *};
-use std::fmt::{Debug, Display};
+use std::fmt::{Debug, Display, LowerHex, UpperHex};
 use std::{hash::Hash, iter::FusedIterator, num::NonZero, ops::Index, ops::Range, slice::Iter, str::FromStr};
 
 // rustfmt leaves what is in braces as it is.

@@ -312,6 +312,12 @@ parts! {
     suffix
 }
 
+impl AsRef<[u8]> for Literal<'_> {
+    fn as_ref(&self) -> &[u8] {
+        self.text
+    }
+}
+
 /// Prints the text that was read, with the width and the fill of the formatter. A precision is ignored.
 impl fmt::Display for Literal<'_> {
     fn fmt(&self, f: &mut fmt::Formatter<'_>) -> fmt::Result {
@@ -376,6 +382,13 @@ impl Iterator for Digits<'_> {
 
     fn count(self) -> usize {
         self.bytes.filter(|&&byte| byte != self.separator).count()
+    }
+}
+
+impl DoubleEndedIterator for Digits<'_> {
+    fn next_back(&mut self) -> Option<u8> {
+        let separator = self.separator;
+        self.bytes.rfind(|&&byte| byte != separator).map(value)
     }
 }
 

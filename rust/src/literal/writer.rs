@@ -179,6 +179,22 @@ impl Style {
     }
 }
 
+/// Defines the default of a type.
+macro_rules! defaults {
+    ($($Type:ident::$default:ident)*) => {
+        $(
+            #[doc = concat!("[`", stringify!($Type), "::", stringify!($default), "`].")]
+            impl Default for $Type {
+                fn default() -> Self {
+                    $Type::$default
+                }
+            }
+        )*
+    };
+}
+
+defaults! { Style::PLAIN Grouping::AsSyntax ExponentStyle::AsNumber }
+
 impl Syntax {
     /// Returns the value of an integer as a literal of this syntax. [Parsing][Syntax::parse] the text returns
     /// the same value.
