@@ -1,7 +1,7 @@
 #!/usr/bin/env python3
 """Writes what is made of rust/src and docs: in peltzivar/__init__.py the attributes of a view, in _peltzivar.c the
-names of rules and errors, in peltzivar.h and rust/capi the calls of languages, in peltzivar_words.h the numbers of
-setters, rules and errors, and the stub of the extension module, if that is built.
+names of rules and errors, in peltzivar.h the calls of languages, in peltzivar_words.h the numbers of setters, rules and
+errors, and the stub of the extension module, if that is built.
 
     c/make_python.py            writes each part between the lines `Made by make_python.py: PART` and `End`
     c/make_python.py --check    ends with status 1 if a part is not up to date
@@ -73,11 +73,6 @@ def language_calls():
     return (f"const peltzivar_forms *peltzivar_language_{name.lower()}(void);" for name in LANGUAGE_NAMES)
 
 
-def language_list():
-    """Returns the lines."""
-    return (f"{name} peltzivar_language_{name.lower()}" for name in LANGUAGE_NAMES)
-
-
 def stub():
     """Returns the text of the stub, from the imported module."""
     sys.path.insert(0, str(HERE))
@@ -121,7 +116,7 @@ def made(text):
 
 
 if __name__ == "__main__":
-    paths = [HERE / "peltzivar.h", HERE / "peltzivar_words.h", HERE.parent / "rust/capi/src/languages.rs"]
+    paths = [HERE / "peltzivar.h", HERE / "peltzivar_words.h"]
     paths += [HERE / "peltzivar" / it for it in ("__init__.py", "_peltzivar.c", "_peltzivar.pyi")]
     for path in paths:
         old = path.read_text()

@@ -55,6 +55,10 @@ def forms():
             if rows[language][-1].startswith(f"| {form} "):
                 rows[language].pop()
             sentence = re.sub(r"^\S+ (.*opening )`([^`\d]*)(\d+)([^`]*)`", r"\1`\g<2>2\4` to `\2\3\4`", sentence)
+        cases = {}
+        for word in words.split(", "):
+            cases.setdefault(word.lower(), []).append(word)
+        words = ", ".join(map("/".join, cases.values()))
         shown, before = "as above" if words == before and words.count(",") > 4 else words, words
         rows.setdefault(language, []).append(f"| {form} | {sentence.replace('|', chr(92) + '|')} | {kind} | {shown} |\n")
     return rows

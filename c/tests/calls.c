@@ -318,26 +318,16 @@ static void test_special_values(void) {
     CHECK(peltzivar_format_special(&target, &specials, minus, text, sizeof text, NULL) == PELTZIVAR_WRITE_SPECIAL);
 }
 
-/* Forms write what they read as the same number. */
+/* Forms write numbers of each type. fuzz.c reads them back. */
 static void test_choice(void) {
     static const peltzivar_i128 wide = {0, 1};
     const peltzivar_forms *const c = language("C"), *const python = language("PYTHON");
-    peltzivar_form own[2] = {python->forms[0], python->forms[0]};
     peltzivar_literal literal;
     size_t needed = 7;
-    CHECK(make_syntax("radix=16\nexponent=none\npoint=none", &own[0].syntax));
-    const peltzivar_forms forms = forms_of(own, 2);
     CHECK(peltzivar_forms_read(c, "0x1.8p1", 7, &literal, NULL));
     CHECK(!peltzivar_forms_format_literal(python, &literal, NULL, text, 2, &needed) && !strcmp(text, "3") && needed == 2);
     CHECK(peltzivar_forms_format_literal(python, &literal, NULL, text, 1, &needed) == PELTZIVAR_WRITE_BUFFER && needed == 2 && !*text);
-    /* Decimal digits are hexadecimal ones. */
-    CHECK(!peltzivar_forms_format_u64(&forms, 7, NULL, text, sizeof text, NULL) && !strcmp(text, "7"));
-    CHECK(!peltzivar_forms_format_i128(&forms, wide, NULL, text, sizeof text, NULL) && !strcmp(text, "10000000000000000"));
-    /* A list writes at most 4096 bytes. */
-    static char digits[4097], room[5000];
-    memset(digits, '1', sizeof digits);
-    for (size_t len = 4096; len <= sizeof digits; len++) CHECK(peltzivar_forms_read(python, digits, len, &literal, NULL)
-        && peltzivar_forms_format_literal(python, &literal, NULL, room, sizeof room, NULL) == (len > 4096 ? PELTZIVAR_WRITE_LONG : 0));
+    CHECK(!peltzivar_forms_format_i128(python, wide, NULL, text, sizeof text, NULL) && !strcmp(text, "18446744073709551616"));
     CHECK(peltzivar_forms_format_i64(NULL, 1, NULL, text, sizeof text, NULL) == PELTZIVAR_WRITE_ARGUMENT);
     memset(&literal, 0, sizeof literal);
     CHECK(peltzivar_forms_format_literal(c, &literal, NULL, text, sizeof text, NULL) == PELTZIVAR_WRITE_ARGUMENT);
@@ -409,7 +399,7 @@ static void test_languages(void) {
     CHECK(!peltzivar_forms_read_special(language("YAML"), "1", SIZE_MAX, &special) && !peltzivar_forms_read_special(NULL, "-.inf", 5, &special));
 }
 
-/* Tokens by rules in constants, and by those of a language. */
+/* Tokens by rules in constants, and by those of a language. test_python.py has rows of tokens. */
 static void test_tokens(void) {
     static const peltzivar_suffix_kind kinds[] = {{"u8", PELTZIVAR_INTEGERS_WRAP, 8, PELTZIVAR_FLOATS_NEAREST, PELTZIVAR_LIMITS_NONE, {0}}};
     static const peltzivar_stop stops[] = {{"8", "-", NULL, {0}}};
@@ -419,7 +409,6 @@ static void test_tokens(void) {
     peltzivar_forms forms = forms_of(&form, 1);
     peltzivar_token token;
     peltzivar_read_error error;
-    peltzivar_explanation why;
     int64_t value = 7;
     form.suffixes = &suffixes;
     CHECK(!peltzivar_forms_token(&forms, "1", 1, &token, &error) && WRITES("these forms have no tokens", peltzivar_read_error_text(&error, text, sizeof text)));
@@ -427,19 +416,10 @@ static void test_tokens(void) {
     forms.tokens = &rules;
     CHECK(peltzivar_forms_token(&forms, "200U8;", 6, &token, &error) && token.size == 5 && *token.rest == ';' && token.suffix.start == 3 && token.suffix.end == 5);
     CHECK(token.literal.size == 3 && !peltzivar_to_i64(&token.literal, &value) && value == -56);
-    CHECK(peltzivar_forms_token(&forms, "1..2", 4, &token, NULL) && token.size == 1 && peltzivar_forms_token(&forms, "1if", 3, &token, NULL) && token.size == 1);
-    CHECK(peltzivar_forms_token(&forms, "1k-m ", 5, &token, NULL) && token.literal.size == 1 && token.suffix.end == 4);
-    CHECK(!peltzivar_forms_token(&forms, "1abc", 4, NULL, &error) && error.valid_up_to == 1 && peltzivar_explain(&error, &why));
-    CHECK(why.kind == PELTZIVAR_KIND_SUFFIX && why.span.start == 1 && why.span.end == 4 && why.code == PELTZIVAR_INVALID_DIGIT && why.index == 1);
-    CHECK(!peltzivar_forms_token(&forms, "1u8-", 4, NULL, &error) && peltzivar_explain(&error, &why) && why.kind == PELTZIVAR_KIND_STOP);
-    CHECK(why.span.start == 3 && why.span.end == 4 && WRITES("the number cannot end here", peltzivar_read_error_text(&error, text, sizeof text)));
     CHECK(WRITES("the number cannot end here", peltzivar_token_error_text(&forms, "1u8-", 4, text, sizeof text)));
     CHECK(WRITES("unknown suffix; known are u, u8", peltzivar_token_error_text(&forms, "1abc", 4, text, sizeof text)));
-    CHECK(WRITES("unexpected character 'x'", peltzivar_token_error_text(&forms, "x", 1, text, sizeof text)));
     CHECK(WRITES("", peltzivar_token_error_text(&forms, "1", 1, text, sizeof text)) && peltzivar_token_error_text(NULL, "1", 1, text, sizeof text));
-    CHECK(peltzivar_forms_token(language("JAVA"), "08f+", 4, &token, NULL) && token.literal.form == 5 && token.size == 3);
     CHECK(!strcmp(language("JAVA")->tokens->forms[0].suffixes->floats, "f d") && language("JAVA")->tokens->count == 1 && !language("JSON")->tokens);
-    CHECK(!strcmp(language("CSS")->forms[0].suffixes->word_bytes, "-") && !language("JAVA")->forms[0].suffixes->word_bytes);
     CHECK(!peltzivar_forms_token(NULL, "1", 1, &token, &error) && !peltzivar_forms_token(&forms, "1", SIZE_MAX, &token, &error));
 }
 
@@ -476,50 +456,6 @@ static void test_forms(void) {
         CHECK(peltzivar_parse_f64(by, "1", 1, &real, &error) == PELTZIVAR_VALUE_REFUSED && !peltzivar_explain(&error, NULL));
     }
     CHECK(value == 1105034 && real == -HUGE_VAL && peltzivar_forms_read(&most, "1", 1, &literal, NULL));
-    /* A form has the value of its kind, and is refused if there is none with these numbers. */
-    for (uint8_t kind = 0; kind < 5; kind++) {
-        for (uint8_t bits = 0; bits < 130; bits++) {
-            const peltzivar_forms one = forms_of(list, 1);
-            list[0].integer_kind = kind, list[0].integer_bits = bits;
-            const bool is_kind = kind == 0 ? bits == 0 : kind < 4 && bits >= 1 && bits <= (kind == 1 ? 128 : 64);
-            CHECK(peltzivar_forms_read(&one, "200", 3, &literal, NULL) == is_kind);
-            if (bits != 8 || !is_kind) continue;
-            CHECK(!peltzivar_to_i64(&literal, &value) && value == (kind == 1 ? 200 : -56) && !peltzivar_to_f64(&literal, &real) && real == (double)value);
-            CHECK(peltzivar_parse_i64(&one, "300", 3, &value, NULL) == (kind == 3 ? PELTZIVAR_VALUE_OK : PELTZIVAR_VALUE_TOO_LARGE));
-            CHECK(peltzivar_parse_f64(&one, "-300", 4, &real, NULL) == (kind == 3 ? PELTZIVAR_VALUE_OK : PELTZIVAR_VALUE_TOO_SMALL));
-        }
-    }
-    list[0].integer_kind = 0, list[0].integer_bits = 0, list[0].float_kind = 2;
-    const peltzivar_forms one = forms_of(list, 1);
-    CHECK(!peltzivar_forms_read(&one, "1", 1, &literal, NULL));
-    list[0].float_kind = PELTZIVAR_FLOATS_SINGLE;
-    CHECK(!peltzivar_parse_f64(&one, "0.1", 3, &real, NULL) && real == (double)0.1f);
-    CHECK(!peltzivar_parse_f64(language("FORTRAN"), "0.1", 3, &real, NULL) && real == (double)0.1f);
-    static const peltzivar_value_status beyond[] = {
-        PELTZIVAR_VALUE_OK, PELTZIVAR_VALUE_TOO_LARGE, PELTZIVAR_VALUE_TOO_LARGE, PELTZIVAR_VALUE_REFUSED};
-    static const peltzivar_value_status vanished[] = {
-        PELTZIVAR_VALUE_OK, PELTZIVAR_VALUE_OK, PELTZIVAR_VALUE_VANISHES, PELTZIVAR_VALUE_REFUSED};
-    for (uint8_t limits = 0; limits < 4; limits++) {
-        list[0].float_limits = limits;
-        CHECK(peltzivar_parse_f64(&one, "1e39", 4, &real, NULL) == beyond[limits]);
-        CHECK(peltzivar_parse_f64(&one, "1e-50", 5, &real, NULL) == vanished[limits]);
-    }
-    /* An opening and a closing have at most 8 bytes of ASCII, and the first byte of a closing has no role. */
-    static const char *const affixes[] = {"12345678", "123456789", "\303\251", "#", "e", "E", ".", "0", "_", "-"};
-    memset(list, 0, sizeof *list), list[0].syntax = first_form("TOML");
-    for (int i = 0; i < 10; i++) for (int j = 0; j < 2; j++) {
-        list[0].opening = j ? NULL : affixes[i], list[0].closing = j ? affixes[i] : NULL;
-        const bool is_right = j ? i == 3 : i != 1 && i != 2;
-        snprintf(text, sizeof text, "%s1%s", j ? "" : affixes[i], j ? affixes[i] : "");
-        CHECK(peltzivar_forms_read(&one, text, strlen(text), &literal, &error) == is_right);
-        CHECK(is_right || WRITES(refusal, peltzivar_read_error_text(&error, text, sizeof text)));
-    }
-    float single;
-    list[0].opening = NULL, list[0].closing = NULL, list[0].float_kind = PELTZIVAR_FLOATS_SINGLE;
-    list[0].float_limits = PELTZIVAR_LIMITS_LARGEST;
-    CHECK(peltzivar_forms_read(&one, "-1e39", 5, &literal, NULL) && peltzivar_to_f32(&literal, &single) == PELTZIVAR_VALUE_TOO_SMALL);
-    CHECK(!peltzivar_parse_i64(language("JAVA"), "0xffffffff", 10, &value, NULL) && value == -1);
-    CHECK(language("JAVA")->forms[0].integer_kind == PELTZIVAR_INTEGERS_AT_MOST && language("JAVA")->forms[0].integer_bits == 31 && language("JAVA")->forms[0].float_limits == PELTZIVAR_LIMITS_BOTH);
 }
 
 /* All that a program fills. */

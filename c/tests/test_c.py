@@ -170,7 +170,8 @@ class Header(unittest.TestCase):
     def test_declarations_are_those_of_the_library(self):
         sources = " ".join("".join(path.read_text() for path in sorted((TOP / "rust/capi/src").glob("*.rs"))).split())
         exported = re.findall(r"\bfn (peltzivar_\w+)\( ?(.*?) ?\) -> ([\w *]+) \{", sources)
-        exported += [(it, "", "*const Forms") for it in re.findall(r"[A-Z0-9] (peltzivar_language_\w+)", sources)]
+        languages = re.findall(r"^    (\w+): \"", (TOP / "rust/src/literal/language/tables.rs").read_text(), re.M)
+        exported += [(f"peltzivar_language_{it.lower()}", "", "*const Forms") for it in languages]
         types = re.findall(r"\b(\w+): (peltzivar_parse_\w+) (\w+),", sources)
         (one, column) = re.findall(r"extern \"C\" fn \$\w+\( (.*?) \) -> (\w+) \{", sources)
         exported += [(name, of.replace("$T", kind), result) for kind, *names in types for name, (of, result) in zip(names, (one, column))]

@@ -24,7 +24,7 @@ from peltzivar import Language, LiteralError, Syntax
 
 EVERY = "EVERY" in os.environ
 FLAGS = re.findall(r"^\| \d+ \| `(\w+)` \| (true|false) \|", (TOP / "docs/FORMAT.md").read_text(), re.M)
-ROWS = re.findall(r"^\w+ [+-]!? +(\S+)", (TOP / "rust/tests/literals.txt").read_text(), re.M)
+ROWS = re.findall(r"^\w+ [+-] +(\S+)", (TOP / "rust/tests/literals.txt").read_text(), re.M)
 FORMS = [form for language in Language for form in language.forms.values()]
 # What a regular expression may have, and the words of a grammar.
 PIECES = r"(?:\[(?:\\[tnvfr\\\]\[^]|[^\\\]\[^])+\]|\(\?:|\)|[?*+|]|\{\d(?:,\d)?\})*"

@@ -294,6 +294,21 @@ class Literals(unittest.TestCase):
         for syntax, value, sentence in wrong:
             self.assertRaisesRegex(ValueError, sentence, syntax.format_number, value)
 
+    def test_numbers_are_written_as_the_rows_say(self):
+        """A row has a text or, behind `=`, a float, the settings of the syntaxes that read and write it, wishes, and a text or an error."""
+        syntax_of, errors = lambda settings: Syntax.of("required_digits=false", *settings.split()), {}
+        for row in re.findall("^[^#\n].*", (TOP / "rust/tests/writing.txt").read_text(), re.M):
+            text, source, target, wishes, wanted = (it.strip() for it in row.split("|"))
+            number = float(text[1:]) if text[0] == "=" else syntax_of(source).read(text)
+            style = {name: it == "true" or (int(it) if it.isdigit() else it) for name, it in (wish.split("=") for wish in wishes.split())}
+            try:
+                written = syntax_of(target).format_number(number, **style)
+            except ValueError as error:
+                written = f"!{error}"
+            self.assertEqual(written, errors.setdefault(wanted, written) if wanted[0] == "!" == written[0] else wanted, row)
+        # Each error has a sentence of its own.
+        self.assertEqual(len(set(errors.values())), len(errors))
+
     def test_tokens_are_those_of_the_rows(self):
         rows = (TOP / "rust/tests/tokens.txt").read_text(encoding="utf-8")
         back = re.search("^# BACK = (.*)$", rows, re.M)[1]
@@ -321,19 +336,10 @@ class Literals(unittest.TestCase):
                                 self.assertEqual(error.valid_up_to, error.span[0])
                         self.assertEqual(stated, wanted)
 
-    def test_rules_of_tokens_are_those_of_the_list(self):
-        words, point = Suffixes("u uu", "f", kinds={"f": Kind(single=True)}, stops=[("f", "-", "-")]), Syntax.of()
-        octal = Forms({"octal": Syntax.of("radix=8", "exponent=none", "point=none")}, suffixes={"octal": Suffixes("o")})
-        forms = Forms({"": point}, suffixes={"": words}, tokens=Tokens(octal))
-        self.assertEqual((forms.token("0.1f").literal.value, forms.token("17o").literal.value, forms.token("17o").literal.form), (0.10000000149011612, 15, "octal"))
-        self.assertRaisesRegex(LiteralError, "the number cannot end here", forms.token, "1.5f--")
-        percent = Forms({"": point}, suffixes={"": Suffixes("% n-1", word_bytes="%-")}, tokens=Tokens())
-        self.assertEqual([percent.token(it).suffix for it in ("2%;", "2n-1", "2-1")], ["%", "n-1", ""])
-        self.assertRaisesRegex(ValueError, "no tokens", Forms({"": point}).token, "1")
-        self.assertRaisesRegex(ValueError, "no form", Forms, {"": point}, suffixes={"x": words})
+    def test_a_list_has_at_most_256_words(self):
         for most in (256, 257):
             with contextlib.nullcontext() if most == 256 else self.assertRaisesRegex(ValueError, "more than 256 words, kinds of suffixes, or stops"):
-                self.assertEqual(Forms({"": point}, suffixes={"": Suffixes("a " * most)}, tokens=Tokens()).token("1a").suffix, "a")
+                self.assertEqual(Forms({"": SYNTAX}, suffixes={"": Suffixes("a " * most)}, tokens=Tokens()).token("1a").suffix, "a")
 
     def test_a_literal_is_what_is_between_its_affixes(self):
         forms = {"": Syntax.of(), **{it: Syntax.of(radix=16, exponent=None, point=None) for it in ("cased", "boz", "both")}}
@@ -425,19 +431,6 @@ class Literals(unittest.TestCase):
     def test_languages_have_titles(self):
         self.assertTrue(all(it is Language(it.title) is Language(it.name.lower()) for it in Language))
         self.assertEqual(Language.C_SHARP.title, "C#")
-
-    def test_forms_of_languages(self):
-        rows = [("10", "decimal", 10), ("017", "octal", 15), ("0x1F", "hexadecimal", 31), ("0x1.8p1", "hexadecimal float", 3.0)]
-        for text, form, value in rows:
-            for it in (Language.C.read(text), Language.C.read_prefix(text + "z")[0]):
-                for literal in (it, pickle.loads(pickle.dumps(it))):
-                    self.assertEqual((literal.form, repr(literal.value), literal.syntax), (form, repr(value), Language.C.forms[form]))
-                    self.assertEqual(Language.C.forms[form].read(text).parts, literal.parts)
-        for text, form, index in (("0b12", "binary", 3), ("10d", "decimal", 2), ("0b", "binary", 2), ("0b102z", "binary", 4)):
-            with self.assertRaises(LiteralError) as caught:
-                Language.PYTHON.read(text)
-            error = pickle.loads(pickle.dumps(caught.exception))
-            self.assertEqual((error.form, error.valid_up_to), (form, index), text)
 
     def test_forms_of_ones_own(self):
         names = Syntax.of(radix=36, exponent=None, point=None)

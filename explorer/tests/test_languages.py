@@ -26,7 +26,7 @@ class Languages(Walk):
             about = re.split(r"\n\n(?:Compared|\|)", section)[0]
             # The first two lines of a table are its head. A form with a suffix that is required is one of tokens alone.
             forms = [it.split(" | ")[0][2:] for it in re.findall(r"^\|.*$", section, re.M)[2:] if not it.endswith("required |")]
-            numbers = [("!" if mark == "-" else "") + text for language, mark, text, *_ in rows if language == name and mark in "+-"]
+            numbers = [("!" if mark == "-" else "") + text for language, mark, text, *_ in rows if language == name]
             codes, *shown = all_shown[name]
             self.assertEqual(shown, [" ".join(about.split()), forms, numbers, [], title])
             for code, reader in zip(codes, (f"Language::{name}.", f" peltzivar_language_{name.lower()}().", f"languages.{name}.")):

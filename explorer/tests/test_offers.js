@@ -154,6 +154,20 @@ function lostByOffers(samples) {
     });
 }
 
+/* From the usual form, the first offers lead to a form that reads all numbers of a language that has one form. */
+function test_the_first_offers_lead_to_the_form_of_a_language() {
+    return page.data.languages.filter(({ forms, numbers }) => {
+        const texts = numbers.split("\n").filter((it) => it[0] !== "!");
+        show([page.library.usual], texts.join("\n"));
+        texts.forEach((_, place) => {
+            const answer = page.trial.answers[place];
+            const [offer] = answer.isExpected ? [] : page.trial.withOffers(answer).offers;
+            if (offer) page.change({ forms: offer.ways[0][1].forms, at: 0 });
+        });
+        return forms.length === 1 && page.trial.expected !== texts.length;
+    }).map(({ name }) => name);
+}
+
 /* Each offer for a text that a language refuses changes one form, and what it tells of the text is so then. */
 function test_offers_lead_to_what_they_tell() {
     const told = (it) => it.textContent.replace(/^(accepted|refused): /, "");

@@ -64,10 +64,12 @@
 //! and `rustc`.
 #![no_std]
 #![forbid(unsafe_code)]
+#![allow(clippy::collapsible_match, clippy::len_zero, clippy::manual_find, clippy::manual_range_contains)]
+#![allow(clippy::match_like_matches_macro, clippy::module_inception, clippy::needless_lifetimes)]
+#![allow(clippy::question_mark, clippy::redundant_pattern_matching, reason = "code is as it is proved")]
 
 pub mod ascii;
 mod debug;
-#[allow(clippy::redundant_pattern_matching, reason = "as it is proved")]
 pub mod digit;
 /// Pages, which are in the documentation alone.
 #[cfg(all(doc, not(doctest)))]
@@ -86,7 +88,6 @@ pub mod docs {
     #[doc = include_str!("../SETTINGS.txt")]
     pub mod settings {}
 }
-#[allow(clippy::redundant_pattern_matching, clippy::manual_find, reason = "as it is proved")]
 pub mod edits;
 pub mod error;
 pub mod feature_format;

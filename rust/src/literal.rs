@@ -49,19 +49,16 @@
 //! ```
 
 mod affix;
-#[allow(clippy::redundant_pattern_matching, reason = "as it is proved")]
 mod cause;
 mod conditions;
-#[allow(clippy::match_like_matches_macro, clippy::redundant_pattern_matching, reason = "as it is proved")]
 mod exclude;
 mod form;
 mod forms;
 mod group_size;
 mod kind;
 mod language;
-#[allow(clippy::len_zero, clippy::exhaustive_enums, reason = "as it is proved, and numbers are of two kinds")]
+#[allow(clippy::exhaustive_enums, reason = "numbers are of two kinds")]
 mod list;
-#[allow(clippy::module_inception, clippy::needless_lifetimes, reason = "as it is proved")]
 mod literal;
 mod marked;
 mod marks;
@@ -69,7 +66,6 @@ mod notation;
 mod number;
 mod scan;
 mod sentence;
-#[allow(clippy::redundant_pattern_matching, reason = "as it is proved")]
 mod span;
 #[allow(
     clippy::exhaustive_enums,
@@ -77,13 +73,9 @@ mod span;
     reason = "callers write spellings, and special values cannot grow"
 )]
 mod specials;
-#[allow(clippy::redundant_pattern_matching, reason = "as it is proved")]
 mod step;
-#[allow(dead_code, reason = "as it is proved")]
 mod stop;
-#[allow(clippy::collapsible_match, clippy::len_zero, reason = "as it is proved")]
 mod suffix;
-#[allow(clippy::redundant_pattern_matching, reason = "as it is proved")]
 mod syntax;
 mod text;
 #[allow(

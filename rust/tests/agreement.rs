@@ -37,7 +37,7 @@ const OPENINGS: [&[u8]; 9] = [b"0", b"0x", b"x", b"1", b"12", b"0Xe5", b"-", b"e
 const CLOSINGS: [&[u8]; 8] = [b"q", b" ", b";", b";;", b"h", b"Qe5", b"'1.", b"x0x"];
 
 /// Suffixes of half of the forms, and words that may follow numbers.
-const WORDS: Suffixes = Suffixes::new(&[b"u8", b"x", b"D0", b"x-", b"-"], &[b"f", b"f1", b"f,f"], &[]);
+const WORDS: Suffixes = Suffixes::new(&[b"u8", b"x", b"D0", b"x-", b"-", b"2x"], &[b"f", b"f1", b"f,f"], &[]);
 static SUFFIXES: [Suffixes; 4] = [
     WORDS,
     WORDS.whole_words(true),

@@ -1,6 +1,6 @@
 //! What literals are worth by the kind of their form and of their suffix. Expected values are those of gcc and g++ with
-//! `-pedantic-errors`, rustc with its lint of overflowing literals, javac, OCaml, NASM, Lua, Nim and gfortran.
-//! `c/tests/test_python.py` has the limits of kinds of integers in each radix, which are proved.
+//! `-pedantic-errors`, rustc with its lint of overflowing literals, javac, OCaml, NASM, Lua, Nim and gfortran. Those of
+//! recorded texts are in `literals.rs`. `c/tests/test_python.py` has the limits of kinds of integers in each radix.
 
 use peltzivar::literal::{
     FloatKind, FloatLimits, IntegerKind, Kind, Language, Literal, Style, Syntax, ValueErrorKind, WriteError,
@@ -41,7 +41,6 @@ const INTEGERS: &[(Language, &str, Option<i128>)] = &[
     (Language::RUST, "0xffffffffffffffff", Some(18446744073709551615)),
     (Language::RUST, "170141183460469231731687303715884105727u128", Some(i128::MAX)),
     (Language::RUST, "170141183460469231731687303715884105728i128", None),
-    (Language::RUST, "340282366920938463463374607431768211456", None),
     (Language::RUST, "255u8", Some(255)),
     (Language::RUST, "300u8", None),
     (Language::RUST, "0xffi8", None),
@@ -49,7 +48,6 @@ const INTEGERS: &[(Language, &str, Option<i128>)] = &[
     (Language::RUST, "128i8", None),
     (Language::RUST, "18446744073709551616usize", None),
     (Language::C, "9223372036854775807LL", Some(9223372036854775807)),
-    (Language::C, "9223372036854775808", None),
     (Language::C, "9223372036854775808u", Some(9223372036854775808)),
     (Language::C, "18446744073709551615ULL", Some(18446744073709551615)),
     (Language::C, "18446744073709551616ULL", None),
@@ -59,13 +57,8 @@ const INTEGERS: &[(Language, &str, Option<i128>)] = &[
     (Language::C_PLUS_PLUS, "02000000000000000000000", None),
     (Language::C_PLUS_PLUS, "9223372036854775808ms", None),
     (Language::C_PLUS_PLUS, "9223372036854775808i", Some(9223372036854775808)),
-    (Language::C_SHARP, "18446744073709551615", Some(18446744073709551615)),
-    (Language::C_SHARP, "0x10000000000000001", None),
-    (Language::KOTLIN, "9223372036854775808", None),
-    (Language::KOTLIN, "0xFFFFFFFFFFFFFFFF", None),
     (Language::KOTLIN, "0xFFFFFFFFFFFFFFFFu", Some(18446744073709551615)),
     (Language::FORTRAN, "-2147483648", Some(-2147483648)),
-    (Language::FORTRAN, "2147483648", None),
     (Language::FORTRAN, "-128_1", Some(-128)),
     (Language::NIM, "-128i8", Some(-128)),
 ];
@@ -86,7 +79,6 @@ const FLOATS: &[(Language, &str, f64)] = &[
     (Language::JAVA, "0x1.0000010000000000000001p0f", 1.0000001_f32 as f64),
     (Language::JAVA, "0xffffffff", -1.0),
     (Language::OCAML, "0x7fffffffffffffff", -1.0),
-    (Language::NASM, "0x10000000000000001", 1.0),
     (Language::LUA, "9223372036854775808", 9223372036854775808.0),
     (Language::LUA, "0x1p64", 18446744073709551616.0),
     (Language::FORTRAN, "0.1", 0.1_f32 as f64),
@@ -116,8 +108,6 @@ const BEYOND: &[(Language, &str, ValueErrorKind)] = &[
     (Language::RUST, "1e400", ValueErrorKind::TooLarge),
     (Language::RUST, "3.5e38f32", ValueErrorKind::TooLarge),
     (Language::RUST, "340282366920938463463374607431768211456f32", ValueErrorKind::TooLarge),
-    (Language::C_SHARP, "1.8e308", ValueErrorKind::TooLarge),
-    (Language::ELIXIR, "1.8e308", ValueErrorKind::TooLarge),
     (Language::FORTRAN, "-1.5e39", ValueErrorKind::TooSmall),
     (Language::FORTRAN, "1d400", ValueErrorKind::TooLarge),
 ];

@@ -5,14 +5,12 @@ use peltzivar::literal::{
     Condition, Form, Forms, Language, Literal, Number, ReadError, ReadErrorKind, Sign, Specials, Spelling, Syntax,
     ValueError, ValueErrorKind,
 };
-use peltzivar::{edits, Edit, FlagSetter, Format, FormatView, NumberFormatBuilder, Part, Rule, Settings};
+use peltzivar::{edits, Edit, FlagSetter, Format, NumberFormatBuilder, Part, Rule, Settings};
 use std::collections::HashSet;
 use std::slice;
 
 const FORMAT: &str = include_str!("../../docs/FORMAT.md");
 const EXPLANATIONS: &str = include_str!("../../docs/EXPLANATIONS.md");
-const PLUS: Option<Sign> = Some(Sign::Plus);
-const MINUS: Option<Sign> = Some(Sign::Minus);
 
 /// Returns the cells of each row of the table in a section of a page.
 fn table(page: &'static str, title: &str) -> impl Iterator<Item = Vec<&'static str>> {
@@ -175,18 +173,10 @@ fn conditions_accept_and_reject_the_texts_of_the_page() {
     }
 }
 
-/// Each rule, by its row: its condition and its error, and the reason for which the word of the row breaks it.
 #[test]
 fn rules_are_those_of_the_page() {
-    let mut rules = Rule::ALL.iter();
-    for row in table(FORMAT, "The rules") {
-        let [_, condition, error, _, word, reason] = row[..] else { panic!("{row:?}") };
-        let (rule, found) = (rules.next().unwrap(), word.parse::<Format>().unwrap_err());
-        assert_eq!((rule.condition(), format!("{:?}", found.code())), (condition, error.into()));
-        let broken = word.parse::<FormatView>().unwrap().broken_rules().next();
-        assert_eq!((found.to_string(), broken), (reason.into(), Some(*rule)));
-    }
-    assert_eq!(rules.next(), None);
+    let rules = Rule::ALL.iter().map(|it| [it.condition().to_string(), format!("{:?}", it.error())]);
+    assert!(rules.eq(table(FORMAT, "The rules").map(|row| [row[1], row[2]].map(str::to_string))));
 }
 
 #[test]
@@ -316,47 +306,36 @@ fn languages_answer_as_their_grammars_and_tools_do() {
     assert_eq!(Vec::from_iter(missing), [], "forms without a row that is a number of theirs (true), or that is none");
 }
 
-/// A word, a sign, a spelling, and texts that are this special value, or none if there is no spelling.
-type Row = (u128, Option<Sign>, Option<Spelling>, &'static [&'static str]);
-
-#[rustfmt::skip]
-const SPECIALS: [Row; 24] = [
-    (0x00000A00_00000000_00000000_0000000C, None, Some(Spelling::Nan), &["NaN", "nan"]),
-    (0x00000A00_00000000_00000000_0000000C, PLUS, Some(Spelling::Inf), &["+inf"]),
-    (0x00000A00_00000000_00000000_0000000C, MINUS, Some(Spelling::Infinity), &["-INFINITY"]),
-    (0x00000A00_00000000_00000000_0000000C, None, None, &["infi", "na", "", "-", "+-inf", "N__a_N_"]),
-    // no_positive_mantissa_sign, required_mantissa_sign, no_special, case_sensitive_special.
-    (0x00000A00_00000000_00000000_0000001C, MINUS, Some(Spelling::Nan), &["-nan"]),
-    (0x00000A00_00000000_00000000_0000001C, None, None, &["+nan"]),
-    (0x00000A00_00000000_00000000_0000002C, PLUS, Some(Spelling::Nan), &["+nan"]),
-    (0x00000A00_00000000_00000000_0000002C, None, None, &["nan"]),
-    (0x00000A00_00000000_00000000_0000040C, None, None, &["NaN", "inf"]),
-    (0x00000A00_00000000_00000000_0000080C, None, Some(Spelling::Nan), &["NaN"]),
-    (0x00000A00_00000000_00000000_0000080C, None, None, &["nan"]),
-    // The separator `_` in integers, and in special values.
-    (0x00000A00_0000005F_00000001_0000000C, None, None, &["N_aN"]),
-    (0x00000A00_0000005F_00001000_0000000C, None, Some(Spelling::Nan), &["N__a_N_"]),
-    (0x00000A00_0000005F_00001000_0000000C, PLUS, Some(Spelling::Inf), &["+__inf"]),
-    (0x00000A00_0000005F_00001000_0000000C, None, None, &["_+inf", "___"]),
-    // The separator `i`, also if the case of a special value counts, and the separator `n`.
-    (0x00000A00_00000069_00001000_0000000C, None, Some(Spelling::Inf), &["inf", "INF", "iNF", "iinf", "iINF", "iINiFi"]),
-    (0x00000A00_00000069_00001000_0000000C, None, Some(Spelling::Infinity), &["iNfiiInItiy"]),
-    (0x00000A00_00000069_00001000_0000000C, None, None, &["IINF", "nf", "infnity"]),
-    (0x00000A00_00000069_00001000_0000080C, None, Some(Spelling::Inf), &["iinf"]),
-    (0x00000A00_00000069_00001000_0000080C, None, None, &["iNF"]),
-    (0x00000A00_0000006E_00001000_0000000C, None, Some(Spelling::Nan), &["nan", "nNaN", "nannN"]),
-    (0x00000A00_0000006E_00001000_0000000C, None, Some(Spelling::Inf), &["iNnfn", "inf"]),
-    (0x00000A00_0000006E_00001000_0000000C, None, None, &["NNan", "a", "inFnN", "if"]),
-    (0x00002400_00000000_00000000_0000000C, None, Some(Spelling::Inf), &["inf"]),
-];
-
+/// Signs, and separators, which may be letters. FORMAT has the rows of the flags on special values alone.
 #[test]
 fn a_special_value_is_a_sign_and_a_spelling() {
     let specials = Specials { nan: Some(b"NaN"), inf: Some(b"inf"), infinity: Some(b"infinity") };
-    for (word, sign, spelling, texts) in SPECIALS {
-        let (syntax, wanted) = (Syntax::integers(Format::new(word).unwrap()), spelling.map(|it| (sign, it)));
-        for text in texts {
-            assert_eq!(specials.read(&syntax, text).map(|it| (it.sign, it.spelling)), wanted, "{word:#034X}: {text}");
+    let rows = [
+        ("", "NaN nan", "+inf", "-INFINITY", "infi na - +-inf"),
+        ("no_positive_mantissa_sign=true", "-nan", "inf -inf", "", "+nan"),
+        ("required_mantissa_sign=true", "-nan +nan", "", "", "nan"),
+        ("digit_separator='_' internal_digit_separator=true", "", "", "", "N_aN"),
+        ("digit_separator='_' special_digit_separator=true", "N_aN N__a_N_", "+__inf", "", "_+inf ___"),
+        (
+            "digit_separator='i' special_digit_separator=true",
+            "",
+            "inf INF iinf iINiFi",
+            "iNfiiInItiy",
+            "IINF nf infnity",
+        ),
+        ("digit_separator='i' special_digit_separator=true case_sensitive_special=true", "", "iinf", "", "iNF"),
+        ("digit_separator='n' special_digit_separator=true", "nan nNaN nannN", "iNnfn inf", "", "NNan a inFnN if"),
+        ("radix=36", "nan", "inf", "", ""),
+    ];
+    for (settings, nan, inf, infinity, none) in rows {
+        let syntax = Syntax::integers(Settings::read(settings.split(' ')).unwrap().build_format().unwrap());
+        let spelled = [(nan, Some(Spelling::Nan)), (inf, Some(Spelling::Inf)), (infinity, Some(Spelling::Infinity))];
+        for (texts, wanted) in spelled.into_iter().chain([(none, None)]) {
+            for text in texts.split_whitespace() {
+                let sign = [("+", Sign::Plus), ("-", Sign::Minus)].into_iter().find(|it| text.starts_with(it.0));
+                let wanted = wanted.map(|it| (sign.map(|it| it.1), it));
+                assert_eq!(specials.read(&syntax, text).map(|it| (it.sign, it.spelling)), wanted, "{settings}: {text}");
+            }
         }
     }
 }
@@ -370,7 +349,7 @@ fn the_first_spelling_that_is_not_empty_matches() {
     assert_eq!(["", "+", "+oo"].map(|text| read(b"", text)), [None; 3]);
     assert_eq!(
         [read(b"", "++oo"), read(b"+oo", "++oo")],
-        [Some((PLUS, Spelling::Infinity)), Some((PLUS, Spelling::Inf))]
+        [Spelling::Infinity, Spelling::Inf].map(|it| Some((Some(Sign::Plus), it)))
     );
 }
 

@@ -1,8 +1,7 @@
 //! Numbers in the middle of source text: what is the token, and why there is none. Expected results are those of the grammars, and of the
 //! scanners of rustc, javac, go/scanner, CPython, node, gcc, ocaml and ripper where these take a word for a number's end.
 
-use peltzivar::literal::{Form, Forms, Language, Specials, Stop, Suffixes, Syntax, Token, TokenError, Tokens};
-use peltzivar::NumberFormatBuilder;
+use peltzivar::literal::{Form, Forms, Language, Suffixes, Syntax, Token, TokenError, Tokens};
 use std::collections::BTreeSet;
 
 /// Returns what a row states.
@@ -146,60 +145,6 @@ fn languages_of_data_have_no_tokens() {
     let none = ["CSV_DE", "CSV_EN", "JSON", "JSON5", "TOML", "XML_SCHEMA", "YAML", "YAML_1_1"];
     let found = Language::ALL.iter().filter(|it| it.token("1") == Err(TokenError::NoTokens)).map(Language::name);
     assert_eq!(Vec::from_iter(found), none);
-}
-
-#[test]
-fn rules_are_those_of_the_list() {
-    const WORDS: Suffixes =
-        Suffixes::new(&[b"u", b"uu", b"%"], &[b"f"], &[Stop::new(b"f", b"-", b"-")]).either_case(true);
-    const POINT: Syntax = Syntax::new_or_panic(
-        NumberFormatBuilder::new().required_integer_digits(true).build_format_or_panic(),
-        b'e',
-        b'.',
-    );
-    let words = (WORDS.integers(), WORDS.floats(), WORDS.is_either_case(), WORDS.begins_any_word());
-    assert_eq!(words, (&[&b"u"[..], b"uu", b"%"][..], &[&b"f"[..]][..], true, &b""[..]));
-    let forms = [Form::new("", POINT).with_suffixes(&WORDS)];
-    let (plain, back) = (Tokens::new(&[], &[b"is"]), Tokens::new(&[], &[]).gives_points_back(true));
-    let [none, plain, back] = [None, Some(&plain), Some(&back)].map(|tokens| {
-        let forms = Forms::new(&forms).unwrap();
-        tokens.map_or(forms, |it| forms.with_tokens(it))
-    });
-    for (text, without, with) in [
-        ("1uU", "1|uU", "1|uU"),
-        ("1.F", "1.|F", "1|"),
-        ("1..F", "1.|", "1|"),
-        ("1.is", "1.|", "1|"),
-        ("1.5f--", "4..5 the number cannot end here", "4..5 the number cannot end here"),
-        ("1.5f-", "1.5|f", "1.5|f"),
-        ("1uis", "1|u", "1..4 unknown suffix"),
-        ("1%", "1|", "1|"),
-    ] {
-        assert_eq!((stated(&plain, text), stated(&back, text)), (without.into(), with.into()), "{text}");
-        assert_eq!(none.token(text), Err(TokenError::NoTokens));
-    }
-}
-
-/// Lists whose forms differ from those of languages: a suffix that begins with a digit, a point without digits, and a name.
-#[test]
-fn errors_are_those_of_the_page() {
-    const WORDS: Suffixes = Suffixes::new(&[b"2x"], &[], &[]);
-    let formats = [NumberFormatBuilder::new().mantissa_radix(2), NumberFormatBuilder::new().required_digits(false)];
-    let [binary, loose] = formats.map(|it| it.build_format_or_panic());
-    let binary = [Form::new("", Syntax::integers(binary)).with_suffixes(&WORDS)];
-    let loose = [Form::new("", Syntax::new_or_panic(loose, b'e', b'.'))];
-    let tokens = Tokens::new(&[], &[]).gives_points_back(true);
-    for (forms, text, wanted) in [
-        (&binary, "12x_", "1..4 unknown suffix"),
-        (&binary, "12y", "1..2 unexpected character '2'"),
-        (&loose, "..", "1..1 the decimal point belongs to what follows"),
-        (&loose, "nan", "0..1 unexpected character 'n'"),
-    ] {
-        let specials = Specials { nan: Some(b"nan"), ..Specials::default() };
-        let forms = Forms::new(forms).unwrap().with_specials(specials).with_tokens(&tokens);
-        assert_eq!(stated(&forms, text), wanted, "{text}");
-    }
-    assert!(loose[0].syntax().read(".").is_ok());
 }
 
 /// An unknown suffix has the words that its form has behind such a literal, and prints six of them.

@@ -88,8 +88,8 @@ CONST = ("lexical_literal/src/stop.rt", "affix.rt", "marked.rt", "marks.rt", "li
 
 # Functions that are inlined in plain Rust, and of which the library for C has one copy.
 ONE_COPY = {
-    "affix.rt": "opened", "exclude.rt": "excludes is_over", "lexical_value/src/float.rt": "beyond", "lexical_literal/src/stop.rt": "front step",
-    "lexical_value/src/kind.rt": "keeps", "marked.rt": r"\w+", "marks.rt": r"\w+", "reasons.rt": "clash reason_for", "scaled.rt": "settled",
+    "affix.rt": "opened", "exclude.rt": "excludes is_over lacks_longer", "lexical_value/src/float.rt": "beyond", "lexical_literal/src/stop.rt": "front step",
+    "lexical_value/src/integer.rt": "keeps", "marked.rt": r"\w+", "marks.rt": r"\w+", "reasons.rt": "clash reason_for", "scaled.rt": "settled",
     "step.rt": "admits step_as", "suffix.rt": "is_word_byte has_word_byte is_stopped", "token.rt": r"\w+",
 }  # fmt: skip
 
@@ -195,16 +195,15 @@ REPLACED += [
     ("lexical_value/src/float.rt", "has_digits(literal) =>", "has_digits(&{ *literal }) =>"),
     *[("lexical_value/src/float.rt", f"fn {it}(", f"const fn {it}(") for it in "beyond binary_size exponent_of has_digits leading_of long_binary_size".split()],
     ("lexical_value/src/scaled.rt", "long_scaled(literal, places", "long_scaled(&{ *literal }, places"),
-    ("lexical_value/src/kind.rt", "fewer(kind, &numeral)", "fewer(kind, &{ numeral })"),
+    ("lexical_value/src/integer.rt", "fewer(kind, &numeral)", "fewer(kind, &{ numeral })"),
     # Calls for constants.
     ("lexical_value/src/integer.rt", "pub fn own_numeral", "pub(crate) const fn own_numeral"),
     ("lexical_value/src/integer.rt", "pub fn integer_numeral", "pub(crate) const fn integer_numeral"),
-    ("lexical_value/src/integer.rt", "\nfn magnitude", "\nconst fn magnitude"),
     ("sink.rt", "#[derive(Drop)]", "#[derive(Debug)]"),
     # Programs have one copy of these, for any kind of number.
-    *[("choice.rt", f"fn {it}<N: Writable>(", f"fn {it}<N: Writable + ?Sized>(") for it in "choose read_alone read_token write_around write_by write_in write_words".split()],
+    *[("choice.rt", f"fn {it}<N: Writable>(", f"fn {it}<N: Writable + ?Sized>(") for it in "ask choose of read_alone read_token write_around write_by write_in write_words".split()],
     # Programs that write floats have no code for tokens.
-    ("choice.rt", "    fn radix(&self) -> u32;\n", "    fn radix(&self) -> u32; /// Returns the token that `text` begins with. Only integers are written with words.\n fn token<'t>(&self, _: &Forms, _: &'t [u8]) -> Option<Token<'t>> { None }\n"),
+    ("choice.rt", "    /// Returns whether the number is an integer.\n", "    /// Returns the token that `text` begins with. Only integers are written with words.\n fn token<'t>(&self, _: &Forms, _: &'t [u8]) -> Option<Token<'t>> { None }\n\n    /// Returns whether the number is an integer.\n"),
     ("choice.rt", "impl Writable for Whole {", "impl Writable for Whole { fn token<'t>(&self, forms: &Forms, text: &'t [u8]) -> Option<Token<'t>> { forms.token(text).ok() }"),
     ("choice.rt", "impl Writable for Literal<'_> {", "impl Writable for Literal<'_> { fn token<'t>(&self, forms: &Forms, text: &'t [u8]) -> Option<Token<'t>> { forms.token(text).ok() }"),
     ("choice.rt", "list::{Forms, Number};", "list::{Forms, Number}; use lexical_forms::token::Token;"),

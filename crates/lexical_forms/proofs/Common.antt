@@ -1,39 +1,63 @@
 -- The names that most proofs of this crate cite, passed on from one place. Declares nothing.
-pub use Rattle.lexical_forms.specs.Additions.Forms.{IsFurthestForm, reach, sign_size}
-pub use Rattle.lexical_forms.specs.Additions.Token.{IsWithin}
-pub use Rattle.lexical_forms.specs.FormList.{FormList}
-pub use Rattle.lexical_forms.specs.Forms.{NoForm, ReadsForm}
-pub use Rattle.lexical_forms.specs.Token.{IsAhead, ReadsSyntax}
+pub use Rattle.lexical_forms.specs.Additions.Forms.{AreBelow, AreFalse, GoesTo, IsBehind, IsBetween, IsEnding, IsFoundForm, IsFoundFrontForm, IsFrontIn}
+pub use Rattle.lexical_forms.specs.Additions.Forms.{IsFurthestForm, IsLed, IsLeftOut, IsLongestPast, IsLow, IsNearSign, IsNoBetter, IsOpened, IsOpenedTo}
+pub use Rattle.lexical_forms.specs.Additions.Forms.{IsRefusedAt, IsSpare, IsStoppedBefore, IsStoppedBehind, IsStranger, LacksZero, Leads, NoFrontPast}
+pub use Rattle.lexical_forms.specs.Additions.Forms.{NoneOpenedPast, NonePast, PlaysNoRole, behind, greater, limit, reach, right_in, sign_size}
+pub use Rattle.lexical_forms.specs.Additions.Token.{AreNear, FrontsWithin, HasFrontOfSyntax, IsBestMade, IsBestOf, IsEnd, IsInside, IsLeading, IsMade, IsNear}
+pub use Rattle.lexical_forms.specs.Additions.Token.{IsOwn, IsPicked, IsWithin, NoOwn, ReadsSyntax, better, go_on_with, goes_on, has_float, has_prefix, suffixed}
+pub use Rattle.lexical_forms.specs.Additions.Token.{whole}
+pub use Rattle.lexical_forms.specs.Affix.{Begins, is_free, spelling, spells}
+pub use Rattle.lexical_forms.specs.FormList.{FormList, are_marked, have_marks}
+pub use Rattle.lexical_forms.specs.Forms.{HasFront, HasKind, IsErrorIn, IsErrorOfForm, IsFirst, IsFormError, IsGreatest, IsReadByForms, KeepsError, NoForm}
+pub use Rattle.lexical_forms.specs.Forms.{OpensIn, Reaches, ReadsForm, ReadsIn, reach_in, refusal_in}
+pub use Rattle.lexical_forms.specs.Specials.{is_spelled, letter_of, signed, special_behind, special_of, special_separator}
+pub use Rattle.lexical_forms.specs.Suffix.{byte_before, is_digit, is_followed, is_in_word, is_stopped, is_word_byte, kind_with, longest_word, meets, more_of}
+pub use Rattle.lexical_forms.specs.Suffix.{stop_end, suffix_size, suffix_words, word_size}
+pub use Rattle.lexical_forms.specs.Token.{AllShorter, IsAhead, IsCandidate, IsChosen, IsCut, IsFollowed, IsOver, IsReadByTokens, IsRefused, IsToken}
+pub use Rattle.lexical_forms.specs.Token.{IsTokenError, NoCandidate, NoLonger, gives_back, is_alone, is_shorter, takes_point}
 pub use Rattle.lexical_forms.specs.declared.form.Form.{Form}
+pub use Rattle.lexical_forms.specs.declared.list.Furthest.{Furthest}
+pub use Rattle.lexical_forms.specs.declared.list.PointsBack.{PointsBack}
+pub use Rattle.lexical_forms.specs.declared.list.Tokens.{Tokens}
+pub use Rattle.lexical_forms.specs.declared.specials.Sign.{Sign}
 pub use Rattle.lexical_forms.specs.declared.token.Candidate.{Candidate}
-pub use Rattle.lexical_literal.specs.Additions.Stop.{IsCountedFront, IsMeasured, IsStopped}
-pub use Rattle.lexical_literal.specs.Additions.GroupSize.{with_rules}
-pub use Rattle.lexical_literal.specs.Additions.Literal.{AreSums, cut}
+pub use Rattle.lexical_forms.specs.declared.token.Token.{Token}
+pub use Rattle.lexical_literal.proofs.OneCauseLemmas.{one_refusal}
+pub use Rattle.lexical_literal.proofs.PieceLemmas.{front_cut, front_read, measured_cut, whole_read}
+pub use Rattle.lexical_literal.specs.Additions.GroupSize.{goes, with_rules}
+pub use Rattle.lexical_literal.specs.Additions.Literal.{AreSums, HasSums, before_exponent, cut}
 pub use Rattle.lexical_literal.specs.Additions.Step.{Cuts, HasLengths, cuts_of, role_at}
-pub use Rattle.lexical_literal.specs.Cause.{IsRefusal, bare, is_byte, is_stray}
-pub use Rattle.lexical_literal.specs.Front.{IsFront, IsValidUpTo, NoFront, NoLiteral, ReadsFront}
-pub use Rattle.lexical_literal.specs.Literal.{Literal, Reads, is_absent, is_float, is_none_or_one, is_none_or_prefix, is_present, text_of}
-pub use Rattle.lexical_literal.specs.Notation.{Notation, notation_of, set_of_role}
+pub use Rattle.lexical_literal.specs.Additions.Stop.{IsCountedFront, IsFronted, IsMeasured, IsStopped}
+pub use Rattle.lexical_literal.specs.Cause.{Explained, IsCause, IsRefusal, bare, is_byte, is_in, is_stray}
+pub use Rattle.lexical_literal.specs.Front.{BeginsBy, IsFront, IsValidBy, IsValidUpTo, NoFront, NoFrontBy, NoLiteral, NoneBy, ReadsFront, ReadsFrontBy}
+pub use Rattle.lexical_literal.specs.Literal.{Literal, Reads, begins_with, is_absent, is_float, is_none_or_one, is_none_or_prefix, is_present, may_begin}
+pub use Rattle.lexical_literal.specs.Literal.{text_of}
+pub use Rattle.lexical_literal.specs.Notation.{Notation, has, notation_of, radix_of, set_of_role}
 pub use Rattle.lexical_literal.specs.Read.{Read}
-pub use Rattle.lexical_literal.specs.Readings.{AllIn, run_byte}
+pub use Rattle.lexical_literal.specs.Readings.{AllIn, prefix_byte, run_byte}
+pub use Rattle.lexical_literal.specs.Syntax.{IsSyntax}
 pub use Rattle.lexical_literal.specs.declared.cause.ReadErrorKind.{ReadErrorKind}
 pub use Rattle.lexical_literal.specs.declared.cause.Refusal.{Refusal}
-pub use Rattle.lexical_literal.specs.declared.stop.Stopped.{Stopped}
 pub use Rattle.lexical_literal.specs.declared.stop.Found.{Found}
+pub use Rattle.lexical_literal.specs.declared.stop.Stopped.{Stopped}
 pub use Rattle.lexical_literal.specs.declared.syntax.Grammar.{Grammar}
 pub use Rattle.lexical_util.specs.Ascii.{ByteSet}
 pub use Rattle.lexical_util.specs.Layout.{Flag}
 pub use Rattle.lexical_util.specs.Record.{Record, raw}
-pub use Rattle.lexical_util.specs.Roles.{signs}
+pub use Rattle.lexical_util.specs.Roles.{other_case, signs}
 pub use Rattle.lexical_util.specs.declared.feature_format.roles.Role.{Role}
 pub use Rattle.lexical_util.specs.declared.format_flags.Part.{Part}
-pub use Rattle.std.proofs.Common.{All, Bool, IfSome, IsNone, IsSomeAnd, IsTrue, List, None, Ok, Option, Some, [], ap, append-nil, arith, drop, false}
-pub use Rattle.std.proofs.Common.{get_or, if◌then◌else◌, inl, inr, length, nat_lt, option_map, refl, slice_get, subst, sym, take, true, ℕ, ◌&&◌, ◌*◌}
-pub use Rattle.std.proofs.Common.{◌++◌, ◌+◌, ◌-◌, ◌<◌, ◌==◌, ◌||◌, ◌∙◌, ◌∷◌, ◌≡◌, ◌≤◌, ◌⊎◌}
+pub use Rattle.std.proofs.Common.{All, Bool, Err, IfSome, IsNone, IsSomeAnd, IsTrue, List, None, Ok, Option, Some, [], ap, append-nil, arith, drop, false}
+pub use Rattle.std.proofs.Common.{get_or, if◌then◌else◌, inl, inr, length, length-append, min, nat_eq, nat_lt, not, option_map, position, refl, rules}
+pub use Rattle.std.proofs.Common.{slice_get, subst, sym, take, true, unwrap_or, ℕ, ◌&&◌, ◌*◌, ◌++◌, ◌+◌, ◌-◌, ◌<◌, ◌==◌, ◌||◌, ◌∙◌, ◌∷◌, ◌≡◌, ◌≤◌, ◌⊎◌}
+pub use Rattle.std.proofs.Math.Nat.{le_antisymm}
 pub use Rattle.std.proofs.lemmas.Bool.{cases_lt, false≢true}
 pub use Rattle.std.proofs.lemmas.Bool.Decides.{nat_tests}
 pub use Rattle.std.proofs.lemmas.Grind.{common_steps}
-pub use Rattle.std.proofs.lemmas.List.{length-take-le, take_all}
-pub use Rattle.std.proofs.lemmas.List.Elements.{All-more}
-pub use Rattle.std.proofs.lemmas.Option.{slice_get-get_or}
-pub use Rattle.std.specs.List.{AllByRecursion}
+pub use Rattle.std.proofs.lemmas.List.{append_assoc, drop-append-le, drop-drop, drop-take, drop_all, drop_at, drop_more, get_or-append_right, get_or-drop}
+pub use Rattle.std.proofs.lemmas.List.{get_or-take, get_or_append_left, length-drop, length-take, length-take-le, take-append-drop, take-append-le, take-take}
+pub use Rattle.std.proofs.lemmas.List.{take_all, take_at}
+pub use Rattle.std.proofs.lemmas.List.Elements.{All-append, All-from_recursion, All-get_or, All-more, All-take, All-weaker}
+pub use Rattle.std.proofs.lemmas.Option.{slice_get-get_or, slice_get_past, slice_get_within}
+pub use Rattle.std.specs.Borrow.{Bor}
+pub use Rattle.std.specs.List.{AllByRecursion, list_any}

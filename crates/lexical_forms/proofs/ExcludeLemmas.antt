@@ -1,14 +1,10 @@
 -- Each byte of a literal plays a role, and a literal with a required prefix begins with it.
-use Rattle.lexical_forms.proofs.Common.{ℕ, ◌≡◌, ◌+◌, ◌<◌, ◌≤◌, ◌⊎◌, inl, inr, true, false, None, List, [], ◌∷◌, ◌++◌, take, get_or, ap, refl, sym, subst, ◌∙◌}
-use Rattle.lexical_forms.proofs.Common.{arith, All, cases_lt, false≢true, length-take-le, nat_tests, ◌&&◌, ByteSet, signs, Role, Part, Literal, Reads}
-use Rattle.lexical_forms.proofs.Common.{is_none_or_one, is_none_or_prefix, is_present, text_of, Notation, notation_of, set_of_role, Grammar, sign_size}
-use Rattle.lexical_forms.proofs.Common.{IsValidUpTo, NoLiteral, role_at, AllIn, run_byte}
-use Rattle.lexical_forms.specs.Additions.Forms.{IsSpare, LacksZero, PlaysNoRole}
-use Rattle.lexical_literal.specs.Literal.{begins_with, may_begin}
-use Rattle.lexical_literal.specs.Readings.{prefix_byte}
-use Rattle.std.proofs.Common.{length, length-append, IsTrue}
-use Rattle.std.proofs.lemmas.List.{get_or-take, get_or_append_left}
-use Rattle.std.proofs.lemmas.List.Elements.{All-append, All-from_recursion, All-get_or, All-weaker}
+use Rattle.lexical_forms.proofs.Common.{All, All-append, All-from_recursion, All-get_or, All-weaker, AllIn, ByteSet, Grammar, IsSpare, IsTrue, IsValidUpTo}
+use Rattle.lexical_forms.proofs.Common.{LacksZero, List, Literal, NoLiteral, None, Notation, Part, PlaysNoRole, Reads, Role, [], ap, arith, begins_with}
+use Rattle.lexical_forms.proofs.Common.{cases_lt, false, false≢true, get_or, get_or-take, get_or_append_left, inl, inr, is_none_or_one, is_none_or_prefix}
+use Rattle.lexical_forms.proofs.Common.{is_present, length, length-append, length-take-le, may_begin, nat_tests, notation_of, prefix_byte, refl, role_at}
+use Rattle.lexical_forms.proofs.Common.{run_byte, set_of_role, sign_size, signs, subst, sym, take, text_of, true, ℕ, ◌&&◌, ◌++◌, ◌+◌, ◌<◌, ◌∙◌, ◌∷◌, ◌≡◌, ◌≤◌}
+use Rattle.lexical_forms.proofs.Common.{◌⊎◌}
 use Rattle.lexical_util.specs.declared.feature_format.roles.Role.TheVariants as roles
 use Rattle.lexical_util.specs.declared.format_flags.Part.TheVariants as parts
 use Rattle.lexical_literal.specs.declared.syntax.Condition.TheVariants as conditions

@@ -1,24 +1,12 @@
 -- What the parts of a token are, and which tokens are a whole text.
-use Rattle.lexical_forms.proofs.Common.{ℕ, ◌≡◌, ◌≤◌, ◌<◌, ◌&&◌, ◌+◌, ◌-◌, ◌++◌, [], ◌∷◌, Bool, false, true, inl, inr, All, IsSomeAnd}
-use Rattle.lexical_forms.proofs.Common.{List, Literal, Reads, ap, append-nil, arith}
-use Rattle.lexical_forms.proofs.Common.{drop, get_or, if◌then◌else◌, length, notation_of, refl, slice_get, subst, sym, take, take_all, text_of, ◌∙◌}
-use Rattle.lexical_forms.proofs.Common.{Form, FormList, is_float}
-use Rattle.lexical_literal.specs.Cause.{is_in}
-use Rattle.lexical_forms.specs.FormList.{have_marks}
-use Rattle.lexical_forms.specs.Forms.{IsFirst, NoForm, ReadsForm, ReadsIn}
-use Rattle.lexical_forms.specs.Suffix.{more_of, suffix_size, word_size}
-use Rattle.lexical_forms.specs.Token.{IsCandidate, IsChosen, IsToken, gives_back, is_shorter, takes_point}
-use Rattle.lexical_forms.specs.declared.list.Tokens.{Tokens}
-use Rattle.lexical_forms.specs.declared.token.Token.{Token}
+use Rattle.lexical_forms.proofs.Common.{All, All-take, Bool, Form, FormList, IsCandidate, IsChosen, IsFirst, IsSomeAnd, IsToken, List, Literal, Reads}
+use Rattle.lexical_forms.proofs.Common.{ReadsForm, Token, Tokens, [], ap, arith, drop, drop-drop, false, false≢true, get_or, gives_back}
+use Rattle.lexical_forms.proofs.Common.{have_marks, if◌then◌else◌, inl, inr, is_float, is_in, length, length-drop, length-take, min, more_of}
+use Rattle.lexical_forms.proofs.Common.{nat_tests, notation_of, refl, slice_get_past, subst, suffix_size, sym, take, take-append-drop, take_all}
+use Rattle.lexical_forms.proofs.Common.{takes_point, text_of, true, word_size, ℕ, ◌&&◌, ◌++◌, ◌+◌, ◌-◌, ◌∙◌, ◌∷◌, ◌≡◌, ◌≤◌}
 use Rattle.lexical_forms.proofs.FormLemmas.{all_at, plain_at}
 use Rattle.lexical_forms.proofs.LeadingLemmas.{front_of, less_or_same, suffix_within}
 use Rattle.lexical_forms.proofs.MarkLemmas.{plain_in, plain_of}
-use Rattle.std.proofs.Common.{min}
-use Rattle.std.proofs.lemmas.Bool.{false≢true}
-use Rattle.std.proofs.lemmas.Bool.Decides.{nat_tests}
-use Rattle.std.proofs.lemmas.List.{drop-drop, length-drop, length-take, take-append-drop}
-use Rattle.std.proofs.lemmas.List.Elements.{All-take}
-use Rattle.std.proofs.lemmas.Option.{slice_get_past}
 
 -- A form has no suffix at the end of a text.
 no_more : (form : Form) (float : Bool) (text : List ℕ) (size : ℕ) → length text ≤ size → suffix_size form.suffixes float (drop size text) ≡ 0

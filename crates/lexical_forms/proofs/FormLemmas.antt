@@ -1,23 +1,15 @@
 -- Several forms: what has been found in the first of them, and what one form more adds.
-use Rattle.lexical_forms.proofs.Common.{ℕ, ◌≡◌, ◌*◌, inl, inr, Bool, true, false, ◌<◌, ◌≤◌, ◌+◌, List, Ok, Option, Some, None, All, IsSomeAnd, []}
-use Rattle.lexical_forms.proofs.Common.{◌∷◌, nat_lt, take, get_or, refl, sym, subst, ap, arith, nat_tests, cases_lt, false≢true, take_all, All-more}
-use Rattle.lexical_forms.proofs.Common.{length-take-le, slice_get-get_or, Notation, notation_of, common_steps, if◌then◌else◌, length, slice_get}
-use Rattle.lexical_forms.proofs.Common.{IsFurthestForm, IsCountedFront, IsStopped, IsValidUpTo, FormList, NoForm, ReadsForm, Reads}
-use Rattle.lexical_forms.proofs.Common.{Read, Found, Stopped, Form}
-use Rattle.lexical_literal.specs.Front.{NoFrontBy}
-use Rattle.lexical_forms.specs.Additions.Forms.{AreBelow, IsFoundForm, IsFoundFrontForm, IsFrontIn, IsLed, IsLeftOut, IsLongestPast, IsLow}
-use Rattle.lexical_forms.specs.Additions.Forms.{IsNearSign, IsRefusedAt, Leads, NoFrontPast, NonePast, greater, limit}
-use Rattle.lexical_forms.specs.Forms.{HasFront, HasKind, IsErrorOfForm, IsFirst, IsFormError, IsGreatest, IsReadByForms, Reaches, ReadsIn, reach_in, refusal_in}
+use Rattle.lexical_forms.proofs.Common.{All, All-more, AreBelow, Bool, Bor, Form, FormList, Found, Furthest, HasFront, HasKind, IsCountedFront, IsErrorOfForm}
+use Rattle.lexical_forms.proofs.Common.{IsFirst, IsFormError, IsFoundForm, IsFoundFrontForm, IsFrontIn, IsFurthestForm, IsGreatest, IsLed, IsLeftOut}
+use Rattle.lexical_forms.proofs.Common.{IsLongestPast, IsLow, IsNearSign, IsReadByForms, IsRefusedAt, IsSomeAnd, IsStopped, IsValidUpTo, Leads, List, NoForm}
+use Rattle.lexical_forms.proofs.Common.{NoFrontBy, NoFrontPast, None, NonePast, Notation, Ok, Option, Reaches, Read, Reads, ReadsForm, ReadsIn, Some, Stopped}
+use Rattle.lexical_forms.proofs.Common.{Tokens, [], ap, are_marked, arith, cases_lt, common_steps, false, false≢true, get_or, get_or-take, greater, have_marks}
+use Rattle.lexical_forms.proofs.Common.{if◌then◌else◌, inl, inr, length, length-take-le, limit, nat_lt, nat_tests, not, notation_of, reach_in, refl, refusal_in}
+use Rattle.lexical_forms.proofs.Common.{slice_get, slice_get-get_or, slice_get_within, subst, sym, take, take_all, true, ℕ, ◌*◌, ◌+◌, ◌<◌, ◌==◌, ◌||◌, ◌∷◌, ◌≡◌}
+use Rattle.lexical_forms.proofs.Common.{◌≤◌}
 use Rattle.lexical_forms.proofs.MarkLemmas.{front_in, none_empty_in, none_in, one_reach, reach_least, reach_most}
 use Rattle.lexical_forms.proofs.OpeningLemmas.{bit_within, one_size}
-use Rattle.std.proofs.lemmas.List.{get_or-take}
-use Rattle.std.proofs.lemmas.Option.{slice_get_within}
-use Rattle.lexical_forms.specs.FormList.{are_marked, have_marks}
-use Rattle.std.proofs.Common.{not, ◌==◌, ◌||◌}
 use Rattle.lexical_forms.specs.declared.list.FormError.{FormError}
-use Rattle.lexical_forms.specs.declared.list.Tokens.{Tokens}
-use Rattle.std.specs.Borrow.{Bor}
-use Rattle.lexical_forms.specs.declared.list.Furthest.{Furthest}
 use Rattle.lexical_forms.specs.declared.list.Number.TheVariants as numbers
 
 -- What holds of some value of an option holds of the value that it is.
@@ -151,8 +143,6 @@ pub number_is : (list : FormList) (text : List ℕ) (i : ℕ) (read own : Read) 
     → own.literal ≡ read.literal → HasKind list.forms i own → IsReadByForms list text (Ok (numbers.Literal own i))
 number_is list text i read own is format same kind = record {
   found = (first_of list.forms text i read own format same is, kind);
-  no_literal = λ err. absurd (false≢true err);
-  no_special = λ err. absurd (false≢true err);
   error = tt;
 }
 
@@ -260,7 +250,6 @@ pub front_is : (forms : List Form) (text : List ℕ) (size index : ℕ) (found :
 front_is forms text size index found is = record {
   longest = is.longest;
   found = is.counted;
-  none = λ err. absurd (false≢true err);
   error = tt;
 }
 

@@ -1,49 +1,33 @@
 -- Tokens that are found by reading the forms of a list once.
-use Rattle.lexical_forms.proofs.Common.{ℕ, ◌≡◌, ◌&&◌, ◌||◌, Bool, true, false, ◌<◌, ◌≤◌, ◌+◌, ◌-◌, inl, inr, List, [], ◌∷◌, ◌++◌, Option, Some, None, All}
-use Rattle.lexical_forms.proofs.Common.{IsSomeAnd, take, take_all, drop, get_or, append-nil, refl, sym, subst, ap, ◌∙◌, arith, cases_lt, false≢true, nat_tests}
-use Rattle.lexical_forms.proofs.Common.{length-take-le, All-more, slice_get-get_or, Literal, Reads, is_float, text_of, Notation, notation_of, Record, ◌==◌}
-use Rattle.lexical_forms.proofs.Common.{if◌then◌else◌, IsTrue, length, slice_get, sign_size, IsMeasured, IsStopped, AreSums, cut, Cuts, HasLengths, IsWithin}
-use Rattle.lexical_forms.proofs.Common.{FormList, ReadsSyntax, IsFront, IsValidUpTo, NoFront, NoLiteral, IsAhead, Form, Stopped, Candidate}
-use Rattle.lexical_forms.specs.Additions.Forms.{NoFrontPast, PlaysNoRole}
-use Rattle.lexical_literal.specs.Additions.Literal.{HasSums, before_exponent}
-use Rattle.lexical_forms.specs.Additions.Token.{FrontsWithin, IsLeading, IsNear, IsPicked, go_on_with, has_float, has_prefix}
-use Rattle.lexical_forms.specs.Token.{HasFrontOfSyntax}
-use Rattle.lexical_forms.specs.Token.{IsCandidate, IsToken, gives_back, is_alone, is_shorter, takes_point}
-use Rattle.std.specs.Borrow.{Bor}
-use Rattle.std.specs.Prelude.{not, option_map, unwrap_or}
-use Rattle.std.proofs.lemmas.List.{drop-take, length-append, take-take}
-use Rattle.std.proofs.lemmas.List.Elements.{All-take}
-use Rattle.std.proofs.lemmas.Option.{slice_get_within}
-use Rattle.lexical_literal.specs.Additions.GroupSize.{goes}
-use Rattle.lexical_literal.specs.Cause.{is_in}
-use Rattle.lexical_forms.specs.Suffix.{byte_before, is_digit, is_in_word, is_point, is_stopped, is_word_byte, kind_with}
-use Rattle.lexical_forms.specs.Suffix.{longest_word, meets, more_of, suffix_in, suffix_size, word_size}
-use Rattle.std.specs.List.{list_any}
-use Rattle.lexical_forms.specs.declared.list.PointsBack.{PointsBack}
-use Rattle.lexical_forms.specs.declared.list.PointsBack.TheVariants as points
-use Rattle.lexical_forms.specs.declared.list.Tokens.{Tokens}
-use Rattle.lexical_literal.specs.declared.literal.Sums.{Sums}
-use Rattle.lexical_literal.specs.declared.step.Piece.TheVariants as pieces
-use Rattle.lexical_forms.specs.declared.suffix.Suffixes.{Suffixes}
-use Rattle.lexical_literal.specs.declared.syntax.Condition.TheVariants as conditions
-use Rattle.lexical_forms.specs.declared.token.Token.{Token}
+use Rattle.lexical_forms.proofs.Common.{All, All-more, All-take, AreSums, Bool, Bor, Candidate, Cuts, Form, FormList, FrontsWithin, HasFrontOfSyntax}
+use Rattle.lexical_forms.proofs.Common.{HasLengths, HasSums, IsAhead, IsCandidate, IsLeading, IsMeasured, IsNear, IsPicked, IsSomeAnd, IsStopped, IsToken}
+use Rattle.lexical_forms.proofs.Common.{IsTrue, IsValidUpTo, IsWithin, List, Literal, NoFront, NoFrontPast, NoLiteral, None, Notation, Option, PlaysNoRole}
+use Rattle.lexical_forms.proofs.Common.{PointsBack, Reads, ReadsSyntax, Record, Some, Stopped, Token, Tokens, [], ap, append-nil, arith, before_exponent}
+use Rattle.lexical_forms.proofs.Common.{byte_before, cases_lt, cut, drop, drop-take, false, false≢true, get_or, gives_back, go_on_with, goes, has_float}
+use Rattle.lexical_forms.proofs.Common.{has_prefix, if◌then◌else◌, inl, inr, is_alone, is_digit, is_float, is_in, is_in_word, is_shorter, is_stopped}
+use Rattle.lexical_forms.proofs.Common.{is_word_byte, kind_with, length, length-append, length-take-le, list_any, longest_word, meets, more_of, nat_tests, not}
+use Rattle.lexical_forms.proofs.Common.{notation_of, option_map, refl, sign_size, slice_get, slice_get-get_or, slice_get_within, subst, suffix_size}
+use Rattle.lexical_forms.proofs.Common.{suffix_words, sym, take, take-take, takes_point, text_of, true, unwrap_or, word_size, ℕ, ◌&&◌, ◌++◌, ◌+◌, ◌-◌, ◌<◌}
+use Rattle.lexical_forms.proofs.Common.{◌==◌, ◌||◌, ◌∙◌, ◌∷◌, ◌≡◌, ◌≤◌}
 use Rattle.lexical_forms.proofs.ExcludeLemmas.{BeginsPrefixed, front_sign, no_role_excludes, prefix_begins}
 use Rattle.lexical_forms.proofs.FormLemmas.{no_one}
 use Rattle.lexical_forms.proofs.OpeningLemmas.{begins_whole, both, front_byte}
 use Rattle.lexical_forms.proofs.TokenLemmas.{float_is, some_is, token_is}
+use Rattle.lexical_forms.specs.declared.suffix.Suffixes.{Suffixes}
+use Rattle.lexical_literal.specs.declared.literal.Sums.{Sums}
+use Rattle.lexical_forms.specs.declared.list.PointsBack.TheVariants as points
+use Rattle.lexical_literal.specs.declared.step.Piece.TheVariants as pieces
+use Rattle.lexical_literal.specs.declared.syntax.Condition.TheVariants as conditions
 
 -- A suffix is in the word with which the text begins.
 longest_within : (either : Bool) (words : List (Bor (List ℕ))) (text : List ℕ) (most : ℕ) → longest_word either words text most ≤ most
 longest_within either [] text most = omega arith
 longest_within either (word ∷ words) text most = let rest = longest_within either words text most in grind (arith, nat_tests)
 
-suffix_in_within : (it : Suffixes) (float : Bool) (text : List ℕ) (whole : ℕ) → suffix_in it float text whole ≤ whole
-suffix_in_within it float text whole =
-    let longest = longest_within it.either_case (if float then it.floats.now else it.integers.now) text whole in grind arith
-
 pub suffix_within : (suffixes : Option (Bor Suffixes)) (float : Bool) (text : List ℕ) → suffix_size suffixes float text ≤ word_size (more_of suffixes) text
 suffix_within None float text = omega arith
-suffix_within (Some it) float text = suffix_in_within it.now float text (word_size it.now.more.now text)
+suffix_within (Some it) float text =
+    let longest = longest_within it.now.either_case (suffix_words (Some it) float) text (word_size it.now.more.now text) in grind arith
 
 module _ (more : List ℕ) where
   -- A word ends where no byte of a word follows.
@@ -55,13 +39,6 @@ module _ (more : List ℕ) where
   word_within (byte ∷ text) ℕ.zero (ℕ.suc end) order none = let rest = word_within text 0 end (omega arith) none in grind arith
   word_within (byte ∷ text) (ℕ.suc index) ℕ.zero order none = omega (arith, order)
   word_within (byte ∷ text) (ℕ.suc index) (ℕ.suc end) order none = let rest = word_within text index end (omega (arith, order)) none in omega (arith, rest)
-
--- A byte that words of forms have is one of the first form, or of the others.
-pub first_or_rest : (forms : List Form) (d : Form) (byte : ℕ) → 1 ≤ length forms → go_on_with forms byte
-    ≡ (list_any (λ it. it == byte) (more_of (get_or forms 0 d).suffixes) || go_on_with (take (length forms - 1) (drop 1 forms)) byte)
-first_or_rest [] d byte some = absurd (omega (arith, some))
-first_or_rest (form ∷ forms) d byte some = ap (λ rest. list_any (λ it. it == byte) (more_of form.suffixes) || go_on_with rest byte)
-    (sym (take_all (length (form ∷ forms) - 1) forms (omega arith)))
 
 -- No word of a form goes on where a byte is none of any word, and none that a form has besides.
 no_word_of_form : (forms : List Form) (byte : Option ℕ) → is_in is_word_byte byte ≡ false
@@ -168,7 +145,7 @@ digit_of digit true stops less none = absurd (false≢true (sym none))
 
 stopped_less : (words : Bool) (suffixes : Option (Bor Suffixes)) (text : List ℕ) (end : ℕ) → is_stopped false suffixes text end ≡ false
     → is_stopped words suffixes text end ≡ false
-stopped_less words suffixes text end none = go (words && not (is_in is_point (byte_before text end))) where
+stopped_less words suffixes text end none = go (words && not (is_in (λ byte. byte == 46) (byte_before text end))) where
   go : (b : Bool) → (is_in (if b then is_digit else is_word_byte) (slice_get text end)
       || list_any (meets text end) (unwrap_or (option_map (λ (it : Bor Suffixes). it.now.stops.now) suffixes) [])) ≡ false
   go true =

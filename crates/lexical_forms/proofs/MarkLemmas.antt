@@ -1,50 +1,30 @@
 -- Forms with an opening and a closing: what of a text stands between both, and where it stops.
-use Rattle.lexical_forms.proofs.Common.{ℕ, ◌≡◌, ◌+◌, ◌-◌, ◌*◌, ◌<◌, ◌≤◌, ◌++◌, ◌∙◌, ◌⊎◌, inl, inr, Bool, true, false, List, [], Option, Some, None, Form, Found}
-use Rattle.lexical_forms.proofs.Common.{Grammar, Literal, NoLiteral, Notation, Reads, Refusal, Stopped, ap, arith, cases_lt, drop, false≢true, get_or}
-use Rattle.lexical_forms.proofs.Common.{IsCountedFront, IsFront, IsRefusal, IsStopped, IsValidUpTo, ReadsFront, append-nil, if◌then◌else◌, is_stray, length}
-use Rattle.lexical_forms.proofs.Common.{length-take-le, nat_tests, notation_of, reach, refl, subst, sym, take, take_all, ◌&&◌, ◌||◌, ◌==◌, Role, set_of_role}
-use Rattle.lexical_literal.specs.Cause.{Explained}
-use Rattle.lexical_literal.specs.Additions.Stop.{IsFronted}
-use Rattle.std.proofs.Common.{Err, IfSome, IsNone, IsSomeAnd, Ok, not}
-use Rattle.lexical_literal.specs.Front.{BeginsBy, NoFrontBy, NoneBy, ReadsFrontBy}
-use Rattle.lexical_forms.specs.Additions.Forms.{IsBehind, IsBetween, IsEnding, IsFrontIn, IsLeftOut, IsLow, IsNearSign, IsNoBetter, IsRefusedAt}
-use Rattle.lexical_forms.specs.Additions.Forms.{GoesTo, IsStoppedBefore, IsStoppedBehind, NoFrontPast, NoneOpenedPast, NonePast, PlaysNoRole, behind, sign_size}
-use Rattle.lexical_forms.specs.Affix.{Begins, IsOpened, IsOpenedTo, is_free, spelling, spells}
-use Rattle.lexical_forms.specs.Forms.{IsErrorIn, KeepsError, LacksClosing, OpensIn, Reaches, ReadsIn, reach_in, right_in}
-use Rattle.lexical_forms.specs.declared.list.Furthest.{Furthest}
-use Rattle.lexical_forms.specs.declared.marks.Unclosed.{Unclosed}
-use Rattle.lexical_util.specs.Roles.{other_case, signs}
-use Rattle.lexical_util.specs.declared.feature_format.roles.Role.TheVariants as roles
-use Rattle.lexical_util.specs.declared.format_flags.Part.TheVariants as parts
-use Rattle.lexical_literal.proofs.OneCauseLemmas.{one_refusal}
+use Rattle.lexical_forms.proofs.Common.{Begins, BeginsBy, Bool, Form, Found, Furthest, GoesTo, Grammar, IfSome, IsBehind, IsBetween, IsCountedFront, IsErrorIn}
+use Rattle.lexical_forms.proofs.Common.{IsFront, IsFrontIn, IsFronted, IsLeftOut, IsLow, IsNearSign, IsNoBetter, IsNone, IsOpened, IsOpenedTo, IsRefusal}
+use Rattle.lexical_forms.proofs.Common.{IsRefusedAt, IsSomeAnd, IsStopped, IsStoppedBefore, IsStoppedBehind, IsValidUpTo, KeepsError, List, Literal, NoFrontBy}
+use Rattle.lexical_forms.proofs.Common.{NoFrontPast, NoLiteral, None, NoneBy, NoneOpenedPast, NonePast, Notation, OpensIn, Option, PlaysNoRole, Reaches, Reads}
+use Rattle.lexical_forms.proofs.Common.{ReadsFront, ReadsFrontBy, ReadsIn, Refusal, Role, Some, Stopped, [], ap, append-nil, append_assoc, arith, behind}
+use Rattle.lexical_forms.proofs.Common.{cases_lt, drop, drop-drop, drop-take, drop_at, false, false≢true, get_or, get_or-drop, get_or-take, if◌then◌else◌, inl}
+use Rattle.lexical_forms.proofs.Common.{inr, is_free, is_stray, length, length-append, length-drop, length-take-le, nat_tests, not, notation_of, one_refusal}
+use Rattle.lexical_forms.proofs.Common.{other_case, reach, reach_in, refl, right_in, set_of_role, sign_size, signs, spelling, spells, subst, sym, take}
+use Rattle.lexical_forms.proofs.Common.{take-append-drop, take-append-le, take-take, take_all, take_at, true, ℕ, ◌&&◌, ◌*◌, ◌++◌, ◌+◌, ◌-◌, ◌<◌, ◌==◌, ◌||◌}
+use Rattle.lexical_forms.proofs.Common.{◌∙◌, ◌≡◌, ◌≤◌, ◌⊎◌}
 use Rattle.lexical_forms.proofs.ExcludeLemmas.{near_no_role}
 use Rattle.lexical_forms.proofs.OpeningLemmas.{begins_front, begins_of, begins_whole, behind_take, both, completed, completed_size, front_behind, front_byte}
-use Rattle.lexical_forms.proofs.OpeningLemmas.{front_opened, none_empty, not_begun, not_longer, not_opened, one_opened, one_size, opened_front}
-use Rattle.lexical_forms.proofs.OpeningLemmas.{past_behind, reach_within, rest_size, spelling_size, spells_own, valid_behind}
-use Rattle.std.proofs.lemmas.List.{append_assoc, drop-drop, drop-take, drop_at, get_or-drop, get_or-take, length-append, length-drop, take-append-drop}
-use Rattle.std.proofs.lemmas.List.{take-append-le, take-take, take_at}
-use Rattle.std.proofs.Math.Nat.{le_antisymm}
+use Rattle.lexical_forms.proofs.OpeningLemmas.{front_opened, no_opening, none_empty, not_begun, not_longer, not_opened, one_valid, opened_front, past_behind}
+use Rattle.lexical_forms.proofs.OpeningLemmas.{reach_within, rest_size, spelling_size, spells_own, valid_behind}
+use Rattle.lexical_util.specs.declared.feature_format.roles.Role.TheVariants as roles
 
 -- The first bytes of a list are its first ones, and then others.
 take_both : (n k : ℕ) (xs : List ℕ) → take (n + k) xs ≡ take n xs ++ take k (drop n xs)
 take_both n k xs = sym (take-append-drop n (take (n + k) xs)) ∙ ap (λ ys. ys ++ drop n (take (n + k) xs)) (take-take n (n + k) xs (omega arith))
     ∙ ap (λ ys. take n xs ++ ys) (drop-take n k xs)
 
--- What is false if no one of many is true, and what is true if both are, or the other is not.
+-- What is false if no one of many is true, and what is true if the other is not.
 all_false : (a b c d e f g h i j : Bool)
     → (not a && not b && not c && not d && not e && not f && not g && not h && not i && not j) ≡ true
     → (a ≡ false) × (b ≡ false) × (c ≡ false) × (d ≡ false) × (e ≡ false) × (f ≡ false) × (g ≡ false) × (h ≡ false) × (i ≡ false) × (j ≡ false)
-all_false true b c d e f g h i j is = absurd (false≢true is)
-all_false false true c d e f g h i j is = absurd (false≢true is)
-all_false false false true d e f g h i j is = absurd (false≢true is)
-all_false false false false true e f g h i j is = absurd (false≢true is)
-all_false false false false false true f g h i j is = absurd (false≢true is)
-all_false false false false false false true g h i j is = absurd (false≢true is)
-all_false false false false false false false true h i j is = absurd (false≢true is)
-all_false false false false false false false false true i j is = absurd (false≢true is)
-all_false false false false false false false false false true j is = absurd (false≢true is)
-all_false false false false false false false false false false true is = absurd (false≢true is)
-all_false false false false false false false false false false false is = (refl, refl, refl, refl, refl, refl, refl, refl, refl, refl)
+all_false a b c d e f g h i j is = grind arith
 
 other_of : (a b : Bool) → a ≡ false → (a || b) ≡ true → b ≡ true
 other_of false b fails is = is
@@ -74,30 +54,19 @@ no_sign : (byte : ℕ) → (byte == 43) ≡ false → (byte == 45) ≡ false →
 no_sign byte plus minus = grind (arith, nat_tests)
 
 no_digit : (a b c : Bool) → a ≡ false → b ≡ false → c ≡ false → (a || b || c) ≡ false
-no_digit false false false one two three = refl
-no_digit true b c one two three = absurd (false≢true (sym one))
-no_digit false true c one two three = absurd (false≢true (sym two))
-no_digit false false true one two three = absurd (false≢true (sym three))
+no_digit a b c one two three = grind arith
 
 -- A byte that is free plays no role.
 free_plays_none : (s : Grammar) (byte : ℕ) → is_free (notation_of s) byte ≡ true → PlaysNoRole (notation_of s) byte
-free_plays_none s byte is = of_all (all_false (byte == 48) ((notation_of s).digit parts.Integer byte) ((notation_of s).digit parts.Exponent byte)
-    (byte == 43) (byte == 45)
-    ((notation_of s).separator byte) ((notation_of s).prefix byte) ((notation_of s).suffix byte) ((notation_of s).point byte)
-    ((notation_of s).exponent_character byte) is) where
-      of_all : ((byte == 48) ≡ false) × ((notation_of s).digit parts.Integer byte ≡ false) × ((notation_of s).digit parts.Exponent byte ≡ false)
-          × ((byte == 43) ≡ false) × ((byte == 45) ≡ false) × ((notation_of s).separator byte ≡ false) × ((notation_of s).prefix byte ≡ false)
-          × ((notation_of s).suffix byte ≡ false) × ((notation_of s).point byte ≡ false) × ((notation_of s).exponent_character byte ≡ false)
-          → PlaysNoRole (notation_of s) byte
-      of_all all = record { not_zero = is_other byte 48 all.0; none = none } where
-        none : (role : Role) → set_of_role (notation_of s) role byte ≡ false
-        none roles.Digit = no_digit _ _ _ all.1 all.1 all.2
-        none roles.Sign = no_sign byte all.3 all.4
-        none roles.Separator = all.5
-        none roles.Prefix = all.6
-        none roles.Suffix = all.7
-        none roles.Exponent = all.9
-        none roles.Point = all.8
+free_plays_none s byte is = record { not_zero = is_other byte 48 (all_false _ _ _ _ _ _ _ _ _ _ is).0; none = none } where
+  none : (role : Role) → set_of_role (notation_of s) role byte ≡ false
+  none roles.Digit = let all = all_false _ _ _ _ _ _ _ _ _ _ is in no_digit _ _ _ all.1 all.1 all.2
+  none roles.Sign = let all = all_false _ _ _ _ _ _ _ _ _ _ is in no_sign byte all.3 all.4
+  none roles.Separator = (all_false _ _ _ _ _ _ _ _ _ _ is).5
+  none roles.Prefix = (all_false _ _ _ _ _ _ _ _ _ _ is).6
+  none roles.Suffix = (all_false _ _ _ _ _ _ _ _ _ _ is).7
+  none roles.Exponent = (all_false _ _ _ _ _ _ _ _ _ _ is).9
+  none roles.Point = (all_false _ _ _ _ _ _ _ _ _ _ is).8
 
 -- What has no marks.
 pub no_marks : (n c : ℕ) (marked : Bool) → marked ≡ (not (n == 0) || not (c == 0)) → marked ≡ false → (n ≡ 0) × (c ≡ 0)
@@ -130,6 +99,14 @@ module _ (g : Form) where
   pub none_empty_in : NoneBy (ReadsIn g) []
   none_empty_in l reads = none_empty g l (subst (OpensIn g l) (take_all (0 - c) [] (omega arith)) reads.opens)
 
+  -- Some literal of the syntax is in one of the form.
+  some_literal : (text : List ℕ) → BeginsBy (ReadsIn g) text → IsFront m []
+  some_literal text is = record {
+    more = drop n (take (length (text ++ is.more) - c) (text ++ is.more));
+    literal = is.literal;
+    reads = is.reads.opens.reads;
+  }
+
   -- WITHOUT A CLOSING
 
   module _ (none : c ≡ 0) where
@@ -143,7 +120,7 @@ module _ (g : Form) where
     reads_of l text is = record {
       room = omega (arith, none);
       opens = subst (OpensIn g l) (sym (all_of text)) is;
-      closed = record { within = omega (arith, none); each = λ index below. absurd (omega (arith, below, none)) };
+      closed = no_opening g.closing (drop (length text - c) text) none;
     }
 
   -- THE CLOSING
@@ -325,25 +302,41 @@ module _ (g : Form) where
         ];
       }
 
-      kept_alone : (error : Refusal) → KeepsError g rest error → (0 < c) → (more : ℕ) (tail : List ℕ) → n + error.valid_up_to < more
-          → Closes error.valid_up_to more tail → ⊥
-      kept_alone error is some more tail past ends = elim is.kept [
-        | inl bare ↦ absurd (omega (arith, bare, some))
-        | inr (inl none) ↦ none ends.literal ends.reads
-        | inr (inr alone) ↦ not_begun g.closing (drop error.valid_up_to rest) 0 (more - (n + error.valid_up_to)) alone.0 (omega (arith, past))
-            (let exact = ends.exact in omega (arith, exact)) ends.closed
-      ]
+      abbrev Keeps : Refusal → Type 0
+      Keeps error = (c ≡ 0) ⊎ (NoLiteral m (take error.valid_up_to rest)
+          ⊎ (IsOpenedTo g.closing (drop error.valid_up_to rest) 0 × (is_stray error ≡ false)))
 
-      pub goes_kept : (error : Refusal) → KeepsError g rest error → GoesTo text g (n + error.valid_up_to)
-      goes_kept error is = goes_to error.valid_up_to is.refusal.valid_up_to (kept_alone error is)
+      kept_alone : (error : Refusal) → Keeps error → (0 < c) → (more : ℕ) (tail : List ℕ) → n + error.valid_up_to < more
+          → Closes error.valid_up_to more tail → ⊥
+      kept_alone error (inl bare) some more tail past ends = omega (arith, bare, some)
+      kept_alone error (inr (inl none)) some more tail past ends = none ends.literal ends.reads
+      kept_alone error (inr (inr alone)) some more tail past ends = not_begun g.closing (drop error.valid_up_to rest) 0 (more - (n + error.valid_up_to))
+          alone.0 (omega (arith, past)) (let exact = ends.exact in omega (arith, exact)) ends.closed
+
+      pub keeps : (error : Refusal) → NoLiteral m rest → IsRefusal m rest error → Keeps error → IsErrorIn g text n (Some error)
+      keeps error none is kept = (
+        refl,
+        record {
+          opened = opened;
+          none = none;
+          refusal = is;
+          valid = goes_to error.valid_up_to is.valid_up_to (kept_alone error kept);
+          kept = why kept;
+        },
+      ) where
+        why : Keeps error → (c ≡ 0) ⊎ (NoLiteral m (take error.valid_up_to rest) ⊎ (is_stray error ≡ false))
+        why (inl bare) = inl bare
+        why (inr (inl none)) = inr (inl none)
+        why (inr (inr alone)) = inr (inr alone.1)
 
       -- or in the closing.
-      module _ (size closed : ℕ) (is : LacksClosing g rest size closed) where
+      module _ (some : 0 < c) (size : ℕ) (valid : IsValidUpTo m rest size) (l : Literal) (reads : Reads m l (take size rest)) (closed : ℕ)
+          (there : IsOpenedTo g.closing (drop size rest) closed) where
         rest_length : length rest + n ≡ length text
         rest_length = rest_size text g opened.within
 
         inside : n + size + closed ≤ length text
-        inside = let within = is.there.begins.within in let left = length-drop size rest in let low = is.valid.within in
+        inside = let within = there.begins.within in let left = length-drop size rest in let low = valid.within in
             omega (arith, rest_length, within, left, low)
 
         abbrev before : List ℕ
@@ -359,44 +352,58 @@ module _ (g : Form) where
         before_size = length-take-le (n + size) text (let in_text = inside in omega (arith, in_text))
 
         closing_size : length (take closed (drop size rest) ++ left) ≡ c
-        closing_size = completed_size g.closing (drop size rest) closed is.there.inside is.there.begins []
+        closing_size = completed_size g.closing (drop size rest) closed there.inside there.begins []
 
-        literal_before : OpensIn g is.literal before
+        literal_before : OpensIn g l before
         literal_before = record {
           opened = subst (λ t. Begins g.opening t n) (append-nil before)
               (begins_front g.opening text n (n + size) [] (omega arith) (let in_text = inside in omega (arith, in_text)) opened);
-          reads = subst (Reads m is.literal) (sym (behind_take n (n + size) text (omega arith)
-              ∙ ap (λ k. take k rest) (let same : n + size - n ≡ size = omega arith in same))) is.reads;
+          reads = subst (Reads m l) (sym (behind_take n (n + size) text (omega arith)
+              ∙ ap (λ k. take k rest) (let same : n + size - n ≡ size = omega arith in same))) reads;
         }
 
         whole_size : length (before ++ (take closed (drop size rest) ++ left)) - c ≡ n + size
         whole_size = let both = length-append before (take closed (drop size rest) ++ left) in omega (arith, both, before_size, closing_size)
 
-        closed_literal : ReadsIn g is.literal (before ++ (take closed (drop size rest) ++ left))
+        closed_literal : ReadsIn g l (before ++ (take closed (drop size rest) ++ left))
         closed_literal = record {
           room = let both = length-append before (take closed (drop size rest) ++ left) in omega (arith, both, closing_size);
-          opens = subst (OpensIn g is.literal) (sym (ap (λ k. take k (before ++ (take closed (drop size rest) ++ left))) whole_size
+          opens = subst (OpensIn g l) (sym (ap (λ k. take k (before ++ (take closed (drop size rest) ++ left))) whole_size
               ∙ take_at before (take closed (drop size rest) ++ left) (n + size) before_size)) literal_before;
           closed = subst (IsOpened g.closing) (sym (ap (λ k. drop k (before ++ (take closed (drop size rest) ++ left))) whole_size
               ∙ drop_at before (take closed (drop size rest) ++ left) (n + size) before_size))
               (subst (IsOpened g.closing) (ap (λ xs. take closed (drop size rest) ++ xs) (append-nil left))
-              (completed g.closing (drop size rest) closed is.there.inside is.there.begins []));
+              (completed g.closing (drop size rest) closed there.inside there.begins []));
         }
 
-        pub goes_closing : GoesTo text g (n + size + closed)
+        goes_closing : GoesTo text g (n + size + closed)
         goes_closing = record {
           within = inside;
           front = record {
             more = left;
-            literal = is.literal;
-            reads = subst (ReadsIn g is.literal) (sym (ap (λ xs. xs ++ left) front_is ∙ append_assoc before (take closed
+            literal = l;
+            reads = subst (ReadsIn g l) (sym (ap (λ xs. xs ++ left) front_is ∙ append_assoc before (take closed
                 (drop size rest)) left)) closed_literal;
           };
           no_longer = λ more past within front.
-              let ends = closes is.some size is.valid more (omega (arith, past)) within front in
-              not_begun g.closing (drop size rest) closed (more - (n + size)) is.there (omega (arith, past))
+              let ends = closes some size valid more (omega (arith, past)) within front in
+              not_begun g.closing (drop size rest) closed (more - (n + size)) there (omega (arith, past))
               (let exact = ends.exact in omega (arith, exact)) ends.closed;
         }
+
+        -- Then no error is kept.
+        pub unclosed : ((closed ≡ 0) → NoLiteral m rest → (error : Refusal) → IsRefusal m rest error → is_stray error ≡ true)
+            → IsErrorIn g text (n + size + closed) None
+        unclosed stray = (goes_closing, λ _. some, none_kept) where
+          none_kept : (error : Refusal) → KeepsError g text error → ⊥
+          none_kept error is =
+              let same = one_valid (Reads m) rest size error.valid_up_to valid is.refusal.valid_up_to in
+              let end = one_valid (ReadsIn g) text (n + size + closed) (n + error.valid_up_to) goes_closing is.valid in
+              elim is.kept [
+                | inl bare ↦ omega (arith, bare, some)
+                | inr (inl none) ↦ none l (subst (λ k. Reads m l (take k rest)) same reads)
+                | inr (inr fails) ↦ false≢true (sym fails ∙ stray (omega (arith, same, end)) is.none error is.refusal)
+              ]
 
       -- FRONTS
 
@@ -467,29 +474,6 @@ module _ (g : Form) where
 
   -- ERRORS
 
-  -- The syntax stops at one index, and so does the closing.
-  same_size : (rest : List ℕ) (a b : ℕ) → IsValidUpTo m rest a → IsValidUpTo m rest b → a ≡ b
-  same_size rest a b is other = le_antisymm (one_size (Reads m) rest a b is other) (one_size (Reads m) rest b a other is)
-
-  same_end : (rest : List ℕ) (a k b l : ℕ) → LacksClosing g rest a k → LacksClosing g rest b l → a + k ≡ b + l
-  same_end rest a k b l is other =
-      let same = same_size rest a b is.valid other.valid in
-      let there = subst (λ i. IsOpenedTo g.closing (drop i rest) l) (sym same) other.there in
-      let one = le_antisymm (one_opened g.closing (drop a rest) k l is.there there) (one_opened g.closing (drop a rest) l k there is.there) in
-      omega (arith, same, one)
-
-  -- An error is that of the syntax, or that the closing is not there, but not both.
-  not_both : (rest : List ℕ) (size closed : ℕ) → LacksClosing g rest size closed → (error : Refusal) → KeepsError g rest error → ⊥
-  not_both rest size closed is error kept =
-      let same = same_size rest size error.valid_up_to is.valid kept.refusal.valid_up_to in
-      elim kept.kept [
-        | inl bare ↦ (let some = is.some in omega (arith, bare, some))
-        | inr (inl none) ↦ none is.literal (subst (λ k. Reads m is.literal (take k rest)) same is.reads)
-        | inr (inr alone) ↦ (let there = subst (λ k. IsOpenedTo g.closing (drop k rest) 0) (sym same) alone.0 in
-            let zero : closed ≡ 0 = let low = one_opened g.closing (drop size rest) closed 0 is.there there in omega (arith, low) in
-            false≢true (sym alone.1 ∙ is.stray zero kept.none error kept.refusal))
-      ]
-
   module _ (text : List ℕ) where
     -- A text of which no front is a literal is none.
     pub none_whole : NoFrontBy (ReadsIn g) text → NoneBy (ReadsIn g) text
@@ -503,38 +487,34 @@ module _ (g : Form) where
 
     -- Two errors have one reach.
     pub one_reach : (a b : ℕ) (x y : Option Refusal) → IsErrorIn g text a x → IsErrorIn g text b y → reach_in a x ≡ reach_in b y
-    one_reach a b None None (inl is) (inl other) = let one = le_antisymm (one_opened g.opening text a b is.0 other.0)
-        (one_opened g.opening text b a other.0 is.0) in omega (arith, one)
-    one_reach a b None None (inl is) (inr other) = absurd (not_opened g.opening text a is.0 is.1 other.0)
-    one_reach a b None None (inr is) (inl other) = absurd (not_opened g.opening text b other.0 other.1 is.0)
-    one_reach a b None None (inr is) (inr other) = let one = same_end (behind g text) is.1 is.2 other.1 other.2 is.3 other.3 in omega
-        (arith, one, is.4, other.4)
-    one_reach a b None (Some y) (inl is) other = absurd (not_opened g.opening text a is.0 is.1 other.0)
-    one_reach a b None (Some y) (inr is) other = absurd (not_both (behind g text) is.1 is.2 is.3 y other.2)
-    one_reach a b (Some x) None is (inl other) = absurd (not_opened g.opening text b other.0 other.1 is.0)
-    one_reach a b (Some x) None is (inr other) = absurd (not_both (behind g text) other.1 other.2 other.3 x is.2)
+    one_reach a b None None is other = ap (λ k. 2 * k) (one_valid (ReadsIn g) text a b is.0 other.0)
+    one_reach a b None (Some y) is other = absurd (is.2 y other.1)
+    one_reach a b (Some x) None is other = absurd (other.2 x is.1)
     one_reach a b (Some x) (Some y) is other =
-        let one = ap reach (one_refusal m (behind g text) x y is.2.refusal other.2.refusal) in omega (arith, one, is.1, other.1)
-
-    -- The bytes that are right are the longest front that some literal begins with.
-    pub valid_in : IsFront m [] → (right : ℕ) (error : Option Refusal) → IsErrorIn g text right error → GoesTo text g (right_in right error)
-    valid_in some right None (inl is) = goes_before text some right is.0 is.1
-    valid_in some right None (inr is) = subst (GoesTo text g) (sym is.4) (goes_closing text is.0 is.1 is.2 is.3)
-    valid_in some right (Some error) is = subst (λ k. GoesTo text g (k + error.valid_up_to)) (sym is.1) (goes_kept text is.0 error is.2)
+        let one = ap reach (one_refusal m (behind g text) x y is.1.refusal other.1.refusal) in omega (arith, one, is.0, other.0)
 
     -- The reach of a form in whose opening reading stops.
     reaches_before : (stop : Stopped) → IsStoppedBefore text stop g → (k : ℕ) → Reaches text g k → k ≡ 2 * stop.size
-    reaches_before stop is k (right, error, reaches, same) =
-        let one = one_reach right stop.size error None reaches (inl (is.opened, is.short)) in omega (arith, one, same)
+    reaches_before stop is k (right, None, error, same) =
+        let one = one_valid (ReadsIn g) text right stop.size error.0 (goes_before text (some_literal (take right text) error.0.front) stop.size
+        is.opened is.short) in omega (arith, one, same)
+    reaches_before stop is k (right, Some refusal, error, same) = absurd (not_opened g.opening text stop.size is.opened is.short error.1.opened)
+
+    -- The error of a form in whose opening reading stops, and a form whose opening is there goes past it.
+    pub lacks_opening : (stop : Stopped) → IsFront m [] → IsStoppedBefore text stop g → IsErrorIn g text stop.size None
+    lacks_opening stop some is = (
+      goes_before text some stop.size is.opened is.short,
+      λ opened. absurd (not_opened g.opening text stop.size is.opened is.short opened),
+      λ error kept. not_opened g.opening text stop.size is.opened is.short kept.opened,
+    )
 
     -- That of one whose syntax stops.
     reaches_behind : (stop : Stopped) → IsStoppedBehind text stop g → (k : ℕ) → Reaches text g k
         → (error : Refusal) × IsRefusal m (behind g text) error × (k ≡ 2 * n + reach error) × (n + error.valid_up_to ≡ stop.size)
-    reaches_behind stop is k (right, None, inl error, same) = absurd (not_opened g.opening text right error.0 error.1 is.opened)
-    reaches_behind stop is k (right, None, inr error, same) = absurd (let some = error.3.some in let bare = is.bare in omega (arith, some, bare))
+    reaches_behind stop is k (right, None, error, same) = absurd (let some = error.1 is.opened in let bare = is.bare in omega (arith, some, bare))
     reaches_behind stop is k (right, Some refusal, error, same) =
-        let one = same_size (behind g text) refusal.valid_up_to (stop.size - n) error.2.refusal.valid_up_to is.stopped.valid in
-        (refusal, error.2.refusal, omega (arith, same, error.1), omega (arith, one, is.past))
+        let one = one_valid (Reads m) (behind g text) refusal.valid_up_to (stop.size - n) error.1.refusal.valid_up_to is.stopped.valid in
+        (refusal, error.1.refusal, omega (arith, same, error.0), omega (arith, one, is.past))
 
     module _ (stop : Stopped) where
       pub reach_least : IsRefusedAt text stop g → (k : ℕ) → Reaches text g k → 2 * stop.size ≤ k
@@ -562,10 +542,9 @@ module _ (g : Form) where
 
     module _ (none : n ≡ 0) (bare : c ≡ 0) where
       plain : (k : ℕ) → Reaches text g k → (error : Refusal) × IsRefusal m text error × (k ≡ reach error)
-      plain k (right, None, inl error, same) = absurd (omega (arith, error.1, none))
-      plain k (right, None, inr error, same) = absurd (let some = error.3.some in omega (arith, some, bare))
+      plain k (right, None, error, same) = absurd (let some = error.1 (no_opening g.opening text none) in omega (arith, some, bare))
       plain k (right, Some refusal, error, same) =
-          (refusal, subst (λ i. IsRefusal m (drop i text) refusal) none error.2.refusal, omega (arith, same, error.1, none))
+          (refusal, subst (λ i. IsRefusal m (drop i text) refusal) none error.1.refusal, omega (arith, same, error.0, none))
 
       -- It reads what its syntax reads.
       pub plain_of : (l : Literal) → ReadsIn g l text → Reads m l text
@@ -573,7 +552,7 @@ module _ (g : Form) where
 
       pub plain_in : (l : Literal) → Reads m l text → ReadsIn g l text
       plain_in l reads = reads_of bare l text (record {
-        opened = record { within = omega (arith, none); each = λ index below. absurd (omega (arith, below, none)) };
+        opened = no_opening g.opening text none;
         reads = subst (λ i. Reads m l (drop i text)) (sym none) reads;
       })
 
@@ -637,7 +616,7 @@ module _ (g : Form) where
     pub plain_refused : (stop : Stopped) → n ≡ 0 → c ≡ 0 → IsStopped m text stop → NoLiteral m text → IsRefusedAt text stop g
     plain_refused stop none bare stopped refused = inr (inl (record {
       bare = bare;
-      opened = record { within = omega (arith, none); each = λ index below. absurd (omega (arith, below, none)) };
+      opened = no_opening g.opening text none;
       past = omega (arith, none);
       stopped = subst (λ k. IsStopped m (drop k text) (record stop { size = stop.size - k })) (sym none)
           (subst (IsStopped m text) (sym (same_stop stop)) stopped);
@@ -645,22 +624,8 @@ module _ (g : Form) where
     }))
 
     pub plain_error : n ≡ 0 → c ≡ 0 → NoLiteral m text → (error : Refusal) → IsRefusal m text error → IsErrorIn g text 0 (Some error)
-    plain_error none bare refused error is = (
-      record { within = omega (arith, none); each = λ index below. absurd (omega (arith, below, none)) },
-      sym none,
-      record {
-        none = subst (λ k. NoLiteral m (drop k text)) (sym none) refused;
-        refusal = subst (λ k. IsRefusal m (drop k text) error) (sym none) is;
-        kept = inl bare;
-      },
-    )
-
-    -- What `ending` finds is an error of the form.
-    pub kept_in : IsOpened g.opening text → (error : Explained) → IsEnding g (behind g text) (Ok error) → IsErrorIn g text n (Some error.refusal)
-    kept_in opened error is = (opened, refl, is)
-
-    pub unclosed_in : IsOpened g.opening text → (it : Unclosed) → IsEnding g (behind g text) (Err it) → IsErrorIn g text (n + it.size + it.closed) None
-    unclosed_in opened it is = inr (opened, it.size, it.closed, is, refl)
+    plain_error none bare refused error is = subst (λ k. IsErrorIn g text k (Some error)) none (keeps text (no_opening g.opening text none) error
+        (subst (λ k. NoLiteral m (drop k text)) (sym none) refused) (subst (λ k. IsRefusal m (drop k text) error) (sym none) is) (inl bare))
 
     reach_near : (right : ℕ) (error : Option Refusal) → (2 * right_in right error ≤ reach_in right error) ×
         (reach_in right error ≤ 2 * right_in right error + 1)
@@ -809,15 +774,18 @@ module _ (g : Form) where
 
   -- WHERE THE SYNTAX STOPS
 
-  module _ (rest : List ℕ) (stop : Stopped) (found : Option Found) (front : IsFronted m rest stop found) where
-    literal_within : (l : Literal) (size : ℕ) → size ≤ length rest → Reads m l (take size rest) → size ≤ stop.size
+  module _ (text : List ℕ) (opened : IsOpened g.opening text) (stop : Stopped) (found : Option Found) (front : IsFronted m (behind g text) stop found) where
+    abbrev part : List ℕ
+    part = behind g text
+
+    literal_within : (l : Literal) (size : ℕ) → size ≤ length part → Reads m l (take size part) → size ≤ stop.size
     literal_within l size inside reads = elim (cases_lt stop.size size) [
-      | inl more ↦ absurd (front.reached.valid.no_longer size more inside (begins_whole (Reads m) (take size rest) l reads))
+      | inl more ↦ absurd (front.reached.valid.no_longer size more inside (begins_whole (Reads m) (take size part) l reads))
       | inr low ↦ low
     ]
 
     -- The longest front that is a literal does not end there.
-    pub not_at : IfSome found (λ it. it.size ≡ stop.size → ⊥) → NoLiteral m (take stop.size rest)
+    pub not_at : IfSome found (λ it. it.size ≡ stop.size → ⊥) → NoLiteral m (take stop.size part)
     not_at other l reads = go found refl other where
       go : (it : Option Found) → found ≡ it → IfSome it (λ it. it.size ≡ stop.size → ⊥) → ⊥
       go None is other = front.none (subst IsNone (sym is) refl) stop.size front.reached.valid.within l reads
@@ -830,51 +798,41 @@ module _ (g : Form) where
           ]
 
     -- It does.
-    pub at : IsSomeAnd found (λ it. it.size ≡ stop.size) → (l : Literal) × Reads m l (take stop.size rest)
+    pub at : IsSomeAnd found (λ it. it.size ≡ stop.size) → (l : Literal) × Reads m l (take stop.size part)
     at here = go found refl here where
-      go : (it : Option Found) → found ≡ it → IsSomeAnd it (λ it. it.size ≡ stop.size) → (l : Literal) × Reads m l (take stop.size rest)
+      go : (it : Option Found) → found ≡ it → IsSomeAnd it (λ it. it.size ≡ stop.size) → (l : Literal) × Reads m l (take stop.size part)
       go None is here = absurd here
       go (Some it) is here = let counted = front.longest it is in
-          (counted.literal, subst (λ k. Reads m counted.literal (take k rest)) here counted.reads.reads)
+          (counted.literal, subst (λ k. Reads m counted.literal (take k part)) here counted.reads.reads)
 
-    pub none_short : stop.size < length rest → NoLiteral m rest
-    none_short short l reads = let most = literal_within l (length rest) (omega arith)
-        (subst (Reads m l) (sym (take_all (length rest) rest (omega arith))) reads) in omega (arith, most, short)
+    pub none_short : stop.size < length part → NoLiteral m part
+    none_short short l reads = let most = literal_within l (length part) (omega arith)
+        (subst (Reads m l) (sym (take_all (length part) part (omega arith))) reads) in omega (arith, most, short)
 
-    pub none_not : NoLiteral m (take stop.size rest) → NoLiteral m rest
-    none_not none l reads = elim (cases_lt stop.size (length rest)) [
+    pub none_not : NoLiteral m (take stop.size part) → NoLiteral m part
+    none_not none l reads = elim (cases_lt stop.size (length part)) [
       | inl short ↦ none_short short l reads
-      | inr far ↦ none l (subst (Reads m l) (sym (take_all stop.size rest far)) reads)
+      | inr far ↦ none l (subst (Reads m l) (sym (take_all stop.size part far)) reads)
     ]
 
-    pub keeps_not : NoLiteral m (take stop.size rest) → (error : Refusal) → IsRefusal m rest error → KeepsError g rest error
-    keeps_not none error refusal = record {
-      none = none_not none;
-      refusal = refusal;
-      kept = inr (inl (subst (λ k. NoLiteral m (take k rest))
-          (same_size rest stop.size error.valid_up_to front.reached.valid refusal.valid_up_to) none));
-    }
+    pub keeps_not : NoLiteral m (take stop.size part) → (error : Refusal) → IsRefusal m part error → IsErrorIn g text n (Some error)
+    keeps_not none error refusal = keeps text opened error (none_not none) refusal (inr (inl (subst (λ k. NoLiteral m (take k part))
+        (one_valid (Reads m) part stop.size error.valid_up_to front.reached.valid refusal.valid_up_to) none)))
 
     -- The closing is not there.
-    pub lacks_closing : 0 < c → IsSomeAnd found (λ it. it.size ≡ stop.size) → (closed : ℕ) → IsOpenedTo g.closing (drop stop.size rest) closed
-        → ((closed ≡ 0) → NoLiteral m rest → (error : Refusal) → IsRefusal m rest error → is_stray error ≡ true) → LacksClosing g rest stop.size closed
-    lacks_closing some here closed there stray = record {
-      some = some;
-      valid = front.reached.valid;
-      literal = (at here).0;
-      reads = (at here).1;
-      there = there;
-      stray = stray;
-    }
+    pub lacks_closing : 0 < c → IsSomeAnd found (λ it. it.size ≡ stop.size) → (closed : ℕ) → IsOpenedTo g.closing (drop stop.size part) closed
+        → ((closed ≡ 0) → NoLiteral m part → (error : Refusal) → IsRefusal m part error → is_stray error ≡ true)
+        → (right : ℕ) → right ≡ n + stop.size + closed → (n ≤ right) × IsErrorIn g text right None
+    lacks_closing some here closed there stray right same = subst (λ k. (n ≤ k) × IsErrorIn g text k None) (sym same)
+        (omega arith, unclosed text opened some stop.size front.reached.valid (at here).0 (at here).1 closed there stray)
 
-    pub whole_literal : IsSomeAnd found (λ it. it.size ≡ stop.size) → stop.size ≡ length rest → NoLiteral m rest → ⊥
-    whole_literal here all none = none (at here).0 (subst (Reads m (at here).0) (take_all stop.size rest (omega (arith, all))) (at here).1)
+    pub whole_literal : IsSomeAnd found (λ it. it.size ≡ stop.size) → stop.size ≡ length part → NoLiteral m part → ⊥
+    whole_literal here all none = none (at here).0 (subst (Reads m (at here).0) (take_all stop.size part (omega (arith, all))) (at here).1)
 
-    pub not_stray : (error : Refusal) → IsRefusal m rest error → NoLiteral m rest → (closed : ℕ) → closed ≡ 0
-        → IsOpenedTo g.closing (drop stop.size rest) closed → is_stray error ≡ false → KeepsError g rest error
-    not_stray error refusal none closed zero there fails =
-        let same = same_size rest stop.size error.valid_up_to front.reached.valid refusal.valid_up_to in record {
-          none = none;
-          refusal = refusal;
-          kept = inr (inr (subst (λ k. IsOpenedTo g.closing (drop k rest) 0) same (subst (IsOpenedTo g.closing (drop stop.size rest)) zero there), fails));
-        }
+    pub not_stray : (error : Refusal) → IsRefusal m part error → NoLiteral m part → (closed : ℕ) → closed ≡ 0
+        → IsOpenedTo g.closing (drop stop.size part) closed → is_stray error ≡ false → IsErrorIn g text n (Some error)
+    not_stray error refusal none closed zero there fails = keeps text opened error none refusal (inr (inr (
+      subst (λ k. IsOpenedTo g.closing (drop k part) 0) (one_valid (Reads m) part stop.size error.valid_up_to front.reached.valid refusal.valid_up_to)
+          (subst (IsOpenedTo g.closing (drop stop.size part)) zero there),
+      fails,
+    )))

@@ -1,21 +1,19 @@
 -- Forms with an opening: what a syntax reads behind it, in the text before which it stands.
-use Rattle.lexical_forms.proofs.Common.{ℕ, ◌≡◌, ◌+◌, ◌-◌, ◌*◌, ◌<◌, ◌≤◌, ◌++◌, ◌∙◌, inl, inr, Bool, true, false, List, [], Form}
-use Rattle.lexical_forms.proofs.Common.{Literal, NoLiteral, Notation, Reads, Refusal, ap, arith, cases_lt, drop, false≢true, get_or, if◌then◌else◌}
-use Rattle.lexical_forms.proofs.Common.{IsFront, IsValidUpTo, ReadsFront, append-nil, is_absent, is_present, is_stray, length, length-take-le}
-use Rattle.lexical_forms.proofs.Common.{nat_tests, notation_of, reach, refl, subst, sym, take, ◌&&◌, ◌||◌, ◌∷◌}
-use Rattle.std.proofs.Common.{not}
-use Rattle.lexical_literal.specs.Front.{BeginsBy, IsValidBy, NoneBy, ReadsFrontBy}
-use Rattle.lexical_forms.specs.Additions.Forms.{NoFrontPast, NoneOpenedPast, behind}
-use Rattle.lexical_forms.specs.Affix.{Begins, IsOpened, IsOpenedTo, spelling, spells}
+use Rattle.lexical_forms.proofs.Common.{Begins, BeginsBy, Bool, Form, IsFront, IsOpened, IsOpenedTo, IsValidBy, IsValidUpTo, List, Literal, NoFrontPast}
+use Rattle.lexical_forms.proofs.Common.{NoLiteral, NoneBy, NoneOpenedPast, Notation, OpensIn, Reads, ReadsFront, ReadsFrontBy, Refusal, [], ap, append-nil}
+use Rattle.lexical_forms.proofs.Common.{append_assoc, arith, behind, cases_lt, drop, drop-append-le, drop-take, drop_all, drop_at, false, false≢true, get_or}
+use Rattle.lexical_forms.proofs.Common.{get_or-append_right, get_or-drop, get_or-take, get_or_append_left, if◌then◌else◌, inl, inr, is_absent, is_present}
+use Rattle.lexical_forms.proofs.Common.{is_stray, le_antisymm, length, length-append, length-drop, length-take-le, nat_tests, not, notation_of, reach, refl}
+use Rattle.lexical_forms.proofs.Common.{spelling, spells, subst, sym, take, true, ℕ, ◌&&◌, ◌*◌, ◌++◌, ◌+◌, ◌-◌, ◌<◌, ◌||◌, ◌∙◌, ◌∷◌, ◌≡◌, ◌≤◌}
 use Rattle.lexical_forms.specs.declared.affix.Affix.{Affix}
-use Rattle.lexical_forms.specs.Forms.{OpensIn}
-use Rattle.std.proofs.lemmas.List.{append_assoc, drop-append-le, drop-take, drop_all, drop_at, get_or-append_right, get_or-drop, get_or-take}
-use Rattle.std.proofs.lemmas.List.{get_or_append_left, length-append, length-drop}
 
 -- A text has one longest front that some literal begins with, and one that is a literal. A literal begins with itself.
 module _ (R : Literal → List ℕ → Type 0) (text : List ℕ) where
   pub one_size : (a b : ℕ) → IsValidBy R text a → IsValidBy R text b → a ≤ b
   one_size a b is other = let longer = λ (below : b < a). other.no_longer a below is.within is.front in grind arith
+
+  pub one_valid : (a b : ℕ) → IsValidBy R text a → IsValidBy R text b → a ≡ b
+  one_valid a b is other = le_antisymm (one_size a b is other) (one_size b a other is)
 
   abbrev pub begins_whole : (l : Literal) → R l text → BeginsBy R text
   begins_whole l reads = record { more = []; literal = l; reads = subst (R l) (sym (append-nil text)) reads }
@@ -63,16 +61,14 @@ module _ (affix : Affix) where
   spells_own index = grind (arith, nat_tests)
 
   module _ (text : List ℕ) where
+    -- An affix without bytes is there.
+    pub no_opening : affix.size ≡ 0 → IsOpened affix text
+    no_opening none = record { within = omega (arith, none); each = λ index below. absurd (omega (arith, below, none)) }
+
     -- A text does not begin with more than its first bytes.
     pub not_begun : (size more : ℕ) → IsOpenedTo affix text size → size < more → more ≤ affix.size → Begins affix text more → ⊥
     not_begun size more is past inside begins = false≢true (
         sym (is.differs (omega (arith, past, inside)) (let within = begins.within in omega (arith, past, within))) ∙ begins.each size past)
-
-    pub one_opened : (a b : ℕ) → IsOpenedTo affix text a → IsOpenedTo affix text b → a ≤ b
-    one_opened a b is other = elim (cases_lt b a) [
-      | inl below ↦ absurd (not_begun b a other below is.inside is.begins)
-      | inr low ↦ low
-    ]
 
     pub not_opened : (size : ℕ) → IsOpenedTo affix text size → size < affix.size → IsOpened affix text → ⊥
     not_opened size is short opened = not_begun size (affix.size) is short (omega arith) opened
@@ -244,22 +240,3 @@ module _ (text : List ℕ) (g : Form) where
         | inl longer ↦ none (more - n) longer (omega (arith, all, inside)) l read
         | inr low ↦ no_empty m l (subst (λ k. Reads m l (take k rest)) (let zero : more - n ≡ 0 = omega (arith, low, past, less) in zero) read)
       ]
-
-  -- If the opening is whole, what the syntax finds behind it.
-  module _ (opened : ℕ) (part : List ℕ) (is : IsOpenedTo g.opening text opened) (least : n ≤ opened) (at : part ≡ drop opened text) where
-    whole : opened ≡ n
-    whole = let inside = is.inside in omega (arith, least, inside)
-
-    pub is_opened : IsOpened g.opening text
-    is_opened = subst (Begins g.opening text) whole is.begins
-
-    pub part_is : part ≡ rest
-    part_is = at ∙ ap (λ k. drop k text) whole
-
-    pub past_longer : (size most : ℕ) → most ≡ size - opened → NoFrontPast m part most → NoneOpenedPast text size g
-    past_longer size most same none = past_behind size (subst (λ t. NoFrontPast m t (size - n)) part_is
-        (subst (NoFrontPast m part) (let is : most ≡ size - n = omega (arith, same, whole) in is) none))
-
-    -- What is read there.
-    pub read_behind : (l : Literal) → Reads m l part → OpensIn g l text
-    read_behind l reads = record { opened = is_opened; reads = subst (Reads m l) part_is reads }

@@ -1,16 +1,11 @@
 -- How a text is compared with a spelling.
-use Rattle.lexical_forms.proofs.Common.{ℕ, ◌≡◌, ◌≤◌, ◌⊎◌, inl, inr, ◌+◌, ◌-◌, Bool, true, false, ◌&&◌, Some, None, ◌||◌, nat_lt, List, [], ◌∷◌, get_or, drop}
-use Rattle.lexical_forms.proofs.Common.{refl, arith, cases_lt, nat_tests, raw, is_absent, Notation}
-use Rattle.lexical_forms.proofs.Common.{notation_of, Grammar, ◌==◌, Option, option_map, if◌then◌else◌}
-use Rattle.lexical_forms.proofs.Common.{length}
-use Rattle.std.proofs.lemmas.List.{drop_more, drop_all}
-use Rattle.lexical_util.specs.Layout as layout
-use Rattle.lexical_util.specs.Roles.{cased}
-use Rattle.lexical_forms.specs.Specials.{allows, is_spelled, letter_of, signed, special_of, special_separator, spelling_of}
-use Rattle.lexical_forms.specs.declared.specials.Sign.{Sign}
-use Rattle.lexical_forms.specs.declared.specials.Sign.TheVariants as signs
-use Rattle.lexical_forms.specs.declared.specials.Special.{Special}
+use Rattle.lexical_forms.proofs.Common.{Bool, Grammar, List, Notation, Sign, Some, [], arith, cases_lt, drop, drop_all, drop_more, false, get_or, if◌then◌else◌}
+use Rattle.lexical_forms.proofs.Common.{inl, inr, is_absent, is_spelled, length, letter_of, nat_lt, nat_tests, notation_of, raw, refl, signed, special_behind}
+use Rattle.lexical_forms.proofs.Common.{special_of, special_separator, true, ℕ, ◌&&◌, ◌+◌, ◌-◌, ◌==◌, ◌||◌, ◌∷◌, ◌≡◌, ◌≤◌, ◌⊎◌}
 use Rattle.lexical_forms.specs.declared.specials.Specials.{Specials}
+use Rattle.lexical_util.specs.Roles.{cased}
+use Rattle.lexical_util.specs.Layout as layout
+use Rattle.lexical_forms.specs.declared.specials.Sign.TheVariants as signs
 
 -- No other byte is a separator.
 pub one_separator : (g : Grammar) (c : ℕ) → special_separator (notation_of g) c ≡ true → c ≡ (raw g.word).byte layout.digit_separator
@@ -96,13 +91,8 @@ module _ (m : Notation) (x : ℕ) where
     | inr past ↦ let last = drop_all n word past in let same = now.same in let within = now.within in grind (arith, nat_tests)
   ]
 
--- `found m specials sign word` is the special value that `word` is behind `sign`, if there is one.
-abbrev pub found : Notation → Specials → Option Sign → List ℕ → Option Special
-found m specials sign word =
-    if allows m sign then option_map (λ spelling. record { sign = sign; spelling = spelling }) (spelling_of m specials word) else None
-
 -- A sign before a word is the sign of the text.
 pub of_signed : (m : Notation) (specials : Specials) (sign : Sign) (word : List ℕ) → special_of m specials (signed (Some sign) word)
-    ≡ found m specials (Some sign) word
+    ≡ special_behind m specials (Some sign) word
 of_signed m specials signs.Plus word = refl
 of_signed m specials signs.Minus word = refl

@@ -1,27 +1,16 @@
 -- A stranger: a byte that plays no role behind the base prefix, and its other case neither.
-use Rattle.lexical_forms.proofs.Common.{ℕ, ◌≡◌, ◌+◌, ◌*◌, ◌<◌, ◌≤◌, inl, inr, true, false, Bool, Some, List, [], ◌∷◌, ◌++◌, take, get_or, ap, refl, sym}
-use Rattle.lexical_forms.proofs.Common.{subst, ◌∙◌, arith, All, cases_lt, false≢true, nat_tests, length-take-le, slice_get-get_or, ByteSet, Flag}
-use Rattle.lexical_forms.proofs.Common.{raw, signs, Role, Literal, Reads, is_none_or_one, is_none_or_prefix, text_of, Notation, notation_of}
-use Rattle.lexical_forms.proofs.Common.{set_of_role, Grammar, sign_size, bare, with_rules, is_byte, reach, IsFront, IsValidUpTo, NoLiteral}
-use Rattle.lexical_forms.proofs.Common.{ReadErrorKind, Refusal, is_stray, ◌||◌}
+use Rattle.lexical_forms.proofs.Common.{All, All-get_or, AreFalse, Bool, Flag, Grammar, IsCause, IsFront, IsNoBetter, IsSpare, IsStranger, IsTrue}
+use Rattle.lexical_forms.proofs.Common.{IsValidUpTo, List, NoLiteral, Notation, PlaysNoRole, ReadErrorKind, Reads, Refusal, Role, Some, [], ap}
+use Rattle.lexical_forms.proofs.Common.{append_assoc, arith, bare, cases_lt, false, false≢true, get_or, has, if◌then◌else◌, inl, inr, is_byte, is_none_or_one}
+use Rattle.lexical_forms.proofs.Common.{is_none_or_prefix, is_stray, le_antisymm, length, length-take-le, nat_lt, nat_tests, notation_of, other_case, position}
+use Rattle.lexical_forms.proofs.Common.{radix_of, raw, reach, refl, set_of_role, sign_size, signs, slice_get, slice_get-get_or, subst, sym, take, text_of, true}
+use Rattle.lexical_forms.proofs.Common.{unwrap_or, with_rules, ℕ, ◌*◌, ◌++◌, ◌+◌, ◌<◌, ◌==◌, ◌||◌, ◌∙◌, ◌∷◌, ◌≡◌, ◌≤◌}
 use Rattle.lexical_base.specs.Digits.{byte_value, digit_characters, uppercase}
 use Rattle.lexical_util.specs.Layout as layout
 use Rattle.lexical_util.specs.Unfoldable.{cased}
-use Rattle.lexical_literal.specs.Notation.{radix_of}
-use Rattle.std.proofs.Common.{position, unwrap_or}
-use Rattle.lexical_forms.proofs.Common.{◌==◌, nat_lt}
-use Rattle.lexical_forms.specs.Additions.Forms.{AreFalse, IsNoBetter, IsSpare, IsStranger, PlaysNoRole}
-use Rattle.lexical_literal.specs.Cause.{IsCause}
-use Rattle.lexical_literal.specs.Notation.{has}
 use Rattle.lexical_literal.specs.declared.syntax.Condition.{Condition}
 use Rattle.lexical_literal.specs.declared.syntax.Condition.TheVariants as conditions
-use Rattle.std.proofs.Common.{length, IsTrue, if◌then◌else◌}
-use Rattle.std.specs.Prelude.{slice_get}
-use Rattle.std.proofs.lemmas.List.{append_assoc}
-use Rattle.std.proofs.lemmas.List.Elements.{All-get_or}
-use Rattle.std.proofs.Math.Nat.{le_antisymm}
 use Rattle.std.proofs.Math.Seq.{get_or-append_seam}
-use Rattle.lexical_util.specs.Roles.{other_case}
 use Rattle.lexical_util.specs.declared.feature_format.roles.Role.TheVariants as roles
 use Rattle.lexical_util.specs.declared.format_flags.Part.TheVariants as parts
 use Rattle.lexical_literal.specs.declared.cause.ReadErrorKind.TheVariants as causes

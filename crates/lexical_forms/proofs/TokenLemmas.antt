@@ -1,21 +1,12 @@
 -- Tokens: the best of the candidates of several forms.
-use Rattle.lexical_forms.proofs.Common.{ℕ, ◌≡◌, ◌&&◌, ◌||◌, Bool, true, false, ◌<◌, ◌≤◌, ◌+◌, ◌-◌, ◌⊎◌, inl, inr, List, Option, Some, None, All, IsNone}
-use Rattle.lexical_forms.proofs.Common.{IsSomeAnd, take, drop, get_or, refl, sym, subst, ap, ◌∙◌, arith, nat_tests, length-take-le, take_all, All-more}
-use Rattle.lexical_forms.proofs.Common.{slice_get-get_or, Literal, Reads, is_float, Notation, notation_of, ◌==◌, if◌then◌else◌, IsTrue, length, slice_get}
-use Rattle.lexical_forms.proofs.Common.{IsCountedFront, HasLengths, cuts_of, FormList, NoForm, ReadsForm, ReadsSyntax, IsValidUpTo, NoFront, Read, IsAhead}
-use Rattle.lexical_forms.proofs.Common.{Form, Found}
-use Rattle.lexical_forms.proofs.Common.{Candidate}
-use Rattle.lexical_forms.specs.Forms.{IsFirst}
-use Rattle.lexical_forms.specs.Token.{AllShorter, IsChosen, IsFollowed, IsOver, IsCut, IsRefused, IsToken, IsTokenError, IsCandidate, NoCandidate, NoLonger}
-use Rattle.lexical_forms.specs.Additions.Token.{IsBestMade, IsBestOf, IsEnd, IsMade, IsOwn, IsPicked, NoOwn, better, goes_on, has_float, suffixed, whole}
-use Rattle.lexical_literal.specs.Cause.{is_in}
-use Rattle.lexical_forms.specs.Suffix.{is_digit, is_stopped, is_word_byte, kind_with, more_of, stop_end, suffix_size, suffix_words}
-use Rattle.lexical_forms.specs.Token.{gives_back, is_shorter}
-use Rattle.lexical_forms.specs.Forms.{ReadsIn}
-use Rattle.lexical_literal.specs.Front.{NoneBy}
-use Rattle.lexical_forms.specs.declared.list.PointsBack.{PointsBack}
-use Rattle.lexical_forms.specs.declared.list.Tokens.{Tokens}
-use Rattle.lexical_forms.specs.declared.token.Token.{Token}
+use Rattle.lexical_forms.proofs.Common.{All, All-more, AllShorter, Bool, Candidate, Form, FormList, Found, HasLengths, IsAhead, IsBestMade, IsBestOf}
+use Rattle.lexical_forms.proofs.Common.{IsCandidate, IsChosen, IsCountedFront, IsCut, IsEnd, IsFirst, IsFollowed, IsMade, IsNone, IsOver, IsOwn, IsPicked}
+use Rattle.lexical_forms.proofs.Common.{IsRefused, IsSomeAnd, IsToken, IsTokenError, IsTrue, IsValidUpTo, List, Literal, NoCandidate, NoForm, NoFront, NoLonger}
+use Rattle.lexical_forms.proofs.Common.{NoOwn, None, NoneBy, Notation, Option, PointsBack, Read, Reads, ReadsForm, ReadsIn, ReadsSyntax, Some, Token, Tokens}
+use Rattle.lexical_forms.proofs.Common.{ap, arith, better, cuts_of, drop, false, get_or, gives_back, goes_on, has_float, if◌then◌else◌, inl, inr, is_digit}
+use Rattle.lexical_forms.proofs.Common.{is_float, is_in, is_shorter, is_stopped, is_word_byte, kind_with, length, length-take-le, more_of, nat_tests}
+use Rattle.lexical_forms.proofs.Common.{notation_of, refl, slice_get, slice_get-get_or, stop_end, subst, suffix_size, suffix_words, suffixed, sym, take}
+use Rattle.lexical_forms.proofs.Common.{take_all, true, whole, ℕ, ◌&&◌, ◌+◌, ◌-◌, ◌<◌, ◌==◌, ◌||◌, ◌∙◌, ◌≡◌, ◌≤◌, ◌⊎◌}
 use Rattle.lexical_forms.specs.declared.token.TokenError.{TokenError}
 use Rattle.lexical_forms.specs.declared.token.TokenError.TheVariants as errors
 use Rattle.lexical_forms.proofs.FormLemmas.{all_at}

@@ -1,5 +1,5 @@
 -- Openings and closings: what stands before and behind the literals of a form.
-use Rattle.std.specs.Prelude.{ℕ, ◌≡◌, ◌==◌, ◌&&◌, ◌||◌, ◌<◌, ◌≤◌, not, Bool, true, false, List, get_or, length, take}
+use Rattle.std.specs.Prelude.{ℕ, ◌≡◌, ◌==◌, ◌&&◌, ◌||◌, ◌<◌, ◌≤◌, not, Bool, true, List, get_or, length, take}
 use Rattle.lexical_util.specs.Roles.{other_case}
 use Rattle.lexical_util.specs.declared.format_flags.Part.TheVariants as parts
 use Rattle.lexical_literal.specs.Notation.{Notation}
@@ -18,16 +18,6 @@ spells affix index byte =
 pub record Begins (affix : Affix) (text : List ℕ) (size : ℕ) : Type 0 where
   pub within : size ≤ length text
   pub each : (index : ℕ) → index < size → spells affix index (get_or text index 0) ≡ true
-
--- `IsOpened affix text` holds if `text` begins with `affix`.
-abbrev pub IsOpened : Affix → List ℕ → Type 0
-IsOpened affix text = Begins affix text affix.size
-
--- `IsOpenedTo affix text size` holds if `text` begins with the first `size` bytes of `affix`, and not with more.
-pub record IsOpenedTo (affix : Affix) (text : List ℕ) (size : ℕ) : Type 0 where
-  pub inside : size ≤ affix.size
-  pub begins : Begins affix text size
-  pub differs : size < affix.size → size < length text → spells affix size (get_or text size 0) ≡ false
 
 -- `is_free m byte` is true if `byte` plays no role in `m`, and is not the zero of a prefix.
 abbrev pub is_free : Notation → ℕ → Bool

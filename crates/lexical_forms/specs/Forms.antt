@@ -1,12 +1,12 @@
 -- Several forms of numbers: which form has a text, and which error a text has that is of no form.
-use Rattle.std.specs.Prelude.{ℕ, ◌≡◌, ◌+◌, ◌-◌, ◌*◌, ◌<◌, ◌≤◌, ◌⊎◌, true, false, if◌then◌else◌, IfErr, IfOk, IsErr, IsSomeAnd, List, Option, Some, None, Result}
+use Rattle.std.specs.Prelude.{ℕ, ◌≡◌, ◌+◌, ◌-◌, ◌*◌, ◌<◌, ◌≤◌, ◌⊎◌, false, if◌then◌else◌, IfErr, IfOk, IsSomeAnd, List, Option, Some, None, Result}
 use Rattle.std.specs.Prelude.{All, drop, length, option_and_then, option_map, slice_get, take}
 use Rattle.std.specs.Result.{result_ok}
 use Rattle.std.specs.Borrow.{Bor}
 use Rattle.lexical_literal.specs.Cause.{Explained, IsRefusal, is_stray, tail_of}
-use Rattle.lexical_forms.specs.Affix.{IsOpened, IsOpenedTo}
+use Rattle.lexical_forms.specs.Affix.{Begins}
 use Rattle.lexical_forms.specs.FormList.{FormList}
-use Rattle.lexical_literal.specs.Front.{IsValidBy, IsValidUpTo, NoFrontBy, NoLiteral, NoneBy, ReadsFrontBy}
+use Rattle.lexical_literal.specs.Front.{IsValidBy, NoFrontBy, NoLiteral, NoneBy, ReadsFrontBy}
 use Rattle.lexical_literal.specs.Literal.{Literal, Reads}
 use Rattle.lexical_literal.specs.Notation.{notation_of}
 use Rattle.lexical_literal.specs.Read.{Read}
@@ -21,45 +21,35 @@ use Rattle.lexical_forms.specs.declared.list.Unmarked.{Unmarked}
 use Rattle.lexical_forms.specs.declared.list.Number.{Number}
 use Rattle.lexical_forms.specs.declared.list.Number.TheVariants as numbers
 use Rattle.lexical_forms.specs.declared.specials.Special.{Special}
-use Rattle.lexical_forms.specs.declared.specials.Specials.{Specials}
 
 -- `OpensIn form l text` holds if `text` is the opening of `form`, and then a literal of its syntax with the parts of `l`.
 pub record OpensIn (form : Form) (l : Literal) (text : List ℕ) : Type 0 where
-  pub opened : IsOpened form.opening text
+  pub opened : Begins form.opening text form.opening.size
   pub reads : Reads (notation_of form.syntax) l (drop form.opening.size text)
 
 -- `ReadsIn form l text` holds if `text` is a literal of `form` with the parts of `l`: the opening, a literal of the syntax, and then the closing.
 pub record ReadsIn (form : Form) (l : Literal) (text : List ℕ) : Type 0 where
   pub room : form.closing.size ≤ length text
   pub opens : OpensIn form l (take (length text - form.closing.size) text)
-  pub closed : IsOpened form.closing (drop (length text - form.closing.size) text)
+  pub closed : Begins form.closing (drop (length text - form.closing.size) text) form.closing.size
 
--- `LacksClosing form rest size closed` holds if the longest front of `rest`, which is behind the opening, with which some literal of the syntax begins
--- has `size` bytes and is one, if `closed` bytes of the closing of `form` follow, and if there is one, or nothing but a wrong byte.
-pub record LacksClosing (form : Form) (rest : List ℕ) (size closed : ℕ) : Type 0 where
-  pub some : 0 < form.closing.size
-  pub valid : IsValidUpTo (notation_of form.syntax) rest size
-  pub literal : Literal
-  pub reads : Reads (notation_of form.syntax) literal (take size rest)
-  pub there : IsOpenedTo form.closing (drop size rest) closed
-  pub stray : (closed ≡ 0) → NoLiteral (notation_of form.syntax) rest → (error : Refusal) → IsRefusal (notation_of form.syntax) rest error
-      → is_stray error ≡ true
+-- `KeepsError form text error` holds if `error` says why what is behind the opening of `form` is not a literal of the syntax. It is the error of `text` if
+-- no more bytes begin a literal of `form` than it counts, and if there is no closing, or the bytes that are right are not a literal of the syntax, or the
+-- cause is more than a wrong byte.
+pub record KeepsError (form : Form) (text : List ℕ) (error : Refusal) : Type 0 where
+  pub opened : Begins form.opening text form.opening.size
+  pub none : NoLiteral (notation_of form.syntax) (drop form.opening.size text)
+  pub refusal : IsRefusal (notation_of form.syntax) (drop form.opening.size text) error
+  pub valid : IsValidBy (ReadsIn form) text (form.opening.size + error.valid_up_to)
+  pub kept : (form.closing.size ≡ 0) ⊎ (NoLiteral (notation_of form.syntax) (take error.valid_up_to (drop form.opening.size text))
+      ⊎ (is_stray error ≡ false))
 
--- `KeepsError form rest error` holds if `error` says why `rest` is not a literal of the syntax, and if `form` has no closing, or the front that is right
--- is not a literal, or is one behind which the closing does not begin, and the cause is more than a wrong byte.
-pub record KeepsError (form : Form) (rest : List ℕ) (error : Refusal) : Type 0 where
-  pub none : NoLiteral (notation_of form.syntax) rest
-  pub refusal : IsRefusal (notation_of form.syntax) rest error
-  pub kept : (form.closing.size ≡ 0) ⊎ (NoLiteral (notation_of form.syntax) (take error.valid_up_to rest)
-      ⊎ (IsOpenedTo form.closing (drop error.valid_up_to rest) 0 × (is_stray error ≡ false)))
-
--- `IsErrorIn form text right error` holds if `error` says why what is behind the opening of `form`, which has `right` bytes, is not a literal of the
--- syntax, or if `error` is `None`, and the opening or the closing is not there behind `right` bytes.
+-- `IsErrorIn form text right error` holds if the error is kept behind the opening, which has `right` bytes, or if it is `None`, and none is kept: the
+-- opening or the closing is not there behind `right` bytes, the most that begin a literal of `form`.
 abbrev pub IsErrorIn : Form → List ℕ → ℕ → Option Refusal → Type 0
-IsErrorIn form text right None = (IsOpenedTo form.opening text right × (right < form.opening.size)) ⊎ (IsOpened form.opening text
-    × (size : ℕ) × (closed : ℕ) × LacksClosing form (drop form.opening.size text) size closed × (right ≡ form.opening.size + size + closed))
-IsErrorIn form text right (Some error) = IsOpened form.opening text × (right ≡ form.opening.size)
-    × KeepsError form (drop form.opening.size text) error
+IsErrorIn form text right None = IsValidBy (ReadsIn form) text right × (Begins form.opening text form.opening.size → 0 < form.closing.size)
+    × ((error : Refusal) → KeepsError form text error → ⊥)
+IsErrorIn form text right (Some error) = (right ≡ form.opening.size) × KeepsError form text error
 
 -- `HasFront text form size` holds if the longest front of `text` that is a literal of `form` has `size` bytes.
 abbrev pub HasFront : List ℕ → Form → ℕ → Type 0
@@ -95,11 +85,6 @@ abbrev pub reach_in : ℕ → Option Refusal → ℕ
 reach_in opened None = 2 * opened
 reach_in opened (Some error) = 2 * opened + (2 * error.valid_up_to + (if is_stray error then 0 else 1))
 
--- `right_in opened error` is the number of bytes that are right.
-abbrev pub right_in : ℕ → Option Refusal → ℕ
-right_in opened None = opened
-right_in opened (Some error) = opened + error.valid_up_to
-
 -- `Reaches text form n` holds if an error of `text` in `form` has the reach `n`.
 abbrev pub Reaches : List ℕ → Form → ℕ → Type 0
 Reaches text form n = (opened : ℕ) × (error : Option Refusal) × IsErrorIn form text opened error × (reach_in opened error ≡ n)
@@ -119,12 +104,10 @@ pub record IsUnmarked (text : List ℕ) (form : Form) (size : ℕ) (it : Unmarke
   pub byte : it.byte ≡ slice_get text size
   pub tail : it.tail ≡ tail_of text size
 
--- `IsErrorOfForm text error form` holds if `error` has the name of `form`, and says why `text` is not a literal of it. The bytes that are right
--- are the longest front with which some literal begins.
+-- `IsErrorOfForm text error form` holds if `error` has the name of `form`, and says why `text` is not a literal of it.
 pub record IsErrorOfForm (text : List ℕ) (error : FormError) (form : Form) : Type 0 where
   pub name : error.name.now ≡ form.name.now
   pub refusal : IsErrorIn form text error.opened (refusal_in error)
-  pub valid : IsValidBy (ReadsIn form) text (right_in error.opened (refusal_in error))
   pub unmarked : IfErr error.error (IsUnmarked text form error.opened)
 
 -- `IsFormError forms text error` holds if `error` is that of the form that goes furthest in `text`. Of several, it is the first
@@ -146,9 +129,7 @@ IsNumber list text (numbers.Special special) = NoForm list.forms text × (specia
 -- `IsReadByForms list text result` holds if `result` is the number `text`, or the error of a text that is none.
 pub record IsReadByForms (list : FormList) (text : List ℕ) (result : Result Number FormError) : Type 0 where
   pub found : IfOk result (IsNumber list text)
-  pub no_literal : IsErr result → NoForm list.forms text
-  pub no_special : IsErr result → special_by list text ≡ None
-  pub error : IfErr result (IsFormError list.forms text)
+  pub error : IfErr result (λ error. NoForm list.forms text × (special_by list text ≡ None) × IsFormError list.forms text error)
 
 -- `IsFrontNumber list text size number` holds if the first `size` bytes of `text` are the longest front that is a literal of a
 -- form, and `number` is this literal, with the kind of the first form that has it, and the index of this form.
@@ -161,5 +142,4 @@ IsFrontNumber list text size (numbers.Special special) = ⊥
 -- form of equals, and the rest of `text`, or the error of a text for which there is no such front.
 pub record IsFrontByForms (list : FormList) (text : List ℕ) (result : Result (Number × Bor (List ℕ)) FormError) : Type 0 where
   pub found : IfOk result (λ it. (size : ℕ) × IsFrontNumber list text size it.0 × (it.1.now ≡ drop size text))
-  pub none : IsErr result → All (λ form. NoFrontBy (ReadsIn form) text) list.forms
-  pub error : IfErr result (IsFormError list.forms text)
+  pub error : IfErr result (λ error. All (λ form. NoFrontBy (ReadsIn form) text) list.forms × IsFormError list.forms text error)

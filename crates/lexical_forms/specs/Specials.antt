@@ -16,16 +16,6 @@ use Rattle.lexical_forms.specs.declared.specials.Specials.{Specials}
 use Rattle.lexical_forms.specs.declared.specials.Spelling.{Spelling}
 use Rattle.lexical_forms.specs.declared.specials.Spelling.TheVariants as spellings
 
--- `sign_of text` is the sign with which `text` begins, or `None` if it begins with none.
-abbrev pub sign_of : List ℕ → Option Sign
-sign_of [] = None
-sign_of (byte ∷ rest) = if byte == 43 then Some signs.Plus else (if byte == 45 then Some signs.Minus else None)
-
--- `behind_sign text` is what follows the sign with which `text` begins, or `text` if it begins with none.
-abbrev pub behind_sign : List ℕ → List ℕ
-behind_sign [] = []
-behind_sign (byte ∷ rest) = if (byte == 43) || (byte == 45) then rest else byte ∷ rest
-
 -- `allows m sign` is true if the notation allows special values, and allows them to have `sign`, or no sign if it is `None`.
 abbrev pub allows : Notation → Option Sign → Bool
 allows m None = not (m.flag layout.no_special) && not (m.flag layout.required_mantissa_sign)
@@ -60,13 +50,17 @@ spelling_of m specials text =
     else (if matches m specials.inf text then Some spellings.Inf
     else (if matches m specials.infinity text then Some spellings.Infinity else None))
 
--- `special_of m specials text` is the special value that `text` is, or `None` if it is none: its sign, which the format allows,
--- and the spelling that what follows the sign matches.
+-- `special_behind m specials sign word` is the special value that `word` is behind `sign`, or `None` if it is none: the sign, if the format allows it,
+-- and the spelling that `word` matches.
+abbrev pub special_behind : Notation → Specials → Option Sign → List ℕ → Option Special
+special_behind m specials sign word =
+    if allows m sign then option_map (λ spelling. record { sign = sign; spelling = spelling }) (spelling_of m specials word) else None
+
+-- `special_of m specials text` is the special value that `text` is, or `None` if it is none. A first byte `+` or `-` is its sign.
 abbrev pub special_of : Notation → Specials → List ℕ → Option Special
-special_of m specials text =
-    if allows m (sign_of text)
-    then option_map (λ spelling. record { sign = sign_of text; spelling = spelling }) (spelling_of m specials (behind_sign text))
-    else None
+special_of m specials [] = special_behind m specials None []
+special_of m specials (byte ∷ rest) = if byte == 43 then special_behind m specials (Some signs.Plus) rest
+    else (if byte == 45 then special_behind m specials (Some signs.Minus) rest else special_behind m specials None (byte ∷ rest))
 
 -- `is_negative sign` is true if `sign` is `-`.
 abbrev pub is_negative : Option Sign → Bool

@@ -27,10 +27,6 @@ more_of suffixes = unwrap_or (option_map (λ (it : Bor Suffixes). it.now.more.no
 abbrev pub is_digit : ByteSet
 is_digit byte = nat_le 48 byte && nat_le byte 57
 
--- `is_point byte` is true if `byte` is `.`.
-abbrev pub is_point : ByteSet
-is_point byte = byte == 46
-
 -- `is_letter byte` is true if `byte` is a letter of ASCII.
 abbrev pub is_letter : ByteSet
 is_letter byte = (nat_le 65 byte && nat_le byte 90) || (nat_le 97 byte && nat_le byte 122)
@@ -64,16 +60,14 @@ suffix_words None float = []
 suffix_words (Some it) float = if float then it.now.floats.now else it.now.integers.now
 
 -- `suffix_size suffixes float text` is the length of the longest suffix with which `text` begins, behind a float or else an
--- integer, or 0 if there is none, or if the whole word is to be one and is none. `suffix_in it float text whole` is that of a word of `whole` bytes.
-abbrev pub suffix_in : Suffixes → Bool → List ℕ → ℕ → ℕ
-suffix_in it float text whole =
-    if is_in (λ byte. list_any (λ it. it == byte) it.any.now) (slice_get text 0) then whole
-    else (let longest = longest_word it.either_case (if float then it.floats.now else it.integers.now) text whole in
-    if it.whole_words && not (longest == whole) then 0 else longest)
-
+-- integer, or 0 if there is none, or if the whole word is to be one and is none.
 abbrev pub suffix_size : Option (Bor Suffixes) → Bool → List ℕ → ℕ
 suffix_size None float text = 0
-suffix_size (Some it) float text = suffix_in it.now float text (word_size it.now.more.now text)
+suffix_size (Some it) float text =
+    let whole = word_size it.now.more.now text in
+    if is_in (λ byte. list_any (λ it. it == byte) it.now.any.now) (slice_get text 0) then whole
+    else (let longest = longest_word it.now.either_case (suffix_words (Some it) float) text whole in
+    if it.now.whole_words && not (longest == whole) then 0 else longest)
 
 -- `kind_with suffixes word kind` is the kind of a number with the suffix `word`: that of the first word which is this one, letter case aside if the
 -- suffixes are read in either case, and `kind` if none is, or without a suffix.
@@ -105,5 +99,5 @@ meets text end stop = admits stop.last.now (byte_before text end) && admits stop
 -- word, or a digit alone if any word may follow, as `words` tells, a number that does not end in a point, or a stop of the form.
 abbrev pub is_stopped : Bool → Option (Bor Suffixes) → List ℕ → ℕ → Bool
 is_stopped words suffixes text end =
-    is_in (if words && not (is_in is_point (byte_before text end)) then is_digit else is_word_byte) (slice_get text end)
+    is_in (if words && not (is_in (λ byte. byte == 46) (byte_before text end)) then is_digit else is_word_byte) (slice_get text end)
     || list_any (meets text end) (unwrap_or (option_map (λ (it : Bor Suffixes). it.now.stops.now) suffixes) [])

@@ -7,7 +7,6 @@ use Rattle.lexical_literal.specs.Cause.{is_in}
 use Rattle.lexical_forms.specs.FormList.{FormList}
 use Rattle.lexical_forms.specs.Forms.{IsFormError, IsGreatest, NoForm}
 use Rattle.lexical_literal.specs.Front.{IsValidUpTo, ReadsFront}
-use Rattle.lexical_literal.specs.Read.{Read}
 use Rattle.lexical_literal.specs.Literal.{Literal, Reads, is_float}
 use Rattle.lexical_literal.specs.Notation.{Notation, notation_of}
 use Rattle.lexical_forms.specs.Suffix.{byte_before, is_digit, is_followed, is_letter, is_stopped, is_word_byte, kind_with, more_of, stop_end}
@@ -42,19 +41,11 @@ is_alone points.Never text end size = false
 is_alone points.ToWords text end size = size == end + 1
 is_alone points.ToLetters text end size = (size == end + 1) || ((size == end + 2) && begins_name text (end + 1))
 
--- Forms of tokens have no opening. `HasFrontOfSyntax text form size` holds if the longest front of `text` that is a literal of the syntax of `form` has `size`
--- bytes, and `ReadsSyntax text read form` if `text` is the literal `read` of it.
-abbrev pub HasFrontOfSyntax : List ℕ → Form → ℕ → Type 0
-HasFrontOfSyntax text form size = (l : Literal) × ReadsFront (notation_of form.syntax) l text size
-
-abbrev pub ReadsSyntax : List ℕ → Read → Form → Type 0
-ReadsSyntax text read form = (read.format ≡ form.syntax.word) × Reads (notation_of form.syntax) read.literal text
-
--- `IsCandidate back needs text form size end` holds if the longest front of `text` that is a literal of `form`, without its point if that
--- is given back, has `size` bytes and is a literal of `form`, and if `end` is behind its longest suffix, which is there if `needs` is true.
+-- `IsCandidate back needs text form size end` holds if the longest front of `text` that is a literal of the syntax of `form`, without its point if that is
+-- given back, has `size` bytes and is such a literal, and if `end` is behind its longest suffix, which is there if `needs` is true.
 pub record IsCandidate (back : PointsBack) (needs : Bool) (text : List ℕ) (form : Form) (size end : ℕ) : Type 0 where
   pub longest : ℕ
-  pub front : HasFrontOfSyntax text form longest
+  pub front : (l : Literal) × ReadsFront (notation_of form.syntax) l text longest
   pub size_is : size ≡ (if gives_back back (notation_of form.syntax) text longest then longest - 1 else longest)
   pub literal : Literal
   pub reads : Reads (notation_of form.syntax) literal (take size text)
@@ -118,7 +109,7 @@ module _ (list : FormList) (t : Tokens) (text : List ℕ) where
     pub size : ℕ
     pub end : ℕ
     pub chosen : IsChosen token.form form size end
-    pub literal : ReadsSyntax (take size text) token.literal form
+    pub literal : (token.literal.format ≡ form.syntax.word) × Reads (notation_of form.syntax) token.literal.literal (take size text)
     pub kind : token.literal.kind ≡ kind_with form.suffixes token.suffix.now form.kind
     pub suffix : token.suffix.now ≡ take (end - size) (drop size text)
     pub rest : token.rest.now ≡ drop end text

@@ -2,7 +2,7 @@
 
 ghost use Rattle.std.specs.Prelude.{◌≡◌, ◌<◌, ◌≤◌, ◌↔◌, All, length, true};
 
-use lexical_literal::cause::other_case;
+use lexical_literal::step::other_case;
 
 /// Up to 8 bytes of ASCII that stand before each literal of a form, its *opening*, such as `$`, `16r` or `#x`, or behind it, its
 /// *closing*, such as `#` or `'`. An empty one is none. Letters are in either case, unless
@@ -35,7 +35,8 @@ pub struct Affix {
 
 impl Affix {
     ghost use Rattle.std.specs.Prelude.{ℕ, ◌==◌, IfSome, IsSome, IsTrue, false, get_or};
-    ghost use Rattle.lexical_forms.specs.Affix.{IsOpenedTo, spelling, spells};
+    ghost use Rattle.lexical_forms.specs.Affix.{spelling, spells};
+    ghost use Rattle.lexical_forms.specs.Additions.Forms.{IsOpenedTo};
     ghost use Rattle.lexical_util.specs.Roles.{other_case};
 
     /// No bytes.

@@ -1,6 +1,6 @@
 //! What excludes that a text is a literal of a form: its first bytes, or a byte that plays no role in the form.
 
-ghost use Rattle.std.specs.Prelude.{ℕ, ◌≡◌, ◌+◌, ◌<◌, ◌≤◌, Bool, IsTrue, get_or, length};
+ghost use Rattle.std.specs.Prelude.{ℕ, ◌≡◌, ◌+◌, ◌<◌, ◌≤◌, Bool, IsTrue, length};
 ghost use Rattle.lexical_forms.specs.Additions.Forms.{AreFalse, IsNoBetter, IsStranger, LacksZero, NoFrontPast, PlaysNoRole, sign_size};
 ghost use Rattle.lexical_forms.specs.Additions.Token.{IsWithin, has_prefix};
 ghost use Rattle.lexical_forms.specs.Affix.{is_free, may_close};
@@ -10,8 +10,7 @@ ghost use Rattle.lexical_util.specs.Roles.{cased, other_case};
 ghost use Rattle.lexical_literal.specs.Notation.{exponent_character_of, notation_of, point_of};
 
 use crate::affix::Affix;
-use lexical_literal::cause::other_case;
-use lexical_literal::step::{is_digit, is_point, role_at};
+use lexical_literal::step::{is_digit, is_point, other_case, role_at};
 use lexical_literal::stop::byte_at;
 use lexical_literal::syntax::{Condition, Grammar, Options};
 use lexical_util::format::{Part, base_prefix, base_suffix, digit_separator};
@@ -104,6 +103,7 @@ const fn is_no_mark(options: Option<Options>, byte: u8, other: u8) -> bool
 
 // Returns whether `byte` is not `own`, and its other case neither.
 #[inline(always)]
+#[tactic(auto, using(crate::proofs::StrangerLemmas::cased_apart))]
 const fn is_apart(own: u8, byte: u8, other: u8) -> bool
     requires { other ≡ other_case byte }
     ensures { IsTrue result → (counts : Bool) → AreFalse (cased counts own) byte }
@@ -126,6 +126,7 @@ pub(crate) const fn sign_size(text: &[u8]) -> usize
 // Returns whether no front of `text` with more than `size` bytes is a literal: there is not the prefix that is required, or the text ends
 // behind them, or a byte follows that plays no role. If they are more than a sign, no literal begins with more.
 #[inline(always)]
+#[tactic(auto, using(crate::proofs::LeadingLemmas::no_front_past, crate::proofs::LeadingLemmas::within_more))]
 pub(crate) const fn lacks_longer(grammar: Grammar, text: &[u8], size: usize) -> bool
     ensures front { IsTrue result → NoFrontPast (notation_of grammar) text.now size }
     ensures past { IsTrue result → sign_size text.now < size → IsWithin (notation_of grammar) text.now size }
@@ -146,6 +147,7 @@ pub(crate) const fn is_over(grammar: Grammar, text: &[u8], size: usize) -> bool
 
 // Returns whether `byte` plays no role, and is not the zero of a prefix.
 #[inline(always)]
+#[tactic(auto, using(crate::proofs::ExcludeLemmas::plays_none))]
 const fn has_no_role(grammar: Grammar, byte: u8) -> bool
     ensures { IsTrue result → PlaysNoRole (notation_of grammar) byte }
 {

@@ -1,9 +1,8 @@
 //! Numbers that have several forms, such as `10`, `0x1F` and `0b1`.
 
-ghost use Rattle.std.specs.Prelude.{ℕ, ◌≡◌, ◌<◌, ◌≤◌, ◌+◌, ◌-◌, ◌*◌, IfSome, IsSome, IsNone, IsSomeAnd, IsTrue, None, Some, SomeIff};
-ghost use Rattle.std.specs.Prelude.{false, get_or, if◌then◌else◌, length, slice_get};
-ghost use Rattle.lexical_forms.specs.Additions.Forms.{IsBehind, IsFoundForm, IsFoundFrontForm, IsLed, IsLongestPast, IsRefusedAt};
-ghost use Rattle.lexical_forms.specs.Additions.Forms.{Leads, sign_size};
+ghost use Rattle.std.specs.Prelude.{ℕ, ◌≡◌, ◌<◌, ◌+◌, ◌-◌, ◌*◌, IfSome, IsSome, IsSomeAnd, IsTrue, None, Some, SomeIff, false, if◌then◌else◌, length};
+ghost use Rattle.std.specs.Prelude.{slice_get};
+ghost use Rattle.lexical_forms.specs.Additions.Forms.{IsBehind, IsFoundForm, IsFoundFrontForm, IsLed, IsLongestPast, IsRefusedAt, Leads, sign_size};
 ghost use Rattle.lexical_forms.specs.Additions.Token.{IsNarrow};
 ghost use Rattle.lexical_forms.specs.FormList.{have_marks};
 ghost use Rattle.lexical_forms.specs.Forms.{HasKind, IsFormError, IsFrontByForms, IsReadByForms, NoForm, Reaches, special_by};
@@ -16,8 +15,9 @@ use crate::exclude::{excludes, has_letter_behind_zero, is_settled, sign_size};
 use crate::form::Form;
 use crate::specials::{Special, Specials};
 use crate::suffix::is_wide;
-use lexical_literal::cause::{ReadError, other_case};
+use lexical_literal::cause::ReadError;
 use lexical_literal::literal::Literal;
+use lexical_literal::step::other_case;
 use lexical_literal::stop::{Found, Stopped};
 use lexical_literal::syntax::Grammar;
 use std::marker::Model;
@@ -318,6 +318,7 @@ impl<'a> Forms<'a> {
 
     // Returns what `read` returns, where the first form stops at `stop`, if it has been asked.
     #[inline(never)]
+    #[tactic(auto, using(crate::proofs::FormLemmas::plain_forms))]
     pub(crate) fn read_behind<'t>(
         &self,
         text: &'t [u8],
@@ -335,6 +336,7 @@ impl<'a> Forms<'a> {
 
     // Returns the number of the form that has been found, or a special value, or the error of the form that goes furthest.
     #[inline(always)]
+    #[tactic(auto, using(crate::proofs::FormLemmas::inside_of, crate::proofs::FormLemmas::number_is))]
     fn number<'t>(
         &self,
         text: &'t [u8],
@@ -571,6 +573,7 @@ impl<'a> Forms<'a> {
     }
 
     // Returns whether the cause is stray where a form stops.
+    #[tactic(auto, using(crate::proofs::FormLemmas::at_index, crate::proofs::FormLemmas::form_at, crate::proofs::FormLemmas::inside_of))]
     fn is_stray(&self, text: &[u8], it: Furthest) -> bool
         requires { IsSomeAnd (slice_get self.now.forms it.form) (IsRefusedAt text.now it.stop) }
         ensures { IsSomeAnd (slice_get self.now.forms it.form) (λ g. (n : ℕ) → Reaches text.now g n
@@ -582,6 +585,7 @@ impl<'a> Forms<'a> {
     // Returns the longest front of `text` that is a literal of a form, with the index of the form, the first of equals, or
     // why there is none. Forms that end behind the zero, as a decimal one does in `0x1F`, are asked if no other goes on.
     #[inline(always)]
+    #[tactic(auto, using(crate::proofs::FormLemmas::front_is, crate::proofs::FormLemmas::no_front, crate::proofs::MarkLemmas::none_whole))]
     fn find_front(&self, text: &[u8]) -> Result<(usize, Found), FormError>
         ensures { IsFoundFrontForm self.now.forms text.now result }
     {

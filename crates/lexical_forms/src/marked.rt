@@ -1,6 +1,6 @@
 //! Tokens of lists with openings or closings, by the rules of tokens. Contracts state nothing of which token it is.
 
-ghost use Rattle.std.specs.Prelude.{◌≡◌, ◌<◌, ◌≤◌, ◌+◌, length};
+ghost use Rattle.std.specs.Prelude.{◌<◌, ◌≤◌, ◌+◌, length};
 ghost use Rattle.std.specs.Option.{ForSome};
 ghost use Rattle.lexical_forms.specs.Additions.Token.{IsInside};
 

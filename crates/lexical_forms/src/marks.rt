@@ -1,9 +1,7 @@
 //! Forms with an opening and a closing: what a syntax reads between them.
 
-ghost use Rattle.std.specs.Prelude.{ℕ, ◌≡◌, ◌<◌, ◌≤◌, ◌+◌, ◌-◌, ◌*◌, IfSome, IsNone, IsSomeAnd, IsTrue, None, drop, false, get_or};
-ghost use Rattle.std.specs.Prelude.{if◌then◌else◌, length, take};
-ghost use Rattle.lexical_forms.specs.Additions.Forms.{IsBetween, IsEnding, IsFrontIn, IsRefusedAt, NonePast};
-ghost use Rattle.lexical_forms.specs.Affix.{IsOpened};
+ghost use Rattle.std.specs.Prelude.{ℕ, ◌≡◌, ◌<◌, ◌≤◌, ◌+◌, ◌-◌, ◌*◌, IfSome, IsNone, IsSomeAnd, IsTrue, None, drop, false, get_or, if◌then◌else◌, length, take};
+ghost use Rattle.lexical_forms.specs.Additions.Forms.{IsBetween, IsEnding, IsFrontIn, IsOpened, IsRefusedAt, NonePast};
 ghost use Rattle.lexical_forms.specs.Forms.{IsErrorIn, IsErrorOfForm, IsUnmarked, Reaches, ReadsForm, ReadsIn};
 ghost use Rattle.lexical_literal.specs.Additions.Stop.{IsStopped};
 ghost use Rattle.lexical_literal.specs.Cause.{IsRefusal, is_stray};
@@ -140,11 +138,11 @@ impl Form {
     }
 }
 
-// Where the closing is not there, behind the opening, and how many bytes of it are.
+// How many bytes are right where the closing is not there, and whether it is, but followed by more.
 #[derive(Clone, Copy)]
 pub(crate) struct Unclosed {
-    pub(crate) size: usize,
-    pub(crate) closed: usize,
+    pub(crate) right: usize,
+    pub(crate) mark: Mark,
 }
 
 // Calls for a form in which a text is not a literal.
@@ -164,9 +162,9 @@ impl Form {
             let stop = self.syntax.stop(rest);
             return stop.at(opened + stop.size);
         }
-        match self.ending(rest) {
+        match self.ending(text) {
             Ok(error) => BEGIN.at(opened + error.valid_up_to()),
-            Err(Unclosed { size, closed }) => BEGIN.at(opened + size + closed),
+            Err(it) => BEGIN.at(it.right),
         }
     }
 
@@ -188,12 +186,10 @@ impl Form {
         requires { IsRefusedAt text.now stop self.now }
         ensures { (n : ℕ) → Reaches text.now self.now n → n ≡ 2 * stop.size + (if result then 0 else 1) }
     {
-        let opened = self.opening.size();
-        if stop.size < opened {
+        if stop.size < self.opening.size() {
             return true;
         }
-        let (_, rest) = text.split_at(opened);
-        match self.refusal(rest, stop.at(stop.size - opened)) {
+        match self.refusal(text, stop) {
             Ok(error) => is_stray(&error),
             Err(_) => true,
         }
@@ -209,14 +205,12 @@ impl Form {
         if self.is_marked() {
             return self.refuse_marked(text, form, stop);
         }
-        let error = self.error_of(text, stop);
-        let _syntax = self.syntax();
-        literal_facts();
+        let error = Ok(self.error_of(text, stop));
         FormError {
             form,
             name: self.name,
             opened: 0,
-            error: Ok(error),
+            error,
         }
     }
 
@@ -229,44 +223,32 @@ impl Form {
     {
         let opened = self.opening.size();
         if stop.size < opened {
+            let _syntax = self.syntax();
+            literal_facts();
             return self.lacks(text, form, stop.size, Mark::Opening);
         }
-        let (_, rest) = text.split_at(opened);
-        match self.refusal(rest, stop.at(stop.size - opened)) {
-            Ok(error) => {
-                let _syntax = self.syntax();
-                literal_facts();
-                FormError {
-                    form,
-                    name: self.name,
-                    opened,
-                    error: Ok(error),
-                }
-            }
-            Err(it) => self.lacks(
-                text,
+        match self.refusal(text, stop) {
+            Ok(error) => FormError {
                 form,
-                opened + it.size + it.closed,
-                self.mark(it.closed),
-            ),
+                name: self.name,
+                opened,
+                error: Ok(error),
+            },
+            Err(it) => self.lacks(text, form, it.right, it.mark),
         }
     }
 
-    // Returns that `mark` is not there behind the first `size` bytes of `text`.
-    fn lacks(&self, text: &[u8], form: usize, size: usize, mark: Mark) -> FormError
-        requires within { size ≤ length text.now }
-        requires error { IsErrorIn self.now text.now size None }
+    // Returns that `mark` is not there behind the first `right` bytes of `text`.
+    fn lacks(&self, text: &[u8], form: usize, right: usize, mark: Mark) -> FormError
+        requires { IsErrorIn self.now text.now right None }
         ensures form { result.form ≡ form }
         ensures error { IsErrorOfForm text.now result self.now }
     {
-        let it = self.unmarked(text, size, mark);
-        let _syntax = self.syntax();
-        literal_facts();
         FormError {
             form,
             name: self.name,
-            opened: size,
-            error: Err(it),
+            opened: right,
+            error: Err(self.unmarked(text, right, mark)),
         }
     }
 
@@ -283,25 +265,29 @@ impl Form {
         error
     }
 
-    // Returns why `rest`, which is behind the opening, is not a literal of the syntax, which stops at `stop` if there is no closing, or where the
-    // closing is not there.
-    fn refusal(&self, rest: &[u8], stop: Stopped) -> Result<ReadError, Unclosed>
-        requires stopped { (self.now.closing.size ≡ 0) → IsStopped (notation_of self.now.syntax) rest.now stop }
-        requires refused { (self.now.closing.size ≡ 0) → NoLiteral (notation_of self.now.syntax) rest.now }
-        ensures { IsEnding self.now rest.now result }
+    // Returns why what is behind the opening is not a literal of the syntax, or where the closing is not there. The form stops at `stop`.
+    fn refusal(&self, text: &[u8], stop: Stopped) -> Result<ReadError, Unclosed>
+        requires refused { IsRefusedAt text.now stop self.now }
+        requires past { self.now.opening.size ≤ stop.size }
+        ensures { IsEnding self.now text.now result }
     {
         if !self.closing.is_empty() {
-            return self.ending(rest);
+            return self.ending(text);
         }
-        Ok(self.error_of(rest, stop))
+        let opened = self.opening.size();
+        let (_, rest) = text.split_at(opened);
+        Ok(self.error_of(rest, stop.at(stop.size - opened)))
     }
 
     // Returns the same for a form with a closing. It is not there if what is before is a literal, and the syntax knows no more than that a byte is
     // wrong.
-    fn ending(&self, rest: &[u8]) -> Result<ReadError, Unclosed>
-        requires { 0 < self.now.closing.size }
-        ensures { IsEnding self.now rest.now result }
+    fn ending(&self, text: &[u8]) -> Result<ReadError, Unclosed>
+        requires some { 0 < self.now.closing.size }
+        requires opened { IsOpened self.now.opening text.now }
+        ensures { IsEnding self.now text.now result }
     {
+        let opened = self.opening.size();
+        let (_, rest) = text.split_at(opened);
         let (stop, found) = self.syntax.front(rest);
         let size = stop.size;
         if !is_at(found, size) {
@@ -309,7 +295,10 @@ impl Form {
         }
         let (_, closing) = rest.split_at(size);
         let closed = self.closing.opened(closing);
-        let unclosed = Unclosed { size, closed };
+        let unclosed = Unclosed {
+            right: opened + size + closed,
+            mark: self.mark(closed),
+        };
         if closed > 0 {
             return Err(unclosed);
         }

@@ -1,9 +1,9 @@
 //! Special values: the texts that are NaN or infinity.
 
-ghost use Rattle.std.specs.Prelude.{ℕ, ◌≡◌, ◌==◌, IsTrue, List, None, if◌then◌else◌, option_map};
+ghost use Rattle.std.specs.Prelude.{ℕ, ◌≡◌, ◌==◌, IsTrue, List, None};
 ghost use Rattle.lexical_literal.specs.Notation.{Notation, notation_of};
-ghost use Rattle.lexical_forms.specs.Specials.{allows, behind_sign, means_nan, is_negative, is_read_back, is_spelled, is_value, letter_of, matches};
-ghost use Rattle.lexical_forms.specs.Specials.{sign_of, signed, special_of, special_separator, spelling_of, text_of_special, written_sign};
+ghost use Rattle.lexical_forms.specs.Specials.{allows, means_nan, is_negative, is_read_back, is_spelled, is_value, letter_of, matches, signed, special_behind};
+ghost use Rattle.lexical_forms.specs.Specials.{special_of, special_separator, spelling_of, text_of_special, written_sign};
 
 use lexical_literal::syntax::{Condition, Grammar, Syntax};
 use lexical_util::format_flags::digit_separator;
@@ -137,8 +137,7 @@ impl<'a> Specials<'a> {
 
     // Returns the special value that a word is behind a sign, if there is one.
     const fn behind(&self, grammar: Grammar, sign: Option<Sign>, word: &[u8]) -> Option<Special>
-        ensures { result ≡ (if allows (notation_of grammar) sign
-            then option_map (λ spelling. record { sign = sign; spelling = spelling }) (spelling_of (notation_of grammar) self.now word.now) else None) }
+        ensures { result ≡ special_behind (notation_of grammar) self.now sign word.now }
     {
         if !allows(grammar, sign) {
             return None;
@@ -215,8 +214,7 @@ const fn is_value(special: Special, back: Option<Special>) -> bool
 
 // Returns the sign with which `text` begins, and what follows it.
 const fn split_sign(text: &[u8]) -> (Option<Sign>, &[u8])
-    ensures sign { result.0 ≡ sign_of text.now }
-    ensures rest { result.1.now ≡ behind_sign text.now }
+    ensures { (m : Notation) (specials : Specials) → special_of m specials text.now ≡ special_behind m specials result.0 result.1.now }
 {
     match text {
         [b'+', rest @ ..] => (Some(Sign::Plus), rest),

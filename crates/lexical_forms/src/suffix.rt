@@ -1,11 +1,11 @@
 //! Words that stand directly behind a number, such as `u8`, and bytes that may not follow it.
 
-ghost use Rattle.std.specs.Prelude.{◌≡◌, ◌==◌, ◌&&◌, [], ◌+◌, ◌≤◌, IsTrue, Some, false, if◌then◌else◌, length, option_map, slice_get, unwrap_or};
+ghost use Rattle.std.specs.Prelude.{◌≡◌, ◌==◌, ◌&&◌, [], ◌+◌, ◌≤◌, Some, false, if◌then◌else◌, length, option_map, slice_get, unwrap_or};
 ghost use Rattle.std.specs.Char.{eq_ignore_ascii_case};
 ghost use Rattle.std.specs.List.{find, list_any};
 ghost use Rattle.lexical_literal.specs.Cause.{is_in};
-ghost use Rattle.lexical_forms.specs.Suffix.{admits, begins, byte_before, is_digit, is_followed, is_in_word, is_letter, is_point, is_stopped};
-ghost use Rattle.lexical_forms.specs.Suffix.{is_word_byte, kind_with, longest_word, meets, more_of, suffix_size, suffix_words, word_size};
+ghost use Rattle.lexical_forms.specs.Suffix.{admits, begins, byte_before, is_digit, is_followed, is_in_word, is_letter, is_stopped, is_word_byte, kind_with};
+ghost use Rattle.lexical_forms.specs.Suffix.{longest_word, meets, more_of, suffix_size, suffix_words, word_size};
 
 use lexical_literal::kind::Kind;
 use lexical_literal::stop::byte_at;
@@ -322,16 +322,6 @@ pub(crate) const fn is_wide(suffixes: Option<&'static Suffixes>) -> bool
     }
 }
 
-// Returns whether `byte` is one that words of suffixes have besides.
-pub(crate) const fn adds(suffixes: Option<&'static Suffixes>, byte: u8) -> bool
-    ensures { result ≡ list_any (λ it. it == byte) (more_of suffixes.entry) }
-{
-    match suffixes {
-        None => false,
-        Some(it) => has_byte(it.more, byte),
-    }
-}
-
 // Returns whether the byte at `index` is one of a word.
 #[inline(always)]
 pub(crate) const fn has_word_byte(text: &[u8], index: usize) -> bool
@@ -345,7 +335,7 @@ pub(crate) const fn has_word_byte(text: &[u8], index: usize) -> bool
 
 // Returns whether `byte` is a point.
 const fn has_point(byte: Option<u8>) -> bool
-    ensures { result ≡ is_in is_point byte }
+    ensures { result ≡ is_in (λ byte. byte == 46) byte }
 {
     match byte {
         None => false,
@@ -429,7 +419,7 @@ const fn is_one_at(bytes: &[u8], text: &[u8], index: usize) -> bool
 }
 
 // Returns whether `byte` is one of `bytes`.
-const fn has_byte(bytes: &[u8], byte: u8) -> bool
+pub(crate) const fn has_byte(bytes: &[u8], byte: u8) -> bool
     ensures { result ≡ list_any (λ it. it == byte) bytes.now }
 {
     match bytes {

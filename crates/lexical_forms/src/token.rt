@@ -1,30 +1,29 @@
 //! Tokens: numbers in the middle of a text, each with its suffix.
 
-ghost use Rattle.std.specs.Prelude.{◌≡◌, ◌<◌, ◌≤◌, ◌+◌, ◌-◌, ◌==◌, ◌&&◌, ℕ, All, IsNone, IsSomeAnd, IsTrue, Some, drop};
-ghost use Rattle.std.specs.Prelude.{false, get_or, length, slice_get, take, true};
+ghost use Rattle.std.specs.Prelude.{◌≡◌, ◌<◌, ◌≤◌, ◌+◌, ◌-◌, ◌==◌, ◌&&◌, ◌||◌, ℕ, All, IsNone, IsSomeAnd, IsTrue, Some, drop, false, get_or, length, slice_get};
+ghost use Rattle.std.specs.Prelude.{take, true};
 ghost use Rattle.std.specs.Option.{ForSome};
+ghost use Rattle.std.specs.List.{list_any};
 ghost use Rattle.lexical_forms.specs.Additions.Forms.{IsFurthestForm, further, sign_size};
 ghost use Rattle.lexical_literal.specs.Additions.Stop.{HasBegun, IsCountedFront, IsMeasured, IsStopped};
 ghost use Rattle.lexical_literal.specs.Additions.Literal.{AreSums, cut};
 ghost use Rattle.lexical_literal.specs.Additions.Step.{cuts_of};
-ghost use Rattle.lexical_forms.specs.Additions.Token.{AreNear, FrontsWithin, IsBestOf, IsEnd, IsLeading, IsMade};
-ghost use Rattle.lexical_forms.specs.Additions.Token.{IsNear, IsOwn, IsPicked, IsWithin, NoOwn, better};
-ghost use Rattle.lexical_forms.specs.Additions.Token.{goes_on};
-ghost use Rattle.lexical_forms.specs.Additions.Token.{go_on_with, has_float, suffixed, whole};
+ghost use Rattle.lexical_forms.specs.Additions.Token.{AreNear, FrontsWithin, IsBestOf, IsEnd, IsLeading, IsMade, IsNear, IsOwn, IsPicked, IsWithin, NoOwn};
+ghost use Rattle.lexical_forms.specs.Additions.Token.{better, goes_on, ReadsSyntax, go_on_with, has_float, has_more, suffixed, whole};
 ghost use Rattle.lexical_literal.specs.Cause.{is_in};
 ghost use Rattle.lexical_literal.specs.Notation.{notation_of};
 ghost use Rattle.lexical_forms.specs.FormList.{are_marked};
 ghost use Rattle.lexical_forms.specs.Suffix.{is_digit, kind_with, stop_end};
-ghost use Rattle.lexical_forms.specs.Token.{HasNone, IsAhead, IsReadByTokens, IsToken, IsTokenError, IsRefused, IsWordUpTo, NoCandidate, gives_back};
-ghost use Rattle.lexical_forms.specs.Token.{ReadsSyntax, begins_name, is_alone, is_shorter, takes_point};
+ghost use Rattle.lexical_forms.specs.Token.{HasNone, IsAhead, IsReadByTokens, IsToken, IsTokenError, IsRefused, NoCandidate, gives_back, begins_name, is_alone};
+ghost use Rattle.lexical_forms.specs.Token.{is_shorter, takes_point};
 ghost use Rattle.lexical_util.specs.Record.{raw};
 
 use crate::exclude::{has_letter_behind_zero, is_over, lacks_longer, sign_size};
 use crate::form::Form;
 use crate::list::{FormError, Forms, PointsBack, Tokens};
 use crate::suffix::{
-    adds, byte_after, byte_before, has_digit_at, has_word_byte, is_followed, is_letter, is_stopped,
-    is_word_byte, kind_with, more_of, suffix_size, suffix_words, word_size,
+    byte_after, byte_before, has_byte, has_digit_at, has_word_byte, is_followed, is_letter,
+    is_stopped, is_word_byte, kind_with, more_of, suffix_size, suffix_words, word_size,
 };
 use lexical_literal::literal::Literal;
 use lexical_literal::step::is_point;
@@ -243,12 +242,17 @@ impl<'a> Forms<'a> {
         }
     }
 
-    // Returns whether `byte` is one that words of one of the forms have besides.
+    // Returns whether `byte` is one that words of one of the forms, of the list or of the tokens, have besides.
     #[inline(always)]
-    fn go_on_with(&self, byte: Option<u8>) -> bool
-        ensures { result ≡ is_in (go_on_with self.now.forms) byte }
+    fn go_on_with(&self, tokens: &Tokens, byte: Option<u8>) -> bool
+        ensures { result ≡ (is_in (go_on_with self.now.forms) byte || is_in (go_on_with tokens.now.forms.now) byte) }
     {
-        self.wide && go_on_with(self.forms, byte)
+        match byte {
+            None => false,
+            Some(byte) => {
+                (self.wide && have_byte(self.forms, byte)) || have_byte(tokens.forms, byte)
+            }
+        }
     }
 
     // Returns the token of which `begun` is the literal, of the form with this index, if nothing follows that may not.
@@ -279,11 +283,7 @@ impl<'a> Forms<'a> {
         if is_stopped(false, it.suffixes, text, end) {
             return None;
         }
-        let next = byte_at(text, end);
-        if self.go_on_with(next) {
-            return None;
-        }
-        if go_on_with(tokens.forms, next) {
+        if self.go_on_with(tokens, byte_at(text, end)) {
             return None;
         }
         let (suffix, rest) = rest.split_at(more);
@@ -351,6 +351,7 @@ impl<'a> Forms<'a> {
 // Returns whether no literal of the forms, but for the one with the index `but`, begins with more than the first `size` bytes of
 // `text`, which are more than a sign, or only with a point more that is given back. Of the forms before `from`, this is known.
 #[inline(always)]
+#[tactic(auto, using(crate::proofs::LeadingLemmas::near_more))]
 fn are_past(
     forms: &[Form],
     from: usize,
@@ -374,24 +375,20 @@ fn are_past(
 }
 
 // Returns whether `byte` is one that words of one of the forms have besides.
-#[inline(always)]
-fn go_on_with(forms: &[Form], byte: Option<u8>) -> bool
-    ensures { result ≡ is_in (go_on_with forms.now) byte }
-{
-    match byte {
-        None => false,
-        Some(byte) => have_byte(forms, byte),
-    }
-}
-
-// Returns whether `byte` is one that words of one of the forms have besides.
 fn have_byte(forms: &[Form], byte: u8) -> bool
-    ensures { result ≡ go_on_with forms.now byte }
+    ensures { result ≡ list_any (has_more byte) forms.now }
 {
     match forms {
         [] => false,
-        [form, rest @ ..] => adds(form.suffixes, byte) || have_byte(rest, byte),
+        [form, rest @ ..] => has_more(form, byte) || have_byte(rest, byte),
     }
+}
+
+// Returns whether `byte` is one that words of the form have besides.
+fn has_more(form: &Form, byte: u8) -> bool
+    ensures { result ≡ has_more byte form.now }
+{
+    has_byte(more_of(form.suffixes), byte)
 }
 
 // Returns the larger of two sizes.
@@ -702,6 +699,7 @@ pub(crate) fn better(
 
 // Returns whether a literal of one of the forms goes on behind `end`.
 #[cold]
+#[tactic(auto, using(crate::proofs::FormLemmas::at_index, crate::proofs::TokenLemmas::ahead, crate::proofs::TokenLemmas::not_ahead))]
 fn is_one_ahead(forms: &[Form], back: PointsBack, text: &[u8], end: usize) -> bool
     ensures ahead { IsTrue result → (i : ℕ) × IsSomeAnd (slice_get forms.now i) (IsAhead back text.now end) }
     ensures over { result ≡ false → All (λ form. IsAhead back text.now end form → ⊥) forms.now }

@@ -1,15 +1,13 @@
 -- The flags that are found are to blame.
-use Rattle.lexical_literal.proofs.Common.{ℕ, ◌≡◌, ◌≤◌, ◌↔◌, ◌⊎◌, Bool, true, false, not, ◌&&◌, ◌||◌, inl, inr, List, take, Option, None, Some, refl, sym, ap}
-use Rattle.lexical_literal.proofs.Common.{subst, ◌∙◌, arith, false≢true, and_parts, and_from, cases_Bool, length-take-le, Flag, raw, Role, Part, all_conditions}
-use Rattle.lexical_literal.proofs.Common.{Notation, has, notation_of, Condition, Grammar, ◌==◌, IsTrue, if◌then◌else◌, length, has_size, Allows, IsRefusal}
-use Rattle.lexical_literal.proofs.Common.{adding, bare, is_one_of, marks_of, number_separator_flags, requirement_flags, span_of, with_rules, IsValidUpTo}
-use Rattle.lexical_literal.proofs.Common.{IsWeaker, lets, place_of, blame, mask_of, unmet, group_allows, unsized, no_condition, role_at, part_of, Blame}
-use Rattle.lexical_literal.proofs.Common.{ReadErrorKind, Group, Summary, sum_by, IsCause, IsUnmet, binds, case_set, error_of, first_unmet, is_at, lowest}
-use Rattle.lexical_literal.proofs.Common.{requiring, tail_of, cases, group_at, otherwise, refusal_of, requirements, separators, some_unmet, spot_of, IsReadOf}
-use Rattle.lexical_literal.proofs.Common.{goes, role_next, slice_get, flag_bits, other_case, kept, Marks, Spot}
+use Rattle.lexical_literal.proofs.Common.{Allows, Blame, Bool, Condition, Flag, Grammar, Group, IsCause, IsReadOf, IsRefusal, IsTrue, IsUnmet, IsValidUpTo}
+use Rattle.lexical_literal.proofs.Common.{IsWeaker, List, Marks, None, Notation, Option, Part, ReadErrorKind, Role, Some, Spot, Summary, adding, all_conditions}
+use Rattle.lexical_literal.proofs.Common.{alone, and_from, and_parts, ap, arith, bare, binds, blame, case_set, cases, cases_Bool, error_of, false, false≢true}
+use Rattle.lexical_literal.proofs.Common.{first_unmet, flag_bits, goes, group_allows, group_at, has, has_size, if◌then◌else◌, inl, inr, is_at, is_at_gap}
+use Rattle.lexical_literal.proofs.Common.{is_one_of, kept, length, length-take-le, lets, lowest, marks_of, mask_of, no_condition, not, notation_of}
+use Rattle.lexical_literal.proofs.Common.{number_separator_flags, other_case, otherwise, part_of, place_of, raw, refl, refusal_of, requirement_flags}
+use Rattle.lexical_literal.proofs.Common.{requirements, requiring, role_at, role_next, separators, slice_get, some_unmet, span_of, spot_of, subst, sum_by, sym}
+use Rattle.lexical_literal.proofs.Common.{tail_of, take, true, unmet, unsized, with_rules, zeros, ℕ, ◌&&◌, ◌==◌, ◌||◌, ◌↔◌, ◌∙◌, ◌≡◌, ◌≤◌, ◌⊎◌}
 use Rattle.lexical_literal.specs.Cause.{IsCaseFlag, IsRequirement, Permits, RefusesAlone}
-use Rattle.lexical_literal.specs.Additions.Causes.{is_at_gap}
-use Rattle.lexical_literal.specs.Additions.Explained.{alone, zeros}
 use Rattle.lexical_util.specs.Layout as layout
 use Rattle.lexical_util.specs.declared.format_flags.Part.TheVariants as parts
 use Rattle.lexical_literal.specs.declared.cause.ReadErrorKind.TheVariants as causes

@@ -1,13 +1,11 @@
 -- The flags of masks, and the bytes to show.
-use Rattle.lexical_literal.proofs.Common.{ℕ, ◌≡◌, ◌<◌, ◌+◌, ◌^◌, ◌&&◌, ◌||◌, not, Bool, true, false, bit_and, bit_or, inl, inr, List, [], ◌∷◌, ◌++◌, sum_by}
-use Rattle.lexical_literal.proofs.Common.{refl, sym, ap, ◌∙◌, arith, nat_tests, false≢true, cases_Bool, eqb-true, ByteSet, Flag, bit, raw, Record, list_any}
-use Rattle.lexical_literal.proofs.Common.{Notation, ◌==◌, if◌then◌else◌, length, mask_of, no_condition, bare, index_behind, is_one_of, number_separator_flags}
-use Rattle.lexical_literal.proofs.Common.{requirement_flags, with_rules, list_any-append, or_parts, w128, bit_not, flag_bits, part, SEPARATORS}
+use Rattle.lexical_literal.proofs.Common.{Bool, ByteSet, Flag, List, Notation, Record, SEPARATORS, [], and_assoc, ap, arith, bare, bit, bit_and, bit_not}
+use Rattle.lexical_literal.proofs.Common.{bit_or, cases_Bool, eqb-true, false, false≢true, flag_bits, if◌then◌else◌, index_behind, inl, inr, is_one_of, length}
+use Rattle.lexical_literal.proofs.Common.{list_any, list_any-append, mask_of, mod-lt, nat_tests, no_condition, not, number_separator_flags, or_parts, part, raw}
+use Rattle.lexical_literal.proofs.Common.{refl, requirement_flags, sum_by, sym, true, w128, with_rules, ℕ, ◌&&◌, ◌++◌, ◌+◌, ◌<◌, ◌==◌, ◌^◌, ◌||◌, ◌∙◌, ◌∷◌, ◌≡◌}
 use Rattle.lexical_literal.specs.Additions.Explained.{leading_zero_flags}
 use Rattle.lexical_literal.specs.Cause.{flag_at}
-use Rattle.std.proofs.lemmas.Nat.Bits.{bit_at_and, bit_at_or, bit_at_not, bit_at-zero, bit_at-pow_same, bit_at-pow_other}
-use Rattle.std.proofs.Math.Nat.{mod-lt}
-use Rattle.std.proofs.lemmas.Nat.{and_assoc}
+use Rattle.std.proofs.lemmas.Nat.Bits.{bit_at-pow_other, bit_at-pow_same, bit_at-zero, bit_at_and, bit_at_not, bit_at_or}
 use Rattle.lexical_util.specs.Groups.{bits_of}
 use Rattle.lexical_util.specs.Record.{word_of}
 use Rattle.lexical_util.specs.Layout as layout

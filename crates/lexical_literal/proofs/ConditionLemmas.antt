@@ -1,14 +1,14 @@
 -- The texts that are accepted with the conditions of a notation are its literals.
-use Rattle.lexical_literal.proofs.Common.{ℕ, ◌≡◌, Bool, true, false, not, ◌&&◌, ◌||◌, inl, inr, nat_lt, List, [], ◌∷◌, ◌++◌, Option, Some, None, refl, sym, ap}
-use Rattle.lexical_literal.proofs.Common.{subst, ◌∙◌, arith, false≢true, and_from, and_parts, cases_Bool, eqb-true, or_left, or_right, nat_tests, ByteSet}
-use Rattle.lexical_literal.proofs.Common.{signs, Role, Part, Notation, Literal, IsLiteral, IsSpelled, Reads, is_absent, is_none_or_one, is_none_or_prefix}
-use Rattle.lexical_literal.proofs.Common.{is_present, text_of, Condition, ◌==◌, if◌then◌else◌, length, HasRoles, has_sizes, Cuts, HasLengths, add, admits}
-use Rattle.lexical_literal.proofs.Common.{after, count, is_fresh, role_at, part_of, digits_piece, lacks_prefix, no_condition, no_cuts, start, takes}
-use Rattle.lexical_literal.proofs.Common.{awaits_integer, Piece, Stage, Summary, is_negative, piece_of, step_by, tally_by, condition, is_plus}
+use Rattle.lexical_literal.proofs.Common.{Bool, ByteSet, Condition, Cuts, HasLengths, HasRoles, IsLiteral, IsSpelled, List, Literal, None, Notation, Option}
+use Rattle.lexical_literal.proofs.Common.{Part, Piece, Reads, Role, Some, Stage, Summary, [], add, admits, after, and_from, and_parts, ap, arith}
+use Rattle.lexical_literal.proofs.Common.{awaits_integer, cases_Bool, condition, count, digits_piece, eqb-true, false, false≢true, has_sizes, if◌then◌else◌}
+use Rattle.lexical_literal.proofs.Common.{inl, inr, is_absent, is_fresh, is_negative, is_none_or_one, is_none_or_prefix, is_plus, is_present, lacks_prefix}
+use Rattle.lexical_literal.proofs.Common.{length, nat_lt, nat_tests, no_condition, no_cuts, not, or_left, or_right, part_of, piece_of, refl, role_at, signs}
+use Rattle.lexical_literal.proofs.Common.{start, step_by, subst, sym, takes, tally_by, text_of, true, ℕ, ◌&&◌, ◌++◌, ◌==◌, ◌||◌, ◌∙◌, ◌∷◌, ◌≡◌}
 use Rattle.lexical_literal.specs.Additions.Scan.{is_first, needs_first}
+use Rattle.lexical_literal.specs.Literal.{begins_with, may_begin}
 use Rattle.lexical_util.specs.declared.feature_format.roles.Role.TheVariants as roles
 use Rattle.lexical_util.specs.declared.format_flags.Part.TheVariants as parts
-use Rattle.lexical_literal.specs.Literal.{begins_with, may_begin}
 use Rattle.lexical_literal.specs.declared.step.Piece.TheVariants as pieces
 use Rattle.lexical_literal.specs.declared.step.Stage.TheVariants as stages
 use Rattle.lexical_literal.specs.declared.syntax.Condition.TheVariants as conditions

@@ -1,6 +1,6 @@
 -- The lengths of parts.
-use Rattle.lexical_literal.proofs.Common.{ℕ, ◌≡◌, ◌+◌, List, [], ◌∷◌, get_or, set, arith, length, cuts_of, with_prefix, Piece, add_more, piece_number}
-use Rattle.lexical_literal.proofs.Common.{integer_counts}
+use Rattle.lexical_literal.proofs.Common.{List, Piece, [], add_more, arith, cuts_of, get_or, integer_counts, length, piece_number, set, with_prefix, ℕ, ◌+◌}
+use Rattle.lexical_literal.proofs.Common.{◌∷◌, ◌≡◌}
 
 -- More bytes of a piece.
 pub count_more : (counts : List ℕ) → length counts ≡ 9 → (piece : Piece) (n : ℕ)

@@ -1,8 +1,9 @@
 -- A text that is accepted, cut into parts.
-use Rattle.lexical_literal.proofs.Common.{ℕ, ◌≡◌, Bool, true, false, not, ◌&&◌, ◌||◌, List, [], ◌∷◌, ◌++◌, Some, refl, sym, ap, subst, ◌∙◌, arith, false≢true}
-use Rattle.lexical_literal.proofs.Common.{and_parts, and_from, separators_in, signs, Role, Part, Notation, Literal, is_none_or_one, Condition, ◌==◌, implies}
-use Rattle.lexical_literal.proofs.Common.{has_digit, is_fresh, after_digit, after_mark, after_point, is_open, may_follow, part_of, is_signed, forbids_plus}
-use Rattle.lexical_literal.proofs.Common.{gap_fits, digits_suffice, continues, takes, after, role_at, awaits_integer, Stage, Summary, is_bare, ends, may_float}
+use Rattle.lexical_literal.proofs.Common.{Bool, Condition, List, Literal, Notation, Part, Role, Some, Stage, Summary, [], after, after_digit, after_mark}
+use Rattle.lexical_literal.proofs.Common.{after_point, and_from, and_parts, ap, arith, awaits_integer, continues, digits_suffice, ends, false, false≢true}
+use Rattle.lexical_literal.proofs.Common.{forbids_plus, gap_fits, has_digit, implies, is_bare, is_fresh, is_none_or_one, is_open, is_signed, may_float}
+use Rattle.lexical_literal.proofs.Common.{may_follow, not, part_of, refl, role_at, separators_in, signs, subst, sym, takes, true, ℕ, ◌&&◌, ◌++◌, ◌==◌, ◌||◌}
+use Rattle.lexical_literal.proofs.Common.{◌∙◌, ◌∷◌, ◌≡◌}
 use Rattle.lexical_util.specs.declared.feature_format.roles.Role.TheVariants as roles
 use Rattle.lexical_util.specs.declared.format_flags.Part.TheVariants as parts
 use Rattle.lexical_literal.specs.declared.step.Stage.TheVariants as stages

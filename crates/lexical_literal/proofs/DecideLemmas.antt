@@ -1,10 +1,9 @@
 -- What has been read decides what a notation with sizes of groups allows, with other flags and conditions too.
-use Rattle.lexical_literal.proofs.Common.{ℕ, ◌≡◌, ◌↔◌, inl, inr, Bool, true, false, not, ◌&&◌, ◌||◌, List, [], ◌∷◌, ◌++◌, Option, Some, None, refl, sym, ap}
-use Rattle.lexical_literal.proofs.Common.{subst, ◌∙◌, arith, false≢true, and_parts, and_from, cases_Bool, or_left, Flag, Role, Part, Notation, Condition}
-use Rattle.lexical_literal.proofs.Common.{Allows, is_one_of, requirement_flags, with_rules, has_size, has_sizes, IsWeaker, lets, HasRoles, HasSizes, IsReady}
-use Rattle.lexical_literal.proofs.Common.{first_group, group_allows, group_after, grow, grown, unsized, is_accepted, role_at, walk, start, step, Group, Summary}
-use Rattle.lexical_literal.proofs.Common.{goes, is_size, role_next, if◌then◌else◌, is_some}
-use Rattle.lexical_literal.specs.Additions.GroupSize.{makes_empty}
+use Rattle.lexical_literal.proofs.Common.{Allows, Bool, Condition, Flag, Group, HasRoles, HasSizes, IsReady, IsWeaker, List, None, Notation, Option, Part, Role}
+use Rattle.lexical_literal.proofs.Common.{Some, Summary, [], and_from, and_parts, ap, arith, cases_Bool, false, false≢true, first_group, goes, group_after}
+use Rattle.lexical_literal.proofs.Common.{group_allows, grow, grown, has_size, has_sizes, if◌then◌else◌, inl, inr, is_accepted, is_one_of, is_size, is_some}
+use Rattle.lexical_literal.proofs.Common.{lets, makes_empty, not, or_left, refl, requirement_flags, role_at, role_next, start, step, subst, sym, true, unsized}
+use Rattle.lexical_literal.proofs.Common.{walk, with_rules, ℕ, ◌&&◌, ◌++◌, ◌||◌, ◌↔◌, ◌∙◌, ◌∷◌, ◌≡◌}
 use Rattle.lexical_util.specs.declared.format_flags.Part.TheVariants as parts
 use Rattle.lexical_literal.specs.declared.syntax.Condition.TheVariants as conditions
 use Rattle.lexical_literal.proofs.ConditionLemmas.{literal_arrives, literal_from}

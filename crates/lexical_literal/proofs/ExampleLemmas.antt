@@ -1,16 +1,14 @@
 -- A test that says whether parts are a literal, for examples.
-use Rattle.lexical_literal.proofs.Common.{ℕ, ◌≡◌, Bool, false, not, ◌&&◌, ◌||◌, List, [], ◌∷◌, true, refl, sym, arith, false≢true, list_any, AllByRecursion}
-use Rattle.lexical_literal.proofs.Common.{Flag, signs, all_conditions, Notation, Literal, IsLiteral, text_of, is_absent, is_present, is_float, is_none_or_one}
-use Rattle.lexical_literal.proofs.Common.{is_none_or_prefix, Condition, common_steps, IsTrue, requirement_flags, implies, condition}
-use Rattle.lexical_util.specs.declared.format_flags.Part.TheVariants as parts
-use Rattle.lexical_literal.specs.Literal.{requirement}
-use Rattle.lexical_literal.specs.Readings.{HasTwoReadings}
+use Rattle.lexical_literal.proofs.Common.{AllByRecursion, Bool, Condition, Flag, HasTwoReadings, IsLiteral, IsTrue, List, Literal, Notation, [], all_conditions}
+use Rattle.lexical_literal.proofs.Common.{arith, common_steps, condition, false, false≢true, implies, is_absent, is_float, is_none_or_one, is_none_or_prefix}
+use Rattle.lexical_literal.proofs.Common.{is_present, list_any, not, refl, requirement, requirement_flags, signs, sym, text_of, true, ℕ, ◌&&◌, ◌||◌, ◌∷◌, ◌≡◌}
 use Rattle.lexical_literal.specs.Run.{is_run}
+use Rattle.lexical_util.specs.declared.format_flags.Part.TheVariants as parts
 use Rattle.lexical_literal.proofs.CutLemmas.{only}
 
--- `is_free m` is true if no flag and no condition requires anything.
-abbrev is_free : Notation → Bool
-is_free m = not (list_any m.flag requirement_flags) && not (list_any m.condition all_conditions)
+-- `asks_nothing m` is true if no flag and no condition requires anything.
+abbrev asks_nothing : Notation → Bool
+asks_nothing m = not (list_any m.flag requirement_flags) && not (list_any m.condition all_conditions)
 
 -- The tests of the spelling of each part of `l`, and of the parts that go together.
 abbrev tests : Notation → Literal → List Bool
@@ -25,14 +23,14 @@ each [] is = tt
 each (true ∷ tests) is = (refl, each tests is)
 each (false ∷ tests) is = absurd (false≢true (sym is))
 
-met : (m : Notation) (l : Literal) → is_free m ≡ true → (f : Flag) → IsTrue (m.flag f) → IsTrue (requirement f m l)
+met : (m : Notation) (l : Literal) → asks_nothing m ≡ true → (f : Flag) → IsTrue (m.flag f) → IsTrue (requirement f m l)
 met m l free f set = grind arith
 
-conditions_met : (m : Notation) (l : Literal) → is_free m ≡ true → (c : Condition) → IsTrue (m.condition c) → IsTrue (condition c m l)
+conditions_met : (m : Notation) (l : Literal) → asks_nothing m ≡ true → (c : Condition) → IsTrue (m.condition c) → IsTrue (condition c m l)
 conditions_met m l free c set = grind arith
 
 -- Parts that pass the tests are a literal.
-literal_if : (m : Notation) (l : Literal) → is_free m ≡ true → list_any not (tests m l) ≡ false → IsLiteral m l
+literal_if : (m : Notation) (l : Literal) → asks_nothing m ≡ true → list_any not (tests m l) ≡ false → IsLiteral m l
 literal_if m l free is =
     let (sign, (prefix, (integer, (point, (fraction, (character, (exponent_sign, (exponent, (suffix, (after_point, (after_character, (some, end)))))))))))) =
     each (tests m l) is in
@@ -56,7 +54,7 @@ literal_if m l free is =
     }
 
 -- A text has two readings if it is the text of two different lists of parts that pass the test.
-pub two : (m : Notation) (text : List ℕ) (l k : Literal) → is_free m ≡ true → text ≡ text_of l → text ≡ text_of k → list_any not (tests m l) ≡ false
+pub two : (m : Notation) (text : List ℕ) (l k : Literal) → asks_nothing m ≡ true → text ≡ text_of l → text ≡ text_of k → list_any not (tests m l) ≡ false
     → list_any not (tests m k) ≡ false → (l ≡ k → ⊥) → HasTwoReadings m text
 two m text l k free first second is_l is_k differ = grind (arith, common_steps, literal_if)
 

@@ -1,12 +1,11 @@
 -- What some literal of a notation with sizes of groups begins with: what one without begins with, if its groups fit byte by byte.
-use Rattle.lexical_literal.proofs.Common.{ℕ, ◌≡◌, ◌≤◌, ◌+◌, ◌-◌, inl, inr, Bool, true, false, not, ◌&&◌, ◌||◌, nat_lt, List, [], ◌∷◌, ◌++◌, Option, Some, None}
-use Rattle.lexical_literal.proofs.Common.{refl, sym, ap, subst, ◌∙◌, arith, zero, suc, false≢true, and_parts, and_from, cases_Bool, or_left, or_right}
-use Rattle.lexical_literal.proofs.Common.{nat_tests, list_any, separators_in, Role, Part, Literal, Reads, Notation, ◌==◌, if◌then◌else◌, nat_le, append_assoc}
-use Rattle.lexical_literal.proofs.Common.{IsFront, has_size, has_sizes, HasRoles, HasSizes, IsReady, first_group, group_allows, group_after, grow, grown}
-use Rattle.lexical_literal.proofs.Common.{unsized, admits, after, after_mark, gap_fits, has_digit, is_open, is_signed, lacks_prefix, may_follow, part_of}
-use Rattle.lexical_literal.proofs.Common.{role_at, walk, start, takes, takes_in, Group, Stage, Summary, inner_fits, last_fits, follows, most, is_run, or_parts}
-use Rattle.lexical_literal.proofs.Common.{is_place}
-use Rattle.lexical_literal.specs.Groups.{higher}
+use Rattle.lexical_literal.proofs.Common.{Bool, Group, HasRoles, HasSizes, IsFront, IsReady, List, Literal, None, Notation, Option, Part, Reads, Role, Some}
+use Rattle.lexical_literal.proofs.Common.{Stage, Summary, [], admits, after, after_mark, and_from, and_parts, ap, append_assoc, arith, cases_Bool, false}
+use Rattle.lexical_literal.proofs.Common.{false≢true, first_group, follows, gap_fits, group_after, group_allows, grow, grown, has_digit, has_size, has_sizes}
+use Rattle.lexical_literal.proofs.Common.{higher, if◌then◌else◌, inl, inner_fits, inr, is_open, is_place, is_run, is_signed, lacks_prefix, last_fits, list_any}
+use Rattle.lexical_literal.proofs.Common.{may_follow, most, nat_le, nat_lt, nat_tests, not, or_left, or_parts, or_right, part_of, refl, role_at, separators_in}
+use Rattle.lexical_literal.proofs.Common.{start, subst, suc, sym, takes, takes_in, true, unsized, walk, zero, ℕ, ◌&&◌, ◌++◌, ◌+◌, ◌-◌, ◌==◌, ◌||◌, ◌∙◌, ◌∷◌}
+use Rattle.lexical_literal.proofs.Common.{◌≡◌, ◌≤◌}
 use Rattle.lexical_util.specs.declared.feature_format.roles.Role.TheVariants as roles
 use Rattle.lexical_util.specs.declared.format_flags.Part.TheVariants as parts
 use Rattle.lexical_literal.specs.declared.syntax.Condition.TheVariants as conditions

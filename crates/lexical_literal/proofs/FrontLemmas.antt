@@ -1,11 +1,10 @@
 -- What has been read without an error can be completed to a literal.
-use Rattle.lexical_literal.proofs.Common.{ℕ, ◌≡◌, Bool, true, false, not, ◌&&◌, ◌||◌, ◌⊎◌, inl, inr, List, [], ◌∷◌, ◌++◌, Some, None, refl, sym, ap, subst, ◌∙◌}
-use Rattle.lexical_literal.proofs.Common.{arith, false≢true, and_parts, and_from, cases_Bool, false_from_ne_true, list_any, ByteSet, Role, Part, Notation}
-use Rattle.lexical_literal.proofs.Common.{set_of_role, Literal, Reads, Condition, ◌==◌, IsReady, HasRoles, IsFront, admits, continues, implies, has_digit}
-use Rattle.lexical_literal.proofs.Common.{is_fresh, after_digit, after_mark, after_point, lacks_prefix, may_follow, gap_fits, is_open, is_signed, takes, after}
-use Rattle.lexical_literal.proofs.Common.{walk, is_accepted, start, no_cuts, role_at, part_of, awaits_integer, digits_suffice, takes_in, forbids_plus, Stage}
-use Rattle.lexical_literal.proofs.Common.{Summary, is_led, may_lead, is_negative, needs_exponent, ends, is_run, or_from}
-use Rattle.lexical_literal.specs.Additions.Step.{leads_to_prefix}
+use Rattle.lexical_literal.proofs.Common.{Bool, ByteSet, Condition, HasRoles, IsFront, IsReady, List, Literal, None, Notation, Part, Reads, Role, Some, Stage}
+use Rattle.lexical_literal.proofs.Common.{Summary, [], admits, after, after_digit, after_mark, after_point, and_from, and_parts, ap, arith, awaits_integer}
+use Rattle.lexical_literal.proofs.Common.{cases_Bool, continues, digits_suffice, ends, false, false_from_ne_true, false≢true, forbids_plus, gap_fits, has_digit}
+use Rattle.lexical_literal.proofs.Common.{implies, inl, inr, is_accepted, is_fresh, is_led, is_negative, is_open, is_run, is_signed, lacks_prefix}
+use Rattle.lexical_literal.proofs.Common.{leads_to_prefix, list_any, may_follow, may_lead, needs_exponent, no_cuts, not, or_from, part_of, refl, role_at}
+use Rattle.lexical_literal.proofs.Common.{set_of_role, start, subst, sym, takes, takes_in, true, walk, ℕ, ◌&&◌, ◌++◌, ◌==◌, ◌||◌, ◌∙◌, ◌∷◌, ◌≡◌, ◌⊎◌}
 use Rattle.lexical_util.specs.Layout as layout
 use Rattle.lexical_util.specs.declared.feature_format.roles.Role.TheVariants as roles
 use Rattle.lexical_util.specs.declared.format_flags.Part.TheVariants as parts

@@ -1,8 +1,8 @@
 -- Groups, counted at once and byte by byte, and runs without empty groups.
-use Rattle.lexical_literal.proofs.Common.{ℕ, ◌≡◌, ◌≤◌, ◌+◌, inl, inr, Bool, true, false, not, ◌&&◌, ◌||◌, nat_lt, List, [], ◌∷◌, Some, None, refl, sym, ap}
-use Rattle.lexical_literal.proofs.Common.{subst, ◌∙◌, arith, false≢true, and_parts, and_from, cases_Bool, false_from_ne_true, or_left, or_right, nat_tests}
-use Rattle.lexical_literal.proofs.Common.{Flag, separators_in, Part, Notation, Condition, ◌==◌, if◌then◌else◌, has_size, gap_fits, grown, unsized, Group}
-use Rattle.lexical_literal.proofs.Common.{HasRoles, HasSizes, with_rules, inner_fits, is_grouped, last_fits, follows, is_size, most}
+use Rattle.lexical_literal.proofs.Common.{Bool, Condition, Flag, Group, HasRoles, HasSizes, List, None, Notation, Part, Some, [], and_from, and_parts, ap}
+use Rattle.lexical_literal.proofs.Common.{arith, cases_Bool, false, false_from_ne_true, false≢true, follows, gap_fits, grown, has_size, if◌then◌else◌, inl}
+use Rattle.lexical_literal.proofs.Common.{inner_fits, inr, is_grouped, is_size, last_fits, most, nat_lt, nat_tests, not, or_left, or_right, refl, separators_in}
+use Rattle.lexical_literal.proofs.Common.{subst, sym, true, unsized, with_rules, ℕ, ◌&&◌, ◌+◌, ◌==◌, ◌||◌, ◌∙◌, ◌∷◌, ◌≡◌, ◌≤◌}
 use Rattle.lexical_literal.specs.Groups.{all_fit, first_fits, group_sizes, one_more, rest_fits}
 use Rattle.lexical_util.specs.declared.feature_format.roles.Role.TheVariants as roles
 use Rattle.lexical_literal.proofs.RunLemmas.{is_rest}

@@ -1,7 +1,7 @@
 -- What has been read where one part ends and the next one begins.
-use Rattle.lexical_literal.proofs.Common.{ℕ, ◌≡◌, ◌<◌, ◌+◌, ◌-◌, true, false, List, get_or, refl, ap, subst, ◌∙◌, arith, set, Notation, length, HasRoles, IsAt}
-use Rattle.lexical_literal.proofs.Common.{IsBegun, IsReadOn, at_stage, Cuts, after_point, cuts_of, has_digit, awaits_integer, is_signed, takes, part_of}
-use Rattle.lexical_literal.proofs.Common.{with_prefix, Stopped, Piece, Stage, IsOpened, counts_of, integer_counts, is_free, piece_number, Reading}
+use Rattle.lexical_literal.proofs.Common.{Cuts, HasRoles, IsAt, IsBegun, IsOpened, IsReadOn, List, Notation, Piece, Reading, Stage, Stopped, after_point, ap}
+use Rattle.lexical_literal.proofs.Common.{arith, at_stage, awaits_integer, counts_of, cuts_of, false, get_or, has_digit, integer_counts, is_free, is_signed}
+use Rattle.lexical_literal.proofs.Common.{length, part_of, piece_number, refl, set, subst, takes, true, with_prefix, ℕ, ◌+◌, ◌-◌, ◌<◌, ◌∙◌, ◌≡◌}
 use Rattle.lexical_literal.specs.Additions.Scan.{IsSign, behind_sign, has_first}
 use Rattle.lexical_util.specs.declared.feature_format.roles.Role.TheVariants as roles
 use Rattle.lexical_util.specs.declared.format_flags.Part.TheVariants as parts

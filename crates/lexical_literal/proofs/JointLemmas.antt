@@ -1,11 +1,9 @@
 -- Which flags refuse what is allowed without requirements: flags that refuse alone, or those on leading zeros.
-use Rattle.lexical_literal.proofs.Common.{ℕ, ◌≡◌, Bool, true, false, not, ◌&&◌, ◌||◌, Option, Some, None, refl, sym, ap, subst, ◌∙◌, arith, false≢true}
-use Rattle.lexical_literal.proofs.Common.{and_from, and_parts, Flag, Role, Part, Notation, is_same, Condition, ◌==◌, if◌then◌else◌, has_size, adding, bare}
-use Rattle.lexical_literal.proofs.Common.{is_one_of, number_separator_flags, with_rules, lets, place_of, admits, after, continues, implies, may_follow, unsized}
-use Rattle.lexical_literal.proofs.Common.{gap_fits, is_open, is_signed, no_condition, role_at, takes, part_of, takes_in, Stage, Summary, binds, is_at, ends}
-use Rattle.lexical_literal.proofs.Common.{move_by, is_some}
-use Rattle.lexical_literal.specs.Additions.Causes.{is_separator}
-use Rattle.lexical_literal.specs.Additions.Step.{complete_by, finishes}
+use Rattle.lexical_literal.proofs.Common.{Bool, Condition, Flag, None, Notation, Option, Part, Role, Some, Stage, Summary, adding, admits, after, and_from}
+use Rattle.lexical_literal.proofs.Common.{and_parts, ap, arith, bare, binds, complete_by, continues, ends, false, false≢true, finishes, gap_fits, has_size}
+use Rattle.lexical_literal.proofs.Common.{if◌then◌else◌, implies, is_at, is_one_of, is_open, is_same, is_separator, is_signed, is_some, lets, may_follow}
+use Rattle.lexical_literal.proofs.Common.{move_by, no_condition, not, number_separator_flags, part_of, place_of, refl, role_at, subst, sym, takes, takes_in}
+use Rattle.lexical_literal.proofs.Common.{true, unsized, with_rules, ℕ, ◌&&◌, ◌==◌, ◌||◌, ◌∙◌, ◌≡◌}
 use Rattle.lexical_util.specs.Layout as layout
 use Rattle.lexical_util.specs.declared.feature_format.roles.Role.TheVariants as roles
 use Rattle.lexical_util.specs.declared.format_flags.Part.TheVariants as parts

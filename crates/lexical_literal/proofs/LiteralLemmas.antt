@@ -1,16 +1,14 @@
 -- The texts that are accepted are spelled as literals are.
-use Rattle.lexical_literal.proofs.Common.{ℕ, ◌≡◌, Bool, true, false, not, ◌&&◌, ◌||◌, inl, inr, List, [], ◌∷◌, ◌++◌, Some, refl, sym, subst, ◌∙◌, arith}
-use Rattle.lexical_literal.proofs.Common.{false≢true, and_parts, and_from, cases_Bool, or_left, or_right, eqb-true, list_any, ByteSet, Flag, Part, Notation}
-use Rattle.lexical_literal.proofs.Common.{Literal, IsSpelled, text_of, is_present, is_absent, is_none_or_one, is_none_or_prefix, Condition, ◌==◌, if◌then◌else◌}
-use Rattle.lexical_literal.proofs.Common.{HasRoles, Cuts, implies, has_digit, after_digit, after_mark, after_point, may_follow, is_signed, part_of}
-use Rattle.lexical_literal.proofs.Common.{forbids_plus, gap_fits, digits_suffice, continues, add, digits_piece, no_condition, start, no_cuts, with_prefix}
-use Rattle.lexical_literal.proofs.Common.{Piece, Stage, is_lone, is_led, may_lead, ends, piece_of}
-use Rattle.std.proofs.lemmas.Bool.{and_right}
+use Rattle.lexical_literal.proofs.Common.{Bool, ByteSet, Condition, Cuts, Flag, HasRoles, IsSpelled, List, Literal, Notation, Part, Piece, Some, Stage, [], add}
+use Rattle.lexical_literal.proofs.Common.{after_digit, after_mark, after_point, and_from, and_parts, and_right, arith, cases_Bool, continues, digits_piece}
+use Rattle.lexical_literal.proofs.Common.{digits_suffice, ends, eqb-true, false, false≢true, forbids_plus, gap_fits, has_digit, if◌then◌else◌, implies, inl}
+use Rattle.lexical_literal.proofs.Common.{inr, is_absent, is_led, is_lone, is_none_or_one, is_none_or_prefix, is_present, is_signed, is_zero_led, list_any}
+use Rattle.lexical_literal.proofs.Common.{may_follow, may_lead, no_condition, no_cuts, not, or_left, or_right, part_of, piece_of, refl, start, subst, sym}
+use Rattle.lexical_literal.proofs.Common.{text_of, true, with_prefix, ℕ, ◌&&◌, ◌++◌, ◌==◌, ◌||◌, ◌∙◌, ◌∷◌, ◌≡◌}
+use Rattle.lexical_literal.specs.Run.{is_run}
 use Rattle.lexical_util.specs.Layout as layout
 use Rattle.lexical_util.specs.declared.feature_format.roles.Role.TheVariants as roles
 use Rattle.lexical_util.specs.declared.format_flags.Part.TheVariants as parts
-use Rattle.lexical_literal.specs.Run.{is_run}
-use Rattle.lexical_literal.specs.Literal.{is_zero_led}
 use Rattle.lexical_literal.specs.declared.step.Piece.TheVariants as pieces
 use Rattle.lexical_literal.specs.declared.step.Stage.TheVariants as stages
 use Rattle.lexical_literal.proofs.RunLemmas.{is_rest, rest_of_none, digits_present, opens}

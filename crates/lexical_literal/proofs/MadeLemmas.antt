@@ -1,8 +1,6 @@
 -- What the lengths of its parts tell of a literal, and what a syntax without conditions is.
-use Rattle.lexical_literal.proofs.Common.{ℕ, ◌≡◌, ◌≢◌, ◌||◌, not, false, true, List, take, ap, arith, is_present, notation_of, Grammar, ◌==◌, length, has_sizes}
-use Rattle.lexical_literal.proofs.Common.{is_minus}
-use Rattle.lexical_literal.specs.Literal.{is_absent}
-use Rattle.lexical_literal.specs.Additions.Scan.{IsUsual}
+use Rattle.lexical_literal.proofs.Common.{Grammar, IsUsual, List, ap, arith, false, has_sizes, is_absent, is_minus, is_present, length, not, notation_of, take}
+use Rattle.lexical_literal.proofs.Common.{true, ℕ, ◌==◌, ◌||◌, ◌≡◌, ◌≢◌}
 
 -- The sign is what the text begins with, if it is there.
 pub minus : (n : ℕ) (text : List ℕ) → n ≢ 0 → is_minus text ≡ is_minus (take n text)

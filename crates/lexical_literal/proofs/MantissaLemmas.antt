@@ -1,12 +1,11 @@
 -- The sums of the digits of the integer and the fraction.
-use Rattle.lexical_literal.proofs.Common.{ℕ, ◌≡◌, ◌+◌, ◌-◌, ◌%◌, ◌^◌, List, ◌++◌, arith, filter_map-append, Record, Literal, Notation, radix_of}
-use Rattle.lexical_literal.proofs.Common.{number_from_digits_after, IsRunOn, AreSums, Reading, Stage, digits_in, number, places, number_after_append}
-use Rattle.lexical_literal.proofs.Common.{effective_exponent_radix}
-use Rattle.lexical_literal.specs.Additions.Literal.{IsMantissa, IsSum}
+use Rattle.lexical_literal.proofs.Common.{AreSums, IsMantissa, IsRunOn, IsSum, List, Literal, Notation, Reading, Record, Stage, arith, digits_in}
+use Rattle.lexical_literal.proofs.Common.{effective_exponent_radix, filter_map-append, number, number_after_append, number_from_digits_after, places, radix_of}
+use Rattle.lexical_literal.proofs.Common.{ℕ, ◌%◌, ◌++◌, ◌+◌, ◌-◌, ◌^◌, ◌≡◌}
 use lib.ListN.{length-append}
+use Rattle.lexical_literal.specs.declared.literal.Sums.{Sums}
 use Rattle.lexical_util.specs.Layout as layout
 use Rattle.lexical_util.specs.declared.format_flags.Part.TheVariants as parts
-use Rattle.lexical_literal.specs.declared.literal.Sums.{Sums}
 use Rattle.lexical_literal.proofs.SumLemmas.{after_same}
 
 -- Digits of one run, and then of another.

@@ -1,7 +1,6 @@
 -- The conditions in their order, and those that are kept of others.
-use Rattle.lexical_literal.proofs.Common.{ℕ, ◌≡◌, ◌<◌, ◌+◌, ◌&&◌, Bool, true, false, nat_lt, get_or, arith, nat_tests, list_any, all_conditions, has, is_same}
-use Rattle.lexical_literal.proofs.Common.{number_of, Condition, Conditions, common_steps, if◌then◌else◌, length, kept, order}
-use Rattle.std.proofs.lemmas.List.{ext_get_or}
+use Rattle.lexical_literal.proofs.Common.{Bool, Condition, Conditions, all_conditions, arith, common_steps, ext_get_or, false, get_or, has, if◌then◌else◌}
+use Rattle.lexical_literal.proofs.Common.{is_same, kept, length, list_any, nat_lt, nat_tests, number_of, order, true, ℕ, ◌&&◌, ◌+◌, ◌<◌, ◌≡◌}
 use Rattle.lexical_literal.specs.declared.syntax.Condition.TheVariants as conditions
 
 -- Each condition is at its place in the list.

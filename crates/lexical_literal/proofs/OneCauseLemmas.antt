@@ -1,12 +1,12 @@
 -- A refusal has one cause, and a text has one refusal.
-use Rattle.lexical_literal.proofs.Common.{ℕ, ◌≡◌, ◌<◌, ◌≤◌, ◌↔◌, ◌^◌, Bool, true, List, Option, Some, None, sum_by, take, refl, sym, ap, subst, ◌∙◌, arith}
-use Rattle.lexical_literal.proofs.Common.{nat_tests, Flag, bit, raw, Part, Notation, has, Condition, if◌then◌else◌, IsRefusal, marks_of, span_of, IsValidUpTo}
-use Rattle.lexical_literal.proofs.Common.{ReadErrorKind, Refusal, IsCause, IsUnmet, error_of, first_unmet, is_at, lowest, tail_of, slice_get, flag_bits, kept}
+use Rattle.lexical_literal.proofs.Common.{Bool, Condition, Flag, IsCause, IsRefusal, IsUnmet, IsValidUpTo, List, None, Notation, Option, Part, ReadErrorKind}
+use Rattle.lexical_literal.proofs.Common.{Refusal, Some, ap, arith, bit, error_of, first_unmet, flag_bits, has, if◌then◌else◌, is_at, kept, lowest, marks_of}
+use Rattle.lexical_literal.proofs.Common.{nat_tests, raw, refl, slice_get, span_of, subst, sum_by, sym, tail_of, take, true, ℕ, ◌<◌, ◌^◌, ◌↔◌, ◌∙◌, ◌≡◌, ◌≤◌}
 use Rattle.lexical_literal.specs.Cause.{IsSeparator, SameBlame}
 use Rattle.std.proofs.Math.Nat.{le_antisymm}
 use Rattle.lexical_util.specs.Layout.{flags}
-use Rattle.lexical_literal.specs.declared.cause.ReadErrorKind.TheVariants as causes
 use Rattle.lexical_literal.specs.declared.cause.Place.{Place}
+use Rattle.lexical_literal.specs.declared.cause.ReadErrorKind.TheVariants as causes
 
 -- A flag allows separators at one place of one part.
 same_at : (x y : Place) (p q : Part) (f : Flag) → is_at x p f ≡ true → is_at y q f ≡ true → (x ≡ y) × (p ≡ q)

@@ -1,7 +1,6 @@
 -- The roles of the bytes of a literal's parts.
-use Rattle.lexical_literal.proofs.Common.{ℕ, ◌≡◌, true, List, [], ◌∷◌, ◌++◌, arith, and_parts, ByteSet, Part, Notation, Literal, IsSpelled, is_none_or_one}
-use Rattle.lexical_literal.proofs.Common.{are_fit, is_fit, AllIn, run_byte}
-use Rattle.lexical_literal.specs.Readings.{PartsHaveRoles}
+use Rattle.lexical_literal.proofs.Common.{AllIn, ByteSet, IsSpelled, List, Literal, Notation, Part, PartsHaveRoles, [], and_parts, are_fit, arith, is_fit}
+use Rattle.lexical_literal.proofs.Common.{is_none_or_one, run_byte, true, ℕ, ◌++◌, ◌∷◌, ◌≡◌}
 
 module _ (m : Notation) (part : Part) where
   -- Each byte of a digit run is a digit or a separator.

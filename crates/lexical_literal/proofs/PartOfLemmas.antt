@@ -1,6 +1,6 @@
 -- The part that a front ends in.
-use Rattle.lexical_literal.proofs.Common.{ℕ, ◌≡◌, true, false, List, [], ◌∷◌, Some, None, refl, sym, ◌∙◌, arith, false≢true, list_any, Role, Part, Notation}
-use Rattle.lexical_literal.proofs.Common.{HasRoles, after, walk, takes, role_at, part_of, Summary, ◌==◌, if◌then◌else◌}
+use Rattle.lexical_literal.proofs.Common.{HasRoles, List, None, Notation, Part, Role, Some, Summary, [], after, arith, false, false≢true, if◌then◌else◌}
+use Rattle.lexical_literal.proofs.Common.{list_any, part_of, refl, role_at, sym, takes, true, walk, ℕ, ◌==◌, ◌∙◌, ◌∷◌, ◌≡◌}
 use Rattle.lexical_util.specs.declared.feature_format.roles.Role.TheVariants as roles
 use Rattle.lexical_util.specs.declared.format_flags.Part.TheVariants as parts
 use Rattle.lexical_literal.proofs.WalkLemmas.{walk_none, as_role, took}

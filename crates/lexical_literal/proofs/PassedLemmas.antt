@@ -1,5 +1,5 @@
 -- Digits end where a byte follows that has no role there.
-use Rattle.lexical_literal.proofs.Common.{ℕ, ◌≡◌, true, false, None, arith, Notation, is_fresh, part_of, step, takes, Summary, is_bare}
+use Rattle.lexical_literal.proofs.Common.{None, Notation, Summary, arith, false, is_bare, is_fresh, part_of, step, takes, true, ℕ, ◌≡◌}
 use Rattle.lexical_util.specs.declared.feature_format.roles.Role.TheVariants as roles
 use Rattle.lexical_literal.specs.declared.step.Stage.TheVariants as stages
 use Rattle.lexical_literal.specs.declared.syntax.Condition.TheVariants as conditions

@@ -1,12 +1,9 @@
 -- A literal is cut by the lengths of its parts.
-use Rattle.lexical_literal.proofs.Common.{ℕ, ◌≡◌, ◌+◌, List, [], ◌++◌, take, drop, Ok, refl, sym, ap, subst, ◌∙◌, arith, Literal, Reads, text_of, Notation}
-use Rattle.lexical_literal.proofs.Common.{notation_of, Grammar, length, ReadsFront, Read, IsCountedFront, IsMeasured, cut, Cuts, HasLengths, cuts_of, take_all}
-use Rattle.lexical_literal.proofs.Common.{NoFront, NoLiteral, IsRead}
-use Rattle.lexical_literal.specs.Additions.Literal.{IsCut}
-use Rattle.std.proofs.lemmas.List.{append_assoc}
+use Rattle.lexical_literal.proofs.Common.{Cuts, Grammar, HasLengths, IsCountedFront, IsCut, IsMeasured, IsRead, List, Literal, NoFront, NoLiteral, Notation, Ok}
+use Rattle.lexical_literal.proofs.Common.{Read, Reads, ReadsFront, [], ap, append_assoc, arith, cut, cuts_of, drop, exact, length, notation_of, refl, subst}
+use Rattle.lexical_literal.proofs.Common.{sym, take, take_all, text_of, ℕ, ◌++◌, ◌+◌, ◌∙◌, ◌≡◌}
 use Rattle.std.proofs.Math.Seq.{drop-append_seam, take-append_seam}
 use lib.ListN.{length-append}
-use Rattle.lexical_literal.specs.Read.{exact}
 use Rattle.lexical_literal.specs.declared.step.Piece.TheVariants as pieces
 
 -- One part, and where the next one begins.

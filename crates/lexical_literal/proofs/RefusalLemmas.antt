@@ -1,8 +1,8 @@
 -- What has been read decides what a notation allows, with other flags too.
-use Rattle.lexical_literal.proofs.Common.{ℕ, ◌≡◌, Bool, true, false, ◌&&◌, ◌||◌, List, [], ◌∷◌, ◌++◌, Option, Some, None, refl, sym, ap, subst, ◌∙◌, arith}
-use Rattle.lexical_literal.proofs.Common.{and_parts, and_from, Flag, separators_in, Part, Notation, Literal, IsLiteral, IsSpelled, Condition, ◌==◌, IsTrue}
-use Rattle.lexical_literal.proofs.Common.{IsReady, HasRoles, IsFront, is_one_of, requirement_flags, number_separator_flags, with_rules, IsWeaker, after, walk}
-use Rattle.lexical_literal.proofs.Common.{start, Summary, is_place, is_fit, are_fit}
+use Rattle.lexical_literal.proofs.Common.{Bool, Condition, Flag, HasRoles, IsFront, IsLiteral, IsReady, IsSpelled, IsTrue, IsWeaker, List, Literal, None}
+use Rattle.lexical_literal.proofs.Common.{Notation, Option, Part, Some, Summary, [], after, and_from, and_parts, ap, are_fit, arith, false, is_fit, is_one_of}
+use Rattle.lexical_literal.proofs.Common.{is_place, number_separator_flags, refl, requirement_flags, separators_in, start, subst, sym, true, walk, with_rules}
+use Rattle.lexical_literal.proofs.Common.{ℕ, ◌&&◌, ◌++◌, ◌==◌, ◌||◌, ◌∙◌, ◌∷◌, ◌≡◌}
 use Rattle.lexical_literal.proofs.WalkLemmas.{took}
 use Rattle.lexical_literal.proofs.FrontLemmas.{front_from, front_is_read}
 use Rattle.lexical_literal.proofs.PartOfLemmas.{none_after}

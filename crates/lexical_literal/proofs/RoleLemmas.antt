@@ -1,29 +1,26 @@
 -- In a syntax, no byte plays two roles.
-use Rattle.lexical_literal.proofs.Common.{ℕ, ◌≡◌, ◌<◌, ◌↔◌, Bool, true, false, not, nat_lt, List, [], ◌∷◌, ◌&&◌, ◌||◌, Option, Some, None, inl, inr, refl, sym}
-use Rattle.lexical_literal.proofs.Common.{ap, ◌∙◌, arith, false≢true, and_from, cases_Bool, nat_tests, AllByRecursion, ByteSet, Flag, separators_in, Record}
-use Rattle.lexical_literal.proofs.Common.{raw, Role, Part, Condition, all_conditions, has, notation_of, number_of, radix_of, set_of_role, Conditions, Grammar}
-use Rattle.lexical_literal.proofs.Common.{◌==◌, IsTrue, has_size, HasRoles, HasSizes, IsReady, steps_of, option_or, point_of, exponent_character_of}
-use Rattle.lexical_literal.proofs.Common.{lacks_options, contradiction, first_fault, Options}
-use Rattle.std.proofs.lemmas.Bool.{lt-ltb}
-use Rattle.lexical_flags.proofs.RuleLemmas.{Holds-from_lawful}
+use Rattle.lexical_literal.proofs.Common.{AllByRecursion, Bool, ByteSet, Condition, Conditions, Flag, Grammar, HasRoles, HasSizes, IsReady, IsTrue, List, None}
+use Rattle.lexical_literal.proofs.Common.{Option, Options, Part, Record, Role, Some, [], all_conditions, allowed_ascii, and_from, ap, arith, cases_Bool}
+use Rattle.lexical_literal.proofs.Common.{contradiction, exponent_character_of, false, false≢true, first_fault, has, has_size, if◌then◌else◌, inl, inr}
+use Rattle.lexical_literal.proofs.Common.{lacks_options, lt-ltb, nat_le, nat_lt, nat_tests, not, notation_of, number_of, option_map, option_or, point_of}
+use Rattle.lexical_literal.proofs.Common.{radix_of, raw, refl, separators_in, set_of_role, steps_of, sym, true, ℕ, ◌&&◌, ◌<◌, ◌==◌, ◌||◌, ◌↔◌, ◌∙◌, ◌∷◌, ◌≡◌}
 use Rattle.lexical_flags.specs.Rules.{Meets, shape_of}
 use Rattle.lexical_flags.specs.declared.format_flags.rule.Rule.{Rule}
+use Rattle.lexical_flags.specs.Record.{separator_allowed}
+use Rattle.lexical_util.specs.Options.{OptionsFit, OptionsHaveOneRole}
+use Rattle.lexical_util.specs.Unfoldable.{Disjoint, Holds, Lawful, byte_value, cased}
+use Rattle.lexical_literal.specs.declared.syntax.ConditionsError.{ConditionsError}
+use Rattle.lexical_literal.specs.declared.syntax.ConditionsErrorKind.{ConditionsErrorKind}
+use Rattle.lexical_literal.specs.Syntax.{FitIfAny, IsSyntax, fault, lacks_separator, limits, missing}
+use Rattle.lexical_flags.proofs.RuleLemmas.{Holds-from_lawful}
 use Rattle.lexical_flags.specs.declared.format_flags.rule.Rule.TheVariants as rules
 use Rattle.lexical_util.specs.Additions.ByteRoles as bytes
-use Rattle.lexical_util.specs.Ascii.{allowed_ascii}
 use Rattle.lexical_util.specs.Layout as layout
-use Rattle.lexical_flags.specs.Record.{separator_allowed}
 use Rattle.lexical_util.specs.Roles as sets
-use Rattle.lexical_util.specs.Options.{OptionsFit, OptionsHaveOneRole}
-use Rattle.lexical_util.specs.Unfoldable.{cased, Disjoint, Lawful, Holds, byte_value}
 use Rattle.lexical_util.specs.declared.feature_format.roles.Role.TheVariants as roles
 use Rattle.lexical_util.specs.declared.format_flags.Part.TheVariants as parts
 use Rattle.lexical_util.proofs.ByteRoleLemmas.{AreApart, apart_from, one_role}
-use Rattle.lexical_literal.specs.declared.syntax.ConditionsError.{ConditionsError}
-use Rattle.lexical_literal.specs.declared.syntax.ConditionsErrorKind.{ConditionsErrorKind}
 use Rattle.lexical_literal.specs.declared.syntax.ConditionsErrorKind.TheVariants as faults
-use Rattle.std.specs.Prelude.{if◌then◌else◌, nat_le, option_map}
-use Rattle.lexical_literal.specs.Syntax.{IsSyntax, FitIfAny, fault, lacks_separator, limits, missing}
 use Rattle.lexical_literal.specs.declared.syntax.Condition.TheVariants as conditions
 use Rattle.lexical_literal.proofs.RefusalLemmas.{other_roles}
 

@@ -1,7 +1,6 @@
 -- Digit runs, byte by byte.
-use Rattle.lexical_literal.proofs.Common.{ℕ, ◌≡◌, Bool, true, false, not, ◌&&◌, ◌||◌, List, [], ◌∷◌, ◌++◌, refl, arith, or_right, list_any, ByteSet}
-use Rattle.lexical_literal.proofs.Common.{separators_in, Part, Notation, is_present, if◌then◌else◌, gap_fits, is_open, list_any-append, is_place, are_fit}
-use Rattle.lexical_literal.specs.Run.{ends_with}
+use Rattle.lexical_literal.proofs.Common.{Bool, ByteSet, List, Notation, Part, [], are_fit, arith, ends_with, false, gap_fits, if◌then◌else◌, is_open, is_place}
+use Rattle.lexical_literal.proofs.Common.{is_present, list_any, list_any-append, not, or_right, refl, separators_in, true, ℕ, ◌&&◌, ◌++◌, ◌||◌, ◌∷◌, ◌≡◌}
 
 -- `is_rest m part h g run` is true if `run` can follow in `part`, after a digit if `h` is true, and in a gap if `g` is true. A
 -- separator is tested when the next digit or the end comes.

@@ -1,9 +1,8 @@
 -- A reader sees no difference between equivalent formats.
-use Rattle.lexical_literal.proofs.Common.{ℕ, ◌≡◌, nat_lt, Option, arith, Record, raw, Part, Conditions, has, notation_of, number_of, radix_of, byte_value}
-use Rattle.lexical_literal.proofs.Common.{Options, point_of, exponent_character_of, lacks_options}
-use Rattle.lexical_util.specs.Layout as layout
+use Rattle.lexical_literal.proofs.Common.{Conditions, Option, Options, Part, Record, arith, byte_value, cased, exponent_character_of, has, lacks_options}
+use Rattle.lexical_literal.proofs.Common.{nat_lt, notation_of, number_of, point_of, radix_of, raw, used_separator, ℕ, ◌≡◌}
 use Rattle.lexical_util.specs.NormalForm.{SameFormat}
-use Rattle.lexical_util.specs.Roles.{cased, used_separator}
+use Rattle.lexical_util.specs.Layout as layout
 
 module _ (r s : Record) (same : SameFormat r s) where
   same_radix : (part : Part) → radix_of r part ≡ radix_of s part

@@ -1,11 +1,10 @@
 -- What is read of a text part after part.
-use Rattle.lexical_literal.proofs.Common.{ℕ, ◌≡◌, ◌<◌, ◌≤◌, ◌+◌, ◌-◌, ◌&&◌, ◌||◌, Bool, true, false, not, List, Some, get_or, refl, sym, ap, subst, ◌∙◌, arith}
-use Rattle.lexical_literal.proofs.Common.{false≢true, and_from, and_parts, or_left, take_more, separators_in, Role, Part, Notation, common_steps, ◌==◌, IsTrue}
-use Rattle.lexical_literal.proofs.Common.{if◌then◌else◌, length, HasRoles, IsAt, IsReadOn, at_stage, Cuts, add, admits, after, after_digit, after_mark}
-use Rattle.lexical_literal.proofs.Common.{digits_piece, forbids_plus, has_digit, awaits_integer, is_signed, lacks_prefix, may_follow, takes, role_at, part_of}
-use Rattle.lexical_literal.proofs.Common.{takes_in, count, with_prefix, Stopped, Piece, Stage, Summary, is_free, may_read, add_more, is_negative, is_run}
-use Rattle.lexical_literal.proofs.Common.{piece_of, digits_of}
-use Rattle.lexical_literal.specs.Additions.Scan.{fresh}
+use Rattle.lexical_literal.proofs.Common.{Bool, Cuts, HasRoles, IsAt, IsReadOn, IsTrue, List, Notation, Part, Piece, Role, Some, Stage, Stopped, Summary, add}
+use Rattle.lexical_literal.proofs.Common.{add_more, admits, after, after_digit, after_mark, and_from, and_parts, ap, arith, at_stage, awaits_integer}
+use Rattle.lexical_literal.proofs.Common.{common_steps, count, digits_of, digits_piece, false, false≢true, forbids_plus, fresh, get_or, has_digit}
+use Rattle.lexical_literal.proofs.Common.{if◌then◌else◌, is_free, is_negative, is_run, is_signed, lacks_prefix, length, may_follow, may_read, not, or_left}
+use Rattle.lexical_literal.proofs.Common.{part_of, piece_of, refl, role_at, separators_in, subst, sym, take_more, takes, takes_in, true, with_prefix, ℕ, ◌&&◌}
+use Rattle.lexical_literal.proofs.Common.{◌+◌, ◌-◌, ◌<◌, ◌==◌, ◌||◌, ◌∙◌, ◌≡◌, ◌≤◌}
 use Rattle.lexical_literal.proofs.StepLemmas.{awaited_part}
 use Rattle.lexical_util.specs.declared.feature_format.roles.Role.TheVariants as roles
 use Rattle.lexical_util.specs.declared.format_flags.Part.TheVariants as parts

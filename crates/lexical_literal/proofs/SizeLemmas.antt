@@ -1,15 +1,13 @@
 -- The literals of a notation with sizes of groups are those without, whose groups fit, at once or byte by byte.
-use Rattle.lexical_literal.proofs.Common.{ℕ, ◌≡◌, ◌+◌, inl, inr, Bool, true, false, not, ◌&&◌, ◌||◌, List, [], ◌∷◌, ◌++◌, Option, Some, None, ◌<◌, ◌≤◌, drop}
-use Rattle.lexical_literal.proofs.Common.{get_or, take, refl, sym, ap, subst, ◌∙◌, arith, false≢true, and_parts, cases_Bool, eqb-true, or_left, or_right}
-use Rattle.lexical_literal.proofs.Common.{length-take-le, Flag, separators_in, signs, Role, Part, Literal, IsSpelled, Reads, is_absent, is_none_or_one}
-use Rattle.lexical_literal.proofs.Common.{is_none_or_prefix, text_of, Notation, ◌==◌, if◌then◌else◌, IsTrue, length, is_one_of, requirement_flags, has_size}
-use Rattle.lexical_literal.proofs.Common.{has_sizes, AllIn, run_byte, HasRoles, HasSizes, first_group, group_allows, group_after, grow, grown, unsized, role_at}
-use Rattle.lexical_literal.proofs.Common.{Group, is_grouped, follows}
-use Rattle.lexical_literal.specs.Additions.GroupSize.{is_idle, next_part}
-use Rattle.std.proofs.lemmas.List.{drop_more, get_or-take}
+use Rattle.lexical_literal.proofs.Common.{AllIn, Bool, Flag, Group, HasRoles, HasSizes, IsSpelled, IsTrue, List, Literal, None, Notation, Option, Part, Reads}
+use Rattle.lexical_literal.proofs.Common.{Role, Some, [], and_parts, ap, arith, cases_Bool, drop, drop_more, eqb-true, false, false≢true, first_group, follows}
+use Rattle.lexical_literal.proofs.Common.{get_or, get_or-take, group_after, group_allows, grow, grown, has_size, has_sizes, if◌then◌else◌, inl, inr, is_absent}
+use Rattle.lexical_literal.proofs.Common.{is_grouped, is_idle, is_none_or_one, is_none_or_prefix, is_one_of, length, length-take-le, next_part, not, or_left}
+use Rattle.lexical_literal.proofs.Common.{or_right, refl, requirement_flags, role_at, run_byte, separators_in, signs, subst, sym, take, text_of, true, unsized}
+use Rattle.lexical_literal.proofs.Common.{ℕ, ◌&&◌, ◌++◌, ◌+◌, ◌<◌, ◌==◌, ◌||◌, ◌∙◌, ◌∷◌, ◌≡◌, ◌≤◌}
+use Rattle.lexical_literal.specs.Run.{is_run}
 use Rattle.lexical_util.specs.declared.feature_format.roles.Role.TheVariants as roles
 use Rattle.lexical_util.specs.declared.format_flags.Part.TheVariants as parts
-use Rattle.lexical_literal.specs.Run.{is_run}
 use Rattle.lexical_literal.proofs.GroupLemmas.{group, grouped_is, one_role, run_fits, tighter}
 use Rattle.lexical_literal.proofs.PartLemmas.{parts_have_roles}
 use Rattle.lexical_literal.proofs.RefusalLemmas.{KeepsPlaces, all_fit, spelled_too}

@@ -1,11 +1,9 @@
 -- The bytes to show for a text that is refused are of the text.
-use Rattle.lexical_literal.proofs.Common.{ℕ, ◌≡◌, ◌≤◌, ◌+◌, List, [], ◌∷◌, take, Option, None, Some, get_or, sym, subst, arith, length-take-le, take_more}
-use Rattle.lexical_literal.proofs.Common.{ByteSet, Flag, Notation, notation_of, Condition, Grammar, common_steps, length, if◌then◌else◌, IsRefusal}
-use Rattle.lexical_literal.proofs.Common.{index_behind, marks_of, span_of, ReadErrorKind, Refusal, slice_get, Marks}
+use Rattle.lexical_literal.proofs.Common.{ByteSet, Condition, Flag, Grammar, IsRefusal, List, Marks, None, Notation, Option, ReadErrorKind, Refusal, Some, []}
+use Rattle.lexical_literal.proofs.Common.{arith, common_steps, get_or, if◌then◌else◌, index_behind, length, length-take-le, marks_of, notation_of}
+use Rattle.lexical_literal.proofs.Common.{position_or_len, slice_get, slice_get_within, span_of, subst, sym, take, take_more, ℕ, ◌+◌, ◌∷◌, ◌≡◌, ◌≤◌}
 use Rattle.lexical_literal.specs.Cause.{wrong_end}
-use Rattle.std.specs.List.{position_or_len}
 use Rattle.std.proofs.Math.Seq.{take-length}
-use Rattle.std.proofs.lemmas.Option.{slice_get_within}
 use Rattle.lexical_literal.proofs.CauseLemmas.{behind_more}
 
 module _ (A : ByteSet) where

@@ -1,11 +1,10 @@
 -- Stages, and what may follow a part that ends at one.
-use Rattle.lexical_literal.proofs.Common.{ℕ, ◌≡◌, Bool, true, false, not, ◌&&◌, ◌||◌, List, [], ◌∷◌, ◌++◌, refl, ◌∙◌, arith, list_any, ByteSet, signs, Part}
-use Rattle.lexical_literal.proofs.Common.{Notation, Literal, is_absent, is_none_or_one, is_none_or_prefix, ◌==◌, if◌then◌else◌, implies, has_digit, is_fresh}
-use Rattle.lexical_literal.proofs.Common.{after_digit, after_mark, after_point, awaits_integer, part_of, is_signed, forbids_plus, digits_suffice, continues}
-use Rattle.lexical_literal.proofs.Common.{Stage, Summary, is_lone, is_led, is_bare, may_float, is_plus}
+use Rattle.lexical_literal.proofs.Common.{Bool, ByteSet, List, Literal, Notation, Part, Stage, Summary, [], after_digit, after_mark, after_point, arith}
+use Rattle.lexical_literal.proofs.Common.{awaits_integer, continues, digits_suffice, false, forbids_plus, has_digit, has_leading_zero, if◌then◌else◌, implies}
+use Rattle.lexical_literal.proofs.Common.{is_absent, is_bare, is_fresh, is_led, is_lone, is_none_or_one, is_none_or_prefix, is_plus, is_signed, list_any}
+use Rattle.lexical_literal.proofs.Common.{may_float, not, part_of, refl, signs, true, ℕ, ◌&&◌, ◌++◌, ◌==◌, ◌||◌, ◌∙◌, ◌∷◌, ◌≡◌}
 use Rattle.lexical_util.specs.declared.feature_format.roles.Role.TheVariants as roles
 use Rattle.lexical_util.specs.declared.format_flags.Part.TheVariants as parts
-use Rattle.lexical_literal.specs.Literal.{has_leading_zero}
 use Rattle.lexical_literal.specs.declared.step.Stage.TheVariants as stages
 use Rattle.lexical_literal.proofs.RunLemmas.{is_rest}
 

@@ -1,9 +1,9 @@
 -- The last group before the bytes that cannot follow, and what it allows.
-use Rattle.lexical_literal.proofs.Common.{ℕ, ◌≡◌, ◌+◌, ◌-◌, ◌↔◌, inl, inr, Bool, true, false, not, ◌&&◌, ◌||◌, List, [], ◌∷◌, ◌++◌, append-nil, Option, Some}
-use Rattle.lexical_literal.proofs.Common.{None, refl, sym, ap, subst, ◌∙◌, arith, cases_Bool, false_from_ne_true, ByteSet, Flag, Role, Part, Notation}
-use Rattle.lexical_literal.proofs.Common.{Condition, if◌then◌else◌, length, length-append, append_assoc, Allows, index_behind, marks_of, with_rules, has_size}
-use Rattle.lexical_literal.proofs.Common.{has_sizes, IsWeaker, lets, HasRoles, HasSizes, IsReady, first_group, group_allows, group_after, grown, unsized}
-use Rattle.lexical_literal.proofs.Common.{part_of, role_at, walk, start, Group, Summary, IsReadOf, goes, role_next}
+use Rattle.lexical_literal.proofs.Common.{Allows, Bool, ByteSet, Condition, Flag, Group, HasRoles, HasSizes, IsReadOf, IsReady, IsWeaker, List, None, Notation}
+use Rattle.lexical_literal.proofs.Common.{Option, Part, Role, Some, Summary, [], ap, append-nil, append_assoc, arith, cases_Bool, false, false_from_ne_true}
+use Rattle.lexical_literal.proofs.Common.{first_group, goes, group_after, group_allows, grown, has_size, has_sizes, if◌then◌else◌, index_behind, inl, inr}
+use Rattle.lexical_literal.proofs.Common.{length, length-append, lets, marks_of, not, part_of, refl, role_at, role_next, start, subst, sym, true, unsized, walk}
+use Rattle.lexical_literal.proofs.Common.{with_rules, ℕ, ◌&&◌, ◌++◌, ◌+◌, ◌-◌, ◌||◌, ◌↔◌, ◌∙◌, ◌∷◌, ◌≡◌}
 use Rattle.lexical_util.specs.declared.feature_format.roles.Role.TheVariants as roles
 use Rattle.lexical_util.specs.declared.format_flags.Part.TheVariants as parts
 use Rattle.lexical_literal.proofs.BlameLemmas.{own_weaker}

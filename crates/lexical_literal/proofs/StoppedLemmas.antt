@@ -1,16 +1,13 @@
 -- Fronts of a text, and where the loop is left.
-use Rattle.lexical_literal.proofs.Common.{ℕ, Bool, IsNone, Option, ◌≡◌, ◌<◌, ◌≤◌, ◌+◌, ◌||◌, ◌↔◌, ◌⊎◌, not, inl, inr, true, false, List, [], ◌∷◌, ◌++◌, get_or}
-use Rattle.lexical_literal.proofs.Common.{replicate, take, drop, Some, None, refl, sym, ap, subst, append-nil, take-append-drop, ◌∙◌, arith, false≢true}
-use Rattle.lexical_literal.proofs.Common.{and_parts, cases_Bool, cases_lt, false_from_ne_true, slice_get-get_or, length-take-le, take_more, take_all, Notation}
-use Rattle.lexical_literal.proofs.Common.{Literal, IsLiteral, Reads, Role, common_steps, if◌then◌else◌, length, append_assoc, count, cuts_of, role_at, walk}
-use Rattle.lexical_literal.proofs.Common.{step, is_accepted, part_of, start, no_cuts, HasLengths, Allows, IsFront, IsValidUpTo, NoFront, NoLiteral, ReadsFront}
-use Rattle.lexical_literal.proofs.Common.{IsCountedFront, IsMeasured, IsStopped, first_group, group_allows, group_after, grow, grown, unsized, has_sizes}
-use Rattle.lexical_literal.proofs.Common.{HasRoles, HasSizes, IsReady, IsAt, Found, Stopped, Group, Summary, HasBegun, HasFound, IsLongest, IsUnderway, goes}
-use Rattle.lexical_literal.proofs.Common.{IsRefused, is_some, slice_get, or_parts}
-use Rattle.lexical_literal.specs.Additions.Step.{is_complete, tally}
-use Rattle.lexical_literal.specs.Additions.Stop.{IsFronted}
+use Rattle.lexical_literal.proofs.Common.{Allows, Bool, Found, Group, HasBegun, HasFound, HasLengths, HasRoles, HasSizes, IsAt, IsCountedFront, IsFront}
+use Rattle.lexical_literal.proofs.Common.{IsFronted, IsLiteral, IsLongest, IsMeasured, IsNone, IsReady, IsRefused, IsStopped, IsUnderway, IsValidUpTo, List}
+use Rattle.lexical_literal.proofs.Common.{Literal, NoFront, NoLiteral, None, Notation, Option, Reads, ReadsFront, Role, Some, Stopped, Summary, [], and_parts}
+use Rattle.lexical_literal.proofs.Common.{ap, append-nil, append_assoc, arith, cases_Bool, cases_lt, common_steps, count, cuts_of, drop, false}
+use Rattle.lexical_literal.proofs.Common.{false_from_ne_true, false≢true, first_group, get_or, goes, group_after, group_allows, grow, grown, has_sizes}
+use Rattle.lexical_literal.proofs.Common.{if◌then◌else◌, inl, inr, is_accepted, is_complete, is_some, length, length-take-le, no_cuts, not, or_parts, part_of}
+use Rattle.lexical_literal.proofs.Common.{refl, replicate, role_at, slice_get, slice_get-get_or, start, step, subst, sym, take, take-append-drop, take-take}
+use Rattle.lexical_literal.proofs.Common.{take_all, take_more, tally, true, unsized, walk, ℕ, ◌++◌, ◌+◌, ◌<◌, ◌||◌, ◌↔◌, ◌∙◌, ◌∷◌, ◌≡◌, ◌≤◌, ◌⊎◌}
 use Rattle.std.proofs.lemmas.Option.{slice_get_past}
-use Rattle.std.proofs.lemmas.List.{take-take}
 use Rattle.lexical_literal.specs.declared.stop.Begun.{Begun}
 use Rattle.lexical_literal.specs.declared.syntax.Condition.TheVariants as conditions
 use Rattle.lexical_literal.proofs.WalkLemmas.{walk_append, tally_append}
@@ -148,12 +145,12 @@ module _ (m : Notation) (ready : IsReady m) (text : List ℕ) where
 
   -- Where a literal may have been found.
   pub complete_at : (counted : Begun) → IsAt m text counted.at (cuts_of counted.counts) → counted.complete ≡ is_complete m counted.at.read
-      → counted.exact ≡ false → HasFound m text counted
-  complete_at counted is complete inexact = record {
+      → counted.refused ≡ false → HasFound m text counted
+  complete_at counted is complete going = record {
     begun = is.begun;
     literal = λ yes. literal_from m ready.roles ready.no_sizes (take counted.at.size text) (ap (is_accepted m) is.begun.read ∙ sym complete ∙ yes);
     lengths = λ yes. has_counted counted.at.size counted.counts is.counted;
-    exact = λ yes. absurd (false≢true (sym inexact ∙ yes));
+    refused = λ yes. absurd (false≢true (sym going ∙ yes));
   }
 
   -- A text has one reading.
@@ -329,8 +326,8 @@ module _ (m : Notation) (ready : IsReady (unsized m)) (sizes : HasSizes m) (text
     literal = λ yes. let l = found.literal yes in
         (l.0, as_sized m h sizes l.0 (take counted.at.size text) l.1 (ap (ends m) grouped ∙ ends_there yes));
     lengths = λ yes l reads. found.lengths yes l (as_unsized m h sizes l (take counted.at.size text) reads).0;
-    exact = λ yes. let refused = found.exact yes in
-        (refused.0, refused_at counted.at group (record { begun = found.begun; grouped = grouped }) refused);
+    refused = λ yes. let is = found.refused yes in
+        (is.0, refused_at counted.at group (record { begun = found.begun; grouped = grouped }) is);
   }
 
   pub begun_free : (counted : Begun) → HasFound u text counted → has_sizes m ≡ false → HasBegun m text counted

@@ -1,16 +1,11 @@
 -- The digits of a run, their number, and the number that they represent, modulo `2 ^ 64`.
-use Rattle.lexical_literal.proofs.Common.{ℕ, ◌≡◌, ◌<◌, ◌≤◌, ◌+◌, ◌-◌, ◌*◌, ◌%◌, ◌^◌, ◌∙◌, true, false, List, [], ◌∷◌, ◌++◌, Option, Some, None, nat_lt, cond}
-use Rattle.lexical_literal.proofs.Common.{get_or, take, drop, sym, ap, subst, arith, filter_map-append, take_more, raw, Part, Notation, radix_of, Grammar}
-use Rattle.lexical_literal.proofs.Common.{common_steps, length, number_from_digits_after, steps_of, HasRoles, IsReadOn, IsRunOn, at_stage, digits_in}
-use Rattle.lexical_literal.proofs.Common.{digits_piece, part_of, Cuts, IsAt, Piece, Reading, Stage, IsDigitAt, up_to, add_more, is_run, number_after_append}
-use Rattle.lexical_literal.proofs.Common.{mod-mod, byte_value}
-use Rattle.lexical_literal.specs.Additions.Scan.{IsSeparated, between}
-use Rattle.std.proofs.lemmas.List.{drop-drop, length-drop}
-use Rattle.std.proofs.Math.Nat.{mod-add-mod}
+use Rattle.lexical_literal.proofs.Common.{Cuts, Grammar, HasRoles, IsAt, IsDigitAt, IsReadOn, IsRunOn, IsSeparated, List, None, Notation, Option, Part, Piece}
+use Rattle.lexical_literal.proofs.Common.{Reading, Some, Stage, [], add_more, ap, arith, at_stage, between, byte_value, common_steps, cond, cons_option}
+use Rattle.lexical_literal.proofs.Common.{digit_of, digits_in, digits_piece, drop, drop-drop, false, filter_map-append, get_or, is_run, length, length-drop}
+use Rattle.lexical_literal.proofs.Common.{mod-add-mod, mod-mod, nat_lt, number_after_append, number_from_digits_after, part_of, radix_of, raw, steps_of, subst}
+use Rattle.lexical_literal.proofs.Common.{sym, take, take_more, true, up_to, ℕ, ◌%◌, ◌*◌, ◌++◌, ◌+◌, ◌-◌, ◌<◌, ◌^◌, ◌∙◌, ◌∷◌, ◌≡◌, ◌≤◌}
 use Rattle.std.proofs.Math.Seq.{take-add}
-use Rattle.std.specs.List.{cons_option}
 use lib.ListN.{length-append}
-use Rattle.lexical_util.specs.Digits.{digit_of}
 use Rattle.lexical_number.proofs.SmallLemmas.{push_same}
 use Rattle.lexical_literal.proofs.ScanLemmas.{go_on, read_digit, read_separated}
 use Rattle.lexical_literal.proofs.WalkLemmas.{is_role, no_digit}

@@ -1,9 +1,8 @@
 -- How a text is read, byte by byte.
-use Rattle.lexical_literal.proofs.Common.{ℕ, ◌≡◌, Bool, true, false, not, ◌+◌, ◌&&◌, List, [], ◌∷◌, ◌++◌, Option, Some, None, refl, sym, ap, ◌∙◌, arith}
-use Rattle.lexical_literal.proofs.Common.{false≢true, false_from_ne_true, nat_tests, Role, Part, Notation, set_of_role, Condition, ◌==◌, if◌then◌else◌, length}
-use Rattle.lexical_literal.proofs.Common.{HasRoles, Cuts, add, admits, role_at, takes, after, part_of, takes_in, count, no_condition, Piece, Stage, Summary}
-use Rattle.lexical_literal.proofs.Common.{move_by, piece_number, step_by, tally_by}
-use Rattle.lexical_literal.specs.Additions.Step.{walk_by, accepted_by}
+use Rattle.lexical_literal.proofs.Common.{Bool, Condition, Cuts, HasRoles, List, None, Notation, Option, Part, Piece, Role, Some, Stage, Summary, []}
+use Rattle.lexical_literal.proofs.Common.{accepted_by, add, admits, after, ap, arith, count, false, false_from_ne_true, false≢true, if◌then◌else◌, length}
+use Rattle.lexical_literal.proofs.Common.{move_by, nat_tests, no_condition, not, part_of, piece_number, refl, role_at, set_of_role, step_by, sym, takes}
+use Rattle.lexical_literal.proofs.Common.{takes_in, tally_by, true, walk_by, ℕ, ◌&&◌, ◌++◌, ◌+◌, ◌==◌, ◌∙◌, ◌∷◌, ◌≡◌}
 use Rattle.lexical_util.specs.declared.feature_format.roles.Role.TheVariants as roles
 
 -- `Accepts C m o text` holds if `text` is accepted with the conditions `C`.

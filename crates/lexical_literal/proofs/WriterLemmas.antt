@@ -1,8 +1,7 @@
 -- Which texts of mantissa digits are literals.
-use Rattle.lexical_literal.proofs.Common.{ℕ, ◌≡◌, ◌≢◌, ◌↔◌, Bool, true, false, not, ◌&&◌, ◌||◌, IsFalse, List, [], ◌∷◌, Some, None, refl, sym, ap, ◌∙◌, arith}
-use Rattle.lexical_literal.proofs.Common.{list_any, false_from_ne_true, Notation, Literal, Reads, HasRoles, HasSizes, IsReady, first_group, unsized, AllIn}
-use Rattle.lexical_literal.proofs.Common.{step, walk, is_accepted, start, part_of, Stage, needs_exponent, move_by, or_from}
-use Rattle.lexical_literal.specs.Readings.{refuses_first}
+use Rattle.lexical_literal.proofs.Common.{AllIn, Bool, HasRoles, HasSizes, IsFalse, IsReady, List, Literal, None, Notation, Reads, Some, Stage, [], ap, arith}
+use Rattle.lexical_literal.proofs.Common.{false, false_from_ne_true, first_group, is_accepted, list_any, move_by, needs_exponent, not, or_from, part_of, refl}
+use Rattle.lexical_literal.proofs.Common.{refuses_first, start, step, sym, true, unsized, walk, ℕ, ◌&&◌, ◌||◌, ◌↔◌, ◌∙◌, ◌∷◌, ◌≡◌, ◌≢◌}
 use Rattle.lexical_util.specs.Layout as layout
 use Rattle.lexical_util.specs.declared.feature_format.roles.Role.TheVariants as roles
 use Rattle.lexical_util.specs.declared.format_flags.Part.TheVariants as parts

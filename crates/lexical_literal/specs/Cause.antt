@@ -14,7 +14,7 @@ use Rattle.lexical_util.specs.Record.{raw}
 use Rattle.lexical_util.specs.Roles.{other_case, signs}
 use Rattle.lexical_util.specs.declared.format_flags.Part.{Part}
 use Rattle.lexical_util.specs.declared.format_flags.Part.TheVariants as parts
-use Rattle.lexical_literal.specs.Front.{IsFront, IsValidUpTo, NoLiteral}
+use Rattle.lexical_literal.specs.Front.{BeginsBy, IsValidBy, NoneBy}
 use Rattle.lexical_literal.specs.Groups.{has_sizes}
 use Rattle.lexical_literal.specs.Literal.{Literal, Reads}
 use Rattle.lexical_literal.specs.Notation.{all_conditions, Notation, has, order}
@@ -62,7 +62,7 @@ requiring c m = record m { condition = λ d. (order c == order d) || m.condition
 -- `Allows m front next` holds if some literal begins with `front` and the byte `next`, or if `front` is a literal, where `next` is `None`.
 abbrev pub Allows : Notation → List ℕ → Option ℕ → Type 0
 Allows m front None = (l : Literal) × Reads m l front
-Allows m front (Some byte) = IsFront m (front ++ byte ∷ [])
+Allows m front (Some byte) = BeginsBy (Reads m) (front ++ byte ∷ [])
 
 -- `binds m f` is true if the flag `f` is set and requires something. Where each literal has an exponent, the leading zeros of integers do not matter.
 abbrev pub binds : Notation → Flag → Bool
@@ -141,7 +141,7 @@ module _ (m : Notation) (front : List ℕ) (byte : ℕ) where
 
 -- `IsMissing m front part blamed` holds if digits of `part` are missing behind `front`, and no flag is to blame.
 pub record IsMissing (m : Notation) (front : List ℕ) (part : Part) (blamed : Flag → Bool) : Type 0 where
-  pub refused : NoLiteral (bare m) front
+  pub refused : NoneBy (Reads (bare m)) front
   pub last : part ≡ (if list_any m.exponent_character front then parts.Exponent else (if list_any m.point front then parts.Fraction else parts.Integer))
   pub none : (f : Flag) → blamed f ≡ false
 
@@ -276,7 +276,7 @@ pub record Explained : Type 0 where
 
 -- `IsRefusal m text error` holds if `error` says how far `text` is right, which byte cannot follow, why, which bytes to show, and which error this is.
 pub record IsRefusal (m : Notation) (text : List ℕ) (error : Refusal) : Type 0 where
-  pub valid_up_to : IsValidUpTo m text error.valid_up_to
+  pub valid_up_to : IsValidBy (Reads m) text error.valid_up_to
   pub byte : error.byte ≡ slice_get text error.valid_up_to
   pub tail : error.tail ≡ tail_of text error.valid_up_to
   pub cause : IsCause m (take error.valid_up_to text) (slice_get text error.valid_up_to) error.kind (raw error.mask).flag

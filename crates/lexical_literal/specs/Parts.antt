@@ -1,7 +1,7 @@
 -- What reading returns: a literal, or an error.
 use Rattle.std.specs.Prelude.{ℕ, ◌≡◌, IfErr, IfOk, IsErr, IsOkAnd, List, Result}
 use Rattle.lexical_literal.specs.Cause.{Explained, IsRefusal}
-use Rattle.lexical_literal.specs.Front.{NoFront, ReadsFront}
+use Rattle.lexical_literal.specs.Front.{NoFrontBy, ReadsFrontBy}
 use Rattle.lexical_literal.specs.Read.{exact}
 use Rattle.lexical_literal.specs.Literal.{Literal, Reads}
 use Rattle.lexical_literal.specs.Notation.{notation_of}
@@ -39,8 +39,8 @@ pub record IsRead (g : Grammar) (text : List ℕ) (result : Result Read Explaine
 -- error of a text for which there is no such front.
 pub record IsReadPrefix (g : Grammar) (text : List ℕ) (result : Result Front Explained) : Type 0 where
   -- A front of the text is a literal with the parts that are returned, and no longer front is a literal.
-  pub found : IfOk result (λ front. (front.literal.format ≡ g.word) × ReadsFront (notation_of g) front.literal.literal text front.size)
+  pub found : IfOk result (λ front. (front.literal.format ≡ g.word) × ReadsFrontBy (Reads (notation_of g)) front.literal.literal text front.size)
   pub kind : IfOk result (λ front. front.literal.kind ≡ exact)
   -- If no front is a literal, an error says why the text is not one.
-  pub none : IsErr result → NoFront (notation_of g) text
+  pub none : IsErr result → NoFrontBy (Reads (notation_of g)) text
   pub error : IfErr result (λ error. IsRefusal (notation_of g) text error.refusal)

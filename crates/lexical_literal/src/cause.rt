@@ -3,7 +3,6 @@
 ghost use Rattle.std.specs.Prelude.{◌≡◌, ◌<◌, ◌^◌, Some, if◌then◌else◌, ◌&&◌, ℕ, not};
 ghost use Rattle.lexical_util.specs.Layout.{Flag, bit};
 ghost use Rattle.lexical_util.specs.Record.{raw};
-ghost use Rattle.lexical_util.specs.Roles.{other_case};
 ghost use Rattle.lexical_literal.specs.Additions.Causes.{is_at_gap, lets, place_of};
 ghost use Rattle.lexical_literal.specs.Additions.Explained.{alone, blame, cases, grammar_at, group_at, mask_of, refusal_of, requirements, separators, unmet};
 ghost use Rattle.lexical_literal.specs.Additions.Explained.{zeros};
@@ -15,8 +14,8 @@ ghost use Rattle.lexical_literal.specs.Notation.{has, kept, notation_of, number_
 
 use crate::group_size::{Group, follows, has_size};
 use crate::step::{
-    Summary, has_digit, is_complete, is_exponent_character, needs_exponent, part_of, role_at,
-    step_as,
+    Summary, has_digit, is_complete, is_exponent_character, needs_exponent, other_case, part_of,
+    role_at, step_as,
 };
 use crate::syntax::{CONDITIONS, Condition, Conditions, Grammar, Options};
 use lexical_util::error::Error;
@@ -230,6 +229,7 @@ impl Spot {
 
     // Returns whether the cause is a wrong byte, or a required prefix is not there. It takes less time than all answers.
     #[inline(always)]
+    #[tactic(auto, using(crate::proofs::NumberLemmas::has_kept))]
     pub(crate) const fn is_stray(self) -> bool
         ensures { result ≡ is_stray (refusal_of (notation_of (grammar_at self)) self) }
     {
@@ -324,7 +324,7 @@ impl Spot {
     }
 
     // Returns whether the text could go on without requirements.
-    const fn is_free(self) -> bool
+    const fn goes_on_bare(self) -> bool
         ensures { result ≡ goes (bare (notation_of (grammar_at self))) self.read (group_at self) self.byte }
     {
         self.allows(self.bare(), Conditions::NONE)
@@ -413,7 +413,7 @@ impl Spot {
         ensures { result ≡ unmet (notation_of (grammar_at self)) self.read (group_at self) self.byte condition }
     {
         self.conditions.has(condition)
-            && self.is_free()
+            && self.goes_on_bare()
             && !self.allows(self.bare(), self.conditions.only(condition))
     }
 
@@ -472,7 +472,7 @@ impl Spot {
             byte: Some(other),
             ..self
         };
-        if spot.is_free() {
+        if spot.goes_on_bare() {
             case_mask(self.grammar(), other)
         } else {
             0
@@ -486,7 +486,7 @@ impl Spot {
         match self.byte {
             None => false,
             Some(byte) => {
-                !self.is_free() && self.separators() == 0 && self.case_flags(byte) == 0
+                !self.goes_on_bare() && self.separators() == 0 && self.case_flags(byte) == 0
             }
         }
     }
@@ -495,7 +495,7 @@ impl Spot {
     const fn blame(self) -> Blame
         ensures { result ≡ blame (notation_of (grammar_at self)) self.read (group_at self) self.byte }
     {
-        if self.is_free() {
+        if self.goes_on_bare() {
             return Blame {
                 kind: ReadErrorKind::Requirement,
                 mask: self.requirements(),
@@ -545,16 +545,4 @@ const fn case_mask(grammar: Grammar, byte: u8) -> u128
         grammar.view().is_base_suffix(byte),
         masks::CASE_SENSITIVE_BASE_SUFFIX,
     )
-}
-
-// Returns the other case of a letter, or the byte itself if it is not a letter.
-#[doc(hidden)]
-pub const fn other_case(byte: u8) -> u8
-    ensures { result ≡ other_case byte }
-{
-    match byte {
-        b'A'..=b'Z' => byte + 32,
-        b'a'..=b'z' => byte - 32,
-        _ => byte,
-    }
 }

@@ -1,7 +1,7 @@
 //! Literals that were read, their parts, and the numbers that their digits represent.
 
 ghost use Rattle.std.specs.Prelude.{◌≡◌, ◌≤◌, ◌++◌, ◌%◌, ◌^◌, [], ℕ, IfSome, IsFalse, IsSome, List, length, take};
-ghost use Rattle.lexical_literal.specs.Additions.Literal.{AreSums, IsCut, IsSum, cut, given};
+ghost use Rattle.lexical_literal.specs.Additions.Literal.{AreSums, IsCut, IsSum, cut, given, summed_in};
 ghost use Rattle.lexical_literal.specs.Additions.Step.{HasLengths, cuts_of};
 ghost use Rattle.lexical_literal.specs.Read.{exact};
 ghost use Rattle.lexical_literal.specs.Literal.{Literal as Parted, Reads, is_float, is_minus, text_of};
@@ -19,7 +19,8 @@ ghost use Rattle.lexical_util.specs.Rules.{IsRadix};
 use crate::kind::Kind;
 use crate::syntax::Syntax;
 use lexical_number::small::{add_all, count, fits, small};
-use lexical_util::format::NumberFormat;
+use lexical_util::format::{NumberFormat, Part};
+use lexical_util::format_flags::{exponent_radix, mantissa_radix};
 use std::marker::Model;
 
 /// The parts of a literal, in the order of the text. An absent part has no bytes.
@@ -157,6 +158,7 @@ impl<'a> Literal<'a> {
     /// Returns whether the sign is `-`.
     #[must_use]
     #[inline(always)]
+    #[tactic(auto, using(crate::proofs::MadeLemmas::minus))]
     pub const fn is_negative(&self) -> bool
         ensures { result ≡ is_minus self.now.literal.sign }
     {
@@ -177,6 +179,7 @@ impl<'a> Literal<'a> {
     /// Returns whether the sign of the exponent is `-`.
     #[must_use]
     #[inline(always)]
+    #[tactic(auto, using(crate::proofs::MadeLemmas::minus))]
     pub fn has_negative_exponent(&self) -> bool
         ensures { result ≡ is_minus self.now.literal.exponent_sign }
     {
@@ -240,27 +243,34 @@ impl Syntax {
         requires sums { AreSums (raw self.now.word) (cut text.now (cuts_of counts)) sums }
         ensures { result ≡ record { format = self.now.word; literal = cut text.now (cuts_of counts); kind = exact } }
     {
-        let view = self.format().view();
+        let word = self.format().word();
         let Sums {
-            mantissa: Sum { digits, value },
+            mantissa,
             places,
-            exponent: Sum {
-                digits: exponent_digits,
-                value: exponent_value,
-            },
+            exponent: scale,
         } = sums;
-        let (has_exponent, exponent) = split(small_exponent(
-            view.exponent_radix(),
+        let radix = exponent_radix(word);
+        let (has_exponent, exponent) = split(short(
+            radix,
             text,
             counts,
-            exponent_digits,
-            exponent_value,
+            Part::Exponent,
+            scale.digits,
+            scale.value,
         ));
+        let radix = mantissa_radix(word);
         Literal {
             text,
             counts,
-            view,
-            mantissa: small_mantissa(view.mantissa_radix(), text, counts, digits, value),
+            view: NumberFormat::new(word),
+            mantissa: short(
+                radix,
+                text,
+                counts,
+                Part::Integer,
+                mantissa.digits,
+                mantissa.value,
+            ),
             places,
             exponent,
             has_exponent,
@@ -369,46 +379,28 @@ fn sums_of(radix: u32, exponent_radix: u32, parts: &Parts) -> Sums
     }
 }
 
-// Returns the number that the digits of the integer and the fraction represent together, if they are few. There are `digits` of
-// them, and `sum` is the number modulo `2 ^ 64`.
+// Returns the number that the digits of the exponent, or else of the integer and the fraction together, represent, if they are few.
+// There are `digits` of them, and `sum` is the number modulo `2 ^ 64`.
 #[inline(always)]
-fn small_mantissa(
+fn short(
     radix: u32,
     text: &[u8],
     counts: [usize; 9],
+    part: Part,
     digits: usize,
     sum: u64,
 ) -> Option<u64>
     requires radix { IsRadix radix }
     requires cut { (m : Notation) × IsCut m text.now (cuts_of counts) }
-    requires digits { digits ≡ places radix ((cut text.now (cuts_of counts)).integer ++ (cut text.now (cuts_of counts)).fraction) }
-    requires sum { sum % 2 ^ 64 ≡ number radix ((cut text.now (cuts_of counts)).integer ++ (cut text.now (cuts_of counts)).fraction) % 2 ^ 64 }
-    ensures { IsSmall radix (number radix ((cut text.now (cuts_of counts)).integer ++ (cut text.now (cuts_of counts)).fraction)) result }
+    requires sum { IsSum radix (summed_in part (cut text.now (cuts_of counts))) (record { digits = digits; value = sum }) }
+    ensures { IsSmall radix (number radix (summed_in part (cut text.now (cuts_of counts)))) result }
 {
     if fits(radix, digits) {
         return Some(sum);
     }
     let parts = parts_of(text, counts);
-    small(radix, parts.integer, parts.fraction, digits, sum)
-}
-
-// Returns the number that the digits of the exponent represent, if they are few, as `small_mantissa` does.
-#[inline(always)]
-fn small_exponent(
-    radix: u32,
-    text: &[u8],
-    counts: [usize; 9],
-    digits: usize,
-    sum: u64,
-) -> Option<u64>
-    requires radix { IsRadix radix }
-    requires cut { (m : Notation) × IsCut m text.now (cuts_of counts) }
-    requires digits { digits ≡ places radix (cut text.now (cuts_of counts)).exponent }
-    requires sum { sum % 2 ^ 64 ≡ number radix (cut text.now (cuts_of counts)).exponent % 2 ^ 64 }
-    ensures { IsSmall radix (number radix (cut text.now (cuts_of counts)).exponent) result }
-{
-    if fits(radix, digits) {
-        return Some(sum);
+    match part {
+        Part::Exponent => small(radix, parts.exponent, &[], digits, sum),
+        _ => small(radix, parts.integer, parts.fraction, digits, sum),
     }
-    small(radix, parts_of(text, counts).exponent, &[], digits, sum)
 }

@@ -31,7 +31,7 @@ impl Syntax {
         let begun = self.begin(self.is_decimal(), text, false);
         if begun.is_whole(self, text) {
             Ok(self.literal(text, begun.counts, begun.sums))
-        } else if begun.exact {
+        } else if begun.refused {
             begun.at.refuse(self, text)
         } else {
             self.read_slowly(text, begun.at)

@@ -6,10 +6,11 @@
 
 ghost use Rattle.std.specs.Prelude.{◌≡◌, ◌<◌, ◌≤◌, ◌+◌, ◌-◌, ◌*◌, ◌%◌, ◌^◌, ◌∷◌, [], false, true, IfSome, IsNone, IsTrue, get_or, length, nat_lt, ◌&&◌};
 ghost use Rattle.lexical_util.specs.Record.{raw};
-ghost use Rattle.lexical_literal.specs.Notation.{Notation, radix_of};
-ghost use Rattle.lexical_literal.specs.Additions.Stop.{HasFound};
-ghost use Rattle.lexical_literal.specs.Additions.Scan.{IsAt, IsBegun, IsDecimal, IsDigitAt, IsOpened, IsOver, IsPassed, IsReadOn, IsReady, IsRefused};
-ghost use Rattle.lexical_literal.specs.Additions.Scan.{IsRunOn, IsSeparated, IsSign, behind_sign, counts_of, fresh, has_first, is_first, is_free, at_stage};
+ghost use Rattle.lexical_literal.specs.Notation.{notation_of, radix_of};
+ghost use Rattle.lexical_literal.specs.Additions.Stop.{HasBegun, HasFound, IsMeasured};
+ghost use Rattle.lexical_literal.specs.Additions.Scan.{HasSizes, IsAt, IsBegun, IsDecimal, IsDigitAt, IsOpened, IsOver, IsPassed, IsReadOn, IsReady, IsRefused};
+ghost use Rattle.lexical_literal.specs.Additions.Scan.{IsRunOn, IsSeparated, IsSign, IsUsual, behind_sign, counts_of};
+ghost use Rattle.lexical_literal.specs.Additions.Scan.{fresh, has_first, is_first, is_free, at_stage};
 ghost use Rattle.lexical_literal.specs.Additions.Scan.{may_read};
 ghost use Rattle.lexical_literal.specs.Additions.GroupSize.{steps_of};
 ghost use Rattle.lexical_literal.specs.Additions.Literal.{AreSums, IsMantissa, IsSummed, cut};
@@ -18,6 +19,7 @@ ghost use Rattle.lexical_literal.specs.Additions.Step.{is_run, is_signed, part_o
 ghost use Rattle.lexical_literal.specs.declared.step.Piece.TheVariants as pieces;
 ghost use Rattle.lexical_literal.specs.declared.syntax.Condition.TheVariants as conditions;
 
+use crate::group_size::{group_after, group_allows};
 use crate::literal::{NOTHING, Sum, Sums};
 use crate::step::{
     Stage, Summary, after_point, allows_minus, allows_plus, awaits_integer, digit_value, digits_of,
@@ -25,7 +27,7 @@ use crate::step::{
     is_signed, may_follow, radix_of, takes,
 };
 use crate::stop::{BEGIN, Begun, Stopped};
-use crate::syntax::{Condition, Grammar};
+use crate::syntax::{Condition, Grammar, Syntax, has_sizes, is_usual};
 use lexical_base::digit::char_to_digit_const;
 use lexical_number::small::add;
 use lexical_util::format::{Part, Role};
@@ -63,9 +65,9 @@ const fn at_stage(size: usize, stage: Stage) -> Stopped
 
 // Returns that the parts are read up to `at`, which no literal is said to end at.
 #[inline(always)]
-const fn unfinished(_grammar: Grammar, _text: &[u8], at: Stopped, exact: bool) -> Begun
+const fn unfinished(_grammar: Grammar, _text: &[u8], at: Stopped, refused: bool) -> Begun
     requires begun { IsBegun (steps_of _grammar) _text.now at }
-    requires exact { IsTrue exact → IsRefused (steps_of _grammar) _text.now at }
+    requires refused { IsTrue refused → IsRefused (steps_of _grammar) _text.now at }
     ensures found { HasFound (steps_of _grammar) _text.now result }
     ensures summed { IsSummed (raw _grammar.word) _text.now result }
 {
@@ -78,17 +80,18 @@ const fn unfinished(_grammar: Grammar, _text: &[u8], at: Stopped, exact: bool) -
             exponent: NOTHING,
         },
         complete: false,
-        exact,
+        refused,
     }
 }
 
 // Returns whether all digits are decimal, and no base prefix is read.
 #[inline(always)]
-pub(crate) const fn is_decimal(grammar: Grammar) -> bool
+const fn is_decimal(grammar: Grammar) -> bool
     ensures { IsTrue result → IsDecimal (raw grammar.word) }
 {
-    let view = grammar.view();
-    view.mantissa_radix() == 10 && view.exponent_radix() == 10 && base_prefix(grammar.word) == 0
+    radix_of(grammar, Part::Integer) == 10
+        && radix_of(grammar, Part::Exponent) == 10
+        && base_prefix(grammar.word) == 0
 }
 
 // Returns whether a sign of the mantissa, or of the exponent, follows and is read.
@@ -366,7 +369,7 @@ const fn behind_zero(grammar: Grammar, decimal: bool, text: &[u8], zero: Reading
 // Reads a front of `text` with which some literal begins. Unless `fronts` is true, a front that is a literal, but not all of
 // `text`, can have `complete` false, which takes less time.
 #[inline(always)]
-pub(crate) const fn scan(grammar: Grammar, decimal: bool, text: &[u8], fronts: bool) -> Begun
+const fn scan(grammar: Grammar, decimal: bool, text: &[u8], fronts: bool) -> Begun
     requires decimal { IsTrue decimal → IsDecimal (raw grammar.word) }
     requires ready { IsReady (steps_of grammar) }
     ensures found { HasFound (steps_of grammar) text.now result }
@@ -379,6 +382,74 @@ pub(crate) const fn scan(grammar: Grammar, decimal: bool, text: &[u8], fronts: b
         return without_prefix(grammar, text, sign);
     };
     integer(grammar, decimal, text, fronts, sign, prefix, stage)
+}
+
+#[doc(hidden)]
+impl Begun {
+    // Returns whether the parts are those of all of `text`.
+    #[inline(always)]
+    pub const fn is_whole(self, _syntax: &Syntax, text: &[u8]) -> bool
+        requires { HasBegun (notation_of _syntax.now) text.now self }
+        ensures measured { IsTrue result → IsMeasured (notation_of _syntax.now) text.now self.counts }
+        ensures complete { IsTrue result → IsTrue self.complete }
+    {
+        self.complete && self.at.size == text.len()
+    }
+}
+
+#[doc(hidden)]
+impl Syntax {
+    // Returns whether all digits are decimal, no base prefix is read, and the syntax is a usual one.
+    #[inline(always)]
+    pub(crate) const fn is_decimal(&self) -> bool
+        ensures radix { IsTrue result → IsDecimal (raw self.now.word) }
+        ensures usual { IsTrue result → IsUsual self.now }
+    {
+        let grammar = self.grammar();
+        is_usual(grammar) && is_decimal(grammar)
+    }
+
+    // Reads a front of `text` with which some literal begins. Unless `fronts` is true, a front that is a literal, but not all of
+    // `text`, can have `complete` false, which takes less time.
+    #[inline(always)]
+    pub const fn begin(&self, decimal: bool, text: &[u8], fronts: bool) -> Begun
+        requires radix { IsTrue decimal → IsDecimal (raw self.now.word) }
+        requires usual { IsTrue decimal → IsUsual self.now }
+        ensures found { HasBegun (notation_of self.now) text.now result }
+        ensures summed { IsSummed (raw self.now.word) text.now result }
+    {
+        if decimal {
+            return scan(self.usual_grammar(), decimal, text, fronts);
+        }
+        let grammar = self.grammar();
+        let begun = scan(grammar, decimal, text, fronts);
+        if has_sizes(grammar) {
+            sized(self.grammar(), text, begun)
+        } else {
+            begun
+        }
+    }
+}
+
+// Returns what has been read without regard to sizes of groups, or that nothing has if a group has not the right size.
+#[inline(always)]
+const fn sized(grammar: Grammar, text: &[u8], begun: Begun) -> Begun
+    requires ready { IsReady (steps_of grammar) }
+    requires sizes { HasSizes (notation_of grammar) }
+    requires found { HasFound (steps_of grammar) text.now begun }
+    requires summed { IsSummed (raw grammar.word) text.now begun }
+    ensures begun { HasBegun (notation_of grammar) text.now result }
+    ensures summed { IsSummed (raw grammar.word) text.now result }
+{
+    match group_after(grammar, text, begun.at.size) {
+        Some(group) if !begun.complete || group_allows(grammar, group, None) => begun,
+        _ => Begun {
+            at: BEGIN,
+            complete: false,
+            refused: false,
+            ..begun
+        },
+    }
 }
 
 // Returns whether no condition is on the first digit, or one follows that they allow.
@@ -678,7 +749,7 @@ const fn finished(
             exponent,
         },
         complete: is_complete(grammar, at.read),
-        exact: false,
+        refused: false,
     }
 }
 
@@ -720,8 +791,8 @@ const fn suffix(
         let at = Stopped { size, read };
         finished(grammar, text, at, mantissa, scale, 1, exponent)
     } else if !fronts && size < text.len() {
-        let exact = is_passed(grammar, read.stage, text[size]);
-        unfinished(grammar, text, at, exact)
+        let refused = is_passed(grammar, read.stage, text[size]);
+        unfinished(grammar, text, at, refused)
     } else {
         finished(grammar, text, at, mantissa, scale, 0, exponent)
     }

@@ -3,7 +3,7 @@
 ghost use Rattle.std.specs.Prelude.{◌≡◌, ◌<◌, ◌==◌, ◌&&◌, IfSome, IsNone, None, Some, false, not, nat_lt};
 ghost use Rattle.lexical_util.specs.Digits.{byte_value, digit_of};
 ghost use Rattle.lexical_util.specs.Record.{raw};
-ghost use Rattle.lexical_util.specs.Roles.{signs};
+ghost use Rattle.lexical_util.specs.Roles.{other_case, signs};
 ghost use Rattle.lexical_literal.specs.Notation.{has, radix_of, point_of, exponent_character_of};
 ghost use Rattle.lexical_literal.specs.Run.{is_place};
 ghost use Rattle.lexical_util.specs.Layout.{separators_in};
@@ -15,8 +15,9 @@ ghost use Rattle.lexical_literal.specs.Additions.Step.{leads, leads_to_prefix, n
 
 use crate::group_size::has_size;
 use crate::syntax::{Condition, Conditions, Grammar};
+use lexical_base::digit::char_to_digit;
 use lexical_util::format::{Part, Role};
-use lexical_util::format_flags::digit_separator;
+use lexical_util::format_flags::{digit_separator, exponent_radix, mantissa_radix};
 
 // A part of a literal.
 #[derive(Clone, Copy)]
@@ -103,8 +104,8 @@ pub(crate) const fn digit_value(grammar: Grammar, part: Part, byte: u8) -> Optio
     ensures { result ≡ digit_of byte (radix_of (raw grammar.word) part) }
 {
     match part {
-        Part::Exponent => grammar.view().exponent_digit(byte),
-        _ => grammar.view().mantissa_digit(byte),
+        Part::Exponent => char_to_digit(byte, exponent_radix(grammar.word)),
+        _ => char_to_digit(byte, mantissa_radix(grammar.word)),
     }
 }
 
@@ -114,8 +115,8 @@ pub(crate) const fn radix_of(grammar: Grammar, part: Part) -> u32
     ensures { result ≡ radix_of (raw grammar.word) part }
 {
     match part {
-        Part::Exponent => grammar.view().exponent_radix(),
-        _ => grammar.view().mantissa_radix(),
+        Part::Exponent => exponent_radix(grammar.word),
+        _ => mantissa_radix(grammar.word),
     }
 }
 
@@ -156,6 +157,17 @@ pub const fn is_point(grammar: Grammar, byte: u8) -> bool
     match grammar.options {
         None => false,
         Some(options) => options.point != 0 && byte == options.point,
+    }
+}
+
+// Returns the other case of a letter, or the byte itself if it is not a letter.
+pub const fn other_case(byte: u8) -> u8
+    ensures { result ≡ other_case byte }
+{
+    match byte {
+        b'A'..=b'Z' => byte + 32,
+        b'a'..=b'z' => byte - 32,
+        _ => byte,
     }
 }
 
@@ -210,7 +222,10 @@ pub(crate) const fn awaits_integer(stage: Stage) -> bool
 pub(crate) const fn has_digit(stage: Stage) -> bool
     ensures { result ≡ has_digit stage }
 {
-    matches!(stage, Stage::Bare | Stage::Zero) || is_run(stage)
+    matches!(
+        stage,
+        Stage::Bare | Stage::Zero | Stage::Led | Stage::Integer | Stage::Fraction | Stage::Exponent
+    )
 }
 
 // Returns whether another digit changes no stage, and may follow.

@@ -1,13 +1,10 @@
 //! Where reading a text stops, and whether that is a literal: what has begun, and what has stopped.
 
-ghost use Rattle.std.specs.Prelude.{◌≡◌, ◌+◌, ◌++◌, ◌∷◌, ◌<◌, ◌≤◌, ◌^◌, Bool, IfSome, Some, IsErrAnd, IsNone, IsTrue, None, ℕ, List, [], false, get_or, true};
+ghost use Rattle.std.specs.Prelude.{◌≡◌, ◌+◌, ◌<◌, ◌≤◌, ◌^◌, IfSome, Some, IsErrAnd, IsNone, None, ℕ, List, [], false, get_or, true};
 ghost use Rattle.std.specs.Prelude.{length, slice_get, take, IfErr, IfOk, IsErr};
 ghost use Rattle.lexical_literal.specs.Additions.Explained.{grammar_at, refusal_of, tail_byte};
-ghost use Rattle.lexical_literal.specs.Additions.Stop.{HasBegun, HasFound, IsFronted, IsLongest, IsMeasured, IsStopped, IsUnderway};
-ghost use Rattle.lexical_literal.specs.Additions.Scan.{HasSizes, IsDecimal, IsReady, IsUsual};
-ghost use Rattle.lexical_literal.specs.Additions.Literal.{IsSummed};
-ghost use Rattle.lexical_literal.specs.Additions.GroupSize.{goes, steps_of};
-ghost use Rattle.lexical_util.specs.Record.{raw};
+ghost use Rattle.lexical_literal.specs.Additions.Stop.{HasBegun, IsFronted, IsLongest, IsMeasured, IsStopped, IsUnderway};
+ghost use Rattle.lexical_literal.specs.Additions.GroupSize.{goes};
 ghost use Rattle.lexical_literal.specs.Additions.Step.{HasLengths, count, cuts_of, part_of, role_at};
 ghost use Rattle.lexical_literal.specs.Cause.{IsRefusal, is_stray, tail_of, tail_size};
 ghost use Rattle.lexical_literal.specs.Front.{NoLiteral};
@@ -19,21 +16,20 @@ ghost use Rattle.lexical_literal.specs.declared.group_size.Group.{Group};
 use crate::cause::{ReadError, Spot};
 use crate::group_size::{FIRST, Group, group_after, group_allows, grow};
 use crate::literal::Sums;
-use crate::scan::{is_decimal, scan};
 use crate::span::spot;
 use crate::step::{Piece, START, Summary, is_complete, part_of, piece_number, piece_of, step};
-use crate::syntax::{Grammar, Syntax, has_sizes, is_usual};
+use crate::syntax::{Grammar, Syntax, has_sizes};
 use lexical_util::format::{Part, Role};
 
 // What has been read of a text part after part. If `complete` is true, it is a literal, its parts have the lengths `counts`, and its
-// digits the sums. If `exact` is true, the byte that follows is refused.
+// digits the sums. If `refused` is true, the byte that follows is refused.
 #[derive(Clone, Copy)]
 pub struct Begun {
     pub at: Stopped,
     pub counts: [usize; 9],
     pub sums: Sums,
     pub complete: bool,
-    pub(crate) exact: bool,
+    pub(crate) refused: bool,
 }
 
 // Where reading a text has stopped, part after part or for good: the number of bytes that have been read, and their summary.
@@ -60,23 +56,13 @@ pub struct Found {
 
 #[doc(hidden)]
 impl Begun {
-    // Returns whether the parts are those of all of `text`.
-    #[inline(always)]
-    pub const fn is_whole(self, _syntax: &Syntax, text: &[u8]) -> bool
-        requires { HasBegun (notation_of _syntax.now) text.now self }
-        ensures measured { IsTrue result → IsMeasured (notation_of _syntax.now) text.now self.counts }
-        ensures complete { IsTrue result → IsTrue self.complete }
-    {
-        self.complete && self.at.size == text.len()
-    }
-
     // Returns where reading `text` stops.
     #[inline(always)]
     pub const fn stop(self, syntax: &Syntax, text: &[u8]) -> Stopped
         requires { HasBegun (notation_of syntax.now) text.now self }
         ensures { IsStopped (notation_of syntax.now) text.now result }
     {
-        if self.exact {
+        if self.refused {
             self.at
         } else {
             self.at.go_on(syntax, text)
@@ -91,7 +77,7 @@ impl Begun {
         ensures stop { IfErr result (IsStopped (notation_of syntax.now) text.now) }
         ensures none { IsErr result → NoLiteral (notation_of syntax.now) text.now }
     {
-        if self.exact {
+        if self.refused {
             Err(self.at)
         } else {
             self.at.all_lengths(syntax, text)
@@ -215,6 +201,7 @@ impl Stopped {
 
     // Returns whether the front of `text` up to here is a literal.
     #[inline(always)]
+    #[tactic(auto, using(crate::proofs::StoppedLemmas::same_group))]
     pub const fn is_literal(self, syntax: &Syntax, text: &[u8]) -> bool
         requires { IsStopped (notation_of syntax.now) text.now self }
         ensures { result ≡ false → NoLiteral (notation_of syntax.now) (take self.size text.now) }
@@ -270,37 +257,6 @@ impl Stopped {
 
 #[doc(hidden)]
 impl Syntax {
-    // Returns whether all digits are decimal, no base prefix is read, and the syntax is a usual one.
-    #[inline(always)]
-    pub(crate) const fn is_decimal(&self) -> bool
-        ensures radix { IsTrue result → IsDecimal (raw self.now.word) }
-        ensures usual { IsTrue result → IsUsual self.now }
-    {
-        let grammar = self.grammar();
-        is_usual(grammar) && is_decimal(grammar)
-    }
-
-    // Reads a front of `text` with which some literal begins. Unless `fronts` is true, a front that is a literal, but not all of
-    // `text`, can have `complete` false, which takes less time.
-    #[inline(always)]
-    pub const fn begin(&self, decimal: bool, text: &[u8], fronts: bool) -> Begun
-        requires radix { IsTrue decimal → IsDecimal (raw self.now.word) }
-        requires usual { IsTrue decimal → IsUsual self.now }
-        ensures found { HasBegun (notation_of self.now) text.now result }
-        ensures summed { IsSummed (raw self.now.word) text.now result }
-    {
-        if decimal {
-            return scan(self.usual_grammar(), decimal, text, fronts);
-        }
-        let grammar = self.grammar();
-        let begun = scan(grammar, decimal, text, fronts);
-        if has_sizes(grammar) {
-            sized(self.grammar(), text, begun)
-        } else {
-            begun
-        }
-    }
-
     // Returns where reading `text` stops.
     #[cold]
     pub fn stop(&self, text: &[u8]) -> Stopped
@@ -360,27 +316,6 @@ impl Syntax {
             None => [0; 9],
             Some(found) => found.counts,
         }
-    }
-}
-
-// Returns what has been read without regard to sizes of groups, or that nothing has if a group has not the right size.
-#[inline(always)]
-const fn sized(grammar: Grammar, text: &[u8], begun: Begun) -> Begun
-    requires ready { IsReady (steps_of grammar) }
-    requires sizes { HasSizes (notation_of grammar) }
-    requires found { HasFound (steps_of grammar) text.now begun }
-    requires summed { IsSummed (raw grammar.word) text.now begun }
-    ensures begun { HasBegun (notation_of grammar) text.now result }
-    ensures summed { IsSummed (raw grammar.word) text.now result }
-{
-    match group_after(grammar, text, begun.at.size) {
-        Some(group) if !begun.complete || group_allows(grammar, group, None) => begun,
-        _ => Begun {
-            at: BEGIN,
-            complete: false,
-            exact: false,
-            ..begun
-        },
     }
 }
 

@@ -155,6 +155,7 @@ impl Conditions {
     }
 
     // Returns the first of the conditions, in the order in which they are checked.
+    #[tactic(auto, using(std::proofs::lemmas::List::drop_all))]
     pub(crate) const fn first(self) -> Option<Condition>
         ensures { result ≡ find (has self) all_conditions }
     {

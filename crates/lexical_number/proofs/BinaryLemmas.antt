@@ -1,12 +1,10 @@
 -- From a number by its leading bits to units of least floats, and to the nearest float.
-use Rattle.lexical_number.proofs.Common.{pow_pos, pow_mono, pow-add, IsNearestBits, nat_tests, ◌≡◌, ℕ, suc, ◌+◌, ◌-◌, ◌*◌, ◌/◌, ◌%◌, ◌^◌, ◌<◌, ◌≤◌, ◌==◌, ◌||◌}
-use Rattle.lexical_number.proofs.Common.{◌&&◌, nat_lt, Bool, true, false, refl, sym, ap, ◌∙◌, subst, inl, inr, arith, eq-zero-or-pos, mul-pos, mod-eq_of_lt}
-use Rattle.lexical_number.proofs.Common.{lt_of_mul-lt-mul_right, mul-le-mul_right, le_of_eq, le_trans, mul-le-mul_left, nearest_of_huge, nearest_of_tiny}
-use Rattle.lexical_number.proofs.Common.{IsCutTo, eq_of_mul-eq-mul_right, bool_byte, lit≤, Format, hid, ones, prec}
-use native.Mathlib.Nat.{mod-lt, div-add-mod', div-eq_of_lt, le_of_mul-le-mul_right}
-use lib.Pow.{shl_lt}
-use lib.Ieee.{low}
-use Rattle.core.specs.Dec2flt.Rounding.{scaled_bits, IsCut, IsJustAbove, IsSignificand, IsWithin}
+use Rattle.lexical_number.proofs.Common.{Bool, Format, IsCut, IsCutTo, IsJustAbove, IsNearestBits, IsSignificand, IsWithin, ap, arith, bool_byte}
+use Rattle.lexical_number.proofs.Common.{eq-zero-or-pos, eq_of_mul-eq-mul_right, false, hid, inl, inr, le_of_eq, le_trans, lit≤, low, lt_of_mul-lt-mul_right}
+use Rattle.lexical_number.proofs.Common.{mod-eq_of_lt, mul-le-mul_left, mul-le-mul_right, mul-pos, nat_lt, nat_tests, nearest_of_huge, nearest_of_tiny, ones}
+use Rattle.lexical_number.proofs.Common.{pow-add, pow_mono, pow_pos, prec, refl, scaled_bits, shl_lt, subst, suc, sym, true, ℕ, ◌%◌, ◌&&◌, ◌*◌, ◌+◌, ◌-◌, ◌/◌}
+use Rattle.lexical_number.proofs.Common.{◌<◌, ◌==◌, ◌^◌, ◌||◌, ◌∙◌, ◌≡◌, ◌≤◌}
+use native.Mathlib.Nat.{div-add-mod', div-eq_of_lt, le_of_mul-le-mul_right, mod-lt}
 use Rattle.core.proofs.dec2flt.Patterns.{shape}
 use Rattle.core.proofs.dec2flt.RoundingLemmas.{nearest_tie, nearest_above}
 use Rattle.core.proofs.dec2flt.Settle.{lies_above, rounds_down, rounds_up, significand_of}

@@ -1,9 +1,7 @@
 -- The number that digits represent when they follow those of another number.
-use Rattle.lexical_number.proofs.Common.{◌≡◌, ℕ, suc, ◌+◌, ◌*◌, ◌<◌, ◌≤◌, List, ◌∷◌, drop, get_or, nat_lt, Bool, true, false, cond, refl, Option, Some, None}
-use Rattle.lexical_number.proofs.Common.{sym, ap, subst, ◌∙◌, arith, drop-cons, ◌++◌, nat_tests, filter_map-append, length, number_from_digits_after}
-use Rattle.lexical_number.proofs.Common.{cons_option, byte_value, number_after, digits_in}
-use Rattle.std.proofs.lemmas.Int.Digits.{number_after_append, number_after_ge}
-use Rattle.lexical_base.specs.Digits.{digit_of}
+use Rattle.lexical_number.proofs.Common.{Bool, List, None, Option, Some, ap, arith, byte_value, cond, cons_option, digit_of, digits_in, drop, drop-cons, false}
+use Rattle.lexical_number.proofs.Common.{filter_map-append, get_or, length, nat_lt, nat_tests, number_after, number_after_append, number_after_ge}
+use Rattle.lexical_number.proofs.Common.{number_from_digits_after, refl, subst, suc, sym, true, ℕ, ◌*◌, ◌++◌, ◌+◌, ◌<◌, ◌∙◌, ◌∷◌, ◌≡◌, ◌≤◌}
 
 -- What is left at the index `i` begins with the byte at `i`.
 module _ (radix n i : ℕ) (bytes : List ℕ) (inside : i < length bytes) where

@@ -1,7 +1,7 @@
 -- Leading digits and an exponent, in radixes that are powers of two, as a whole number times a power of two.
-use Rattle.lexical_number.proofs.Common.{pow_pos, pow_mono, pow-add, IsNearestBits, raised_up, raised_down, ◌≡◌, ℕ, zero, suc, ◌+◌, ◌*◌, ◌^◌, ◌≤◌, Bool, true}
-use Rattle.lexical_number.proofs.Common.{false, if◌then◌else◌, sym, ap, ◌∙◌, subst, arith, mul-le-mul, mul-le-mul_right, le_trans, le_of_eq, pow-suc}
-use Rattle.lexical_number.proofs.Common.{nearest_of_tiny, nearest_of_huge, Leads, lit≤, Format, hid, ones}
+use Rattle.lexical_number.proofs.Common.{Bool, Format, IsNearestBits, Leads, ap, arith, false, hid, if◌then◌else◌, le_of_eq, le_trans, lit≤, mul-le-mul}
+use Rattle.lexical_number.proofs.Common.{mul-le-mul_right, nearest_of_huge, nearest_of_tiny, ones, pow-add, pow-suc, pow_mono, pow_pos, raised_down, raised_up}
+use Rattle.lexical_number.proofs.Common.{subst, suc, sym, true, zero, ℕ, ◌*◌, ◌+◌, ◌^◌, ◌∙◌, ◌≡◌, ◌≤◌}
 use native.Mathlib.Nat.{pow-zero}
 
 pub pow_of : (a n : ℕ) → (2 ^ a) ^ n ≡ 2 ^ (n * a)

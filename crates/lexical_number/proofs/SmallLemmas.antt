@@ -1,12 +1,11 @@
 -- Numbers of 64 bits, by the number of their digits behind leading zeros.
-use Rattle.lexical_number.proofs.Common.{◌≡◌, ℕ, zero, suc, ◌+◌, ◌-◌, ◌*◌, ◌%◌, ◌^◌, ◌<◌, ◌≤◌, ◌↔◌, ◌&&◌, ◌||◌, inl, inr, List, [], ◌∷◌, ◌++◌, nat_lt, Bool}
-use Rattle.lexical_number.proofs.Common.{true, false, cond, Some, None, refl, sym, ap, subst, ◌∙◌, arith, slice_index_or, cases_lt, nat_tests, ◌==◌, length}
-use Rattle.lexical_number.proofs.Common.{nat_le, if◌then◌else◌, IsTrue, number_from_digits_after, digits_in, number, places, leading_zeros, agree_below_at}
-use Rattle.lexical_number.proofs.Common.{number_lt, mod-add-mod, pow-le-pow_right, pow-zero, cons_option, byte_value}
+use Rattle.lexical_number.proofs.Common.{Bool, IsTrue, List, None, Some, [], agree_below_at, ap, arith, byte_value, cases_lt, cond, cons_option, digits_in}
+use Rattle.lexical_number.proofs.Common.{false, if◌then◌else◌, inl, inr, leading_zeros, length, mod-add-mod, mul-le-mul_right, nat_le, nat_lt, nat_tests}
+use Rattle.lexical_number.proofs.Common.{number, number_from_digits_after, number_lt, places, pow-le-pow_right, pow-suc, pow-zero, refl, slice_index_or, subst}
+use Rattle.lexical_number.proofs.Common.{suc, sym, true, zero, ℕ, ◌%◌, ◌&&◌, ◌*◌, ◌++◌, ◌+◌, ◌-◌, ◌<◌, ◌==◌, ◌^◌, ◌||◌, ◌↔◌, ◌∙◌, ◌∷◌, ◌≡◌, ◌≤◌}
 use Rattle.std.specs.Int.Digits.{AllBelowBase, number_from_digits}
 use Rattle.lexical_number.specs.Small.{IsSmall}
 use Rattle.std.proofs.lemmas.Nat.{mul-mod_first}
-use Rattle.std.proofs.Math.Nat.{mul-le-mul_right, pow-suc}
 use Rattle.lexical_number.specs.declared.small.TheConstants.{MOST}
 
 -- Digits behind a number are those behind each number that is the same modulo `2 ^ 64`.
@@ -136,3 +135,6 @@ pub fitting_word : (radix digits sum : ℕ) (bytes : List ℕ) → radix ^ digit
     → IsSmall radix (number radix bytes) (Some sum)
 fitting_word radix digits sum bytes fits all = short_word radix digits sum bytes fits
     (subst (λ k. number radix bytes < radix ^ k) (sym all) (number_lt radix (digits_in radix bytes) (below radix bytes)))
+
+-- What the digits behind leading zeros are below.
+pub ruleset sizes = (at_most, below, long_word, short_word, zeros_within)

@@ -1,7 +1,6 @@
 //! The float nearest to a whole number times a power of two.
 
-ghost use Rattle.std.specs.Prelude.{◌≡◌, ℕ, Bool, true, false, ◌+◌, ◌*◌, ◌/◌, ◌^◌, ◌<◌, ◌≤◌, cond, min};
-ghost use Rattle.std.specs.Float.{Format};
+ghost use Rattle.std.specs.Prelude.{◌≡◌, ℕ, true, ◌+◌, ◌*◌, ◌/◌, ◌^◌, ◌<◌, ◌≤◌, min};
 ghost use Rattle.std.specs.Float.Ieee.{prec, low, hid, ones};
 ghost use Rattle.core.specs.Dec2flt.Rounding.{scaled_bits, IsNearestBits, IsSignificand, IsCut};
 ghost use Rattle.lexical_number.specs.Float.{format_of};

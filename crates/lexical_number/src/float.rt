@@ -94,6 +94,7 @@ impl Float for f64 {
     }
 
     #[inline(always)]
+    #[tactic(auto, using(core::proofs::num::FloatSigns::zero_is))]
     fn is_zero(self) -> bool {
         self == 0.0
     }
@@ -146,6 +147,7 @@ impl Float for f32 {
     }
 
     #[inline(always)]
+    #[tactic(auto, using(core::proofs::num::FloatSigns::zero_is))]
     fn is_zero(self) -> bool {
         self == 0.0
     }

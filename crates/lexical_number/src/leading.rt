@@ -27,6 +27,7 @@ impl Leading {
 
     /// Returns all digits of a number as its leading digits.
     #[must_use]
+    #[tactic(auto, using(crate::proofs::LeadingLemmas::leads_all))]
     pub const fn whole(number: u64) -> Leading
         ensures leads { (radix : ℕ) → 1 ≤ radix → Leads radix number result.digits result.more result.dropped }
         ensures dropped { result.dropped ≡ 0 }
@@ -83,6 +84,7 @@ pub const fn push_all(leading: Leading, radix: u32, bytes: &[u8]) -> Leading
 
 /// Returns the number that the digits among `bytes` represent in `radix`, or `2 ^ 90` if that is less.
 #[must_use]
+#[tactic(auto, using(crate::proofs::LeadingLemmas::digits_le, crate::proofs::LeadingLemmas::few, crate::proofs::LeadingLemmas::starts))]
 pub const fn saturating(bytes: &[u8], radix: u32) -> u128
     ensures { result ≡ min (number radix bytes.now) (2 ^ 90) }
 {

@@ -29,6 +29,7 @@ pub const fn bits_of(radix: u32) -> Option<u32>
 /// Returns the bits of the float nearest to a number by its leading digits, over the radix to the power of `places`, times
 /// a power of two with `bits` bits to the exponent `exponent`, or `2 ^ 90` or more.
 #[must_use]
+#[tactic(auto, using(crate::proofs::LeadingLemmas::many))]
 pub const fn raised_bits(
     double: bool,
     leading: Leading,

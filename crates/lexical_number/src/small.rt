@@ -32,6 +32,7 @@ const MOST: [u8; 37] = [
 /// Returns whether each number of so many digits in `radix` is below `2 ^ 64`.
 #[must_use]
 #[inline(always)]
+#[tactic(auto, using(crate::proofs::SmallLemmas::fits_is, crate::proofs::SmallLemmas::twelve_fit))]
 pub const fn fits(radix: u32, digits: usize) -> bool
     requires { (2 ≤ radix) × (radix ≤ 36) }
     ensures { IsTrue result ↔ (radix ^ digits ≤ 2 ^ 64) }
@@ -103,6 +104,7 @@ const fn all_zeros(integer: &[u8], fraction: &[u8], radix: u32) -> usize
 /// zeros that each number of so many is below `2 ^ 64`. There are `digits` of them, and `sum` is the number modulo `2 ^ 64`.
 #[must_use]
 #[cold]
+#[tactic(auto, using(crate::proofs::SmallLemmas::sizes))]
 pub const fn small(
     radix: u32,
     integer: &[u8],

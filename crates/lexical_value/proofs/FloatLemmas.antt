@@ -1,8 +1,7 @@
 -- The fraction that a literal is, by its parts, and floats that are no NaN.
-use Rattle.lexical_value.proofs.Common.{raised_down, raised_up, number, places, mantissa, ℕ, ◌≡◌, ◌+◌, ◌*◌, ◌^◌, not, Bool, true, false, cond, ap, ◌∙◌, refl}
-use Rattle.lexical_value.proofs.Common.{subst, sym, zero, suc, round, is_decimal, Record, effective_exponent_base, effective_exponent_radix, Literal, is_minus}
-use Rattle.lexical_value.proofs.Common.{Leads, denominator, numerator}
-use Rattle.std.proofs.Common.{◌==◌}
+use Rattle.lexical_value.proofs.Common.{Bool, Leads, Literal, Record, ap, cond, denominator, effective_exponent_base, effective_exponent_radix, false}
+use Rattle.lexical_value.proofs.Common.{is_decimal, is_minus, mantissa, not, number, numerator, places, raised_down, raised_up, refl, round, subst, suc, sym}
+use Rattle.lexical_value.proofs.Common.{true, zero, ℕ, ◌*◌, ◌+◌, ◌==◌, ◌^◌, ◌∙◌, ◌≡◌}
 use lib.Ieee.{Float, Format, emax, inf, is_nan, low, odd, prec, units}
 use lib.Ieee.Fits.{round_is}
 use Rattle.std.proofs.lemmas.Bool.{and_parts, eqb-true}

@@ -1,20 +1,16 @@
 -- The lowest bits of a number, and what literals of the exact kind are worth.
-use Rattle.lexical_value.proofs.Common.{ℕ, ◌≡◌, ◌+◌, ◌-◌, ◌%◌, ◌^◌, ◌<◌, ◌≤◌, ◌||◌, ◌∙◌, Bool, true, false, not, if◌then◌else◌, Some, Ok, Err, arith, ap, refl}
-use Rattle.lexical_value.proofs.Common.{subst, sym, pow-le-pow_right, nat_tests, Record, width, worth, wrapped, Kind, Literal, is_float, is_minus}
-use Rattle.lexical_value.proofs.Common.{mantissa, is_exact, integer_worth, within, format_by, round, is_binary, is_decimal, nearest}
-use Rattle.lexical_value.proofs.Common.{IsNoInteger, IsNotWorth, float_worth, ValueErrorKind, inl, inr, ◌*◌, ◌/◌}
+use Rattle.lexical_value.proofs.Common.{Bool, Err, IsNoInteger, IsNotWorth, Kind, Literal, Ok, Record, Result, Some, ValueErrorKind, ap, arith, exact, false}
+use Rattle.lexical_value.proofs.Common.{float_worth, format_by, if◌then◌else◌, inl, inr, integer_size, integer_worth, is_binary, is_decimal, is_exact, is_float}
+use Rattle.lexical_value.proofs.Common.{is_minus, mantissa, mod-add-div', mod-eq_of_lt, mod-lt, nat_tests, nearest, not, pow-le-pow_right, refl, round, subst}
+use Rattle.lexical_value.proofs.Common.{sym, true, width, within, worth, wrapped, ℕ, ◌%◌, ◌*◌, ◌+◌, ◌-◌, ◌/◌, ◌<◌, ◌^◌, ◌||◌, ◌∙◌, ◌≡◌, ◌≤◌, ◌⊎◌}
 use Rattle.lexical_value.specs.Private.{limit}
-use Rattle.std.proofs.Common.{Result}
-use Rattle.std.proofs.Math.Nat.{mod-add-div', mod-eq_of_lt, mod-lt}
 use Rattle.std.proofs.Math.Pow.{mod-mod-pow}
 use Rattle.std.proofs.lemmas.Bool.{false≢true}
 use Rattle.std.proofs.lemmas.Nat.{pow-add, pow_pos}
 use Rattle.std.specs.Float.{Float, Format}
 use Rattle.std.specs.Option.{ok_or}
-use Rattle.std.specs.Prelude.{[], nat_le, option_map, ◌⊎◌}
-use Rattle.lexical_value.specs.Integer.{integer_size}
+use Rattle.std.specs.Prelude.{[], nat_le, option_map}
 use Rattle.lexical_value.proofs.ValueLemmas.{whole_denominator, whole_numerator}
-use Rattle.lexical_literal.specs.Read.{exact}
 use Rattle.lexical_literal.specs.declared.kind.IntegerKind.TheVariants as integers
 use Rattle.lexical_value.specs.declared.integer.ValueErrorKind.TheVariants as kinds
 

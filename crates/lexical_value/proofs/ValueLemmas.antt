@@ -1,18 +1,14 @@
 -- On what the value of a literal does not depend.
-use Rattle.lexical_value.proofs.Common.{nat_tests, number, mantissa, ℕ, ◌≡◌, ◌*◌, ◌<◌, ◌^◌, cond, if◌then◌else◌, ◌++◌, Some, refl, sym, ap, ◌∙◌, arith}
-use Rattle.lexical_value.proofs.Common.{pow-zero, Record, effective_exponent_base, effective_exponent_radix, Literal, is_float, denominator, numerator}
-use Rattle.std.proofs.Common.{IsTrue, IsFalse, List, [], ◌∷◌, nat_lt, None, append-nil, length}
+use Rattle.lexical_value.proofs.Common.{Literal, Reads, Record, SameDigits, SameValue, Some, ap, arith, cond, denominator, digits_in, effective_exponent_base}
+use Rattle.lexical_value.proofs.Common.{effective_exponent_radix, if◌then◌else◌, integer_size, is_float, mantissa, nat_tests, number, numerator, position}
+use Rattle.lexical_value.proofs.Common.{pow-zero, power, refl, scale, spelled, sym, unwrap_or, ℕ, ◌*◌, ◌++◌, ◌<◌, ◌==◌, ◌^◌, ◌∙◌, ◌≡◌}
+use Rattle.std.proofs.Common.{IsFalse, IsTrue, List, None, [], append-nil, length, nat_lt, ◌∷◌}
 use Rattle.std.proofs.lemmas.List.Elements.{filter_map-append}
 use Rattle.std.specs.Int.Digits.{number_from_digits}
-use Rattle.std.specs.Prelude.{◌==◌, position, unwrap_or}
 use Rattle.lexical_util.specs.Digits.{byte_value, digit_characters, digit_of, uppercase}
-use Rattle.lexical_util.specs.Layout as layout
 use Rattle.lexical_util.specs.NormalForm.{SameFormat}
-use Rattle.lexical_literal.specs.Literal.{Reads}
 use Rattle.lexical_literal.specs.Notation.{Notation}
-use Rattle.lexical_number.specs.Number.{digits_in}
-use Rattle.lexical_value.specs.Integer.{integer_size}
-use Rattle.lexical_value.specs.Value.{SameDigits, SameValue, power, scale, spelled}
+use Rattle.lexical_util.specs.Layout as layout
 
 -- The value depends on the mantissa radix, and on the effective exponent base and radix.
 pub same_word : (r s : Record) (l : Literal) → SameFormat r s → SameValue r.byte l s.byte l

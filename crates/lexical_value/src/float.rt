@@ -16,8 +16,7 @@ ghost use Rattle.lexical_value.specs.Kind.{float_worth, format_by, is_exact, wit
 ghost use Rattle.lexical_value.specs.Value.{denominator, numerator};
 ghost use Rattle.lexical_value.specs.declared.integer.ValueErrorKind.TheVariants as kinds;
 
-use crate::integer::{ValueErrorKind, integer_numeral};
-use crate::kind::{fewer, is_exact, keeps};
+use crate::integer::{ValueErrorKind, fewer, integer_numeral, is_exact, keeps};
 use lexical_literal::kind::{FloatKind, FloatLimits, Kind};
 use lexical_literal::literal::Literal;
 use lexical_number::decimal::{decimal_to_float, digits_to_float};
@@ -137,6 +136,7 @@ fn nearest_single(literal: &Literal) -> Result<f32, ValueErrorKind>
 
 // Returns the float nearest to what an integer of a kind that is not exact is worth.
 #[cold]
+#[tactic(auto, using(crate::proofs::FloatLemmas::not_nan, crate::proofs::KindLemmas::kept_float))]
 fn whole_float<F: Float>(literal: &Literal) -> Result<F, ValueErrorKind>
     requires kind { is_exact literal.now.kind.integers ≡ false }
     requires integer { is_float literal.now.literal ≡ false }
@@ -166,6 +166,7 @@ fn whole_float<F: Float>(literal: &Literal) -> Result<F, ValueErrorKind>
 ///
 /// If the mantissa radix and the exponent base are neither both 10 nor both powers of two.
 #[inline(always)]
+#[tactic(auto, using(crate::proofs::FloatLemmas::not_nan))]
 pub fn nearest_float<F: Float>(literal: &Literal) -> Result<F, ValueErrorKind>
     ensures supported { IsTrue (is_decimal (bytes_of literal.now.format) || is_binary (bytes_of literal.now.format)) ↔ IsOk result }
     ensures error { IfErr result (λ kind. kind ≡ kinds.UnsupportedRadix) }
@@ -269,6 +270,7 @@ pub(crate) fn binary_size(double: bool, literal: &Literal) -> Option<u64>
 
 // Returns what `binary_size` returns, of a literal whose mantissa or exponent has many digits.
 #[cold]
+#[tactic(auto, using(crate::proofs::FloatLemmas::by_bits, crate::proofs::FloatLemmas::of_value))]
 fn long_binary_size(double: bool, literal: &Literal, radix_bits: u32, base_bits: u32) -> u64
     requires radix { (1 ≤ radix_bits) × (radix_bits ≤ 5) × ((raw literal.now.format).byte layout.mantissa_radix ≡ 2 ^ radix_bits) }
     requires base { (1 ≤ base_bits) × (base_bits ≤ 5) × (effective_exponent_base (raw literal.now.format) ≡ 2 ^ base_bits) }
@@ -285,6 +287,7 @@ fn long_binary_size(double: bool, literal: &Literal, radix_bits: u32, base_bits:
 }
 
 // Returns the leading digits of the mantissa, all of them if it is known.
+#[tactic(auto, using(lexical_number::proofs::LeadingLemmas::starts))]
 pub(crate) fn leading_of(literal: &Literal, radix: u32) -> Leading
     requires some { 1 ≤ radix }
     requires radix { radix ≡ (raw literal.now.format).byte layout.mantissa_radix }

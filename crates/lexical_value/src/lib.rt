@@ -5,7 +5,6 @@
 
 pub mod float;
 pub mod integer;
-mod kind;
 pub mod laws;
 pub mod parse;
 pub mod scaled;

@@ -1,16 +1,13 @@
 -- A float as an odd number times a power of two, and its digits in a radix that is a power of two.
-use Rattle.lexical_writer.proofs.Common.{div-div-eq-div-mul, pow-suc}
-use Rattle.lexical_writer.proofs.Common.{Bool, Grammar, HasUnits, IsExponent, IsWrittenWith, None, Option, Record, Some, Style, ap, arith, cases_lt}
-use Rattle.lexical_writer.proofs.Common.{div-add-mod', effective_exponent_base, eq-zero-or-pos, eq_of_mul-eq-mul_right, false, if◌then◌else◌, inl, inr, is_long}
-use Rattle.lexical_writer.proofs.Common.{is_shown, is_some, lt-ltb, mod-eq_of_lt, mod-lt, mul-le-mul_left, mul-le-mul_right, mul-lt-mul_of_pos_right, mul-pos}
-use Rattle.lexical_writer.proofs.Common.{nat_le, nat_lt, nat_tests, one-le-pow, pow-add, pow-le-pow_right, pow-zero, raised_down, raised_up, raw, refl, rounded}
-use Rattle.lexical_writer.proofs.Common.{subst, suc, sym, true, zero, ℕ, ◌%◌, ◌&&◌, ◌*◌, ◌+◌, ◌-◌, ◌/◌, ◌<◌, ◌^◌, ◌||◌, ◌∙◌, ◌≡◌, ◌≤◌, ◌⊎◌}
-use Rattle.lexical_util.specs.Layout as layout
-use Rattle.lexical_writer.specs.Amount.{is_far}
-use Rattle.lexical_writer.specs.Layout.{allows_exponent}
+use Rattle.lexical_writer.proofs.Common.{Bool, Grammar, HasUnits, IsExponent, IsWrittenWith, None, Option, Record, Some, Style, allows_exponent, ap, arith}
+use Rattle.lexical_writer.proofs.Common.{cases_lt, count_trailing_zeros, div-add-mod', div-div-eq-div-mul, effective_exponent_base, eq-zero-or-pos}
+use Rattle.lexical_writer.proofs.Common.{eq_of_mul-eq-mul_right, false, if◌then◌else◌, inl, inr, is_far, is_long, is_shown, is_some, lt-ltb, mod-eq_of_lt}
+use Rattle.lexical_writer.proofs.Common.{mod-lt, mul-le-mul_left, mul-le-mul_right, mul-lt-mul_of_pos_right, mul-pos, nat_le, nat_lt, nat_tests, one-le-pow}
+use Rattle.lexical_writer.proofs.Common.{pow-add, pow-le-pow_right, pow-suc, pow-zero, raised_down, raised_up, raw, refl, rounded, subst, suc, sym, true, zero}
+use Rattle.lexical_writer.proofs.Common.{ℕ, ◌%◌, ◌&&◌, ◌*◌, ◌+◌, ◌-◌, ◌/◌, ◌<◌, ◌^◌, ◌||◌, ◌∙◌, ◌≡◌, ◌≤◌, ◌⊎◌}
 use Rattle.std.proofs.lemmas.Nat.Bits.{bit_at-trailing_zeros}
 use Rattle.core.specs.Int.{w64}
-use lib.Count.{count_trailing_zeros}
+use Rattle.lexical_util.specs.Layout as layout
 use Rattle.lexical_writer.proofs.AmountLemmas.{compared, exact_crossed, plain_exponent, powers, rounded_exponent, size, units_crossed}
 use Rattle.lexical_writer.proofs.PlainLemmas.{pow_twice}
 use Rattle.lexical_writer.proofs.RoundedLemmas.{rounded_from, rounded_same, rounded_to, rounded_whole}

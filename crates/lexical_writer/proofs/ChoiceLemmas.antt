@@ -1,19 +1,15 @@
 -- What a list reads is the number that a form has written.
-use Rattle.lexical_writer.proofs.Common.{Bool, Form, Grammar, HasValue, IsRounded, IsSomeAnd, IsWhole, Kind, List, Literal, None, Ok, Option, Read, Reads}
-use Rattle.lexical_writer.proofs.Common.{ReadsForm, Record, SameFraction, Some, Style, ap, arith, decimals_in, false, false≢true, inl, inr}
-use Rattle.lexical_writer.proofs.Common.{is_binary, is_decimal, is_exact, is_float, is_minus, is_some, nearest, notation_of, raw, refl, slice_get}
-use Rattle.lexical_writer.proofs.Common.{subst, suc, sym, take, true, with_sign, worth, zero, ℕ, ℤ, ◌&&◌, ◌||◌, ◌∙◌, ◌≡◌, ◌⊎◌}
+use Rattle.lexical_writer.proofs.Common.{Bool, Form, Grammar, HasKind, HasValue, IsFirst, IsRounded, IsSomeAnd, IsWhole, Kind, List, Literal, NoForm, None, Ok}
+use Rattle.lexical_writer.proofs.Common.{Option, Read, Reads, ReadsForm, Record, SameFraction, Some, Style, ap, arith, decimals_in, exact, false, false≢true}
+use Rattle.lexical_writer.proofs.Common.{float_worth, format_by, inl, inr, is_binary, is_decimal, is_exact, is_float, is_minus, is_some, length-take-le}
+use Rattle.lexical_writer.proofs.Common.{mantissa, nearest, negsuc, notation_of, pos, raw, refl, slice_get, subst, suc, sym, take, true, with_sign, within}
+use Rattle.lexical_writer.proofs.Common.{worth, zero, ℕ, ℤ, ◌&&◌, ◌||◌, ◌∙◌, ◌≡◌, ◌⊎◌}
 use Rattle.std.specs.Float.{Float, Format, binary64}
-use Rattle.std.specs.Prelude.{negsuc, pos}
-use Rattle.std.proofs.lemmas.List.{length-take-le}
-use Rattle.lexical_forms.proofs.MarkLemmas.{plain_in}
-use Rattle.lexical_forms.specs.Forms.{HasKind, IsFirst, NoForm}
-use Rattle.lexical_literal.specs.Read.{exact, mantissa}
-use Rattle.lexical_value.proofs.KindLemmas.{exact_float, limited_worth}
 use Rattle.lexical_value.specs.Integer.{integer_size}
-use Rattle.lexical_value.specs.Kind.{float_worth, format_by, within}
-use Rattle.lexical_literal.specs.declared.kind.FloatKind.TheVariants as floats
 use Rattle.lexical_writer.specs.Choice.{IsAmount, IsInStyle, IsReal, IsWrittenNumber, IsWrittenReal, IsWrittenWhole, has_float}
+use Rattle.lexical_forms.proofs.MarkLemmas.{plain_in}
+use Rattle.lexical_value.proofs.KindLemmas.{exact_float, limited_worth}
+use Rattle.lexical_literal.specs.declared.kind.FloatKind.TheVariants as floats
 
 -- A literal of the exact kind is worth the float that is nearest to it.
 nearest_is : (f : Format) (x : Float) (read : Read) → read.kind ≡ exact → IsReal f x read → x ≡ nearest f (raw read.format).byte read.literal

@@ -1,14 +1,13 @@
 -- What is written of a literal has its value.
 use Rattle.lexical_writer.proofs.Common.{Amount, Bool, Grammar, HasNumber, List, Literal, None, Ok, Parts, Record, SameFraction, Some, Source, [], amount_of}
 use Rattle.lexical_writer.proofs.Common.{ap, arith, at_least, denominator, digits_in, effective_exponent_base, effective_exponent_radix, false}
-use Rattle.lexical_writer.proofs.Common.{filter_map-append, given_fraction, given_power, if◌then◌else◌, inl, inr, is_absent, is_minus, is_present, length}
-use Rattle.lexical_writer.proofs.Common.{mantissa, nat_tests, number, number_after_append, number_digits_of, number_from_digits, number_from_digits_after}
-use Rattle.lexical_writer.proofs.Common.{numerator, one_if, pow-suc, pow-zero, raised_down, raised_up, raw, refl, scale, size_of, sym, true, unwrap_or}
-use Rattle.lexical_writer.proofs.Common.{values_of, ℕ, ◌&&◌, ◌*◌, ◌++◌, ◌^◌, ◌||◌, ◌∙◌, ◌∷◌, ◌≡◌, ◌≤◌, ◌⊎◌}
+use Rattle.lexical_writer.proofs.Common.{filter_map-append, fraction_of, given_fraction, given_power, if◌then◌else◌, inl, inr, is_absent, is_minus, is_present}
+use Rattle.lexical_writer.proofs.Common.{length, mantissa, nat_tests, number, number_after_append, number_digits_of, number_from_digits}
+use Rattle.lexical_writer.proofs.Common.{number_from_digits_after, numerator, one_if, pow-suc, pow-zero, raised_down, raised_up, raw, refl, scale, size_of}
+use Rattle.lexical_writer.proofs.Common.{source_of, sym, true, unwrap_or, values_of, ℕ, ◌&&◌, ◌*◌, ◌++◌, ◌^◌, ◌||◌, ◌∙◌, ◌∷◌, ◌≡◌, ◌≤◌, ◌⊎◌}
 use Rattle.std.specs.Borrow.{Bor}
 use Rattle.lexical_literal.specs.Parts.{literal_of}
 use Rattle.lexical_util.specs.Layout as layout
-use Rattle.lexical_writer.specs.Conversion.{fraction_of, source_of}
 use Rattle.lexical_writer.specs.declared.run.Source.TheVariants as sources
 use Rattle.lexical_writer.proofs.DigitLemmas.{enough}
 

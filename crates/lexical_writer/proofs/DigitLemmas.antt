@@ -1,16 +1,14 @@
 -- Digits and their characters.
 use Rattle.lexical_writer.proofs.Common.{AllBelowBase, Bool, ByteSet, List, None, Option, Pattern, Some, Source, [], add-one, all_below_base_digits_of, ap}
 use Rattle.lexical_writer.proofs.Common.{append-nil, append_assoc, arith, at_least, begins_decimal, begins_with, below, byte_value, cases_lt, character}
-use Rattle.lexical_writer.proofs.Common.{cons_option, digit_characters, digit_of, digits_in, digits_of, digits_of_step, div-div-eq-div-mul, drop, drop-cons}
-use Rattle.lexical_writer.proofs.Common.{ends_group, false, false≢true, get_or, get_or_from_slice_get, grouped, grouped_front, inl, inr, is_present, length}
-use Rattle.lexical_writer.proofs.Common.{length-append, length-digits_of_step, length-map, length-replicate, ltb-true, map, mod-mul-add, nat_lt, nat_tests}
-use Rattle.lexical_writer.proofs.Common.{no_groups, number, number_after_append, number_from_digits, number_from_digits_after, only_if, option_to_list}
-use Rattle.lexical_writer.proofs.Common.{padded_values, refl, replicate, separated, set, slice_get, subst, suc, sym, true, values_of, zero, ℕ, ◌%◌, ◌*◌, ◌++◌}
-use Rattle.lexical_writer.proofs.Common.{◌+◌, ◌-◌, ◌/◌, ◌<◌, ◌||◌, ◌∙◌, ◌∷◌, ◌≡◌, ◌≤◌}
-use Rattle.std.proofs.lemmas.Nat.{div-mul-add}
-use Rattle.std.proofs.lemmas.List.{drop-set, length-set, map_push}
-use Rattle.lexical_base.proofs.ValueLemmas.{byte_value-digit_character, same_at}
+use Rattle.lexical_writer.proofs.Common.{cons_option, digit_characters, digit_of, digits_in, digits_of, digits_of_step, div-div-eq-div-mul, div-mul-add, drop}
+use Rattle.lexical_writer.proofs.Common.{drop-cons, drop-set, ends_group, false, false≢true, get_or, get_or_from_slice_get, grouped, grouped_front, inl, inr}
+use Rattle.lexical_writer.proofs.Common.{is_present, length, length-append, length-digits_of_step, length-map, length-replicate, length-set, ltb-true, map}
+use Rattle.lexical_writer.proofs.Common.{map_push, mod-mul-add, nat_lt, nat_tests, no_groups, number, number_after_append, number_from_digits}
+use Rattle.lexical_writer.proofs.Common.{number_from_digits_after, only_if, option_to_list, padded_values, refl, replicate, separated, set, slice_get, subst}
+use Rattle.lexical_writer.proofs.Common.{suc, sym, true, values_of, zero, ℕ, ◌%◌, ◌*◌, ◌++◌, ◌+◌, ◌-◌, ◌/◌, ◌<◌, ◌||◌, ◌∙◌, ◌∷◌, ◌≡◌, ◌≤◌}
 use Rattle.lexical_writer.specs.declared.run.Padded.{Padded}
+use Rattle.lexical_base.proofs.ValueLemmas.{byte_value-digit_character, same_at}
 use Rattle.lexical_writer.specs.declared.run.Source.TheVariants as sources
 
 -- What is left of some bytes, where a digit is, or none.

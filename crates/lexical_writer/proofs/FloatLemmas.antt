@@ -1,31 +1,24 @@
 -- Digits with a point, zeros around them and an exponent have the value of the literal that is written.
-use Rattle.lexical_writer.proofs.Common.{HasShape, length, div-add-mod', first_error, le-ltb, lt-leb, mod-eq_of_lt, refusal, ◌≢◌}
-use Rattle.lexical_writer.proofs.Common.{Amount, Bool, Err, Grammar, HasNumber, IfOk, IsCutTo, IsFloatOf, IsLaidOut, IsRounded, Layout, List, Literal, None, Ok}
-use Rattle.lexical_writer.proofs.Common.{Option, Power, Record, Result, Some, Style, WriteError, [], ap, append_assoc, arith, cond, cons_option, decimals_in}
-use Rattle.lexical_writer.proofs.Common.{denominator, digit_of, digits_in, drop, effective_exponent_base, effective_exponent_radix, eq-eqb}
-use Rattle.lexical_writer.proofs.Common.{eq-zero-or-pos, eq_of_mul-eq-mul_right, false, false≢true, filter_map-append, given_fraction}
-use Rattle.lexical_writer.proofs.Common.{if◌then◌else◌, inl, inr, is_binary, is_decimal, is_minus, is_present, is_some, lacks_options, laid_out, least_places}
-use Rattle.lexical_writer.proofs.Common.{length-append, literal_of, low, mantissa, mod-lt, mul-le-mul_right, mul-pos, nat_lt, nat_tests, nearest, no_power, not}
+use Rattle.lexical_writer.proofs.Common.{Amount, Bool, Err, Float, Grammar, HasNumber, HasShape, IfErr, IfOk, IsCutTo, IsErrAnd, IsFinite, IsFloatOf, IsLaidOut}
+use Rattle.lexical_writer.proofs.Common.{IsRounded, IsTextOf, IsWorth, Layout, List, Literal, None, Ok, Option, Power, Record, Result, Some, Style, WriteError}
+use Rattle.lexical_writer.proofs.Common.{[], allows_exponent, ap, append_assoc, arith, cond, cons_option, decimals_in, denominator, digit_of, digits_in}
+use Rattle.lexical_writer.proofs.Common.{div-add-mod', drop, dvd-mul_right, effective_exponent_base, effective_exponent_radix, eq-eqb, eq-zero-or-pos}
+use Rattle.lexical_writer.proofs.Common.{eq_of_mul-eq-mul_right, exponent, false, false≢true, filter_map-append, first_error, float_error, given_fraction}
+use Rattle.lexical_writer.proofs.Common.{if◌then◌else◌, inl, inr, is_binary, is_decimal, is_minus, is_power_of_two, is_present, is_some, is_whole}
+use Rattle.lexical_writer.proofs.Common.{lacks_options, laid_out, le-ltb, least_places, length, length-append, literal_of, low, lt-leb, mantissa, mod-eq_of_lt}
+use Rattle.lexical_writer.proofs.Common.{mod-lt, mod-mod_of_dvd, mul-le-mul_right, mul-mod_left, mul-pos, nat_lt, nat_tests, ne_eqb, nearest, no_power, not}
 use Rattle.lexical_writer.proofs.Common.{number, number_after_append, number_from_digits, number_from_digits_after, numerator, one-le-pow, pow-add}
-use Rattle.lexical_writer.proofs.Common.{pow-le-pow_right, pow-suc, pow-zero, power, prec, raised_down, raised_up, raw, refl, replicate, round, round_same}
-use Rattle.lexical_writer.proofs.Common.{rounded, scale, size_of, subst, suc, sym, take, take-append-drop, true, unwrap_or, values_of, wished_places, zero, ℕ}
-use Rattle.lexical_writer.proofs.Common.{◌%◌, ◌&&◌, ◌*◌, ◌++◌, ◌+◌, ◌-◌, ◌/◌, ◌<◌, ◌==◌, ◌^◌, ◌||◌, ◌∙◌, ◌∷◌, ◌≡◌, ◌≢◌, ◌≤◌}
+use Rattle.lexical_writer.proofs.Common.{pow-le-pow_right, pow-suc, pow-zero, power, power_if, prec, raised_down, raised_up, raw, refl, refusal, replicate}
+use Rattle.lexical_writer.proofs.Common.{round, round_same, rounded, scale, size_of, subst, suc, sym, take, take-append-drop, true, unwrap_or, values_of}
+use Rattle.lexical_writer.proofs.Common.{wished_places, with_minus, zero, ℕ, ◌%◌, ◌&&◌, ◌*◌, ◌++◌, ◌+◌, ◌-◌, ◌/◌, ◌<◌, ◌==◌, ◌^◌, ◌||◌, ◌∙◌, ◌∷◌, ◌≡◌, ◌≢◌, ◌≤◌}
 use Rattle.std.proofs.Math.Nat.{div-eq_of_lt-le, div-lt_iff_lt-mul, mod-eq-sub-div-mul}
-use Rattle.std.proofs.lemmas.Bool.{ne_eqb}
-use Rattle.std.specs.Prelude.{IfErr, IsErrAnd}
-use lib.Ieee.{Float, Format, fin, hid, inf, is_nan, nan, neg, odd, of_bits, of_fields, ones, top}
+use lib.Ieee.{Format, fin, hid, inf, is_nan, nan, neg, odd, of_bits, of_fields, ones, top}
 use lib.Ieee.Exact.{HasValue, odd_sign}
 use lib.Dec.{eqb, leb}
-use Rattle.lexical_literal.specs.Read.{exponent}
+use Rattle.lexical_writer.specs.Rounded.{HasDecimals}
 use Rattle.lexical_util.specs.Layout as layout
 use Rattle.core.proofs.dec2flt.Patterns.{neg-round}
-use Rattle.lexical_number.specs.Float.{is_power_of_two}
-use Rattle.lexical_number.specs.Shortest.{is_whole}
-use Rattle.lexical_writer.specs.Amount.{IsFinite, IsTextOf, IsWorth, float_error, power_if, with_minus}
 use Rattle.lexical_writer.specs.declared.layout.WriteError.TheVariants as errors
-use native.Mathlib.Nat.{dvd-mul_right, mod-mod_of_dvd, mul-mod_left}
-use Rattle.lexical_writer.specs.Layout.{allows_exponent}
-use Rattle.lexical_writer.specs.Rounded.{HasDecimals}
 use Rattle.lexical_writer.proofs.ConversionLemmas.{size_values, zero_scaled}
 use Rattle.lexical_writer.proofs.DigitLemmas.{zeros_number}
 use Rattle.lexical_writer.proofs.PlainLemmas.{zeros_after}

@@ -1,9 +1,8 @@
 -- Grouped digits.
 use Rattle.lexical_writer.proofs.Common.{AllBelowBase, Bool, ByteSet, List, Notation, Part, Pattern, [], all_below_base_digits_of, and_from, ap, arith}
-use Rattle.lexical_writer.proofs.Common.{at_least, byte_value, cases_lt, character, digits_of, ends_group, false, false≢true, first_digits_of, get_or, grouped}
-use Rattle.lexical_writer.proofs.Common.{has_leading_zero, inl, inr, is_grouped, length, mod-mul-add, nat_tests, refl, separators_in, subst, suc, sym, true}
-use Rattle.lexical_writer.proofs.Common.{zero, ℕ, ◌%◌, ◌*◌, ◌+◌, ◌-◌, ◌/◌, ◌<◌, ◌==◌, ◌∙◌, ◌∷◌, ◌≡◌, ◌≤◌}
-use Rattle.std.proofs.Math.Nat.{div-add-mod}
+use Rattle.lexical_writer.proofs.Common.{at_least, byte_value, cases_lt, character, digits_of, div-add-mod, ends_group, false, false≢true, first_digits_of}
+use Rattle.lexical_writer.proofs.Common.{get_or, grouped, has_leading_zero, inl, inr, is_grouped, length, mod-mul-add, nat_tests, refl, separators_in, subst}
+use Rattle.lexical_writer.proofs.Common.{suc, sym, true, zero, ℕ, ◌%◌, ◌*◌, ◌+◌, ◌-◌, ◌/◌, ◌<◌, ◌==◌, ◌∙◌, ◌∷◌, ◌≡◌, ◌≤◌}
 use Rattle.lexical_literal.specs.Groups.{all_fit, first_fits, group_sizes, inner_fits, last_fits, one_more, rest_fits}
 use Rattle.lexical_literal.proofs.RunLemmas.{is_rest}
 use Rattle.lexical_writer.proofs.DigitLemmas.{character_value, enough}

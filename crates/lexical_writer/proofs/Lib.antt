@@ -9,6 +9,7 @@ mod PrimeLemmas
 mod SizeLemmas
 mod FloatLemmas
 mod ChoiceLemmas
+mod OrderLemmas
 mod RoundedLemmas
 mod AmountLemmas
 mod BufferLemmas

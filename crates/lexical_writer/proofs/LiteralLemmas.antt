@@ -21,13 +21,13 @@ use Rattle.lexical_literal.specs.Run.{is_run}
 use Rattle.lexical_literal.specs.Syntax.{FitIfAny, contradiction, fault, first_fault, forbids_zeros, limits, missing}
 use Rattle.lexical_literal.specs.declared.syntax.Condition.{Condition}
 use Rattle.lexical_literal.specs.declared.syntax.ConditionsError.{ConditionsError}
+use Rattle.lexical_writer.specs.Layout.{after_zero, base_byte, fraction_pattern, fraction_text, has_zero, integer_pattern, least_digits, led_digits, options_of}
+use Rattle.lexical_writer.specs.Layout.{pattern_of, sign_of, takes_zeros}
 use Rattle.lexical_literal.proofs.RunLemmas.{rest_of_none}
 use Rattle.lexical_util.specs.Layout as layout
 use Rattle.lexical_util.specs.Roles as sets
 use Rattle.lexical_util.specs.declared.format_flags.Part.TheVariants as parts
 use Rattle.lexical_literal.specs.declared.syntax.Condition.TheVariants as conditions
-use Rattle.lexical_writer.specs.Layout.{after_zero, base_byte, fraction_pattern, fraction_text, has_zero, integer_pattern, least_digits, led_digits, options_of}
-use Rattle.lexical_writer.specs.Layout.{pattern_of, sign_of, takes_zeros}
 use Rattle.lexical_writer.specs.declared.layout.WriteError.TheVariants as errors
 use Rattle.lexical_writer.proofs.DigitLemmas.{character_value, decimal_first, grouped_digits, grouped_present, least_below, least_number, values_below}
 use Rattle.lexical_writer.proofs.DigitLemmas.{zero_first}

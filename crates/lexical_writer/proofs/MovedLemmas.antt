@@ -1,8 +1,7 @@
 -- Digits whose point has moved, and the zeros that they end with.
 use Rattle.lexical_writer.proofs.Common.{Bool, List, None, Option, Some, [], ap, append-nil, append_assoc, arith, cons_option, digit_of, digits_in, drop, false}
 use Rattle.lexical_writer.proofs.Common.{false≢true, filter_map-append, get_or, if◌then◌else◌, is_absent, is_some, length, nat_tests, refl, replicate, suc, sym}
-use Rattle.lexical_writer.proofs.Common.{take, trimmed, true, unwrap_or, zero, ℕ, ◌&&◌, ◌++◌, ◌+◌, ◌-◌, ◌<◌, ◌==◌, ◌∙◌, ◌∷◌, ◌≡◌}
-use Rattle.std.proofs.lemmas.List.{take_more}
+use Rattle.lexical_writer.proofs.Common.{take, take_more, trimmed, true, unwrap_or, zero, ℕ, ◌&&◌, ◌++◌, ◌+◌, ◌-◌, ◌<◌, ◌==◌, ◌∙◌, ◌∷◌, ◌≡◌}
 use Rattle.lexical_writer.proofs.DigitLemmas.{left_of}
 
 -- Zeros at the end are left out.

@@ -7,9 +7,9 @@ use Rattle.lexical_writer.proofs.Common.{number_from_digits, number_from_digits_
 use Rattle.lexical_writer.proofs.Common.{raised_down, raised_up, raw, refl, replicate, size_of, suc, sym, take, take-append-drop, take_all, trimmed, true}
 use Rattle.lexical_writer.proofs.Common.{unwrap_or, with_sign, zero, ℕ, ℤ, ◌*◌, ◌++◌, ◌+◌, ◌-◌, ◌<◌, ◌^◌, ◌∙◌, ◌∷◌, ◌≡◌, ◌≤◌}
 use Rattle.lexical_literal.specs.Parts.{literal_of}
+use Rattle.lexical_writer.specs.Moved.{IsWorth}
 use Rattle.lexical_util.specs.Layout as layout
 use Rattle.lexical_util.specs.declared.format_flags.Part.TheVariants as part
-use Rattle.lexical_writer.specs.Moved.{IsWorth}
 use Rattle.lexical_writer.proofs.ConversionLemmas.{same_value}
 use Rattle.lexical_writer.proofs.LiteralLemmas.{radixes}
 use Rattle.lexical_writer.proofs.DigitLemmas.{zeros_number}

@@ -1,8 +1,7 @@
 -- A number times one power and over others, prime by prime.
-use Rattle.lexical_writer.proofs.Common.{Err, IsOver, None, Option, Result, Some, SomeIff, WriteError, ap, arith, cases_lt, eq_of_mul-eq-mul_right, inl, inr}
-use Rattle.lexical_writer.proofs.Common.{le-mul_of_pos_right, mod-lt, mod-mul-add, mul-le-mul_right, ok_or, one-le-pow, pow-add, pow-suc, pow-zero, subst, suc}
-use Rattle.lexical_writer.proofs.Common.{sym, zero, ℕ, ◌%◌, ◌*◌, ◌+◌, ◌-◌, ◌/◌, ◌<◌, ◌^◌, ◌∙◌, ◌≡◌, ◌≤◌}
-use Rattle.std.proofs.lemmas.Nat.{div-add-mod', mul-pow}
+use Rattle.lexical_writer.proofs.Common.{Err, IsOver, None, Option, Result, Some, SomeIff, WriteError, ap, arith, cases_lt, div-add-mod'}
+use Rattle.lexical_writer.proofs.Common.{eq_of_mul-eq-mul_right, inl, inr, le-mul_of_pos_right, mod-lt, mod-mul-add, mul-le-mul_right, mul-pow, ok_or}
+use Rattle.lexical_writer.proofs.Common.{one-le-pow, pow-add, pow-suc, pow-zero, subst, suc, sym, zero, ℕ, ◌%◌, ◌*◌, ◌+◌, ◌-◌, ◌/◌, ◌<◌, ◌^◌, ◌∙◌, ◌≡◌, ◌≤◌}
 use Rattle.lexical_writer.specs.declared.layout.WriteError.TheVariants as errors
 use Rattle.lexical_writer.proofs.PlainLemmas.{pow_twice}
 

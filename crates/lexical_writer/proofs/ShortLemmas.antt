@@ -1,12 +1,11 @@
 -- A decimal number of few digits, as it is written with an exponent or without one.
 use Rattle.lexical_writer.proofs.Common.{Bool, Grammar, HasShape, HasUnits, IsExponent, None, Record, Style, all_below_base_digits_of, ap, arith, cases_lt}
-use Rattle.lexical_writer.proofs.Common.{digits_of, effective_exponent_base, eq-zero-or-pos, false, false≢true, if◌then◌else◌, inl, inr, is_long, is_shown}
-use Rattle.lexical_writer.proofs.Common.{is_some, lacks_options, le-ltb, least_places, length, length-digits_of-le, length-digits_of_step, lt-leb, lt-ltb, max}
-use Rattle.lexical_writer.proofs.Common.{mul-pos, nat_le, nat_lt, nat_tests, number_digits_of, one-le-pow, one_if, pow-add, pow-le-pow_right, raw, refl, subst}
-use Rattle.lexical_writer.proofs.Common.{suc, sym, true, wished_places, ℕ, ◌%◌, ◌&&◌, ◌*◌, ◌+◌, ◌-◌, ◌<◌, ◌^◌, ◌||◌, ◌∙◌, ◌≡◌, ◌≤◌, ◌⊎◌}
+use Rattle.lexical_writer.proofs.Common.{digits_of, effective_exponent_base, eq-zero-or-pos, false, false≢true, if◌then◌else◌, inl, inr, is_far, is_long}
+use Rattle.lexical_writer.proofs.Common.{is_shown, is_some, lacks_options, le-ltb, least_places, length, length-digits_of-le, length-digits_of_step, lt-leb}
+use Rattle.lexical_writer.proofs.Common.{lt-ltb, max, mul-pos, nat_le, nat_lt, nat_tests, number_digits_of, one-le-pow, one_if, pow-add, pow-le-pow_right, raw}
+use Rattle.lexical_writer.proofs.Common.{refl, subst, suc, sym, true, wished_places, ℕ, ◌%◌, ◌&&◌, ◌*◌, ◌+◌, ◌-◌, ◌<◌, ◌^◌, ◌||◌, ◌∙◌, ◌≡◌, ◌≤◌, ◌⊎◌}
 use Rattle.std.proofs.lemmas.Int.Digits.{number_lt}
 use Rattle.lexical_util.specs.Layout as layout
-use Rattle.lexical_writer.specs.Amount.{is_far}
 use Rattle.lexical_writer.proofs.DigitLemmas.{some_number}
 use Rattle.lexical_writer.proofs.AmountLemmas.{above, compared, exact_crossed, plain_exponent, powers, size, under}
 

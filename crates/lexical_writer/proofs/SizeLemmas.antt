@@ -2,17 +2,14 @@
 use Rattle.lexical_writer.proofs.Common.{AllBelowBase, Amount, Bool, Ending, Err, IsEnding, IsMoved, IsOver, IsSize, List, None, Ok, Option, Parts, Record}
 use Rattle.lexical_writer.proofs.Common.{Result, Some, SomeIff, WriteError, [], ap, append-nil, arith, below, can_move, cases_lt, cons_option, denominator}
 use Rattle.lexical_writer.proofs.Common.{digit_of, digits_in, digits_of, down_of, effective_exponent_base, effective_exponent_radix, eq-eqb}
-use Rattle.lexical_writer.proofs.Common.{eq_of_mul-eq-mul_right, eqb-true, false, false≢true, filter_map-append, get_or, if◌then◌else◌, inl}
-use Rattle.lexical_writer.proofs.Common.{inr, is_minus, le-ltb, le-mul_of_pos_right, length, length-digits_of_step, mantissa, nat_lt, nat_tests, not, number}
-use Rattle.lexical_writer.proofs.Common.{number_after, number_after_append, number_from_digits, number_from_digits_after, numerator, ok_or, one-le-pow, pow-add}
-use Rattle.lexical_writer.proofs.Common.{pow-le-pow_right, pow-suc, pow-zero, refl, subst, suc, sym, take, true, up_of, zero, ℕ, ◌&&◌, ◌*◌, ◌++◌, ◌+◌, ◌-◌, ◌<◌}
-use Rattle.lexical_writer.proofs.Common.{◌==◌, ◌^◌, ◌||◌, ◌∙◌, ◌∷◌, ◌≡◌, ◌≤◌, ◌⊎◌}
+use Rattle.lexical_writer.proofs.Common.{eq_of_mul-eq-mul_right, eqb-true, false, false≢true, filter_map-append, get_or, if◌then◌else◌, inl, inr, is_minus}
+use Rattle.lexical_writer.proofs.Common.{is_power_of_two, is_unknown, le-ltb, le-mul_of_pos_right, length, length-digits_of_step, mantissa, nat_lt, nat_tests}
+use Rattle.lexical_writer.proofs.Common.{ne_eqb, not, number, number_after, number_after_append, number_from_digits, number_from_digits_after, numerator, ok_or}
+use Rattle.lexical_writer.proofs.Common.{one-le-pow, places_of, pow-add, pow-le-pow_right, pow-suc, pow-zero, refl, subst, suc, sym, take, true, up_of, zero, ℕ}
+use Rattle.lexical_writer.proofs.Common.{◌&&◌, ◌*◌, ◌++◌, ◌+◌, ◌-◌, ◌<◌, ◌==◌, ◌^◌, ◌||◌, ◌∙◌, ◌∷◌, ◌≡◌, ◌≤◌, ◌⊎◌}
 use Rattle.std.specs.Result.{is_ok}
-use Rattle.std.proofs.lemmas.Bool.{ne_eqb}
 use Rattle.lexical_literal.specs.Parts.{literal_of}
-use Rattle.lexical_number.specs.Float.{is_power_of_two}
 use Rattle.lexical_util.specs.Layout as layout
-use Rattle.lexical_writer.specs.Moved.{is_unknown, places_of}
 use Rattle.lexical_writer.specs.declared.layout.WriteError.TheVariants as errors
 use Rattle.lexical_writer.proofs.MovedLemmas.{up_to}
 use Rattle.lexical_writer.proofs.PlainLemmas.{pow_twice}

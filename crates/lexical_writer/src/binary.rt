@@ -164,6 +164,7 @@ impl Binary {
     }
 
     // Returns whether the number is not 0, and below the radix to the power of -4, or at least that to the power of 16.
+    #[tactic(auto, using(crate::proofs::BinaryLemmas::far_bits))]
     fn is_far(&self) -> bool
         ensures { result ≡ (nat_lt 0 (self.now.number * 2 ^ self.now.power)
             && (nat_lt (self.now.number * 2 ^ self.now.power * (2 ^ self.now.bits) ^ 4) (2 ^ 1200)

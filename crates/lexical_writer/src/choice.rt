@@ -1,7 +1,8 @@
 //! A list of forms writes numbers: in the first form whose text the list reads as the number.
 
 ghost use Rattle.std.specs.Prelude.{◌≡◌, ◌≤◌, ◌<◌, ◌-◌, ◌^◌, ◌⊎◌, ◌||◌, if◌then◌else◌, not, Bool, true, false};
-ghost use Rattle.std.specs.Prelude.{ℕ, IfOk, IfSome, IsFalse, None, Ok, Some, from_bits, is_some, length, slice_get, take, ℤ};
+ghost use Rattle.std.specs.Prelude.{ℕ, ◌+◌, All, IfErr, IfOk, IfSome, IsFalse, IsSomeAnd, None, Ok, Option, Some};
+ghost use Rattle.std.specs.Prelude.{unwrap_or, from_bits, is_some, length, slice_get, take, ℤ};
 ghost use Rattle.std.specs.Float.{Float as Value};
 ghost use Rattle.lexical_util.specs.Record.{bytes_of};
 ghost use Rattle.lexical_literal.specs.Read.{exact, Read};
@@ -16,14 +17,19 @@ ghost use Rattle.lexical_literal.specs.declared.kind.FloatKind.TheVariants as fl
 ghost use Rattle.lexical_writer.specs.Buffer.{IsTaken};
 ghost use Rattle.lexical_forms.specs.declared.form.Form.{Form as Asked};
 ghost use Rattle.lexical_writer.specs.Layout.{integer_literal, laid_out, literal_of as written, number_of_size};
-ghost use Rattle.lexical_writer.specs.Choice.{IsReadBack, IsReadWith, IsReal, IsStyleOf, IsTokenOf, IsWhole, first_reason, turn};
+ghost use Rattle.lexical_writer.specs.Choice.{AreBefore, IsAskedAs, IsEnd, IsFirstAsked, IsOrder, IsReadBack, IsReadWith, IsReal, IsReason, IsRefused};
+ghost use Rattle.lexical_writer.specs.Choice.{IsSearched, IsStyleOf, IsTokenOf, IsUnused, IsWhole};
+ghost use Rattle.lexical_writer.specs.Choice.{first_reason, is_asked, is_fraction, is_part, is_radix, keeps_all, style_by, turn};
+ghost use Rattle.lexical_writer.specs.declared.choice.Order.{Order as Turns};
 ghost use Rattle.lexical_writer.specs.declared.layout.ExponentStyle.TheVariants as exponents;
+ghost use Rattle.lexical_writer.specs.declared.layout.WriteError.{WriteError as Reason};
+ghost use Rattle.lexical_writer.specs.declared.layout.WriteError.TheVariants as errors;
 ghost use Rattle.lexical_writer.specs.declared.layout.Style.{Style as Wishes};
 
 use crate::float::{format_float, is_integer};
 use crate::float_digits::FloatDigits;
 use crate::integer::WrittenInteger;
-use crate::layout::{ExponentStyle, Layout, Style, WriteError, needs_exponent};
+use crate::layout::{ExponentStyle, Layout, Style, WriteError, needs_exponent, wants_exponent};
 use crate::near::format_near;
 use lexical_forms::form::Form;
 use lexical_forms::list::{Forms, Number};
@@ -48,8 +54,18 @@ pub trait Writable {
     // A literal is this number in a style.
     ghost is: { Self → Wishes → Read → Type 0 };
 
+    // No literal of a syntax is written for the number in a style, for this reason.
+    ghost refuses: { Self → Wishes → Grammar → Reason → Type 0 };
+
+    // The radix of the forms that are asked first.
+    ghost base: { Self → ℕ };
+
+    // Whether a float is rounded in a style.
+    ghost rounded: { Self → Wishes → Bool };
+
     /// Returns the radix of the forms that are asked first.
-    fn radix(&self) -> u32;
+    fn radix(&self) -> u32
+        ensures { result ≡ base self.now };
 
     /// Returns whether the number is an integer.
     fn is_integer(&self) -> bool
@@ -57,7 +73,8 @@ pub trait Writable {
 
     /// Returns whether a float is rounded in a style.
     fn is_rounded(&self, style: Style) -> bool
-        ensures { result ≡ true → integer self.now ≡ false };
+        ensures value { result ≡ rounded self.now style }
+        ensures float { result ≡ true → integer self.now ≡ false };
 
     /// Writes the number as a literal of `syntax` to the beginning of a buffer, as far as it has room, and returns the length of
     /// the text, and whether it has a decimal point or an exponent.
@@ -71,8 +88,9 @@ pub trait Writable {
         style: Style,
         buffer: &mut [u8],
     ) -> Result<(usize, bool), WriteError>
-        ensures { IfOk result (λ it. (l : Parts) × Reads (notation_of syntax.now) l (text_of l)
-            × has self.now style syntax.now l × IsTaken (text_of l) buffer.old buffer.new it.0 × (it.1 ≡ is_float l)) };
+        ensures text { IfOk result (λ it. (l : Parts) × Reads (notation_of syntax.now) l (text_of l)
+            × has self.now style syntax.now l × IsTaken (text_of l) buffer.old buffer.new it.0 × (it.1 ≡ is_float l)) }
+        ensures error { IfErr result (λ error. refuses self.now style syntax.now error) };
 
     /// Returns whether a literal of a syntax and a kind, with a decimal point or an exponent or without, is the number if it is
     /// written for it in a style.
@@ -109,16 +127,23 @@ impl Whole {
 }
 
 impl Writable for Whole {
-    ghost use Rattle.std.specs.Prelude.{true};
+    ghost use Rattle.std.specs.Prelude.{◌≡◌, Some, false, true};
     ghost use Rattle.lexical_util.specs.Record.{raw};
     ghost use Rattle.lexical_number.specs.Numeral.{with_sign};
     ghost use Rattle.lexical_writer.specs.Choice.{IsWhole, IsWrittenWhole};
+    ghost use Rattle.lexical_writer.specs.Layout.{number_of_size, refusal};
+
+    ghost base = { λ number. 10 };
 
     ghost integer = { λ number. true };
+
+    ghost rounded = { λ number style. false };
 
     ghost has = { λ number style g l. IsWrittenWhole (with_sign number.negative number.size) (raw g.word) l };
 
     ghost is = { λ number style read. IsWhole (with_sign number.negative number.size) read };
+
+    ghost refuses = { λ number style g error. refusal g (number_of_size number.negative number.size) ≡ Some error };
 
     fn radix(&self) -> u32 {
         10
@@ -167,15 +192,22 @@ pub struct Real<F> {
 }
 
 impl<F: Float> Writable for Real<F> {
-    ghost use Rattle.std.specs.Prelude.{false};
+    ghost use Rattle.std.specs.Prelude.{false, is_some};
     ghost use Rattle.lexical_number.specs.Float.{format_of};
+    ghost use Rattle.lexical_writer.specs.Amount.{IsFloatError};
     ghost use Rattle.lexical_writer.specs.Choice.{IsAmount, IsWrittenReal};
 
+    ghost base = { λ number. 10 };
+
     ghost integer = { λ number. false };
+
+    ghost rounded = { λ number style. is_some style.decimals };
 
     ghost has = { λ number style g l. IsWrittenReal (format_of F.DOUBLE) (F.value number.value) style.decimals g l };
 
     ghost is = { λ number style read. IsAmount (format_of F.DOUBLE) (F.value number.value) style.decimals read };
+
+    ghost refuses = { λ number style g error. IsFloatError (F.value number.value) g style error };
 
     fn radix(&self) -> u32 {
         10
@@ -260,15 +292,25 @@ fn is_same<F: Float>(own: &Literal, literal: &Literal) -> bool
 }
 
 impl Writable for Literal<'_> {
-    ghost use Rattle.std.specs.Prelude.{not};
+    ghost use Rattle.std.specs.Prelude.{Err, false, not};
     ghost use Rattle.lexical_literal.specs.Literal.{is_float};
+    ghost use Rattle.lexical_util.specs.Layout as layout;
+    ghost use Rattle.lexical_util.specs.Record.{raw};
     ghost use Rattle.lexical_writer.specs.Choice.{IsInStyle, IsWrittenNumber};
+    ghost use Rattle.lexical_writer.specs.Conversion.{IsWritten};
+    ghost use Rattle.lexical_writer.specs.declared.layout.WriteError.{WriteError as Reason};
+
+    ghost base = { λ number. (raw number.format).byte layout.mantissa_radix };
 
     ghost integer = { λ number. not (is_float number.literal) };
+
+    ghost rounded = { λ number style. false };
 
     ghost has = { λ number style g l. IsWrittenNumber number style g l };
 
     ghost is = { λ number style read. IsInStyle number style read };
+
+    ghost refuses = { λ number style g error. (other : Reason) × IsWritten number g style (Err other) };
 
     fn radix(&self) -> u32 {
         self.format().mantissa_radix()
@@ -484,14 +526,199 @@ pub struct Chosen {
     pub style: Style,
 }
 
-// Returns whether a form with a syntax is asked in a part of a turn: first each form or, unless `all` is true, each whose literals need no
-// exponent, then the latter with words, and then those that are left.
-fn is_asked(part: u8, all: bool, syntax: &Syntax) -> bool {
-    match part {
-        0 => all || !needs_exponent(syntax),
-        1 => !needs_exponent(syntax),
-        _ => !all && needs_exponent(syntax),
+// How many steps there are in which forms are asked: three in each of the six turns.
+const STEPS: u8 = 18;
+
+// Why the forms of a step do not write a number: why the forms up to there do not, if any is asked, or that a text needs a longer buffer.
+enum Refused {
+    By(Option<WriteError>),
+    Short(WriteError),
+}
+
+// The order in which a list asks its forms to write a number: the number's radix, whether it is an integer, whether forms whose
+// literals all have an exponent are asked with the others, and of the form that is asked first, if the number is rounded, the radix,
+// and whether it has floats.
+#[derive(Clone, Copy)]
+struct Order {
+    radix: u32,
+    integer: bool,
+    all: bool,
+    first: Option<(u32, bool)>,
+}
+
+impl Order {
+    // Returns the order in which forms are asked to write a number in a style.
+    #[inline(always)]
+    fn of<N: Writable>(forms: &[Form], number: &N, style: Style) -> Order
+        ensures order { IsOrder (N.base number.now) (N.integer number.now) (N.rounded number.now style) style forms.now result }
+        ensures float { is_some result.first ≡ true → N.integer number.now ≡ false }
+    {
+        let integer = number.is_integer();
+        let order = Order {
+            radix: number.radix(),
+            integer,
+            all: !integer | wants_exponent(style.exponent),
+            first: None,
+        };
+        if number.is_rounded(style) {
+            order.rounded(forms)
+        } else {
+            order
+        }
     }
+
+    // Returns the order for a number that is rounded.
+    #[inline(always)]
+    fn rounded(self, forms: &[Form]) -> Order
+        requires { self.first ≡ None }
+        ensures order { result ≡ record self { first = result.first } }
+        ensures first { IsFirstAsked self forms.now result.first }
+    {
+        Order {
+            first: self.first_of(forms),
+            ..self
+        }
+    }
+
+    // Returns the radix of the form that is asked first, if any is, and whether it has floats.
+    #[inline(always)]
+    fn first_of(&self, forms: &[Form]) -> Option<(u32, bool)>
+        ensures { IsFirstAsked self.now forms.now result }
+    {
+        let mut step = 0;
+        while step < STEPS {
+            match self.first_in(step, forms) {
+                Some(first) => return Some(first),
+                None => {}
+            }
+            step += 1;
+        }
+        None
+    }
+
+    // Returns the radix of the first form that is asked in a step, if any is, and whether it has floats.
+    #[inline(always)]
+    fn first_in(&self, step: u8, forms: &[Form]) -> Option<(u32, bool)>
+        ensures found { IfSome result (λ first. (index : ℕ) × All (λ form. is_asked self.now step form ≡ true → ⊥) (take index forms.now)
+            × IsSomeAnd (slice_get forms.now index) (IsAskedAs self.now step first)) }
+        ensures none { result ≡ None → All (λ form. is_asked self.now step form ≡ true → ⊥) forms.now }
+    {
+        let mut index = 0;
+        while index < forms.len() {
+            let it = &forms[index];
+            if self.is_asked(step, it) {
+                let syntax = it.syntax();
+                return Some((
+                    syntax.format().view().mantissa_radix(),
+                    syntax.options().is_some(),
+                ));
+            }
+            index += 1;
+        }
+        None
+    }
+
+    // Returns whether a form is asked in a step.
+    #[inline(always)]
+    fn is_asked(&self, step: u8, form: &Form) -> bool
+        ensures { result ≡ is_asked self.now step form.now }
+    {
+        let syntax = form.syntax();
+        if turn(self.radix, self.integer, &syntax) != step / 3 {
+            return false;
+        }
+        self.is_part(step % 3, needs_exponent(&syntax))
+            & !form.is_only_read()
+            & self.is_radix(&syntax)
+    }
+
+    // Returns whether a form is asked in a part of its turn, where all of its literals may have an exponent.
+    #[inline(always)]
+    const fn is_part(&self, part: u8, exponent: bool) -> bool
+        ensures { result ≡ is_part self.now part exponent }
+    {
+        match part {
+            0 => self.all || !exponent,
+            1 => self.integer && !exponent,
+            _ => !self.all && exponent,
+        }
+    }
+
+    // Returns whether a form with a syntax has the radix in which the number is rounded, if it is.
+    #[inline(always)]
+    fn is_radix(&self, syntax: &Syntax) -> bool
+        ensures { result ≡ is_radix self.now.first syntax.now }
+    {
+        match self.first {
+            Some((radix, _)) => syntax.format().view().mantissa_radix() == radix,
+            None => true,
+        }
+    }
+
+    // Returns the style in which a form with a syntax is asked to write the number.
+    #[inline(always)]
+    fn style(&self, syntax: &Syntax, style: Style) -> Style
+        ensures { result ≡ style_by self.now.first syntax.now style }
+    {
+        if self.keeps_all(syntax, style.decimals) {
+            Style {
+                decimals: None,
+                ..style
+            }
+        } else {
+            style
+        }
+    }
+
+    // Returns whether a form with a syntax writes the number without rounding it.
+    #[inline(always)]
+    fn keeps_all(&self, syntax: &Syntax, decimals: Option<u8>) -> bool
+        ensures { result ≡ keeps_all self.now.first syntax.now decimals }
+    {
+        match (self.first, decimals) {
+            (Some((_, floats)), Some(count)) => floats && syntax.options().is_none() && count > 0,
+            _ => false,
+        }
+    }
+}
+
+// Asks the forms of a step to write a number, or returns why they do not. `first` is why the forms of the steps before do not.
+#[inline(always)]
+fn ask<N: Writable>(
+    forms: &Forms,
+    order: &Order,
+    step: u8,
+    number: &N,
+    style: Style,
+    buffer: &mut [u8],
+    first: Option<WriteError>,
+) -> Result<Chosen, Refused>
+    requires float { is_some order.now.first ≡ true → N.integer number.now ≡ false }
+    requires searched { IsSearched (IsReason (N.refuses number.now) (N.has number.now) order.now style) order.now forms.now.forms step 0 first }
+    ensures value { IfOk result (λ it. IsReadWith forms.now it.word (take it.length buffer.new) (N.is number.now it.style)) }
+    ensures length { IfOk result (λ it. it.length ≤ length buffer.new) }
+    ensures form { IfOk result (λ it. IsSomeAnd (slice_get forms.now.forms it.form) (λ form. is_asked order.now step form ≡ true)) }
+    ensures passed { IfOk result (λ it. AreBefore (λ before form. (error : WriteError)
+        × IsReason (N.refuses number.now) (N.has number.now) order.now style before form error) order.now forms.now.forms step it.form) }
+    ensures searched { IfErr result (IsEnd (IsReason (N.refuses number.now) (N.has number.now) order.now style) order.now forms.now.forms (step + 1)) }
+    ensures style { IfOk result (λ it. IsStyleOf (N.integer number.now) style it.style) }
+{
+    let list = forms.as_slice();
+    let mut error = first;
+    let mut index = 0;
+    while index < list.len() {
+        let it = &list[index];
+        if order.is_asked(step, it) {
+            let own = order.style(&it.syntax(), style);
+            match write_in(forms, index, step % 3 == 1, number, own, buffer) {
+                Ok(chosen) => return Ok(chosen),
+                Err(other) if is_short(other) => return Err(Refused::Short(other)),
+                Err(other) => error = first_reason(error, other),
+            }
+        }
+        index += 1;
+    }
+    Err(Refused::By(error))
 }
 
 /// Writes a number by the first form whose text the list reads as this number, to the beginning of a buffer, and returns the
@@ -516,40 +743,29 @@ pub fn choose<N: Writable>(
     // The list reads the text as the number or, with a word, its token is the number.
     ensures value { IfOk result (λ it. IsReadWith forms.now it.word (take it.length buffer.new) (N.is number.now it.style)) }
     ensures length { IfOk result (λ it. it.length ≤ length buffer.new) }
-    ensures form { IfOk result (λ it. it.form < length forms.now.forms) }
+    // The form is asked in some step, and each form that is asked before it has a reason not to write the number.
+    ensures form { IfOk result (λ it. (order : Turns) × (step : ℕ) × IsOrder (N.base number.now) (N.integer number.now)
+        (N.rounded number.now style) style forms.now.forms order
+        × IsSomeAnd (slice_get forms.now.forms it.form) (λ form. is_asked order step form ≡ true)
+        × AreBefore (λ before form. (error : WriteError) × IsReason (N.refuses number.now) (N.has number.now) order style before form error)
+        order forms.now.forms step it.form) }
+    // The error is the first that is not `Fraction`, if there is one, or that of a text for which the buffer is too short.
+    ensures error { IfErr result (λ error. ((n : ℕ) × (n ≤ 4096) × (error ≡ errors.Buffer n)) ⊎ ((order : Turns) × (first : Option WriteError)
+        × IsOrder (N.base number.now) (N.integer number.now) (N.rounded number.now style) style forms.now.forms order
+        × IsSearched (IsReason (N.refuses number.now) (N.has number.now) order style) order forms.now.forms 18 0 first
+        × (error ≡ unwrap_or first errors.ReadBack))) }
     ensures style { IfOk result (λ it. IsStyleOf (N.integer number.now) style it.style) }
 {
-    let integer = number.is_integer();
-    let all = !integer || matches!(style.exponent, ExponentStyle::Always);
-    let rounded = number.is_rounded(style);
-    let (mut error, mut first, mut floats) = (None, None, false);
-    for wanted in 0..if integer { 3 } else { 6 } {
-        for part in 0..if integer { 3 } else { 1 } {
-            for (index, form) in forms.as_slice().iter().enumerate() {
-                let syntax = form.syntax();
-                if turn(number.radix(), integer, &syntax) != wanted
-                    || !is_asked(part, all, &syntax)
-                    || form.is_only_read()
-                {
-                    continue;
-                }
-                // A number is rounded in one radix alone and, if there are forms with floats, by these alone.
-                if rounded {
-                    let radix = syntax.format().view().mantissa_radix();
-                    if first.unwrap_or(radix) != radix {
-                        continue;
-                    }
-                    first = Some(radix);
-                    floats |= syntax.options().is_some();
-                }
-                let whole = floats && syntax.options().is_none();
-                match write_in(forms, index, whole, part == 1, number, style, buffer) {
-                    Ok(chosen) => return Ok(chosen),
-                    Err(other) if is_short(other) => return Err(other),
-                    Err(other) => error = first_reason(error, other),
-                }
-            }
+    let order = Order::of(forms.as_slice(), number, style);
+    let mut error = None;
+    let mut step = 0;
+    while step < STEPS {
+        match ask(forms, &order, step, number, style, buffer, error) {
+            Err(Refused::By(other)) => error = other,
+            Err(Refused::Short(short)) => return Err(short),
+            Ok(chosen) => return Ok(chosen),
         }
+        step += 1;
     }
     Err(error.unwrap_or(WriteError::ReadBack))
 }
@@ -582,9 +798,20 @@ const fn first_reason(first: Option<WriteError>, error: WriteError) -> Option<Wr
     ensures { result ≡ first_reason first error }
 {
     match first {
-        None | Some(WriteError::Fraction) => Some(error),
-        Some(other) => Some(other),
+        None => Some(error),
+        Some(other) => if is_fraction(other) {
+            Some(error)
+        } else {
+            Some(other)
+        },
     }
+}
+
+// Returns whether an error is `Fraction`.
+const fn is_fraction(error: WriteError) -> bool
+    ensures { result ≡ is_fraction error }
+{
+    matches!(error, WriteError::Fraction)
 }
 
 // Returns in which turn a form with a syntax is asked to write an integer, or another number, of a radix.
@@ -614,25 +841,10 @@ fn delay(integer: bool, syntax: &Syntax) -> u8
     }
 }
 
-// Returns the style in which a form writes, where a number is rounded or not. If `whole` is true, the form does not round.
-const fn style_in(whole: bool, rounded: bool, style: Style) -> Style
-    ensures { (result ≡ style) ⊎ ((rounded ≡ true) × (result ≡ record style { decimals = None })) }
-{
-    if whole && rounded && !matches!(style.decimals, Some(0)) {
-        Style {
-            decimals: None,
-            ..style
-        }
-    } else {
-        style
-    }
-}
-
-// Writes a number by one form, which does not round if `whole` is true, or with a word if `with` is true, or returns why it is not used.
+// Writes a number by one form, with a word if `with` is true, or returns why it is not used.
 fn write_in<N: Writable>(
     forms: &Forms,
     index: usize,
-    whole: bool,
     with: bool,
     number: &N,
     style: Style,
@@ -643,11 +855,12 @@ fn write_in<N: Writable>(
     ensures length { IfOk result (λ it. it.length ≤ length buffer.new) }
     ensures form { IfOk result (λ it. it.form ≡ index) }
     ensures style { IfOk result (λ it. IsStyleOf (N.integer number.now) style it.style) }
+    ensures error { with ≡ false → IfErr result (λ error. IsSomeAnd (slice_get forms.now.forms index) (λ form.
+        IsUnused (IsRefused (N.refuses number.now) (N.has number.now)) style form error)) }
 {
     if with && number.is_integer() {
         return write_words(forms, index, number, style, buffer);
     }
-    let style = style_in(whole, number.is_rounded(style), style);
     let error = match write_by(forms, index, number, style, buffer) {
         Ok(length) => return Ok(Chosen {
             form: index,
@@ -657,7 +870,7 @@ fn write_in<N: Writable>(
         }),
         Err(error) => error,
     };
-    if is_short(error) || !number.is_integer() || !matches!(style.exponent, ExponentStyle::Always) {
+    if is_short(error) || !number.is_integer() || !wants_exponent(style.exponent) {
         return Err(error);
     }
     let style = without_wish(style);
@@ -800,7 +1013,9 @@ fn read_token<N: Writable>(
 }
 
 // Returns whether a text needs a longer buffer.
-const fn is_short(error: WriteError) -> bool {
+const fn is_short(error: WriteError) -> bool
+    ensures { result ≡ true → (n : ℕ) × (n ≤ 4096) × (error ≡ errors.Buffer n) }
+{
     matches!(error, WriteError::Buffer(length) if length <= LONGEST)
 }
 
@@ -815,6 +1030,8 @@ fn write_by<N: Writable>(
     requires { index < length forms.now.forms }
     ensures value { IfOk result (λ size. IsReadBack forms.now (take size buffer.new) (N.is number.now style)) }
     ensures length { IfOk result (λ size. size ≤ length buffer.new) }
+    ensures error { IfErr result (λ error. IsSomeAnd (slice_get forms.now.forms index) (λ form.
+        IsRefused (N.refuses number.now) (N.has number.now) style form error)) }
 {
     let it = &forms.as_slice()[index];
     if it.is_marked() {
@@ -849,7 +1066,9 @@ fn write_by<N: Writable>(
 }
 
 // Returns why a text is not used that is read as this literal, which is another number or has no value.
-fn mismatch(literal: &Literal) -> WriteError {
+fn mismatch(literal: &Literal) -> WriteError
+    ensures { (result ≡ errors.TooLarge) ⊎ (result ≡ errors.ReadBack) }
+{
     let refused = if literal.is_float() {
         to_float::<f64>(literal).is_err()
     } else {

@@ -226,6 +226,7 @@ fn are_characters(bytes: &[u8], radix: u32) -> bool
 }
 
 // Writes uppercase digits as `put_padded` does.
+#[tactic(auto, using(crate::proofs::DigitLemmas::plain_text))]
 fn put_characters<S: Sink>(sink: &mut S, bytes: &[u8], run: &Run)
     requires { bytes.now ≡ map (character false) (digits_in run.now.radix bytes.now) }
     ensures { (start : S) → (text : List ℕ) → S.has start sink.old text
@@ -239,6 +240,7 @@ fn put_characters<S: Sink>(sink: &mut S, bytes: &[u8], run: &Run)
 }
 
 // Writes the digits of a number as `put_padded` does.
+#[tactic(auto, using(crate::proofs::DigitLemmas::read_back))]
 fn put_number<S: Sink>(sink: &mut S, number: u128, run: &Run)
     ensures { (start : S) → (text : List ℕ) → S.has start sink.old text
         → S.has start sink.new (text ++ grouped run.now.pattern (at_least run.now.least (digits_of run.now.radix number))) }
@@ -344,6 +346,7 @@ impl Source<'_> {
     }
 
     // Returns whether the first digit is decimal.
+    #[tactic(auto, using(crate::proofs::DigitLemmas::read_back))]
     pub(crate) fn begins_decimal(&self, radix: u32) -> bool
         requires { IsRadix radix }
         ensures { result ≡ begins_decimal (values_of radix self.now) }
@@ -361,6 +364,7 @@ impl Source<'_> {
 
 impl Run<'_> {
     // Returns the number of digits if there can be zeros around them, and 0 otherwise.
+    #[tactic(auto, using(crate::proofs::DigitLemmas::run_longer))]
     pub(crate) fn count(&self) -> u128
         ensures { result ≤ length (run_text self.now) }
     {

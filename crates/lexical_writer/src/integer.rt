@@ -97,6 +97,7 @@ impl WrittenInteger {
     }
 
     // Returns whether there is a decimal point or an exponent.
+    #[tactic(auto, using(crate::proofs::LiteralLemmas::float_if))]
     pub(crate) fn is_float(&self) -> bool
         ensures { result ≡ is_float (integer_literal self.now) }
     {
@@ -112,6 +113,7 @@ impl WrittenInteger {
     }
 
     /// Writes the text to the beginning of a buffer, as far as it has room, and returns its length, as [`Layout::write`] does.
+    #[tactic(auto, using(crate::proofs::BufferLemmas::taken_as))]
     pub fn write(&self, buffer: &mut [u8]) -> usize
         ensures { IsTaken (text_of (integer_literal self.now)) buffer.old buffer.new result }
     {

@@ -554,7 +554,7 @@ pub(crate) fn allows_exponent(syntax: &Syntax) -> bool
 }
 
 // Returns whether a number without an exponent is to have one.
-const fn wants_exponent(wish: ExponentStyle) -> bool
+pub(crate) const fn wants_exponent(wish: ExponentStyle) -> bool
     ensures { result ≡ wants_exponent wish }
 {
     matches!(wish, ExponentStyle::Always)

@@ -1,12 +1,12 @@
 //! Literals are written by the float that is nearest to them.
 
-ghost use Rattle.std.specs.Prelude.{◌≡◌, ◌⊎◌, ℕ, false, None, Some, IfOk};
+ghost use Rattle.std.specs.Prelude.{◌≡◌, ◌⊎◌, ℕ, false, None, Some, Err, IfErr, IfOk};
 ghost use Rattle.lexical_util.specs.Record.{bytes_of, raw};
 ghost use Rattle.lexical_literal.specs.Literal.{Reads, text_of};
 ghost use Rattle.lexical_literal.specs.Notation.{notation_of};
 ghost use Rattle.lexical_number.specs.Float.{format_of};
 ghost use Rattle.lexical_value.specs.Float.{nearest};
-ghost use Rattle.lexical_writer.specs.Conversion.{IsNear, SameFraction};
+ghost use Rattle.lexical_writer.specs.Conversion.{IsNear, IsWritten, SameFraction};
 ghost use Rattle.lexical_writer.specs.Layout.{literal_of as written};
 ghost use Rattle.lexical_writer.specs.Rounded.{IsRounded, decimals_in};
 
@@ -67,6 +67,8 @@ pub fn format_near<'a, F: Float>(
     // Without the wish, the value is the same.
     ensures exact { style.nearest ≡ false → IfOk result (λ layout.
         SameFraction (raw literal.now.format) literal.now.literal (raw syntax.now.word) (written layout)) }
+    // A literal that is not written has an error of `format_literal`.
+    ensures error { IfErr result (λ _. (error : WriteError) × IsWritten literal.now syntax.now style (Err error)) }
 {
     match format_literal(literal, syntax, style) {
         Ok(layout) => Ok(layout),

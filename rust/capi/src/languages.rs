@@ -2,8 +2,8 @@
 
 use crate::arguments::{input, Out};
 use crate::literals::Syntax;
-use crate::names::{at, start, texts};
-use crate::tokens::{affix, first, written, Constant, Laid, Reader, Stop, SuffixKind, Suffixes, Tokens, Unit};
+use crate::names::{at, texts};
+use crate::tokens::{affix, written, Constant, Reader, Stop, SuffixKind, Suffixes, Tokens, Unit};
 use core::cell::UnsafeCell;
 use core::ffi::CStr;
 use core::mem::MaybeUninit;
@@ -22,19 +22,6 @@ pub struct Specials {
 }
 
 impl Specials {
-    /// Returns the spellings of a language, one after another in these texts. One that it lacks is a null pointer.
-    const fn of(language: Language, texts: &'static [u8]) -> Specials {
-        const fn place(spelling: Option<&[u8]>, texts: &'static [u8], index: usize) -> *const u8 {
-            match spelling {
-                Some(_) => start(texts, index),
-                None => ptr::null(),
-            }
-        }
-        let literal::Specials { nan, inf, infinity } = language.forms().specials();
-        let [nan, inf, infinity] = [place(nan, texts, 0), place(inf, texts, 1), place(infinity, texts, 2)];
-        Specials { nan, inf, infinity, reserved: [0; 8] }
-    }
-
     /// Returns the bytes of the strings, or `None` if a later version may have others. A null pointer has none.
     ///
     /// # Safety
@@ -69,7 +56,7 @@ impl From<Special> for NumberedSpecial {
 
 /// The numbers of a kind.
 #[repr(C)]
-#[derive(Clone, Copy)]
+#[derive(Clone, Copy, PartialEq)]
 pub struct KindNumbers {
     integers: u8,
     bits: u8,
@@ -109,11 +96,6 @@ impl KindNumbers {
         let limits = [FloatLimits::None, FloatLimits::Largest, FloatLimits::Both].get(usize::from(self.limits))?;
         Some(Kind::new(integers, *floats)?.with_limits(*limits))
     }
-
-    pub const fn is_same(self, other: KindNumbers) -> bool {
-        let is_same = self.integers == other.integers && self.bits == other.bits;
-        is_same && self.floats == other.floats && self.limits == other.limits
-    }
 }
 
 /// A form of numbers: its name, as a null-terminated string or a null pointer, its syntax, the numbers of its kind, whether the
@@ -133,18 +115,6 @@ pub struct Form {
 }
 
 impl Form {
-    /// No form.
-    const NONE: Form = Form {
-        name: ptr::null(),
-        syntax: Syntax::NONE,
-        kind: KindNumbers::EXACT,
-        cases: [0; 2],
-        only_read: 0,
-        reserved: 0,
-        suffixes: ptr::null(),
-        affixes: [ptr::null(); 2],
-    };
-
     /// Returns a form in C, with a name, suffixes, an opening and a closing.
     const fn of(name: *const u8, form: literal::Form, suffixes: *const Suffixes, affixes: [*const u8; 2]) -> Form {
         let (syntax, kind) = (Syntax::of(form.syntax()), numbers_of(form.kind()));
@@ -154,7 +124,7 @@ impl Form {
 
     /// Returns the form in Rust, without its name and its suffixes, or `None` if it is refused.
     unsafe fn given(&self) -> Option<literal::Form> {
-        let kind = if self.kind.is_same(KindNumbers::EXACT) { Kind::EXACT } else { self.kind.kind()? };
+        let kind = if self.kind == KindNumbers::EXACT { Kind::EXACT } else { self.kind.kind()? };
         let form = literal::Form::new("", Syntax::given_at_once(Some(&self.syntax))?).with_kind(kind);
         let ([opening, closing], [of_opening, of_closing]) = (self.affixes, self.cases);
         let form = form.with_opening(affix(opening, of_opening)?).with_closing(affix(closing, of_closing)?)?;
@@ -192,32 +162,29 @@ struct LanguageForms {
 // SAFETY: all pointers point to constants.
 unsafe impl Sync for LanguageForms {}
 
-/// Returns the forms of a language, and then those that need a suffix, in C. Their names are these texts, and `text` is where
-/// the strings of [`Laid`] are.
-const fn shown<const ALL: usize>(
-    lists: [&[literal::Form]; 2],
-    names: &'static [u8],
-    text: *const u8,
-    suffixes: *const Suffixes,
-) -> [Form; ALL] {
-    let laid = Laid::of(lists, &[], (text, ptr::null(), ptr::null()));
-    let (mut forms, mut index) = ([Form::NONE; ALL], 0);
-    while index < ALL {
-        let form = form_at(lists, index);
-        let own = if form.suffixes().is_some() { suffixes.wrapping_add(laid.of_forms[index]) } else { ptr::null() };
-        forms[index] = Form::of(start(names, index), *form, own, laid.affixes[index]);
-        index += 1;
+/// Returns the form of a language with an index. Those that need a suffix are behind the others.
+const fn form_of(language: Language, index: usize) -> literal::Form {
+    let forms = language.forms().as_slice();
+    match language.forms().token_rules() {
+        Some((behind, ..)) if index >= forms.len() => behind[index - forms.len()],
+        _ => forms[index],
     }
-    forms
 }
 
-/// Returns the form with an index in two lists.
-pub const fn form_at(lists: [&[literal::Form]; 2], index: usize) -> &literal::Form {
-    if index < lists[0].len() {
-        &lists[0][index]
-    } else {
-        &lists[1][index - lists[0].len()]
+/// Returns the kind of a suffix of a form of a language.
+const fn kind_of(language: Language, form: usize, index: usize) -> KindNumbers {
+    match form_of(language, form).suffixes() {
+        Some(suffixes) => numbers_of(suffixes.rules().2[index].1),
+        None => KindNumbers::EXACT,
     }
+}
+
+/// What `build.rs` makes of each language, in a module with its name: the forms, the spellings of special values, and the words that
+/// may follow its numbers.
+#[allow(non_snake_case)]
+mod made {
+    use super::*;
+    include!(concat!(env!("OUT_DIR"), "/languages.rs"));
 }
 
 /// Returns the forms of a language, without names and suffixes.
@@ -429,53 +396,27 @@ macro_rules! languages {
             extern "C" fn $call() -> *const Forms {
                 const IT: &literal::Forms<'static> = Language::$NAME.forms();
                 const COUNT: usize = IT.as_slice().len();
-                const SPELLED: literal::Specials<'static> = IT.specials();
                 const RULES: Option<(&[literal::Form], &[&[u8]], [bool; 3])> = IT.token_rules();
-                const BEHIND: (&[literal::Form], &[&[u8]], [bool; 3]) = match RULES {
-                    Some(rules) => rules,
-                    None => (&[], &[], [false; 3]),
-                };
-                const LISTS: [&[literal::Form]; 2] = [IT.as_slice(), BEHIND.0];
-                const ALL: usize = COUNT + BEHIND.0.len();
-                const SIZES: Laid = Laid::of(LISTS, BEHIND.1, (ptr::null(), ptr::null(), ptr::null()));
-                texts! {
-                    NAMES: [ALL] = |index| form_at(LISTS, index).name().as_bytes();
-                    SPELLINGS: [3] = |index| match [SPELLED.nan, SPELLED.inf, SPELLED.infinity][index] {
-                        Some(spelling) => spelling,
-                        None => b"",
-                    };
-                }
-                static TEXT: [u8; SIZES.size] = first(&SIZES.text);
-                static KINDS: Constant<[SuffixKind; SIZES.kind_count]> = Constant(first(
-                    &Laid::of(LISTS, BEHIND.1, (TEXT.as_ptr(), ptr::null(), ptr::null())).kinds,
-                ));
-                static STOPS: Constant<[Stop; SIZES.stop_count]> = Constant(first(
-                    &Laid::of(LISTS, BEHIND.1, (TEXT.as_ptr(), ptr::null(), ptr::null())).stops,
-                ));
-                static SUFFIXES: Constant<[Suffixes; SIZES.count]> = Constant(first(
-                    &Laid::of(LISTS, BEHIND.1, (TEXT.as_ptr(), KINDS.0.as_ptr(), STOPS.0.as_ptr())).suffixes,
-                ));
-                static SHOWN: Constant<[Form; ALL]> =
-                    Constant(shown(LISTS, NAMES, TEXT.as_ptr(), SUFFIXES.0.as_ptr()));
+                const FLAGS: [bool; 3] = if let Some((.., flags)) = RULES { flags } else { [false; 3] };
                 static READ: [literal::Form; COUNT] = read(IT.as_slice());
                 static TOKENS: Tokens = Tokens {
-                    forms: SHOWN.0.as_ptr().wrapping_add(COUNT),
-                    count: ALL - COUNT,
-                    following: Laid::of(LISTS, BEHIND.1, (TEXT.as_ptr(), ptr::null(), ptr::null())).following,
-                    flags: [BEHIND.2[0] as u8, BEHIND.2[1] as u8, BEHIND.2[2] as u8],
+                    forms: made::$NAME::FORMS.0.as_ptr().wrapping_add(COUNT),
+                    count: made::$NAME::FORMS.0.len() - COUNT,
+                    following: made::$NAME::FOLLOWING,
+                    flags: [FLAGS[0] as u8, FLAGS[1] as u8, FLAGS[2] as u8],
                     reserved: [0; 5],
                 };
                 static KEPT: Kept = Kept::new();
                 static FORMS: LanguageForms = LanguageForms {
                     shown: Forms {
-                        forms: SHOWN.0.as_ptr(),
+                        forms: made::$NAME::FORMS.0.as_ptr(),
                         count: COUNT,
-                        specials: Specials::of(Language::$NAME, SPELLINGS),
+                        specials: made::$NAME::SPECIALS,
                         language: (&raw const FORMS).cast(),
                         reserved: [0; 2],
                         tokens: if RULES.is_some() { &raw const TOKENS } else { ptr::null() },
                     },
-                    read: literal::Forms::new_or_panic(&READ).with_specials(SPELLED),
+                    read: literal::Forms::new_or_panic(&READ).with_specials(IT.specials()),
                     kept: if RULES.is_some() { Some(&KEPT) } else { None },
                 };
                 (&raw const FORMS).cast()
@@ -487,58 +428,8 @@ macro_rules! languages {
     };
 }
 
-languages! {
-    // Made by make_python.py: language_list
-    ADA peltzivar_language_ada
-    BASH peltzivar_language_bash
-    C peltzivar_language_c
-    CLOJURE peltzivar_language_clojure
-    COMMON_LISP peltzivar_language_common_lisp
-    CSS peltzivar_language_css
-    CSV_DE peltzivar_language_csv_de
-    CSV_EN peltzivar_language_csv_en
-    C_PLUS_PLUS peltzivar_language_c_plus_plus
-    C_SHARP peltzivar_language_c_sharp
-    D peltzivar_language_d
-    ELIXIR peltzivar_language_elixir
-    ERLANG peltzivar_language_erlang
-    FORTRAN peltzivar_language_fortran
-    GO peltzivar_language_go
-    HASKELL peltzivar_language_haskell
-    HASKELL_GHC2021 peltzivar_language_haskell_ghc2021
-    JAVA peltzivar_language_java
-    JAVASCRIPT peltzivar_language_javascript
-    JSON peltzivar_language_json
-    JSON5 peltzivar_language_json5
-    JULIA peltzivar_language_julia
-    KOTLIN peltzivar_language_kotlin
-    LUA peltzivar_language_lua
-    NASM peltzivar_language_nasm
-    NIM peltzivar_language_nim
-    OCAML peltzivar_language_ocaml
-    PASCAL peltzivar_language_pascal
-    PERL peltzivar_language_perl
-    PHP peltzivar_language_php
-    POSTSCRIPT peltzivar_language_postscript
-    PROLOG peltzivar_language_prolog
-    PYTHON peltzivar_language_python
-    R peltzivar_language_r
-    RAKU peltzivar_language_raku
-    RUBY peltzivar_language_ruby
-    RUST peltzivar_language_rust
-    SCALA peltzivar_language_scala
-    SCHEME peltzivar_language_scheme
-    SQL peltzivar_language_sql
-    SWIFT peltzivar_language_swift
-    TCL peltzivar_language_tcl
-    TOML peltzivar_language_toml
-    VERILOG peltzivar_language_verilog
-    VHDL peltzivar_language_vhdl
-    XML_SCHEMA peltzivar_language_xml_schema
-    YAML peltzivar_language_yaml
-    YAML_1_1 peltzivar_language_yaml_1_1
-    // End
-}
+// `languages!` with the name and the call of each language.
+include!(concat!(env!("OUT_DIR"), "/calls.rs"));
 
 texts! {
     NAMES: [Language::ALL.len()] = |index| Language::ALL[index].name().as_bytes();

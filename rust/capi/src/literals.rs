@@ -22,9 +22,6 @@ pub struct Syntax {
 }
 
 impl Syntax {
-    /// No syntax.
-    pub const NONE: Syntax = Syntax { format: Word::of(0), exponent: 0, decimal_point: 0, numbers: [0; 14] };
-
     /// Returns a syntax in C.
     pub const fn of(syntax: literal::Syntax) -> Syntax {
         let (mut numbers, mut at) = ([0; 14], 0);

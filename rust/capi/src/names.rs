@@ -46,16 +46,6 @@ texts! {
     PART_NAMES: [3] = |number| PARTS[number].name().as_bytes();
 }
 
-/// Returns where the text with an index is, which there must be.
-pub const fn start(texts: &'static [u8], mut index: usize) -> *const u8 {
-    let mut at = 0;
-    while index > 0 {
-        index -= (texts[at] == 0) as usize;
-        at += 1;
-    }
-    texts.split_at(at).1.as_ptr()
-}
-
 /// Returns the text with an index, or an empty one.
 pub fn at(texts: &'static [u8], index: impl TryInto<usize>) -> *const u8 {
     let index = index.try_into().unwrap_or(usize::MAX);

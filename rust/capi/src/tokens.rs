@@ -1,7 +1,7 @@
 //! The call that reads a token, and what the header has for it: suffixes, stops, and rules of a list.
 
 use crate::arguments::{input, write_text, Out};
-use crate::languages::{form_at, numbers_of, with_tokens, Form, Forms, KindNumbers};
+use crate::languages::{with_tokens, Form, Forms, KindNumbers};
 use crate::literals::{Literal, ReadError, Refusal, Span, TOO_LONG};
 use core::ffi::CStr;
 use core::mem::{self, MaybeUninit};
@@ -12,34 +12,34 @@ use peltzivar::literal::{self, Affix, TokenError};
 #[repr(C)]
 #[derive(Clone, Copy)]
 pub struct SuffixKind {
-    word: *const u8,
-    kind: KindNumbers,
-    reserved: [u8; 4],
+    pub(crate) word: *const u8,
+    pub(crate) kind: KindNumbers,
+    pub(crate) reserved: [u8; 4],
 }
 
 /// Bytes behind a number with which it is not a token. A null pointer is any bytes.
 #[repr(C)]
 #[derive(Clone, Copy)]
 pub struct Stop {
-    bytes: [*const u8; 3],
-    reserved: [u8; 8],
+    pub(crate) bytes: [*const u8; 3],
+    pub(crate) reserved: [u8; 8],
 }
 
 /// The suffixes of a form. Words are separated by spaces, and a null pointer has none.
 #[repr(C)]
 #[derive(Clone, Copy)]
 pub struct Suffixes {
-    words: [*const u8; 2],
-    any: *const u8,
+    pub(crate) words: [*const u8; 2],
+    pub(crate) any: *const u8,
     pub(crate) written: *const u8,
-    kinds: *const SuffixKind,
-    kind_count: usize,
-    stops: *const Stop,
-    stop_count: usize,
-    either_case: u8,
-    whole_words: u8,
-    reserved: [u8; 6],
-    word_bytes: *const u8,
+    pub(crate) kinds: *const SuffixKind,
+    pub(crate) kind_count: usize,
+    pub(crate) stops: *const Stop,
+    pub(crate) stop_count: usize,
+    pub(crate) either_case: u8,
+    pub(crate) whole_words: u8,
+    pub(crate) reserved: [u8; 6],
+    pub(crate) word_bytes: *const u8,
 }
 
 /// The rules for the tokens of a list, with whether points are given back, to letters alone, and any word may follow.
@@ -194,216 +194,6 @@ unsafe fn string(text: *const u8) -> &'static [u8] {
 /// As for `string`.
 pub unsafe fn affix(text: *const u8, case_sensitive: u8) -> Option<Affix> {
     Some(Affix::new(string(text))?.case_sensitive(case_sensitive != 0))
-}
-
-/// The suffixes of the forms of a language, each once: their strings, one after another, kinds and stops, and of each form the
-/// index of its suffixes, or [`MOST`].
-pub struct Laid {
-    pub text: [u8; 2048],
-    pub size: usize,
-    pub kinds: [SuffixKind; 128],
-    pub kind_count: usize,
-    pub stops: [Stop; 64],
-    pub stop_count: usize,
-    pub suffixes: [Suffixes; 64],
-    pub count: usize,
-    pub of_forms: [usize; 64],
-    pub affixes: [[*const u8; 2]; 64],
-    pub following: *const u8,
-    begins: [usize; 65],
-    ends: [usize; 64],
-}
-
-impl Laid {
-    const NONE: Suffixes = Suffixes {
-        words: [ptr::null(); 2],
-        any: ptr::null(),
-        written: ptr::null(),
-        kinds: ptr::null(),
-        kind_count: 0,
-        stops: ptr::null(),
-        stop_count: 0,
-        either_case: 0,
-        whole_words: 0,
-        reserved: [0; 6],
-        word_bytes: ptr::null(),
-    };
-
-    /// Lays out the suffixes of forms, where the strings, kinds and stops begin at these addresses.
-    pub const fn of(
-        forms: [&[literal::Form]; 2],
-        following: &[&[u8]],
-        at: (*const u8, *const SuffixKind, *const Stop),
-    ) -> Laid {
-        let mut laid = Laid {
-            text: [0; 2048],
-            size: 0,
-            kinds: [SuffixKind { word: ptr::null(), kind: KindNumbers::EXACT, reserved: [0; 4] }; 128],
-            kind_count: 0,
-            stops: [Stop { bytes: [ptr::null(); 3], reserved: [0; 8] }; 64],
-            stop_count: 0,
-            suffixes: [Laid::NONE; 64],
-            count: 0,
-            of_forms: [MOST; 64],
-            affixes: [[ptr::null(); 2]; 64],
-            following: ptr::null(),
-            begins: [0; 65],
-            ends: [0; 64],
-        };
-        let mut form = 0;
-        while form < forms[0].len() + forms[1].len() {
-            let it = form_at(forms, form);
-            if let Some(suffixes) = it.suffixes() {
-                laid.of_forms[form] = laid.add(suffixes, at);
-            }
-            if !it.opening().is_empty() {
-                laid.affixes[form][0] = laid.put(&[it.opening().as_bytes()], at.0);
-            }
-            if !it.closing().is_empty() {
-                laid.affixes[form][1] = laid.put(&[it.closing().as_bytes()], at.0);
-            }
-            form += 1;
-        }
-        laid.following = laid.put(following, at.0);
-        laid
-    }
-
-    /// Adds words with spaces between them, and returns where they are, or null if there are none. For many bytes that these suffixes
-    /// have already, one stands that is in no word.
-    const fn put(&mut self, words: &[&[u8]], base: *const u8) -> *const u8 {
-        let (start, mut word) = (self.size, 0);
-        while word < words.len() {
-            let mut byte = 0;
-            while byte < words[word].len() {
-                self.text[self.size] = words[word][byte];
-                self.size += 1;
-                byte += 1;
-            }
-            word += 1;
-            if word < words.len() {
-                self.text[self.size] = b' ';
-                self.size += 1;
-            }
-        }
-        let len = self.size - start;
-        self.text[self.size] = 0;
-        self.size += 1;
-        let mut at = if len < 64 { start } else { self.begins[self.count] };
-        while at < start && !self.has_again(at, start, len + 1) {
-            at += 1;
-        }
-        if at < start {
-            self.text[start] = 1;
-            self.size = start + 1;
-        }
-        if len == 0 {
-            ptr::null()
-        } else {
-            base.wrapping_add(at)
-        }
-    }
-
-    /// Returns whether the bytes from two indexes on are the same.
-    const fn has_again(&self, one: usize, other: usize, len: usize) -> bool {
-        let mut index = 0;
-        while index < len {
-            if self.text[one + index] != self.text[other + index] {
-                return false;
-            }
-            index += 1;
-        }
-        true
-    }
-
-    /// Adds suffixes, unless there are the same, and returns their index.
-    const fn add(
-        &mut self,
-        it: &literal::Suffixes,
-        (base, kinds, stops): (*const u8, *const SuffixKind, *const Stop),
-    ) -> usize {
-        let (start, kind, stop) = (self.size, self.kind_count, self.stop_count);
-        self.begins[self.count] = start;
-        let (([either_case, whole_words], any, own_kinds, own_stops), [integers, floats]) = (it.rules(), it.words());
-        let words = [self.put(integers, base), self.put(floats, base)];
-        let (any, written) = (self.put(&[any], base), self.put(it.written(), base));
-        let word_bytes = self.put(&[it.word_bytes()], base);
-        while self.kind_count - kind < own_kinds.len() {
-            let (word, of) = own_kinds[self.kind_count - kind];
-            let word = self.put(&[word], base);
-            self.kinds[self.kind_count] = SuffixKind { word, kind: numbers_of(of), reserved: [0; 4] };
-            self.kind_count += 1;
-        }
-        while self.stop_count - stop < own_stops.len() {
-            let [last, next, second] = own_stops[self.stop_count - stop].bytes();
-            let bytes = [self.put(&[last], base), self.put(&[next], base), self.put(&[second], base)];
-            self.stops[self.stop_count] = Stop { bytes, reserved: [0; 8] };
-            self.stop_count += 1;
-        }
-        self.suffixes[self.count] = Suffixes {
-            words,
-            any,
-            written,
-            kinds: if own_kinds.is_empty() { ptr::null() } else { kinds.wrapping_add(kind) },
-            kind_count: own_kinds.len(),
-            stops: if own_stops.is_empty() { ptr::null() } else { stops.wrapping_add(stop) },
-            stop_count: own_stops.len(),
-            either_case: either_case as u8,
-            whole_words: whole_words as u8,
-            word_bytes,
-            ..Laid::NONE
-        };
-        self.ends[self.count] = self.size;
-        let mut same = 0;
-        while same < self.count && !self.are_same(same, self.count, kind) {
-            same += 1;
-        }
-        if same < self.count {
-            (self.size, self.kind_count, self.stop_count) = (start, kind, stop);
-        } else {
-            self.count += 1;
-        }
-        same
-    }
-
-    /// Returns whether two suffixes are the same, the kinds of the second of which begin at `kind`.
-    const fn are_same(&self, one: usize, other: usize, kind: usize) -> bool {
-        let (first, second) = (self.suffixes[one], self.suffixes[other]);
-        let size = self.ends[one] - self.begins[one];
-        if size != self.ends[other] - self.begins[other]
-            || first.kind_count != second.kind_count
-            || first.stop_count != second.stop_count
-            || first.either_case != second.either_case
-            || first.whole_words != second.whole_words
-        {
-            return false;
-        }
-        let (mut before, mut index) = (0, 0);
-        if !self.has_again(self.begins[one], self.begins[other], size) {
-            return false;
-        }
-        while index < one {
-            before += self.suffixes[index].kind_count;
-            index += 1;
-        }
-        let mut at = 0;
-        while at < first.kind_count {
-            if !self.kinds[before + at].kind.is_same(self.kinds[kind + at].kind) {
-                return false;
-            }
-            at += 1;
-        }
-        true
-    }
-}
-
-/// Returns the first items of an array.
-pub const fn first<T: Copy, const MANY: usize, const FEW: usize>(items: &[T; MANY]) -> [T; FEW] {
-    let (mut few, mut index) = ([items[0]; FEW], 0);
-    while index < FEW {
-        few[index] = items[index];
-        index += 1;
-    }
-    few
 }
 
 /// Items that are constants, with pointers to constants.

@@ -2,7 +2,7 @@
 
 //! What stands before and behind the literals of a form, such as `16#` and `#`.
 
-use crate::literal::cause::other_case;
+use crate::literal::step::other_case;
 
 /// Up to 8 bytes of ASCII that stand before each literal of a form, its *opening*, such as `$`, `16r` or `#x`, or behind it, its
 /// *closing*, such as `#` or `'`. An empty one is none. Letters are in either case, unless

@@ -5,7 +5,7 @@
 use crate::error::Error;
 use crate::literal::group_size::{follows, has_size, Group};
 use crate::literal::step::{
-    has_digit, is_complete, is_exponent_character, needs_exponent, part_of, role_at, step_as, Summary,
+    has_digit, is_complete, is_exponent_character, needs_exponent, other_case, part_of, role_at, step_as, Summary,
 };
 use crate::literal::syntax::{Condition, Conditions, Grammar, Options, CONDITIONS};
 use crate::word as masks;
@@ -252,7 +252,7 @@ impl Spot {
     }
 
     // Returns whether the text could go on without requirements.
-    const fn is_free(self) -> bool {
+    const fn goes_on_bare(self) -> bool {
         self.allows(self.bare(), Conditions::NONE)
     }
 
@@ -318,7 +318,9 @@ impl Spot {
 
     // Returns whether the syntax has a condition that alone refuses what cannot follow.
     const fn is_unmet(self, condition: Condition) -> bool {
-        self.conditions.has(condition) && self.is_free() && !self.allows(self.bare(), self.conditions.only(condition))
+        self.conditions.has(condition)
+            && self.goes_on_bare()
+            && !self.allows(self.bare(), self.conditions.only(condition))
     }
 
     // Returns the flags each of which would allow a separator that is not allowed.
@@ -359,7 +361,7 @@ impl Spot {
     const fn case_flags(self, byte: u8) -> u128 {
         let other = other_case(byte);
         let spot = Spot { byte: Some(other), ..self };
-        if spot.is_free() {
+        if spot.goes_on_bare() {
             case_mask(self.as_grammar(), other)
         } else {
             0
@@ -370,13 +372,13 @@ impl Spot {
     const fn is_byte(self) -> bool {
         match self.byte {
             None => false,
-            Some(byte) => !self.is_free() && self.separators() == 0 && self.case_flags(byte) == 0,
+            Some(byte) => !self.goes_on_bare() && self.separators() == 0 && self.case_flags(byte) == 0,
         }
     }
 
     // Returns the kind, and the flags that are to blame.
     const fn blame(self) -> Blame {
-        if self.is_free() {
+        if self.goes_on_bare() {
             return Blame { kind: ReadErrorKind::Requirement, mask: self.requirements() };
         }
         let Some(byte) = self.byte else {
@@ -409,13 +411,4 @@ const fn case_mask(grammar: Grammar, byte: u8) -> u128 {
     flag_if(is_exponent_character(grammar, byte), masks::CASE_SENSITIVE_EXPONENT)
         | flag_if(grammar.view().is_base_prefix(byte), masks::CASE_SENSITIVE_BASE_PREFIX)
         | flag_if(grammar.view().is_base_suffix(byte), masks::CASE_SENSITIVE_BASE_SUFFIX)
-}
-
-// Returns the other case of a letter, or the byte itself if it is not a letter.
-pub(crate) const fn other_case(byte: u8) -> u8 {
-    match byte {
-        b'A'..=b'Z' => byte + 32,
-        b'a'..=b'z' => byte - 32,
-        _ => byte,
-    }
 }

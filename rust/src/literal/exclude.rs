@@ -3,8 +3,7 @@
 //! What excludes that a text is a literal of a form: its first bytes, or a byte that plays no role in the form.
 
 use crate::literal::affix::Affix;
-use crate::literal::cause::other_case;
-use crate::literal::step::{is_digit, is_point, role_at};
+use crate::literal::step::{is_digit, is_point, other_case, role_at};
 use crate::literal::stop::byte_at;
 use crate::literal::syntax::{Condition, Grammar, Options};
 use crate::word::{base_prefix, base_suffix, digit_separator, Part};
@@ -89,7 +88,7 @@ pub(crate) const fn sign_size(text: &[u8]) -> usize {
 
 // Returns whether no front of `text` with more than `size` bytes is a literal: there is not the prefix that is required, or the text ends
 // behind them, or a byte follows that plays no role. If they are more than a sign, no literal begins with more.
-#[inline(always)]
+#[cfg_attr(not(peltzivar_small), inline(always))]
 pub(crate) const fn lacks_longer(grammar: Grammar, text: &[u8], size: usize) -> bool {
     lacks_prefix(grammar, text) || is_over(grammar, text, size)
 }

@@ -52,7 +52,7 @@ impl<'a> Forms<'a> {
                     let literal = syntax.literal(text, begun.counts, begun.sums).with_kind(kind);
                     return Ok(Number::Literal { literal, form: 0 });
                 }
-                if begun.exact || begun.at.is_refused(&syntax, text) {
+                if begun.refused || begun.at.is_refused(&syntax, text) {
                     stop = Some(begun.at);
                 }
             }

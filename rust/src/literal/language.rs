@@ -89,46 +89,35 @@ impl Language {
     pub const fn forms(&self) -> &'static Forms<'static> {
         &self.0.forms
     }
+}
 
-    /// Returns the number that `text` is, as [`Forms::read`] does.
-    ///
-    /// # Errors
-    ///
-    /// If `text` is neither a literal nor a special value, returns why it is not a literal.
-    pub fn read<'t>(&self, text: &'t (impl AsRef<[u8]> + ?Sized)) -> Result<Number<'t>, FormError> {
-        self.forms().read(text)
-    }
+/// Defines the calls that forms have, too.
+macro_rules! as_forms {
+    ($($(#[$about:meta])* [$($const:ident)?] $name:ident [$($generics:tt)*]($Text:ty) -> $Result:ty;)*) => {
+        impl Language {
+            $(
+                #[doc = concat!("Returns what [`Forms::", stringify!($name), "`] returns for the [forms][Self::forms].")]
+                $(#[$about])*
+                ///
+                /// # Errors
+                ///
+                /// Those of this call.
+                pub $($const)? fn $name<$($generics)*>(&self, text: $Text) -> $Result {
+                    self.forms().$name(text)
+                }
+            )*
+        }
+    };
+}
 
-    /// Returns what [`read`][Self::read] returns, also in a constant.
-    pub const fn read_bytes<'t>(&self, text: &'t [u8]) -> Result<Number<'t>, FormError> {
-        self.forms().read_bytes(text)
-    }
-
-    /// Returns the longest literal that `text` begins with, and the rest of `text`, as [`Forms::read_prefix`] does. In source
-    /// text, [`token`][Self::token] ends numbers as the language does: of `1..2` in RUST, this is `1.`, and the token `1`.
-    ///
-    /// ```
-    /// use peltzivar::literal::Language;
-    ///
-    /// let (number, rest) = Language::JSON.read_prefix("-1.5e3, 2]")?;
-    /// assert_eq!((number.to_f64(), rest), (-1500.0, &b", 2]"[..]));
-    /// # Ok::<(), peltzivar::literal::FormError>(())
-    /// ```
-    ///
-    /// # Errors
-    ///
-    /// If `text` does not begin with a literal, returns why it is not one.
-    pub fn read_prefix<'t>(&self, text: &'t (impl AsRef<[u8]> + ?Sized)) -> Result<(Number<'t>, &'t [u8]), FormError> {
-        self.forms().read_prefix(text)
-    }
-
-    /// Returns what [`read_prefix`][Self::read_prefix] returns, also in a constant.
-    pub const fn read_prefix_bytes<'t>(&self, text: &'t [u8]) -> Result<(Number<'t>, &'t [u8]), FormError> {
-        self.forms().read_prefix_bytes(text)
-    }
-
-    /// Returns the number that `text` begins with, with its suffix, and the rest, as [`Forms::token`] does. Languages of
-    /// data, such as JSON, have no tokens.
+as_forms! {
+    [] read ['t](&'t (impl AsRef<[u8]> + ?Sized)) -> Result<Number<'t>, FormError>;
+    [const] read_bytes ['t](&'t [u8]) -> Result<Number<'t>, FormError>;
+    /// In source text, [`token`][Self::token] ends numbers as the language does: of `1..2` in RUST, this is `1.`, and the
+    /// token `1`.
+    [] read_prefix ['t](&'t (impl AsRef<[u8]> + ?Sized)) -> Result<(Number<'t>, &'t [u8]), FormError>;
+    [const] read_prefix_bytes ['t](&'t [u8]) -> Result<(Number<'t>, &'t [u8]), FormError>;
+    /// Languages of data, such as JSON, have no tokens.
     ///
     /// ```
     /// use peltzivar::literal::Language;
@@ -137,15 +126,7 @@ impl Language {
     /// assert_eq!((token.literal.to_u64(), token.suffix, token.rest), (Ok(255), &b"u8"[..], &b")"[..]));
     /// assert_eq!(Language::RUST.token("1..2").unwrap().rest, b"..2");
     /// ```
-    ///
-    /// # Errors
-    ///
-    /// If `text` does not begin with a token, or if the language has none, returns why.
-    pub fn token<'t>(&self, text: &'t (impl AsRef<[u8]> + ?Sized)) -> Result<Token<'t>, TokenError> {
-        self.forms().token(text)
-    }
-
-    /// Returns the value of the number `text`, as [`Forms::parse`] does.
+    [] token ['t](&'t (impl AsRef<[u8]> + ?Sized)) -> Result<Token<'t>, TokenError>;
     ///
     /// ```
     /// use peltzivar::literal::Language;
@@ -154,26 +135,9 @@ impl Language {
     /// assert_eq!(Language::C.parse::<f64>("0x1.8p1"), Ok(3.0));
     /// assert_eq!(Language::C.parse::<u8>("0x100").unwrap_err().to_string(), "above 255, the largest u8");
     /// ```
-    ///
-    /// # Errors
-    ///
-    /// If `text` is not a number, or if its value is not one of the type, returns why.
-    pub fn parse<T: FromLiteral>(&self, text: impl AsRef<[u8]>) -> Result<T, ParseError> {
-        self.forms().parse(text)
-    }
-
-    /// Returns the value of the longest literal that `text` begins with, and the rest of `text`, as
-    /// [`Forms::parse_prefix`] does. In source text, [`token`][Self::token] ends numbers as the language does.
-    ///
-    /// # Errors
-    ///
-    /// If `text` does not begin with a literal, or if its value is not one of the type, returns why.
-    pub fn parse_prefix<'t, T: FromLiteral>(
-        &self,
-        text: &'t (impl AsRef<[u8]> + ?Sized),
-    ) -> Result<(T, &'t [u8]), ParseError> {
-        self.forms().parse_prefix(text)
-    }
+    [] parse [T: FromLiteral](impl AsRef<[u8]>) -> Result<T, ParseError>;
+    /// In source text, [`token`][Self::token] ends numbers as the language does.
+    [] parse_prefix ['t, T: FromLiteral](&'t (impl AsRef<[u8]> + ?Sized)) -> Result<(T, &'t [u8]), ParseError>;
 }
 
 /// Returns whether two names differ only in the case of letters.
@@ -247,7 +211,7 @@ impl fmt::Debug for Language {
 /// forms that differ in their radix alone, special values, and rules for tokens, if there are any.
 macro_rules! languages {
     ($($(#[$about:meta])+ $name:ident: $title:literal = {
-        $($form:literal $(behind $opening:literal $(cased $cased:literal)?)? $(before $closing:literal)? $(only_read $only:literal)?: $syntax:expr
+        $($form:literal $(behind $opening:literal)? $(before $closing:literal)? $(only_read $only:literal)?: $syntax:expr
             $(=> $suffixes:expr)? $(; $kind:expr)?),+ $(,)?
     } $(radixes $before:literal $behind:literal $(before $closed:literal)? $(to $most:literal)? { $binary:expr $(=> $words:expr)? $(; $values:expr)? })? $(, $specials:expr)? $(=> $tokens:expr)?;)+) => {
         impl Language {
@@ -259,7 +223,7 @@ macro_rules! languages {
                 name: stringify!($name),
                 title: $title,
                 forms: Forms::new_or_panic(languages!(
-                    @[$(Form::new($form, $syntax)$(.with_opening(affix($opening)$(.case_sensitive($cased))?))?
+                    @[$(Form::new($form, $syntax)$(.with_opening(affix($opening)))?
                         $(.with_closing(affix($closing)).unwrap())?$(.only_read($only))?$(.with_suffixes(&$suffixes))?$(.with_kind($kind))?),+]
                     $(; RADIXES $(+ $most - 36)?, $before $behind, Form::new("radix in front", $binary)
                         $(.with_closing(affix($closed)).unwrap())?$(.with_suffixes(&$words))?$(.with_kind($values))?)?

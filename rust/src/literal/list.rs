@@ -3,11 +3,12 @@
 //! Numbers that have several forms, such as `10`, `0x1F` and `0b1`.
 
 use crate::literal::affix::Affix;
-use crate::literal::cause::{other_case, ReadError};
+use crate::literal::cause::ReadError;
 use crate::literal::exclude::{excludes, has_letter_behind_zero, is_settled, sign_size};
 use crate::literal::form::Form;
 use crate::literal::literal::Literal;
 use crate::literal::specials::{Special, Specials};
+use crate::literal::step::other_case;
 use crate::literal::stop::{Found, Stopped};
 use crate::literal::suffix::is_wide;
 use crate::literal::syntax::Grammar;

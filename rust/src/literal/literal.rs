@@ -2,10 +2,11 @@
 
 //! Literals that were read, their parts, and the numbers that their digits represent.
 
+use crate::format_flags::{exponent_radix, mantissa_radix};
 use crate::literal::kind::Kind;
 use crate::literal::syntax::Syntax;
 use crate::literal::value::number::small::{add_all, count, fits, small};
-use crate::word::FormatView;
+use crate::word::{FormatView, Part};
 
 /// The parts of a literal, in the order of the text. An absent part has no bytes.
 #[derive(Debug, Clone, Copy, PartialEq, Eq, Hash)]
@@ -151,19 +152,16 @@ impl Syntax {
     // Returns the literal `text`, of which the parts have the lengths `counts`, and the digits these sums.
     #[inline(always)]
     pub(crate) const fn literal<'a>(&self, text: &'a [u8], counts: [usize; 9], sums: Sums) -> Literal<'a> {
-        let view = self.format().view();
-        let Sums {
-            mantissa: Sum { digits, value },
-            places,
-            exponent: Sum { digits: exponent_digits, value: exponent_value },
-        } = sums;
-        let (has_exponent, exponent) =
-            split(small_exponent(view.exponent_radix(), text, counts, exponent_digits, exponent_value));
+        let word = self.format().word();
+        let Sums { mantissa, places, exponent: scale } = sums;
+        let radix = exponent_radix(word);
+        let (has_exponent, exponent) = split(short(radix, text, counts, Part::Exponent, scale.digits, scale.value));
+        let radix = mantissa_radix(word);
         Literal {
             text,
             counts,
-            view,
-            mantissa: small_mantissa(view.mantissa_radix(), text, counts, digits, value),
+            view: FormatView::new(word),
+            mantissa: short(radix, text, counts, Part::Integer, mantissa.digits, mantissa.value),
             places,
             exponent,
             has_exponent,
@@ -242,22 +240,16 @@ const fn sums_of(radix: u32, exponent_radix: u32, parts: &Parts) -> Sums {
     }
 }
 
-// Returns the number that the digits of the integer and the fraction represent together, if they are few. There are `digits` of
-// them, and `sum` is the number modulo `2 ^ 64`.
+// Returns the number that the digits of the exponent, or else of the integer and the fraction together, represent, if they are few.
+// There are `digits` of them, and `sum` is the number modulo `2 ^ 64`.
 #[inline(always)]
-const fn small_mantissa(radix: u32, text: &[u8], counts: [usize; 9], digits: usize, sum: u64) -> Option<u64> {
+const fn short(radix: u32, text: &[u8], counts: [usize; 9], part: Part, digits: usize, sum: u64) -> Option<u64> {
     if fits(radix, digits) {
         return Some(sum);
     }
     let parts = parts_of(text, counts);
-    small(radix, parts.integer, parts.fraction, digits, sum)
-}
-
-// Returns the number that the digits of the exponent represent, if they are few, as `small_mantissa` does.
-#[inline(always)]
-const fn small_exponent(radix: u32, text: &[u8], counts: [usize; 9], digits: usize, sum: u64) -> Option<u64> {
-    if fits(radix, digits) {
-        return Some(sum);
+    match part {
+        Part::Exponent => small(radix, parts.exponent, &[], digits, sum),
+        _ => small(radix, parts.integer, parts.fraction, digits, sum),
     }
-    small(radix, parts_of(text, counts).exponent, &[], digits, sum)
 }

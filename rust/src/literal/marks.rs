@@ -99,11 +99,11 @@ impl Form {
     }
 }
 
-// Where the closing is not there, behind the opening, and how many bytes of it are.
+// How many bytes are right where the closing is not there, and whether it is, but followed by more.
 #[derive(Clone, Copy)]
 pub(crate) struct Unclosed {
-    pub(crate) size: usize,
-    pub(crate) closed: usize,
+    pub(crate) right: usize,
+    pub(crate) mark: Mark,
 }
 
 // Calls for a form in which a text is not a literal.
@@ -120,9 +120,9 @@ impl Form {
             let stop = self.syntax.stop(rest);
             return stop.at(opened + stop.size);
         }
-        match self.ending(rest) {
+        match self.ending(text) {
             Ok(error) => BEGIN.at(opened + error.valid_up_to()),
-            Err(Unclosed { size, closed }) => BEGIN.at(opened + size + closed),
+            Err(it) => BEGIN.at(it.right),
         }
     }
 
@@ -139,12 +139,10 @@ impl Form {
     #[cold]
     #[cfg_attr(peltzivar_small, inline(always))]
     const fn is_marked_stray(&self, text: &[u8], stop: Stopped) -> bool {
-        let opened = self.opening.size();
-        if stop.size < opened {
+        if stop.size < self.opening.size() {
             return true;
         }
-        let (_, rest) = text.split_at(opened);
-        match self.refusal(rest, stop.at(stop.size - opened)) {
+        match self.refusal(text, stop) {
             Ok(error) => is_stray(&error),
             Err(_) => true,
         }
@@ -156,9 +154,8 @@ impl Form {
         if self.is_marked() {
             return self.refuse_marked(text, form, stop);
         }
-        let error = self.error_of(text, stop);
-        let _syntax = self.syntax();
-        FormError { form, name: self.name, opened: 0, error: Ok(error) }
+        let error = Ok(self.error_of(text, stop));
+        FormError { form, name: self.name, opened: 0, error }
     }
 
     // Returns the same for a form with an opening or a closing.
@@ -166,23 +163,18 @@ impl Form {
     const fn refuse_marked(&self, text: &[u8], form: usize, stop: Stopped) -> FormError {
         let opened = self.opening.size();
         if stop.size < opened {
+            let _syntax = self.syntax();
             return self.lacks(text, form, stop.size, Mark::Opening);
         }
-        let (_, rest) = text.split_at(opened);
-        match self.refusal(rest, stop.at(stop.size - opened)) {
-            Ok(error) => {
-                let _syntax = self.syntax();
-                FormError { form, name: self.name, opened, error: Ok(error) }
-            }
-            Err(it) => self.lacks(text, form, opened + it.size + it.closed, self.mark(it.closed)),
+        match self.refusal(text, stop) {
+            Ok(error) => FormError { form, name: self.name, opened, error: Ok(error) },
+            Err(it) => self.lacks(text, form, it.right, it.mark),
         }
     }
 
-    // Returns that `mark` is not there behind the first `size` bytes of `text`.
-    const fn lacks(&self, text: &[u8], form: usize, size: usize, mark: Mark) -> FormError {
-        let it = self.unmarked(text, size, mark);
-        let _syntax = self.syntax();
-        FormError { form, name: self.name, opened: size, error: Err(it) }
+    // Returns that `mark` is not there behind the first `right` bytes of `text`.
+    const fn lacks(&self, text: &[u8], form: usize, right: usize, mark: Mark) -> FormError {
+        FormError { form, name: self.name, opened: right, error: Err(self.unmarked(text, right, mark)) }
     }
 
     // Returns why `text` is not a literal of the syntax, which stops at `stop`.
@@ -192,18 +184,21 @@ impl Form {
         error
     }
 
-    // Returns why `rest`, which is behind the opening, is not a literal of the syntax, which stops at `stop` if there is no closing, or where the
-    // closing is not there.
-    const fn refusal(&self, rest: &[u8], stop: Stopped) -> Result<ReadError, Unclosed> {
+    // Returns why what is behind the opening is not a literal of the syntax, or where the closing is not there. The form stops at `stop`.
+    const fn refusal(&self, text: &[u8], stop: Stopped) -> Result<ReadError, Unclosed> {
         if !self.closing.is_empty() {
-            return self.ending(rest);
+            return self.ending(text);
         }
-        Ok(self.error_of(rest, stop))
+        let opened = self.opening.size();
+        let (_, rest) = text.split_at(opened);
+        Ok(self.error_of(rest, stop.at(stop.size - opened)))
     }
 
     // Returns the same for a form with a closing. It is not there if what is before is a literal, and the syntax knows no more than that a byte is
     // wrong.
-    const fn ending(&self, rest: &[u8]) -> Result<ReadError, Unclosed> {
+    const fn ending(&self, text: &[u8]) -> Result<ReadError, Unclosed> {
+        let opened = self.opening.size();
+        let (_, rest) = text.split_at(opened);
         let (stop, found) = self.syntax.front(rest);
         let size = stop.size;
         if !is_at(found, size) {
@@ -211,7 +206,7 @@ impl Form {
         }
         let (_, closing) = rest.split_at(size);
         let closed = self.closing.opened(closing);
-        let unclosed = Unclosed { size, closed };
+        let unclosed = Unclosed { right: opened + size + closed, mark: self.mark(closed) };
         if closed > 0 {
             return Err(unclosed);
         }

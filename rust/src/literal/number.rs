@@ -63,7 +63,7 @@ impl Syntax {
             if begun.is_whole(self, text) {
                 return Ok(self.literal(text, begun.counts, begun.sums));
             }
-            if begun.exact || begun.at.is_refused(self, text) {
+            if begun.refused || begun.at.is_refused(self, text) {
                 return begun.at.refuse(self, text);
             }
         }
@@ -80,7 +80,7 @@ impl Syntax {
             if begun.is_whole(self, text) {
                 return then(Ok(self.literal(text, begun.counts, begun.sums)));
             }
-            refused = begun.exact.then_some(begun.at);
+            refused = begun.refused.then_some(begun.at);
         }
         then(match refused {
             Some(stop) => self.refuse_literal(text, stop),
@@ -100,7 +100,7 @@ impl Syntax {
         let begun = self.begin_small(text, false);
         if begun.is_whole(self, text) {
             Ok(self.literal(text, begun.counts, begun.sums))
-        } else if begun.exact {
+        } else if begun.refused {
             begun.at.refuse(self, text)
         } else {
             self.read_slowly(text, begun.at)

@@ -8,13 +8,14 @@
 
 use crate::digit::char_to_digit_const;
 use crate::format_flags::base_prefix;
+use crate::literal::group_size::{group_after, group_allows};
 use crate::literal::literal::{Sum, Sums, NOTHING};
 use crate::literal::step::{
     after_point, allows_minus, allows_plus, awaits_integer, digit_value, digits_of, has_digit, is_complete, is_digit,
     is_exponent_character, is_point, is_run, is_separator, is_signed, may_follow, radix_of, takes, Stage, Summary,
 };
 use crate::literal::stop::{Begun, Stopped, BEGIN};
-use crate::literal::syntax::{Condition, Grammar};
+use crate::literal::syntax::{has_sizes, is_usual, Condition, Grammar, Syntax};
 use crate::literal::value::number::small::add;
 use crate::word::{Part, Role};
 
@@ -41,15 +42,20 @@ const fn at_stage(size: usize, stage: Stage) -> Stopped {
 
 // Returns that the parts are read up to `at`, which no literal is said to end at.
 #[inline(always)]
-const fn unfinished(_grammar: Grammar, _text: &[u8], at: Stopped, exact: bool) -> Begun {
-    Begun { at, counts: [0; 9], sums: Sums { mantissa: NOTHING, places: 0, exponent: NOTHING }, complete: false, exact }
+const fn unfinished(_grammar: Grammar, _text: &[u8], at: Stopped, refused: bool) -> Begun {
+    Begun {
+        at,
+        counts: [0; 9],
+        sums: Sums { mantissa: NOTHING, places: 0, exponent: NOTHING },
+        complete: false,
+        refused,
+    }
 }
 
 // Returns whether all digits are decimal, and no base prefix is read.
 #[inline(always)]
-pub(crate) const fn is_decimal(grammar: Grammar) -> bool {
-    let view = grammar.view();
-    view.mantissa_radix() == 10 && view.exponent_radix() == 10 && base_prefix(grammar.word) == 0
+const fn is_decimal(grammar: Grammar) -> bool {
+    radix_of(grammar, Part::Integer) == 10 && radix_of(grammar, Part::Exponent) == 10 && base_prefix(grammar.word) == 0
 }
 
 // Returns whether a sign of the mantissa, or of the exponent, follows and is read.
@@ -194,7 +200,7 @@ const fn behind_zero(grammar: Grammar, decimal: bool, text: &[u8], zero: Reading
 // Reads a front of `text` with which some literal begins. Unless `fronts` is true, a front that is a literal, but not all of
 // `text`, can have `complete` false, which takes less time.
 #[inline(always)]
-pub(crate) const fn scan(grammar: Grammar, decimal: bool, text: &[u8], fronts: bool) -> Begun {
+const fn scan(grammar: Grammar, decimal: bool, text: &[u8], fronts: bool) -> Begun {
     let Some(sign) = sign(grammar, text, Part::Integer, 0) else {
         return unfinished(grammar, text, BEGIN, false);
     };
@@ -202,6 +208,48 @@ pub(crate) const fn scan(grammar: Grammar, decimal: bool, text: &[u8], fronts: b
         return without_prefix(grammar, text, sign);
     };
     integer(grammar, decimal, text, fronts, sign, prefix, stage)
+}
+
+impl Begun {
+    // Returns whether the parts are those of all of `text`.
+    #[inline(always)]
+    pub(crate) const fn is_whole(self, _syntax: &Syntax, text: &[u8]) -> bool {
+        self.complete && self.at.size == text.len()
+    }
+}
+
+impl Syntax {
+    // Returns whether all digits are decimal, no base prefix is read, and the syntax is a usual one.
+    #[inline(always)]
+    pub(crate) const fn is_decimal(&self) -> bool {
+        let grammar = self.as_grammar();
+        is_usual(grammar) && is_decimal(grammar)
+    }
+
+    // Reads a front of `text` with which some literal begins. Unless `fronts` is true, a front that is a literal, but not all of
+    // `text`, can have `complete` false, which takes less time.
+    #[inline(always)]
+    pub(crate) const fn begin(&self, decimal: bool, text: &[u8], fronts: bool) -> Begun {
+        if decimal {
+            return scan(self.usual_grammar(), decimal, text, fronts);
+        }
+        let grammar = self.as_grammar();
+        let begun = scan(grammar, decimal, text, fronts);
+        if has_sizes(grammar) {
+            sized(self.as_grammar(), text, begun)
+        } else {
+            begun
+        }
+    }
+}
+
+// Returns what has been read without regard to sizes of groups, or that nothing has if a group has not the right size.
+#[inline(always)]
+const fn sized(grammar: Grammar, text: &[u8], begun: Begun) -> Begun {
+    match group_after(grammar, text, begun.at.size) {
+        Some(group) if !begun.complete || group_allows(grammar, group, None) => begun,
+        _ => Begun { at: BEGIN, complete: false, refused: false, ..begun },
+    }
 }
 
 // Returns whether no condition is on the first digit, or one follows that they allow.
@@ -368,7 +416,7 @@ const fn finished(
         ],
         sums: Sums { mantissa: mantissa.sum, places: mantissa.places, exponent },
         complete: is_complete(grammar, at.read),
-        exact: false,
+        refused: false,
     }
 }
 
@@ -390,8 +438,8 @@ const fn suffix(
         let at = Stopped { size, read };
         finished(grammar, text, at, mantissa, scale, 1, exponent)
     } else if !fronts && size < text.len() {
-        let exact = is_passed(grammar, read.stage, text[size]);
-        unfinished(grammar, text, at, exact)
+        let refused = is_passed(grammar, read.stage, text[size]);
+        unfinished(grammar, text, at, refused)
     } else {
         finished(grammar, text, at, mantissa, scale, 0, exponent)
     }

@@ -128,10 +128,13 @@ impl Spot {
     const fn requirement_span(self, number: u32) -> (usize, usize) {
         let (size, end) = (self.size, self.wrong_end());
         match number {
+            // `required_exponent_digits`.
             2 => (self.exponent, size),
+            // `no_integer_leading_zeros` and `no_float_leading_zeros`.
             12 | 13 if self.is_at(ByteKind::Digit) => (self.first, end),
             12 | 13 if self.is_at(ByteKind::Separator) => (size, end),
             12 | 13 => (self.first, self.run),
+            // A plus sign, an exponent, its plus sign, or one without a fraction.
             4 | 6 | 7 | 9 => (size, end),
             _ => (size, size),
         }

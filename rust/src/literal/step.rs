@@ -2,7 +2,8 @@
 
 //! A step of reading: what has been read of a number, changed by one byte.
 
-use crate::format_flags::digit_separator;
+use crate::digit::char_to_digit;
+use crate::format_flags::{digit_separator, exponent_radix, mantissa_radix};
 use crate::literal::group_size::has_size;
 use crate::literal::syntax::{Condition, Conditions, Grammar};
 use crate::word::{Part, Role};
@@ -80,8 +81,8 @@ pub const fn is_digit(grammar: Grammar, part: Part, byte: u8) -> bool {
 #[inline(always)]
 pub(crate) const fn digit_value(grammar: Grammar, part: Part, byte: u8) -> Option<u32> {
     match part {
-        Part::Exponent => grammar.view().exponent_digit(byte),
-        _ => grammar.view().mantissa_digit(byte),
+        Part::Exponent => char_to_digit(byte, exponent_radix(grammar.word)),
+        _ => char_to_digit(byte, mantissa_radix(grammar.word)),
     }
 }
 
@@ -89,8 +90,8 @@ pub(crate) const fn digit_value(grammar: Grammar, part: Part, byte: u8) -> Optio
 #[inline(always)]
 pub(crate) const fn radix_of(grammar: Grammar, part: Part) -> u32 {
     match part {
-        Part::Exponent => grammar.view().exponent_radix(),
-        _ => grammar.view().mantissa_radix(),
+        Part::Exponent => exponent_radix(grammar.word),
+        _ => mantissa_radix(grammar.word),
     }
 }
 
@@ -121,6 +122,15 @@ pub const fn is_point(grammar: Grammar, byte: u8) -> bool {
     match grammar.options {
         None => false,
         Some(options) => options.point != 0 && byte == options.point,
+    }
+}
+
+// Returns the other case of a letter, or the byte itself if it is not a letter.
+pub const fn other_case(byte: u8) -> u8 {
+    match byte {
+        b'A'..=b'Z' => byte + 32,
+        b'a'..=b'z' => byte - 32,
+        _ => byte,
     }
 }
 
@@ -164,7 +174,7 @@ pub(crate) const fn awaits_integer(stage: Stage) -> bool {
 // Returns whether the part has a digit.
 #[inline(always)]
 pub(crate) const fn has_digit(stage: Stage) -> bool {
-    matches!(stage, Stage::Bare | Stage::Zero) || is_run(stage)
+    matches!(stage, Stage::Bare | Stage::Zero | Stage::Led | Stage::Integer | Stage::Fraction | Stage::Exponent)
 }
 
 // Returns whether another digit changes no stage, and may follow.

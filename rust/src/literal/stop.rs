@@ -5,21 +5,20 @@
 use crate::literal::cause::{ReadError, Spot};
 use crate::literal::group_size::{group_after, group_allows, grow, Group, FIRST};
 use crate::literal::literal::Sums;
-use crate::literal::scan::{is_decimal, scan};
 use crate::literal::span::spot;
 use crate::literal::step::{is_complete, part_of, piece_number, piece_of, step, Piece, Summary, START};
-use crate::literal::syntax::{has_sizes, is_usual, Grammar, Syntax};
+use crate::literal::syntax::{has_sizes, Grammar, Syntax};
 use crate::word::{Part, Role};
 
 // What has been read of a text part after part. If `complete` is true, it is a literal, its parts have the lengths `counts`, and its
-// digits the sums. If `exact` is true, the byte that follows is refused.
+// digits the sums. If `refused` is true, the byte that follows is refused.
 #[derive(Clone, Copy)]
 pub struct Begun {
     pub at: Stopped,
     pub counts: [usize; 9],
     pub sums: Sums,
     pub complete: bool,
-    pub(crate) exact: bool,
+    pub(crate) refused: bool,
 }
 
 // Where reading a text has stopped, part after part or for good: the number of bytes that have been read, and their summary.
@@ -40,16 +39,10 @@ pub(crate) struct Found {
 }
 
 impl Begun {
-    // Returns whether the parts are those of all of `text`.
-    #[inline(always)]
-    pub(crate) const fn is_whole(self, _syntax: &Syntax, text: &[u8]) -> bool {
-        self.complete && self.at.size == text.len()
-    }
-
     // Returns where reading `text` stops.
     #[inline(always)]
     pub(crate) const fn stop(self, syntax: &Syntax, text: &[u8]) -> Stopped {
-        if self.exact {
+        if self.refused {
             self.at
         } else {
             self.at.go_on(syntax, text)
@@ -59,7 +52,7 @@ impl Begun {
     // Returns the lengths of the parts of `text`, or where reading stops if it is not a literal.
     #[inline(always)]
     pub(crate) const fn lengths(self, syntax: &Syntax, text: &[u8]) -> Result<[usize; 9], Stopped> {
-        if self.exact {
+        if self.refused {
             Err(self.at)
         } else {
             self.at.all_lengths(syntax, text)
@@ -188,29 +181,6 @@ impl Stopped {
 }
 
 impl Syntax {
-    // Returns whether all digits are decimal, no base prefix is read, and the syntax is a usual one.
-    #[inline(always)]
-    pub(crate) const fn is_decimal(&self) -> bool {
-        let grammar = self.as_grammar();
-        is_usual(grammar) && is_decimal(grammar)
-    }
-
-    // Reads a front of `text` with which some literal begins. Unless `fronts` is true, a front that is a literal, but not all of
-    // `text`, can have `complete` false, which takes less time.
-    #[inline(always)]
-    pub(crate) const fn begin(&self, decimal: bool, text: &[u8], fronts: bool) -> Begun {
-        if decimal {
-            return scan(self.usual_grammar(), decimal, text, fronts);
-        }
-        let grammar = self.as_grammar();
-        let begun = scan(grammar, decimal, text, fronts);
-        if has_sizes(grammar) {
-            sized(self.as_grammar(), text, begun)
-        } else {
-            begun
-        }
-    }
-
     // Returns where reading `text` stops.
     #[cold]
     pub(crate) const fn stop(&self, text: &[u8]) -> Stopped {
@@ -257,15 +227,6 @@ impl Syntax {
             None => [0; 9],
             Some(found) => found.counts,
         }
-    }
-}
-
-// Returns what has been read without regard to sizes of groups, or that nothing has if a group has not the right size.
-#[inline(always)]
-const fn sized(grammar: Grammar, text: &[u8], begun: Begun) -> Begun {
-    match group_after(grammar, text, begun.at.size) {
-        Some(group) if !begun.complete || group_allows(grammar, group, None) => begun,
-        _ => Begun { at: BEGIN, complete: false, exact: false, ..begun },
     }
 }
 

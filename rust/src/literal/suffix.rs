@@ -244,14 +244,6 @@ pub(crate) const fn is_wide(suffixes: Option<&'static Suffixes>) -> bool {
     }
 }
 
-// Returns whether `byte` is one that words of suffixes have besides.
-pub(crate) const fn adds(suffixes: Option<&'static Suffixes>, byte: u8) -> bool {
-    match suffixes {
-        None => false,
-        Some(it) => has_byte(it.more, byte),
-    }
-}
-
 // Returns whether the byte at `index` is one of a word.
 #[cfg_attr(not(peltzivar_small), inline(always))]
 pub(crate) const fn has_word_byte(text: &[u8], index: usize) -> bool {
@@ -331,7 +323,7 @@ const fn is_one_at(bytes: &[u8], text: &[u8], index: usize) -> bool {
 }
 
 // Returns whether `byte` is one of `bytes`.
-const fn has_byte(bytes: &[u8], byte: u8) -> bool {
+pub(crate) const fn has_byte(bytes: &[u8], byte: u8) -> bool {
     match bytes {
         [] => false,
         [first, rest @ ..] => *first == byte || has_byte(rest, byte),

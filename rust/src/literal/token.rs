@@ -9,7 +9,7 @@ use crate::literal::literal::Literal;
 use crate::literal::step::is_point;
 use crate::literal::stop::{byte_at, Begun, Found, Stopped};
 use crate::literal::suffix::{
-    adds, byte_after, byte_before, has_digit_at, has_word_byte, is_followed, is_letter, is_stopped, is_word_byte,
+    byte_after, byte_before, has_byte, has_digit_at, has_word_byte, is_followed, is_letter, is_stopped, is_word_byte,
     kind_with, more_of, suffix_size, suffix_words, word_size,
 };
 use crate::literal::syntax::Syntax;
@@ -209,10 +209,13 @@ impl<'a> Forms<'a> {
         }
     }
 
-    // Returns whether `byte` is one that words of one of the forms have besides.
+    // Returns whether `byte` is one that words of one of the forms, of the list or of the tokens, have besides.
     #[cfg_attr(not(peltzivar_small), inline(always))]
-    const fn go_on_with(&self, byte: Option<u8>) -> bool {
-        self.wide && go_on_with(self.forms, byte)
+    const fn go_on_with(&self, tokens: &Tokens, byte: Option<u8>) -> bool {
+        match byte {
+            None => false,
+            Some(byte) => (self.wide && have_byte(self.forms, byte)) || have_byte(tokens.forms, byte),
+        }
     }
 
     // Returns the token of which `begun` is the literal, of the form with this index, if nothing follows that may not.
@@ -232,11 +235,7 @@ impl<'a> Forms<'a> {
         if is_stopped(false, it.suffixes, text, end) {
             return None;
         }
-        let next = byte_at(text, end);
-        if self.go_on_with(next) {
-            return None;
-        }
-        if go_on_with(tokens.forms, next) {
+        if self.go_on_with(tokens, byte_at(text, end)) {
             return None;
         }
         let (suffix, rest) = rest.split_at(more);
@@ -300,20 +299,16 @@ const fn are_past(forms: &[Form], from: usize, but: usize, back: PointsBack, tex
 }
 
 // Returns whether `byte` is one that words of one of the forms have besides.
-#[cfg_attr(not(peltzivar_small), inline(always))]
-const fn go_on_with(forms: &[Form], byte: Option<u8>) -> bool {
-    match byte {
-        None => false,
-        Some(byte) => have_byte(forms, byte),
-    }
-}
-
-// Returns whether `byte` is one that words of one of the forms have besides.
 const fn have_byte(forms: &[Form], byte: u8) -> bool {
     match forms {
         [] => false,
-        [form, rest @ ..] => adds(form.suffixes, byte) || have_byte(rest, byte),
+        [form, rest @ ..] => has_more(form, byte) || have_byte(rest, byte),
     }
+}
+
+// Returns whether `byte` is one that words of the form have besides.
+const fn has_more(form: &Form, byte: u8) -> bool {
+    has_byte(more_of(form.suffixes), byte)
 }
 
 // Returns the larger of two sizes.

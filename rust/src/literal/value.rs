@@ -8,10 +8,8 @@ use crate::literal::stop::Stopped;
 use crate::literal::{FloatKind, FloatLimits, IntegerKind, Kind, Literal, Number, Sign, Special, Spelling, Syntax};
 
 mod error;
-#[allow(clippy::question_mark, reason = "as it is proved")]
 pub(crate) mod float;
 pub(crate) mod integer;
-pub(crate) mod kind;
 pub(crate) mod scaled;
 pub(crate) mod number {
     pub(crate) mod big;
@@ -21,7 +19,6 @@ pub(crate) mod number {
     pub(crate) mod integer;
     pub(crate) mod leading;
     pub(crate) mod long;
-    #[allow(clippy::manual_range_contains, reason = "as it is proved")]
     pub(crate) mod nearest;
     pub(crate) mod numeral;
     pub(crate) mod powers;
@@ -431,7 +428,7 @@ impl Syntax {
                     return Decimal::Value(value);
                 }
             }
-        } else if begun.exact || begun.at.is_refused(self, text) {
+        } else if begun.refused || begun.at.is_refused(self, text) {
             return Decimal::Stopped(begun.at);
         }
         Decimal::Unknown

@@ -8,7 +8,6 @@ use crate::literal::value::number::integer::Integer;
 use crate::literal::value::Other;
 use crate::literal::{Forms, Literal, Number, Sign, Special, Specials, Spelling, Syntax};
 
-#[allow(clippy::question_mark, reason = "as it is proved")]
 mod binary;
 #[allow(
     clippy::exhaustive_structs,
@@ -16,25 +15,20 @@ mod binary;
     clippy::manual_ok_err,
     clippy::needless_lifetimes,
     clippy::question_mark,
+    clippy::single_match,
     reason = "as it is proved, and for the library for C alone"
 )]
 mod choice;
 mod digits;
-#[allow(clippy::question_mark, reason = "as it is proved")]
 mod float;
 mod float_digits;
-#[allow(clippy::question_mark, reason = "as it is proved")]
 mod form;
 mod integer;
 mod layout;
-#[allow(clippy::module_inception, clippy::needless_lifetimes, reason = "as it is proved")]
 mod literal;
-#[allow(clippy::needless_lifetimes, clippy::question_mark, reason = "as it is proved")]
 mod moved;
-#[allow(clippy::needless_lifetimes, reason = "as it is proved")]
 mod near;
 mod patterns;
-#[allow(clippy::question_mark, reason = "as it is proved")]
 mod rounded;
 mod run;
 mod sink;

@@ -8,8 +8,8 @@ use Rattle.lexical_util.specs.declared.feature_format.roles.Role.{Role}
 use Rattle.lexical_util.specs.declared.feature_format.roles.Role.TheVariants as roles
 use Rattle.lexical_literal.specs.Additions.Stop.{IsCountedFront, IsStopped}
 use Rattle.lexical_literal.specs.Cause.{Explained, IsRefusal, is_stray}
-use Rattle.lexical_forms.specs.Affix.{IsOpened, IsOpenedTo}
-use Rattle.lexical_forms.specs.Forms.{HasFront, IsFirst, IsFormError, IsGreatest, KeepsError, LacksClosing, NoForm, OpensIn, Reaches, ReadsIn}
+use Rattle.lexical_forms.specs.Affix.{Begins, spells}
+use Rattle.lexical_forms.specs.Forms.{HasFront, IsErrorIn, IsFirst, IsFormError, IsGreatest, NoForm, OpensIn, Reaches, ReadsIn}
 use Rattle.lexical_literal.specs.Front.{IsValidBy, IsValidUpTo, NoFrontBy, NoLiteral, NoneBy}
 use Rattle.lexical_literal.specs.Literal.{Literal, Reads}
 use Rattle.lexical_literal.specs.Read.{Read}
@@ -20,6 +20,7 @@ use Rattle.lexical_forms.specs.declared.list.FormError.{FormError}
 use Rattle.lexical_forms.specs.declared.list.Furthest.{Furthest}
 use Rattle.lexical_literal.specs.declared.stop.Found.{Found}
 use Rattle.lexical_literal.specs.declared.stop.Stopped.{Stopped}
+use Rattle.lexical_forms.specs.declared.affix.Affix.{Affix}
 use Rattle.lexical_forms.specs.declared.form.Form.{Form}
 use Rattle.lexical_forms.specs.declared.marks.Unclosed.{Unclosed}
 
@@ -35,6 +36,21 @@ sign_size (byte ∷ text) = if signs byte then 1 else 0
 -- `behind form text` is what follows as many bytes of `text` as the opening of `form` has.
 abbrev pub behind : Form → List ℕ → List ℕ
 behind form text = drop form.opening.size text
+
+-- `IsOpened affix text` holds if `text` begins with `affix`.
+abbrev pub IsOpened : Affix → List ℕ → Type 0
+IsOpened affix text = Begins affix text affix.size
+
+-- `IsOpenedTo affix text size` holds if `text` begins with the first `size` bytes of `affix`, and not with more.
+pub record IsOpenedTo (affix : Affix) (text : List ℕ) (size : ℕ) : Type 0 where
+  pub inside : size ≤ affix.size
+  pub begins : Begins affix text size
+  pub differs : size < affix.size → size < length text → spells affix size (get_or text size 0) ≡ false
+
+-- `right_in opened error` is the number of bytes that are right.
+abbrev pub right_in : ℕ → Option Refusal → ℕ
+right_in opened None = opened
+right_in opened (Some error) = opened + error.valid_up_to
 
 -- `GoesTo text form size` holds if some literal of `form` begins with the first `size` bytes of `text`, and none with more.
 abbrev pub GoesTo : List ℕ → Form → ℕ → Type 0
@@ -110,11 +126,10 @@ pub record IsBetween (g : Form) (text part : List ℕ) : Type 0 where
   pub within : (l : Literal) → ReadsIn g l text → Reads (notation_of g.syntax) l part
   pub around : (l : Literal) → Reads (notation_of g.syntax) l part → ReadsIn g l text
 
--- `IsEnding g rest result` holds if `result` says why `rest`, which is behind the opening of `g`, is not a literal of the syntax, and keeps this error, or
--- where the closing is not there.
+-- `IsEnding g text result` holds if `result` is the error of the syntax behind the opening of `g`, which is kept, or tells that the closing is not there.
 abbrev pub IsEnding : Form → List ℕ → Result Explained Unclosed → Type 0
-IsEnding g rest (Ok error) = KeepsError g rest error.refusal
-IsEnding g rest (Err it) = LacksClosing g rest it.size it.closed
+IsEnding g text (Ok error) = IsErrorIn g text g.opening.size (Some error.refusal)
+IsEnding g text (Err it) = (g.opening.size ≤ it.right) × IsErrorIn g text it.right None
 
 -- `IsLow text size g` holds if no error of `text` in the form `g` has a greater reach than one that goes up to `size` and whose cause is a wrong byte.
 -- `IsLeftOut text furthest g` holds if none has a greater one than `furthest`, or if none goes beyond the first byte behind the sign, where it is `None`.
@@ -193,8 +208,7 @@ IsLongestPast forms text size (Some best) = IsFirstPast forms text size best.0 b
 pub record IsFoundFrontForm (forms : List Form) (text : List ℕ) (result : Result (ℕ × Found) FormError) : Type 0 where
   pub longest : IfOk result (λ found. IsGreatest (HasFront text) forms found.0 found.1.size)
   pub found : IfOk result (λ found. IsSomeAnd (slice_get forms found.0) (IsFrontIn text found.1))
-  pub none : IsErr result → All (λ g. NoFrontBy (ReadsIn g) text) forms
-  pub error : IfErr result (IsFormError forms text)
+  pub error : IfErr result (λ error. All (λ g. NoFrontBy (ReadsIn g) text) forms × IsFormError forms text error)
 
 -- `IsFurthestForm forms text furthest` holds if `furthest` has the index of the form whose syntax goes furthest in `text`, the first of
 -- equals, and where it stops.

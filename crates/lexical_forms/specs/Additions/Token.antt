@@ -7,18 +7,28 @@ use Rattle.lexical_util.specs.Ascii.{ByteSet}
 use Rattle.lexical_literal.specs.Additions.Stop.{IsMeasured}
 use Rattle.lexical_literal.specs.Cause.{is_in}
 use Rattle.lexical_forms.specs.FormList.{FormList}
-use Rattle.lexical_literal.specs.Front.{IsFront, NoLiteral}
+use Rattle.lexical_literal.specs.Front.{IsFront, NoLiteral, ReadsFront}
 use Rattle.lexical_forms.specs.Suffix.{is_word_byte, more_of, stop_end, suffix_size, suffix_words}
 use Rattle.lexical_forms.specs.declared.suffix.Suffixes.{Suffixes}
-use Rattle.lexical_forms.specs.Token.{HasFrontOfSyntax, IsBest, IsCandidate, IsChosen, NoCandidate, gives_back, is_alone, is_shorter}
+use Rattle.lexical_forms.specs.Token.{IsBest, IsCandidate, IsChosen, NoCandidate, gives_back, is_alone, is_shorter}
 use Rattle.lexical_forms.specs.declared.list.PointsBack.{PointsBack}
 use Rattle.lexical_forms.specs.declared.list.Tokens.{Tokens}
+use Rattle.lexical_literal.specs.Literal.{Literal, Reads}
+use Rattle.lexical_literal.specs.Read.{Read}
 use Rattle.lexical_literal.specs.declared.stop.Found.{Found}
 use Rattle.lexical_literal.specs.Notation.{Notation, notation_of}
 use Rattle.lexical_forms.specs.declared.form.Form.{Form}
 use Rattle.lexical_forms.specs.declared.token.Candidate.{Candidate}
 use Rattle.lexical_forms.specs.declared.token.TokenError.{TokenError}
 use Rattle.lexical_forms.specs.declared.token.TokenError.TheVariants as errors
+
+-- `HasFrontOfSyntax text form size` holds if the longest front of `text` that is a literal of the syntax of `form` has `size` bytes,
+-- and `ReadsSyntax text read form` if `text` is the literal `read` of it.
+abbrev pub HasFrontOfSyntax : List ℕ → Form → ℕ → Type 0
+HasFrontOfSyntax text form size = (l : Literal) × ReadsFront (notation_of form.syntax) l text size
+
+abbrev pub ReadsSyntax : List ℕ → Read → Form → Type 0
+ReadsSyntax text read form = (read.format ≡ form.syntax.word) × Reads (notation_of form.syntax) read.literal text
 
 -- `IsMade back needs text form c` holds if `c` is the candidate of `form` in `text`, and has the lengths of the parts of its literal.
 pub record IsMade (back : PointsBack) (needs : Bool) (text : List ℕ) (form : Form) (c : Candidate) : Type 0 where
@@ -82,9 +92,12 @@ IsEnd form text index c (errors.Stopped i start end) =
     (is_in is_word_byte (slice_get text c.end) ≡ false) × (i ≡ index) × (start ≡ c.end) × (end ≡ stop_end (more_of form.suffixes) text c.end)
 IsEnd form text index c _ = ⊥
 
--- `go_on_with forms byte` is true if `byte` is one that words of one of `forms` have besides.
+-- `has_more byte form` is true if `byte` is one that words of `form` have besides, and `go_on_with forms byte` if words of one of `forms` have it.
+abbrev pub has_more : ℕ → Form → Bool
+has_more byte form = list_any (λ it. it == byte) (more_of form.suffixes)
+
 abbrev pub go_on_with : List Form → ByteSet
-go_on_with forms byte = list_any (λ (form : Form). list_any (λ it. it == byte) (more_of form.suffixes)) forms
+go_on_with forms byte = list_any (has_more byte) forms
 
 -- `IsNarrow forms` holds if words of none of `forms` have other bytes than those of any word.
 abbrev pub IsNarrow : List Form → Type 0

@@ -2,6 +2,8 @@
 use Rattle.std.specs.Prelude.{ℕ, ◌≡◌, ◌+◌, ◌%◌, ◌^◌, ◌++◌, Bool, if◌then◌else◌, IsTrue, List, Option, Some, None, drop, take}
 use Rattle.lexical_util.specs.Layout as layout
 use Rattle.lexical_util.specs.Record.{Record, bytes_of, effective_exponent_radix, raw}
+use Rattle.lexical_util.specs.declared.format_flags.Part.{Part}
+use Rattle.lexical_util.specs.declared.format_flags.Part.TheVariants as parts
 use Rattle.lexical_literal.specs.Literal.{Literal, Reads}
 use Rattle.lexical_literal.specs.Notation.{Notation, notation_of}
 use Rattle.lexical_literal.specs.Read.{exponent, mantissa}
@@ -45,6 +47,12 @@ cut text c = record {
 pub record IsCut (m : Notation) (text : List ℕ) (c : Cuts) : Type 0 where
   pub reads : Reads m (cut text c) text
   pub lengths : HasLengths (cut text c) c
+
+-- `summed_in part l` has the bytes of `l` whose digits are summed up together: those of the exponent, or else of the integer and the
+-- fraction.
+abbrev pub summed_in : Part → Literal → List ℕ
+summed_in parts.Exponent l = l.exponent
+summed_in _ l = l.integer ++ l.fraction
 
 -- `IsSum radix bytes sum` holds if `sum` has the number of the digits of `radix` among `bytes`, and the number that they represent,
 -- modulo `2 ^ 64`.

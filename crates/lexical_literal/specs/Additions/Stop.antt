@@ -41,7 +41,7 @@ pub record HasFound (m : Notation) (text : List ℕ) (counted : Begun) : Type 0 
   pub begun : IsBegun m text counted.at
   pub literal : IsTrue counted.complete → (l : Literal) × Reads m l (take counted.at.size text)
   pub lengths : IsTrue counted.complete → (l : Literal) → Reads m l (take counted.at.size text) → HasLengths l (cuts_of counted.counts)
-  pub exact : IsTrue counted.exact → IsRefused m text counted.at
+  pub refused : IsTrue counted.refused → IsRefused m text counted.at
 
 -- `HasBegun m text counted` is the same for a notation with sizes of groups: reading stops there, before the end, if it says so.
 pub record HasBegun (m : Notation) (text : List ℕ) (counted : Begun) : Type 0 where
@@ -49,7 +49,7 @@ pub record HasBegun (m : Notation) (text : List ℕ) (counted : Begun) : Type 0 
   pub begun : IsUnderway m text counted.at group
   pub literal : IsTrue counted.complete → (l : Literal) × Reads m l (take counted.at.size text)
   pub lengths : IsTrue counted.complete → (l : Literal) → Reads m l (take counted.at.size text) → HasLengths l (cuts_of counted.counts)
-  pub exact : IsTrue counted.exact → (counted.at.size < length text) × IsStopped m text counted.at
+  pub refused : IsTrue counted.refused → (counted.at.size < length text) × IsStopped m text counted.at
 
 -- `IsMeasured m text counts` holds if `text` is a literal, and if its parts have the lengths `counts`.
 pub record IsMeasured (m : Notation) (text counts : List ℕ) : Type 0 where

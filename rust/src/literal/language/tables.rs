@@ -7,6 +7,14 @@ use crate::literal::{
 use crate::{Format, NumberFormatBuilder};
 use core::num::NonZeroU8;
 
+/// Makes a list of words, and one of words with their kinds.
+macro_rules! list {
+    ($($word:tt)*) => { const { &[$(stringify!($word).as_bytes()),*] } };
+}
+macro_rules! kinds {
+    ($($kind:expr => $($word:ident)*;)*) => { &[$($((stringify!($word).as_bytes(), $kind)),*),*] };
+}
+
 /// Numbers without signs, which are operators, and without NaN and infinity, which are names.
 const TOKENS: NumberFormatBuilder = NumberFormatBuilder::new()
     .no_positive_mantissa_sign(true) // rejects `+1`
@@ -224,7 +232,7 @@ const SHORT_REALS: Kind = finite(Kind::new(IntegerKind::AtMost(63), FloatKind::S
 const DEFAULT: Kind = finite(Kind::new(IntegerKind::AtMost(31), FloatKind::Single).unwrap());
 
 /// The suffix of a float of 32 bits, of C and of Kotlin.
-const FLOAT: &[(&[u8], Kind)] = &[(b"f", SINGLE), (b"F", SINGLE)];
+const FLOAT: &[(&[u8], Kind)] = kinds! { SINGLE => f F; };
 
 /// What goes on a number of Ada: `16#FF#`, `16:FF:` and `1.x`, but not `1..2`; and on one of VHDL: `1\a\`.
 const ADA_WORDS: Suffixes = Suffixes::new(&[], &[], ADA_STOPS);
@@ -239,13 +247,10 @@ const ADA_STOPS: &[Stop] = &[
 /// has not.
 const FORTRAN_WORDS: Suffixes = Suffixes::new(&[], &[], &[Stop::new(b"", b".", b"_0123456789")])
     .any_word(b"_")
-    .with_kinds(&[
-        (b"_1", whole(IntegerKind::AtMost(7))),
-        (b"_2", whole(IntegerKind::AtMost(15))),
-        (b"_8", finite(AT_MOST_63)),
-        (b"_10", Kind::EXACT),
-        (b"_16", whole(IntegerKind::AtMost(127))),
-    ])
+    .with_kinds(kinds! {
+        whole(IntegerKind::AtMost(7)) => _1; whole(IntegerKind::AtMost(15)) => _2; finite(AT_MOST_63) => _8;
+        Kind::EXACT => _10; whole(IntegerKind::AtMost(127)) => _16;
+    })
     .with_written(&[b"_8"]);
 
 /// What goes on a number of Bash, and on a decimal one of Erlang: `37#1`.
@@ -272,13 +277,10 @@ const fn words(integers: &'static [&'static [u8]], floats: &'static [&'static [u
 const POINT_AND_DIGIT: &[Stop] = &[Stop::new(b"", b".", b"0123456789")];
 
 /// Suffixes of integers of C: `1u`, `1LL`, `1ul` and `1wb`. Decimal floats, such as `1.5dd`, are not hexadecimal.
-const C_INTEGERS: &[&[u8]] = &[
-    b"u", b"U", b"l", b"L", b"ll", b"LL", b"ul", b"uL", b"ull", b"uLL", b"Ul", b"UL", b"Ull", b"ULL", b"lu", b"lU",
-    b"llu", b"llU", b"Lu", b"LU", b"LLu", b"LLU", b"wb", b"WB", b"uwb", b"uWB", b"Uwb", b"UWB", b"wbu", b"wbU", b"WBu",
-    b"WBU",
-];
-const C_FLOATS: &[&[u8]] = &[b"f", b"F", b"l", b"L"];
-const C_DECIMAL_FLOATS: &[&[u8]] = &[b"f", b"F", b"l", b"L", b"df", b"dd", b"dl", b"DF", b"DD", b"DL"];
+const C_INTEGERS: &[&[u8]] =
+    list![u U l L ll LL ul uL ull uLL Ul UL Ull ULL lu lU llu llU Lu LU LLu LLU wb WB uwb uWB Uwb UWB wbu wbU WBu WBU];
+const C_FLOATS: &[&[u8]] = list![f F l L];
+const C_DECIMAL_FLOATS: &[&[u8]] = list![f F l L df dd dl DF DD DL];
 
 /// What goes on a preprocessing number of C: `1.2.3`, `1'`, `1$x`, `1\u00E9` and `0xe+1`.
 const C_STOPS: &[Stop] = &[Stop::new(b"", b".'$", b""), Stop::new(b"", b"\\", b"uU"), Stop::new(b"eEpP", b"+-", b"")];
@@ -286,36 +288,23 @@ const C_STOPS: &[Stop] = &[Stop::new(b"", b".'$", b""), Stop::new(b"", b"\\", b"
 const C_WORDS: Suffixes = Suffixes::new(C_INTEGERS, C_FLOATS, C_STOPS).with_kinds(C_KINDS.split_at(12).0);
 const C_DECIMALS: Suffixes =
     Suffixes::new(C_INTEGERS, C_DECIMAL_FLOATS, C_STOPS).with_kinds(C_KINDS).with_written(&[b"ULL"]);
-#[rustfmt::skip]
-const C_KINDS: &[(&[u8], Kind)] = &[
-    (b"f", SINGLE), (b"F", SINGLE), (b"wb", Kind::EXACT), (b"WB", Kind::EXACT), (b"uwb", Kind::EXACT), (b"uWB", Kind::EXACT),
-    (b"Uwb", Kind::EXACT), (b"UWB", Kind::EXACT), (b"wbu", Kind::EXACT), (b"wbU", Kind::EXACT), (b"WBu", Kind::EXACT), (b"WBU", Kind::EXACT),
-    (b"u", AT_MOST_64), (b"U", AT_MOST_64), (b"ul", AT_MOST_64), (b"uL", AT_MOST_64), (b"ull", AT_MOST_64), (b"uLL", AT_MOST_64),
-    (b"Ul", AT_MOST_64), (b"UL", AT_MOST_64), (b"Ull", AT_MOST_64), (b"ULL", AT_MOST_64), (b"lu", AT_MOST_64), (b"lU", AT_MOST_64),
-    (b"llu", AT_MOST_64), (b"llU", AT_MOST_64), (b"Lu", AT_MOST_64), (b"LU", AT_MOST_64), (b"LLu", AT_MOST_64), (b"LLU", AT_MOST_64),
-];
+const C_KINDS: &[(&[u8], Kind)] = kinds! {
+    SINGLE => f F; Kind::EXACT => wb WB uwb uWB Uwb UWB wbu wbU WBu WBU;
+    AT_MOST_64 => u U ul uL ull uLL Ul UL Ull ULL lu lU llu llU Lu LU LLu LLU;
+};
 
 /// Suffixes of C++, of its library, such as `1ms` and `1.5if`, and of its users: `1_km`.
-const C_PLUS_PLUS_INTEGERS: &[&[u8]] = &[
-    b"u", b"U", b"l", b"L", b"ll", b"LL", b"ul", b"uL", b"ull", b"uLL", b"Ul", b"UL", b"Ull", b"ULL", b"lu", b"lU",
-    b"llu", b"llU", b"Lu", b"LU", b"LLu", b"LLU", b"h", b"min", b"s", b"ms", b"us", b"ns", b"d", b"y", b"i", b"il",
-    b"if",
-];
-const C_PLUS_PLUS_FLOATS: &[&[u8]] =
-    &[b"f", b"F", b"l", b"L", b"h", b"min", b"s", b"ms", b"us", b"ns", b"i", b"il", b"if"];
+const C_PLUS_PLUS_INTEGERS: &[&[u8]] =
+    list![u U l L ll LL ul uL ull uLL Ul UL Ull ULL lu lU llu llU Lu LU LLu LLU h min s ms us ns d y i il if];
+const C_PLUS_PLUS_FLOATS: &[&[u8]] = list![f F l L h min s ms us ns i il if];
 const C_PLUS_PLUS_WORDS: Suffixes = Suffixes::new(C_PLUS_PLUS_INTEGERS, C_PLUS_PLUS_FLOATS, C_STOPS)
     .any_word(b"_")
     .with_kinds(C_PLUS_PLUS_KINDS)
     .with_written(&[b"ULL"]);
-#[rustfmt::skip]
-const C_PLUS_PLUS_KINDS: &[(&[u8], Kind)] = &[
-    (b"f", SINGLE), (b"F", SINGLE), (b"u", AT_MOST_64), (b"U", AT_MOST_64), (b"ul", AT_MOST_64), (b"uL", AT_MOST_64),
-    (b"ull", AT_MOST_64), (b"uLL", AT_MOST_64), (b"Ul", AT_MOST_64), (b"UL", AT_MOST_64), (b"Ull", AT_MOST_64), (b"ULL", AT_MOST_64),
-    (b"lu", AT_MOST_64), (b"lU", AT_MOST_64), (b"llu", AT_MOST_64), (b"llU", AT_MOST_64), (b"Lu", AT_MOST_64), (b"LU", AT_MOST_64),
-    (b"LLu", AT_MOST_64), (b"LLU", AT_MOST_64), (b"h", AT_MOST_63), (b"min", AT_MOST_63), (b"s", AT_MOST_63), (b"ms", AT_MOST_63),
-    (b"us", AT_MOST_63), (b"ns", AT_MOST_63), (b"d", AT_MOST_64), (b"y", AT_MOST_64), (b"i", AT_MOST_64), (b"il", AT_MOST_64),
-    (b"if", Kind::new(IntegerKind::AtMost(64), FloatKind::Single).unwrap()),
-];
+const C_PLUS_PLUS_KINDS: &[(&[u8], Kind)] = kinds! {
+    SINGLE => f F; AT_MOST_64 => u U ul uL ull uLL Ul UL Ull ULL lu lU llu llU Lu LU LLu LLU d y i il;
+    AT_MOST_63 => h min s ms us ns; Kind::new(IntegerKind::AtMost(64), FloatKind::Single).unwrap() => if;
+};
 
 /// Units of CSS: any word, such as `px` and the `n-1` of `2n-1`. A name may also begin with `-` and have escapes: `1-x`, `1--x` and
 /// `1\78` are refused.
@@ -337,25 +326,19 @@ const fn letters() -> [u8; 181] {
 }
 
 /// Suffixes of C#, in either case.
-const C_SHARP_INTEGERS: &[&[u8]] = &[b"u", b"l", b"ul", b"lu"];
-const C_SHARP_DECIMALS: Suffixes = words(&[b"u", b"l", b"ul", b"lu", b"f", b"d", b"m"], &[b"f", b"d", b"m"])
+const C_SHARP_INTEGERS: &[&[u8]] = list![u l ul lu];
+const C_SHARP_DECIMALS: Suffixes = words(list![u l ul lu f d m], &[b"f", b"d", b"m"])
     .either_case(true)
-    .with_kinds(&[(b"f", finite(SINGLE)), (b"d", finite(Kind::EXACT)), (b"m", finite(Kind::EXACT))]);
+    .with_kinds(kinds! { finite(SINGLE) => f; finite(Kind::EXACT) => d m; });
 
 /// Suffixes of D: `1uL` and `1.5Li`.
-const D_INTEGERS: Suffixes = words(&[b"L", b"u", b"U", b"Lu", b"LU", b"uL", b"UL"], &[]);
-const D_WORDS: Suffixes = words(
-    &[b"L", b"u", b"U", b"Lu", b"LU", b"uL", b"UL", b"f", b"F", b"i", b"fi", b"Fi", b"Li"],
-    &[b"f", b"F", b"L", b"i", b"fi", b"Fi", b"Li"],
-)
-.with_kinds(D_KINDS)
-.with_written(&[b"u"]);
-#[rustfmt::skip]
-const D_KINDS: &[(&[u8], Kind)] = &[
-    (b"u", AT_MOST_64), (b"U", AT_MOST_64), (b"Lu", AT_MOST_64), (b"LU", AT_MOST_64), (b"uL", AT_MOST_64), (b"UL", AT_MOST_64),
-    (b"f", finite(SINGLE)), (b"F", finite(SINGLE)), (b"i", finite(Kind::EXACT)), (b"fi", finite(SINGLE)), (b"Fi", finite(SINGLE)),
-    (b"L", AT_MOST_63), (b"Li", Kind::EXACT),
-];
+const D_INTEGERS: Suffixes = words(list![L u U Lu LU uL UL], &[]);
+const D_WORDS: Suffixes =
+    words(list![L u U Lu LU uL UL f F i fi Fi Li], list![f F L i fi Fi Li]).with_kinds(D_KINDS).with_written(&[b"u"]);
+const D_KINDS: &[(&[u8], Kind)] = kinds! {
+    AT_MOST_64 => u U Lu LU uL UL; finite(SINGLE) => f F fi Fi; finite(Kind::EXACT) => i; AT_MOST_63 => L;
+    Kind::EXACT => Li;
+};
 
 /// Suffixes of imaginary numbers of Go, and a point that no binary and octal number has: `0b1.`.
 const GO_WORDS: Suffixes = words(&[b"i"], &[b"i"]);
@@ -364,16 +347,16 @@ const GO_POINTLESS: Suffixes = Suffixes::new(&[b"i"], &[], &[Stop::new(b"", b"."
 /// Suffixes of Java and Scala, in either case.
 const JAVA_DECIMALS: Suffixes = words(&[b"l", b"f", b"d"], &[b"f", b"d"])
     .either_case(true)
-    .with_kinds(&[(b"l", AT_MOST_63), (b"f", within(SINGLE)), (b"d", within(Kind::EXACT))])
+    .with_kinds(kinds! { AT_MOST_63 => l; within(SINGLE) => f; within(Kind::EXACT) => d; })
     .with_written(&[b"L"]);
 const SCALA_DECIMALS: Suffixes =
-    JAVA_DECIMALS.with_kinds(&[(b"l", AT_MOST_63), (b"f", finite(SINGLE)), (b"d", finite(Kind::EXACT))]);
+    JAVA_DECIMALS.with_kinds(kinds! { AT_MOST_63 => l; finite(SINGLE) => f; finite(Kind::EXACT) => d; });
 const JAVA_INTEGERS: Suffixes =
-    words(&[b"l"], &[]).either_case(true).with_kinds(&[(b"l", WRAPS_64)]).with_written(&[b"L"]);
+    words(&[b"l"], &[]).either_case(true).with_kinds(kinds! { WRAPS_64 => l; }).with_written(&[b"L"]);
 const JAVA_FLOATS: Suffixes = words(&[b"f", b"d"], &[b"f", b"d"])
     .either_case(true)
-    .with_kinds(&[(b"f", within(SINGLE)), (b"d", within(Kind::EXACT))]);
-const SCALA_FLOATS: Suffixes = JAVA_FLOATS.with_kinds(&[(b"f", finite(SINGLE)), (b"d", finite(Kind::EXACT))]);
+    .with_kinds(kinds! { within(SINGLE) => f; within(Kind::EXACT) => d; });
+const SCALA_FLOATS: Suffixes = JAVA_FLOATS.with_kinds(kinds! { finite(SINGLE) => f; finite(Kind::EXACT) => d; });
 
 /// The suffix of big integers of JavaScript. A name, which `$` and `\\` may begin, does not follow a number.
 const BIG: Suffixes = Suffixes::new(&[b"n"], &[], &[Stop::new(b"", b"$\\", b"")]);
@@ -384,52 +367,39 @@ const LUA_WORDS: Suffixes = JULIA_WORDS;
 const NASM_WORDS: Suffixes = JULIA_WORDS;
 
 /// Suffixes of Kotlin.
-const KOTLIN_INTEGERS: &[&[u8]] = &[b"u", b"U", b"L", b"uL", b"UL"];
+const KOTLIN_INTEGERS: &[&[u8]] = list![u U L uL UL];
 const KOTLIN_DECIMALS: Suffixes =
-    words(&[b"u", b"U", b"L", b"uL", b"UL", b"f", b"F"], &[b"f", b"F"]).with_kinds(KOTLIN_KINDS).with_written(&[b"u"]);
+    words(list![u U L uL UL f F], &[b"f", b"F"]).with_kinds(KOTLIN_KINDS).with_written(&[b"u"]);
 const KOTLIN_WORDS: Suffixes = words(KOTLIN_INTEGERS, &[]).with_kinds(KOTLIN_KINDS).with_written(&[b"u"]);
-#[rustfmt::skip]
-const KOTLIN_KINDS: &[(&[u8], Kind)] = &[
-    (b"u", AT_MOST_64), (b"U", AT_MOST_64), (b"uL", AT_MOST_64), (b"UL", AT_MOST_64), (b"f", SINGLE), (b"F", SINGLE),
-];
+const KOTLIN_KINDS: &[(&[u8], Kind)] = kinds! { AT_MOST_64 => u U uL UL; SINGLE => f F; };
 const KOTLIN_FLOATS: Suffixes = words(&[b"f", b"F"], &[]).with_kinds(FLOAT);
 
 /// Suffixes of Nim, in either case. A word behind `'`, as in `1'i8`, is refused, and so is a second point.
 const NIM_STOPS: &[Stop] = &[Stop::new(b"", b"'", b""), Stop::new(b"", b".", b"0123456789")];
-const NIM_INTEGERS: Suffixes =
-    Suffixes::new(&[b"i8", b"i16", b"i32", b"i64", b"u", b"u8", b"u16", b"u32", b"u64"], &[], NIM_STOPS)
+const NIM_INTEGERS: Suffixes = Suffixes::new(list![i8 i16 i32 i64 u u8 u16 u32 u64], &[], NIM_STOPS)
+    .either_case(true)
+    .with_kinds(NIM_KINDS)
+    .with_written(&[b"u64"]);
+const NIM_DECIMALS: Suffixes =
+    Suffixes::new(list![i8 i16 i32 i64 u u8 u16 u32 u64 f f32 f64 d], list![f f32 f64 d], NIM_STOPS)
         .either_case(true)
-        .with_kinds(NIM_KINDS)
+        .with_kinds(NIM_DECIMAL_KINDS)
         .with_written(&[b"u64"]);
-const NIM_DECIMALS: Suffixes = Suffixes::new(
-    &[b"i8", b"i16", b"i32", b"i64", b"u", b"u8", b"u16", b"u32", b"u64", b"f", b"f32", b"f64", b"d"],
-    &[b"f", b"f32", b"f64", b"d"],
-    NIM_STOPS,
-)
-.either_case(true)
-.with_kinds(NIM_DECIMAL_KINDS)
-.with_written(&[b"u64"]);
-#[rustfmt::skip]
-const NIM_KINDS: &[(&[u8], Kind)] = &[
-    (b"i8", whole(IntegerKind::Wraps(8))), (b"i16", whole(IntegerKind::Wraps(16))), (b"i32", WRAPS_32),
-    (b"u8", whole(IntegerKind::AtMost(8))), (b"u16", whole(IntegerKind::AtMost(16))), (b"u32", whole(IntegerKind::AtMost(32))),
-    (b"u", AT_MOST_64), (b"u64", AT_MOST_64),
-];
-#[rustfmt::skip]
-const NIM_DECIMAL_KINDS: &[(&[u8], Kind)] = &[
-    (b"i8", whole(IntegerKind::AtMost(7))), (b"i16", whole(IntegerKind::AtMost(15))), (b"i32", AT_MOST_31),
-    (b"u8", whole(IntegerKind::AtMost(8))), (b"u16", whole(IntegerKind::AtMost(16))), (b"u32", whole(IntegerKind::AtMost(32))),
-    (b"u", AT_MOST_64), (b"u64", AT_MOST_64),
-    (b"f", SINGLE), (b"f32", SINGLE), (b"f64", Kind::EXACT), (b"d", Kind::EXACT),
-];
+const NIM_KINDS: &[(&[u8], Kind)] = kinds! {
+    whole(IntegerKind::Wraps(8)) => i8; whole(IntegerKind::Wraps(16)) => i16; WRAPS_32 => i32;
+    whole(IntegerKind::AtMost(8)) => u8; whole(IntegerKind::AtMost(16)) => u16;
+    whole(IntegerKind::AtMost(32)) => u32; AT_MOST_64 => u u64;
+};
+const NIM_DECIMAL_KINDS: &[(&[u8], Kind)] = kinds! {
+    whole(IntegerKind::AtMost(7)) => i8; whole(IntegerKind::AtMost(15)) => i16; AT_MOST_31 => i32;
+    whole(IntegerKind::AtMost(8)) => u8; whole(IntegerKind::AtMost(16)) => u16;
+    whole(IntegerKind::AtMost(32)) => u32; AT_MOST_64 => u u64; SINGLE => f f32; Kind::EXACT => f64 d;
+};
 
 /// Suffixes of OCaml, whose names may have `'`.
-const OCAML_WORDS: Suffixes = Suffixes::new(&[b"l", b"L", b"n"], &[], &[Stop::new(b"", b"'", b"")]).with_kinds(&[
-    (b"l", WRAPS_32),
-    (b"L", WRAPS_64),
-    (b"n", WRAPS_64),
-]);
-const OCAML_DECIMALS: Suffixes = OCAML_WORDS.with_kinds(&[(b"l", AT_MOST_31), (b"L", AT_MOST_63), (b"n", AT_MOST_63)]);
+const OCAML_WORDS: Suffixes = Suffixes::new(list![l L n], &[], &[Stop::new(b"", b"'", b"")])
+    .with_kinds(kinds! { WRAPS_32 => l; WRAPS_64 => L n; });
+const OCAML_DECIMALS: Suffixes = OCAML_WORDS.with_kinds(kinds! { AT_MOST_31 => l; AT_MOST_63 => L n; });
 
 /// What may not follow a decimal number of Perl, of which `1.2.3` is a string, and the point of `1.x` may be of the number or not,
 /// and of SQL, which has neither.
@@ -447,7 +417,7 @@ const PROLOG_WORDS: Suffixes = Suffixes::new(&[], &[], &[Stop::new(b"", b"'", b"
 const PYTHON_WORDS: Suffixes = words(&[b"j"], &[b"j"]).either_case(true);
 
 /// Words of Python that may follow a number: `1if x else 0`.
-const PYTHON_KEYWORDS: &[&[u8]] = &[b"and", b"else", b"for", b"if", b"in", b"is", b"not", b"or"];
+const PYTHON_KEYWORDS: &[&[u8]] = list![and else for if in is not or];
 
 /// Suffixes of R, for integers and imaginary numbers.
 const R_WORDS: Suffixes = words(&[b"L", b"i"], &[b"L", b"i"]);
@@ -460,27 +430,22 @@ const RUBY_INTEGERS: &[&[u8]] = &[b"r", b"i", b"ri"];
 const RUBY_WORDS: Suffixes = Suffixes::new(RUBY_INTEGERS, &[b"i"], POINT_AND_DIGIT).whole_words(true);
 
 /// Words of Ruby that may follow a number: `1unless x`.
-const RUBY_KEYWORDS: &[&[u8]] = &[
-    b"alias", b"and", b"begin", b"break", b"case", b"class", b"def", b"do", b"else", b"elsif", b"end", b"ensure",
-    b"false", b"for", b"if", b"in", b"module", b"next", b"nil", b"not", b"or", b"redo", b"rescue", b"retry", b"return",
-    b"self", b"super", b"then", b"true", b"undef", b"unless", b"until", b"when", b"while", b"yield",
+const RUBY_KEYWORDS: &[&[u8]] = list![
+    alias and begin break case class def do else elsif end ensure false for if in module next nil not or redo rescue
+    retry return self super then true undef unless until when while yield
 ];
 
 /// Suffixes of Rust.
-const RUST_INTEGERS: &[&[u8]] =
-    &[b"u8", b"u16", b"u32", b"u64", b"u128", b"usize", b"i8", b"i16", b"i32", b"i64", b"i128", b"isize"];
-const RUST_DECIMALS: &[&[u8]] = &[
-    b"u8", b"u16", b"u32", b"u64", b"u128", b"usize", b"i8", b"i16", b"i32", b"i64", b"i128", b"isize", b"f32", b"f64",
-];
+const RUST_INTEGERS: &[&[u8]] = list![u8 u16 u32 u64 u128 usize i8 i16 i32 i64 i128 isize];
+const RUST_DECIMALS: &[&[u8]] = list![u8 u16 u32 u64 u128 usize i8 i16 i32 i64 i128 isize f32 f64];
 const RUST_WORDS: Suffixes = words(RUST_DECIMALS, &[b"f32", b"f64"]).with_kinds(RUST_KINDS);
 const RUST_PREFIXED_WORDS: Suffixes = Suffixes::new(RUST_INTEGERS, &[], POINT_AND_NO_NAME).with_kinds(RUST_KINDS);
-#[rustfmt::skip]
-const RUST_KINDS: &[(&[u8], Kind)] = &[
-    (b"u8", whole(IntegerKind::AtMost(8))), (b"u16", whole(IntegerKind::AtMost(16))), (b"u32", whole(IntegerKind::AtMost(32))),
-    (b"u64", AT_MOST_64), (b"usize", AT_MOST_64),
-    (b"i8", whole(IntegerKind::AtMost(7))), (b"i16", whole(IntegerKind::AtMost(15))), (b"i32", AT_MOST_31), (b"i64", AT_MOST_63),
-    (b"isize", AT_MOST_63), (b"i128", whole(IntegerKind::AtMost(127))), (b"f32", finite(SINGLE)), (b"f64", finite(Kind::EXACT)),
-];
+const RUST_KINDS: &[(&[u8], Kind)] = kinds! {
+    whole(IntegerKind::AtMost(8)) => u8; whole(IntegerKind::AtMost(16)) => u16;
+    whole(IntegerKind::AtMost(32)) => u32; AT_MOST_64 => u64 usize; whole(IntegerKind::AtMost(7)) => i8;
+    whole(IntegerKind::AtMost(15)) => i16; AT_MOST_31 => i32; AT_MOST_63 => i64 isize;
+    whole(IntegerKind::AtMost(127)) => i128; finite(SINGLE) => f32; finite(Kind::EXACT) => f64;
+};
 
 /// What goes on a number of Verilog: `8'hFF`, `1.x` and `1$`.
 const VERILOG_WORDS: Suffixes = Suffixes::new(&[], &[], &[Stop::new(b"", b"'.$", b"")]);

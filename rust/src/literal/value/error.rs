@@ -3,7 +3,7 @@
 use core::fmt;
 use core::ops::Range;
 
-use crate::literal::value::kind::limit;
+use crate::literal::value::integer::limit;
 use crate::literal::value::{FromLiteral, ValueErrorKind};
 use crate::literal::{FormError, IntegerKind, ReadError};
 

@@ -4,8 +4,7 @@
 
 use crate::literal::kind::{FloatKind, FloatLimits, Kind};
 use crate::literal::literal::Literal;
-use crate::literal::value::integer::{integer_numeral, ValueErrorKind};
-use crate::literal::value::kind::{fewer, is_exact, keeps};
+use crate::literal::value::integer::{fewer, integer_numeral, is_exact, keeps, ValueErrorKind};
 use crate::literal::value::number::decimal::{decimal_to_float, digits_to_float};
 use crate::literal::value::number::float::Float;
 use crate::literal::value::number::leading::{push_all, saturating, Leading};

@@ -16,13 +16,14 @@ use crate::literal::value::number::numeral::Magnitude;
 use crate::literal::writer::float::{format_float, is_integer};
 use crate::literal::writer::float_digits::FloatDigits;
 use crate::literal::writer::integer::WrittenInteger;
-use crate::literal::writer::layout::{needs_exponent, ExponentStyle, Layout, Style, WriteError};
+use crate::literal::writer::layout::{needs_exponent, wants_exponent, ExponentStyle, Layout, Style, WriteError};
 use crate::literal::writer::near::format_near;
 
 /// A number that a list of forms is asked to write.
 pub trait Writable {
     /// Returns the radix of the forms that are asked first.
     fn radix(&self) -> u32;
+
     /// Returns the token that `text` begins with. Only integers are written with words.
     fn token<'t>(&self, _: &Forms, _: &'t [u8]) -> Option<Token<'t>> {
         None
@@ -353,14 +354,151 @@ pub struct Chosen {
     pub style: Style,
 }
 
-// Returns whether a form with a syntax is asked in a part of a turn: first each form or, unless `all` is true, each whose literals need no
-// exponent, then the latter with words, and then those that are left.
-fn is_asked(part: u8, all: bool, syntax: &Syntax) -> bool {
-    match part {
-        0 => all || !needs_exponent(syntax),
-        1 => !needs_exponent(syntax),
-        _ => !all && needs_exponent(syntax),
+// How many steps there are in which forms are asked: three in each of the six turns.
+const STEPS: u8 = 18;
+
+// Why the forms of a step do not write a number: why the forms up to there do not, if any is asked, or that a text needs a longer buffer.
+enum Refused {
+    By(Option<WriteError>),
+    Short(WriteError),
+}
+
+// The order in which a list asks its forms to write a number: the number's radix, whether it is an integer, whether forms whose
+// literals all have an exponent are asked with the others, and of the form that is asked first, if the number is rounded, the radix,
+// and whether it has floats.
+#[derive(Clone, Copy)]
+struct Order {
+    radix: u32,
+    integer: bool,
+    all: bool,
+    first: Option<(u32, bool)>,
+}
+
+impl Order {
+    // Returns the order in which forms are asked to write a number in a style.
+    #[inline(always)]
+    fn of<N: Writable + ?Sized>(forms: &[Form], number: &N, style: Style) -> Order {
+        let integer = number.is_integer();
+        let order =
+            Order { radix: number.radix(), integer, all: !integer | wants_exponent(style.exponent), first: None };
+        if number.is_rounded(style) {
+            order.rounded(forms)
+        } else {
+            order
+        }
     }
+
+    // Returns the order for a number that is rounded.
+    #[inline(always)]
+    fn rounded(self, forms: &[Form]) -> Order {
+        Order { first: self.first_of(forms), ..self }
+    }
+
+    // Returns the radix of the form that is asked first, if any is, and whether it has floats.
+    #[inline(always)]
+    fn first_of(&self, forms: &[Form]) -> Option<(u32, bool)> {
+        let mut step = 0;
+        while step < STEPS {
+            match self.first_in(step, forms) {
+                Some(first) => return Some(first),
+                None => {}
+            }
+            step += 1;
+        }
+        None
+    }
+
+    // Returns the radix of the first form that is asked in a step, if any is, and whether it has floats.
+    #[inline(always)]
+    fn first_in(&self, step: u8, forms: &[Form]) -> Option<(u32, bool)> {
+        let mut index = 0;
+        while index < forms.len() {
+            let it = &forms[index];
+            if self.is_asked(step, it) {
+                let syntax = it.syntax();
+                return Some((syntax.format().view().mantissa_radix(), syntax.options().is_some()));
+            }
+            index += 1;
+        }
+        None
+    }
+
+    // Returns whether a form is asked in a step.
+    #[inline(always)]
+    fn is_asked(&self, step: u8, form: &Form) -> bool {
+        let syntax = form.syntax();
+        if turn(self.radix, self.integer, &syntax) != step / 3 {
+            return false;
+        }
+        self.is_part(step % 3, needs_exponent(&syntax)) & !form.is_only_read() & self.is_radix(&syntax)
+    }
+
+    // Returns whether a form is asked in a part of its turn, where all of its literals may have an exponent.
+    #[inline(always)]
+    const fn is_part(&self, part: u8, exponent: bool) -> bool {
+        match part {
+            0 => self.all || !exponent,
+            1 => self.integer && !exponent,
+            _ => !self.all && exponent,
+        }
+    }
+
+    // Returns whether a form with a syntax has the radix in which the number is rounded, if it is.
+    #[inline(always)]
+    fn is_radix(&self, syntax: &Syntax) -> bool {
+        match self.first {
+            Some((radix, _)) => syntax.format().view().mantissa_radix() == radix,
+            None => true,
+        }
+    }
+
+    // Returns the style in which a form with a syntax is asked to write the number.
+    #[inline(always)]
+    fn style(&self, syntax: &Syntax, style: Style) -> Style {
+        if self.keeps_all(syntax, style.decimals) {
+            Style { decimals: None, ..style }
+        } else {
+            style
+        }
+    }
+
+    // Returns whether a form with a syntax writes the number without rounding it.
+    #[inline(always)]
+    fn keeps_all(&self, syntax: &Syntax, decimals: Option<u8>) -> bool {
+        match (self.first, decimals) {
+            (Some((_, floats)), Some(count)) => floats && syntax.options().is_none() && count > 0,
+            _ => false,
+        }
+    }
+}
+
+// Asks the forms of a step to write a number, or returns why they do not. `first` is why the forms of the steps before do not.
+#[inline(always)]
+fn ask<N: Writable + ?Sized>(
+    forms: &Forms,
+    order: &Order,
+    step: u8,
+    number: &N,
+    style: Style,
+    buffer: &mut [u8],
+    first: Option<WriteError>,
+) -> Result<Chosen, Refused> {
+    let list = forms.as_slice();
+    let mut error = first;
+    let mut index = 0;
+    while index < list.len() {
+        let it = &list[index];
+        if order.is_asked(step, it) {
+            let own = order.style(&it.syntax(), style);
+            match write_in(forms, index, step % 3 == 1, number, own, buffer) {
+                Ok(chosen) => return Ok(chosen),
+                Err(other) if is_short(other) => return Err(Refused::Short(other)),
+                Err(other) => error = first_reason(error, other),
+            }
+        }
+        index += 1;
+    }
+    Err(Refused::By(error))
 }
 
 /// Writes a number by the first form whose text the list reads as this number, to the beginning of a buffer, and returns the
@@ -382,37 +520,16 @@ pub fn choose<N: Writable + ?Sized>(
     style: Style,
     buffer: &mut [u8],
 ) -> Result<Chosen, WriteError> {
-    let integer = number.is_integer();
-    let all = !integer || matches!(style.exponent, ExponentStyle::Always);
-    let rounded = number.is_rounded(style);
-    let (mut error, mut first, mut floats) = (None, None, false);
-    for wanted in 0..if integer { 3 } else { 6 } {
-        for part in 0..if integer { 3 } else { 1 } {
-            for (index, form) in forms.as_slice().iter().enumerate() {
-                let syntax = form.syntax();
-                if turn(number.radix(), integer, &syntax) != wanted
-                    || !is_asked(part, all, &syntax)
-                    || form.is_only_read()
-                {
-                    continue;
-                }
-                // A number is rounded in one radix alone and, if there are forms with floats, by these alone.
-                if rounded {
-                    let radix = syntax.format().view().mantissa_radix();
-                    if first.unwrap_or(radix) != radix {
-                        continue;
-                    }
-                    first = Some(radix);
-                    floats |= syntax.options().is_some();
-                }
-                let whole = floats && syntax.options().is_none();
-                match write_in(forms, index, whole, part == 1, number, style, buffer) {
-                    Ok(chosen) => return Ok(chosen),
-                    Err(other) if is_short(other) => return Err(other),
-                    Err(other) => error = first_reason(error, other),
-                }
-            }
+    let order = Order::of(forms.as_slice(), number, style);
+    let mut error = None;
+    let mut step = 0;
+    while step < STEPS {
+        match ask(forms, &order, step, number, style, buffer, error) {
+            Err(Refused::By(other)) => error = other,
+            Err(Refused::Short(short)) => return Err(short),
+            Ok(chosen) => return Ok(chosen),
         }
+        step += 1;
     }
     Err(error.unwrap_or(WriteError::ReadBack))
 }
@@ -437,9 +554,20 @@ pub fn lay_out_first(forms: &Forms, number: &Whole, style: Style) -> Option<Writ
 // Returns the first of the reasons why forms do not write a number. `Fraction` gives way to another one.
 const fn first_reason(first: Option<WriteError>, error: WriteError) -> Option<WriteError> {
     match first {
-        None | Some(WriteError::Fraction) => Some(error),
-        Some(other) => Some(other),
+        None => Some(error),
+        Some(other) => {
+            if is_fraction(other) {
+                Some(error)
+            } else {
+                Some(other)
+            }
+        }
     }
+}
+
+// Returns whether an error is `Fraction`.
+const fn is_fraction(error: WriteError) -> bool {
+    matches!(error, WriteError::Fraction)
 }
 
 // Returns in which turn a form with a syntax is asked to write an integer, or another number, of a radix.
@@ -465,20 +593,10 @@ fn delay(integer: bool, syntax: &Syntax) -> u8 {
     }
 }
 
-// Returns the style in which a form writes, where a number is rounded or not. If `whole` is true, the form does not round.
-const fn style_in(whole: bool, rounded: bool, style: Style) -> Style {
-    if whole && rounded && !matches!(style.decimals, Some(0)) {
-        Style { decimals: None, ..style }
-    } else {
-        style
-    }
-}
-
-// Writes a number by one form, which does not round if `whole` is true, or with a word if `with` is true, or returns why it is not used.
+// Writes a number by one form, with a word if `with` is true, or returns why it is not used.
 fn write_in<N: Writable + ?Sized>(
     forms: &Forms,
     index: usize,
-    whole: bool,
     with: bool,
     number: &N,
     style: Style,
@@ -487,12 +605,11 @@ fn write_in<N: Writable + ?Sized>(
     if with && number.is_integer() {
         return write_words(forms, index, number, style, buffer);
     }
-    let style = style_in(whole, number.is_rounded(style), style);
     let error = match write_by(forms, index, number, style, buffer) {
         Ok(length) => return Ok(Chosen { form: index, word: None, length, style }),
         Err(error) => error,
     };
-    if is_short(error) || !number.is_integer() || !matches!(style.exponent, ExponentStyle::Always) {
+    if is_short(error) || !number.is_integer() || !wants_exponent(style.exponent) {
         return Err(error);
     }
     let style = without_wish(style);

@@ -422,7 +422,7 @@ pub(crate) fn allows_exponent(syntax: &Syntax) -> bool {
 }
 
 // Returns whether a number without an exponent is to have one.
-const fn wants_exponent(wish: ExponentStyle) -> bool {
+pub(crate) const fn wants_exponent(wish: ExponentStyle) -> bool {
     matches!(wish, ExponentStyle::Always)
 }
 

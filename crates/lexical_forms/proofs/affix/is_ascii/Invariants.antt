@@ -1,4 +1,4 @@
-use Rattle.lexical_forms.proofs.Common.{All, take, length, ◌-◌, ◌<◌}
+use Rattle.lexical_forms.proofs.Common.{All, length, take, ◌-◌, ◌<◌}
 use Rattle.lexical_forms.proofs.affix.is_ascii.Given as goal
 
 abbrev pub invariant-loop-index : goal.invariant-loop-index

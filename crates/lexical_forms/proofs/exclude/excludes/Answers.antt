@@ -1,5 +1,5 @@
 -- A literal has the prefix that is required, and each of its bytes plays a role.
-use Rattle.lexical_forms.proofs.Common.{◌+◌, ◌∙◌, sym, arith, nat_tests, notation_of}
+use Rattle.lexical_forms.proofs.Common.{arith, nat_tests, notation_of, sym, ◌+◌, ◌∙◌}
 use Rattle.lexical_forms.proofs.ExcludeLemmas.{near_no_role, near_prefix, no_role_excludes, prefix_begins}
 use Rattle.lexical_forms.proofs.exclude.excludes.Goals as goal
 

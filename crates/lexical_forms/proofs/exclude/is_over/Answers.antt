@@ -1,5 +1,5 @@
 -- No literal goes on behind a byte that plays no role, or behind the end.
-use Rattle.lexical_forms.proofs.Common.{◌∙◌, sym}
+use Rattle.lexical_forms.proofs.Common.{sym, ◌∙◌}
 use Rattle.lexical_forms.proofs.LeadingLemmas.{over_byte}
 use Rattle.lexical_forms.proofs.exclude.is_over.Goals as goal
 

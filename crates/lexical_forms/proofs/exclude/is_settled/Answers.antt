@@ -1,5 +1,5 @@
 -- The form goes no further, and if it goes as far, its cause is a wrong byte.
-use Rattle.lexical_forms.proofs.Common.{◌+◌, ◌<◌, arith, subst, notation_of}
+use Rattle.lexical_forms.proofs.Common.{arith, notation_of, subst, ◌+◌, ◌<◌}
 use Rattle.lexical_forms.proofs.ExcludeLemmas.{near_zero, no_role_excludes, zero_begins}
 use Rattle.lexical_forms.proofs.StrangerLemmas.{near_is, silent_is, spare_excludes, stranger_is}
 use Rattle.lexical_forms.proofs.exclude.is_settled.Goals as goal

@@ -1,6 +1,5 @@
 -- A byte above `9` that is a stranger, and is not the base prefix.
-use Rattle.lexical_forms.proofs.Common.{◌∙◌, sym, subst, arith, nat_tests, raw}
-use Rattle.lexical_forms.specs.Additions.Forms.{AreFalse}
+use Rattle.lexical_forms.proofs.Common.{AreFalse, arith, nat_tests, raw, subst, sym, ◌∙◌}
 use Rattle.lexical_util.specs.Layout as layout
 use Rattle.lexical_util.specs.Roles.{cased}
 use Rattle.lexical_forms.proofs.StrangerLemmas.{not_zero, silent_of}

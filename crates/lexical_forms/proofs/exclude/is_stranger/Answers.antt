@@ -1,7 +1,5 @@
 -- All tests of roles but that of the prefix are false.
-use Rattle.lexical_forms.proofs.Common.{◌∙◌, sym, subst, arith, nat_tests, false, false≢true, raw, true, Bool, ◌≡◌}
-use Rattle.std.proofs.Common.{not}
-use Rattle.lexical_forms.specs.Additions.Forms.{AreFalse}
+use Rattle.lexical_forms.proofs.Common.{AreFalse, Bool, arith, false, false≢true, nat_tests, not, raw, subst, sym, true, ◌∙◌, ◌≡◌}
 use Rattle.lexical_util.specs.Layout as layout
 use Rattle.lexical_util.specs.Roles.{cased}
 use Rattle.lexical_forms.proofs.StrangerLemmas.{stranger_of}

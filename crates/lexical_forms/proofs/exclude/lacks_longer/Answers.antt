@@ -1,17 +1,7 @@
 -- A form without the prefix that is required has no front, and no literal goes on behind a byte that plays no role.
-use Rattle.lexical_forms.proofs.Common.{◌+◌, arith, notation_of, sign_size}
+use Rattle.lexical_forms.proofs.Common.{arith, notation_of, sign_size, ◌+◌}
 use Rattle.lexical_forms.proofs.LeadingLemmas.{no_front_past, within_more}
 use Rattle.lexical_forms.proofs.exclude.lacks_longer.Goals as goal
 
-pub returns-then-lacks_prefix-clause-front : goal.returns-then-lacks_prefix-clause-front
-returns-then-lacks_prefix-clause-front c = λ is more past. c.lacks_prefix.ensures.none c.if-lacks_prefix.true more
-
-pub returns-then-lacks_prefix-clause-past : goal.returns-then-lacks_prefix-clause-past
-returns-then-lacks_prefix-clause-past c = λ is sign. within_more (notation_of c.args.grammar) c.args.text.now (sign_size c.args.text.now + 1) c.args.size
-    (omega (arith, sign)) (c.lacks_prefix.ensures.within c.if-lacks_prefix.true)
-
 pub returns-else-lacks_prefix-clause-front : goal.returns-else-lacks_prefix-clause-front
 returns-else-lacks_prefix-clause-front c = λ is. no_front_past (notation_of c.args.grammar) c.args.text.now c.args.size (c.is_over.ensures is)
-
-pub returns-else-lacks_prefix-clause-past : goal.returns-else-lacks_prefix-clause-past
-returns-else-lacks_prefix-clause-past c = λ is sign. c.is_over.ensures is

@@ -1,5 +1,5 @@
 -- A literal begins with the prefix that is required.
-use Rattle.lexical_forms.proofs.Common.{◌∙◌, sym, arith}
+use Rattle.lexical_forms.proofs.Common.{arith, sym, ◌∙◌}
 use Rattle.lexical_forms.proofs.LeadingLemmas.{lacking_none, lacking_within}
 use Rattle.lexical_forms.proofs.exclude.lacks_prefix.Goals as goal
 

@@ -1,5 +1,4 @@
-use Rattle.lexical_forms.proofs.Common.{false, length, take, ◌-◌, ◌≡◌}
-use Rattle.lexical_forms.specs.FormList.{have_marks}
+use Rattle.lexical_forms.proofs.Common.{false, have_marks, length, take, ◌-◌, ◌≡◌}
 use Rattle.lexical_forms.proofs.list.have_marks.Given as goal
 
 abbrev pub invariant-loop-form : goal.invariant-loop-form

@@ -1,6 +1,5 @@
-use Rattle.lexical_forms.proofs.Common.{◌-◌, length}
+use Rattle.lexical_forms.proofs.Common.{IsInside, length, ◌-◌}
 use Rattle.std.specs.Option.{ForSome}
-use Rattle.lexical_forms.specs.Additions.Token.{IsInside}
 use Rattle.lexical_forms.proofs.marked.best_of.Given as goal
 
 abbrev pub invariant-loop-form : goal.invariant-loop-form

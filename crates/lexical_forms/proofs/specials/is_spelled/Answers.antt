@@ -1,7 +1,5 @@
 -- Each byte is the next letter, or takes the place of a separator, or is left out.
-use Rattle.lexical_forms.proofs.Common.{sym, ◌∙◌, get_or, ap, subst, arith, nat_tests, notation_of}
-use Rattle.std.proofs.lemmas.List.{drop_more, drop_all}
-use Rattle.lexical_forms.specs.Specials.{letter_of}
+use Rattle.lexical_forms.proofs.Common.{ap, arith, drop_all, drop_more, get_or, letter_of, nat_tests, notation_of, subst, sym, ◌∙◌}
 use Rattle.lexical_forms.proofs.SpecialLemmas.{HasRead, one_separator, read_more, at_end}
 use Rattle.lexical_forms.proofs.specials.is_spelled.Goals as goal
 

@@ -1,4 +1,4 @@
-use Rattle.lexical_forms.proofs.Common.{◌-◌, drop, notation_of, length}
+use Rattle.lexical_forms.proofs.Common.{drop, length, notation_of, ◌-◌}
 use Rattle.lexical_forms.proofs.SpecialLemmas.{HasRead}
 use Rattle.lexical_forms.proofs.specials.is_spelled.Given as goal
 

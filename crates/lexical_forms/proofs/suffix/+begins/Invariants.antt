@@ -1,4 +1,4 @@
-use Rattle.std.specs.Prelude.{length}
+use Rattle.lexical_forms.proofs.Common.{length}
 use Rattle.lexical_forms.proofs.suffix.+begins.Given as goal
 
 abbrev pub decreases-begins : goal.decreases-begins

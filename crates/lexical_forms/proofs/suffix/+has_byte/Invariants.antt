@@ -1,4 +1,4 @@
-use Rattle.std.specs.Prelude.{length}
+use Rattle.lexical_forms.proofs.Common.{length}
 use Rattle.lexical_forms.proofs.suffix.+has_byte.Given as goal
 
 abbrev pub decreases-has_byte : goal.decreases-has_byte

@@ -1,4 +1,4 @@
-use Rattle.std.specs.Prelude.{length}
+use Rattle.lexical_forms.proofs.Common.{length}
 use Rattle.lexical_forms.proofs.suffix.+is_followed.Given as goal
 
 abbrev pub decreases-is_followed : goal.decreases-is_followed

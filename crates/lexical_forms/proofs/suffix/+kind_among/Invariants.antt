@@ -1,4 +1,4 @@
-use Rattle.std.specs.Prelude.{length}
+use Rattle.lexical_forms.proofs.Common.{length}
 use Rattle.lexical_forms.proofs.suffix.+kind_among.Given as goal
 
 abbrev pub decreases-kind_among : goal.decreases-kind_among

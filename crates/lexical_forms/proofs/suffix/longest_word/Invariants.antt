@@ -1,5 +1,4 @@
-use Rattle.lexical_forms.proofs.Common.{◌≡◌, ◌≤◌, nat_lt, if◌then◌else◌, length}
-use Rattle.lexical_forms.specs.Suffix.{longest_word}
+use Rattle.lexical_forms.proofs.Common.{if◌then◌else◌, length, longest_word, nat_lt, ◌≡◌, ◌≤◌}
 use Rattle.lexical_forms.proofs.suffix.longest_word.Given as goal
 
 abbrev pub invariant-loop-rest : goal.invariant-loop-rest

@@ -1,5 +1,4 @@
-use Rattle.lexical_forms.proofs.Common.{◌-◌, ◌+◌, ◌≡◌, ◌≤◌, length}
-use Rattle.lexical_forms.specs.Suffix.{word_size}
+use Rattle.lexical_forms.proofs.Common.{length, word_size, ◌+◌, ◌-◌, ◌≡◌, ◌≤◌}
 use Rattle.lexical_forms.proofs.suffix.word_size.Given as goal
 
 abbrev pub invariant-loop-rest : goal.invariant-loop-rest

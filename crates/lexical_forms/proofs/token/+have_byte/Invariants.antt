@@ -1,4 +1,4 @@
-use Rattle.std.specs.Prelude.{length}
+use Rattle.lexical_forms.proofs.Common.{length}
 use Rattle.lexical_forms.proofs.token.+have_byte.Given as goal
 
 abbrev pub decreases-have_byte : goal.decreases-have_byte

@@ -1,12 +1,8 @@
 -- No literal of the forms before goes on.
-use Rattle.lexical_forms.proofs.Common.{◌≡◌, inl, subst, arith, nat_tests, notation_of, Form}
-use Rattle.lexical_forms.specs.Additions.Token.{IsNear}
+use Rattle.lexical_forms.proofs.Common.{Form, IsNear, arith, inl, nat_tests, notation_of, subst, ◌≡◌}
 use Rattle.lexical_forms.proofs.LeadingLemmas.{near_more}
 use Rattle.lexical_forms.proofs.token.are_past.Goals as goal
 use Rattle.lexical_forms.proofs.token.are_past.Goals.{else-form-but-via-then-form-but+else-not-is_past, else-form-but-via-else-form-but}
-
-pub loop-form-init : goal.loop-form-init
-loop-form-init c = λ sign k d below other. inl (c.requires.known k d below)
 
 pub loop-form-preserved : goal.loop-form-preserved
 loop-form-preserved c = λ sign k d below other. elim c.else-form-but.branch [

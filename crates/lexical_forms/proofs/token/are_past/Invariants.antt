@@ -1,5 +1,4 @@
-use Rattle.lexical_forms.proofs.Common.{ℕ, ◌≡◌, ◌<◌, ◌-◌, get_or, notation_of, length, sign_size, Form}
-use Rattle.lexical_forms.specs.Additions.Token.{IsNear}
+use Rattle.lexical_forms.proofs.Common.{Form, IsNear, get_or, length, notation_of, sign_size, ℕ, ◌-◌, ◌<◌, ◌≡◌}
 use Rattle.lexical_forms.proofs.token.are_past.Given as goal
 
 abbrev pub invariant-loop-form : goal.invariant-loop-form

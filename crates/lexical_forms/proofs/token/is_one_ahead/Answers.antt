@@ -1,17 +1,8 @@
 -- The forms before have no literal that goes on.
-use Rattle.lexical_forms.proofs.Common.{All, refl, sym, subst, take_all, All-more, IsAhead}
+use Rattle.lexical_forms.proofs.Common.{All, All-more, IsAhead, refl, subst, sym, take_all}
 use Rattle.lexical_forms.proofs.FormLemmas.{at_index}
 use Rattle.lexical_forms.proofs.TokenLemmas.{ahead, not_ahead}
 use Rattle.lexical_forms.proofs.token.is_one_ahead.Goals as goal
-
-pub returns-then-goes_on-clause-ahead : goal.returns-then-goes_on-clause-ahead
-returns-then-goes_on-clause-ahead c _ =
-    let it = c.index-forms-form.result in
-    let P = IsAhead c.args.back c.args.text.now c.args.end in (
-      c.loop-form.form,
-      at_index P c.args.forms.now c.args.forms.now it c.loop-form.form refl c.loop-form-test.true (subst P c.index-forms-form.is
-          (ahead c.args.back c.args.text.now c.args.end it c.stop-stop.result.size c.stop-stop.ensures.valid (sym c.if-goes_on.ensures))),
-    )
 
 pub loop-form-preserved : goal.loop-form-preserved
 loop-form-preserved c =

@@ -1,4 +1,4 @@
-use Rattle.lexical_forms.proofs.Common.{All, take, ◌-◌, length, IsAhead}
+use Rattle.lexical_forms.proofs.Common.{All, IsAhead, length, take, ◌-◌}
 use Rattle.lexical_forms.proofs.token.is_one_ahead.Given as goal
 
 abbrev pub invariant-loop-form : goal.invariant-loop-form

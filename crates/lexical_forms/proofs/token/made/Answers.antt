@@ -1,6 +1,5 @@
 -- The front has the parts that were counted.
-use Rattle.lexical_forms.proofs.Common.{◌∙◌, sym, subst, Reads, notation_of, IsMeasured, ReadsSyntax}
-use Rattle.lexical_literal.proofs.PieceLemmas.{measured_cut, whole_read}
+use Rattle.lexical_forms.proofs.Common.{IsMeasured, Reads, ReadsSyntax, measured_cut, notation_of, subst, sym, whole_read, ◌∙◌}
 use Rattle.lexical_forms.proofs.token.made.Goals as goal
 
 pub summed-requires : goal.summed-requires

@@ -1,7 +1,5 @@
 -- The best candidate, and the form that goes furthest.
-use Rattle.lexical_forms.proofs.Common.{Some, ◌≡◌, ◌+◌, sym, subst, notation_of, IsStopped, Form, Candidate}
-use Rattle.lexical_forms.specs.Additions.Token.{IsMade}
-use Rattle.lexical_forms.specs.Token.{NoCandidate}
+use Rattle.lexical_forms.proofs.Common.{Candidate, Form, IsMade, IsStopped, NoCandidate, Some, notation_of, subst, sym, ◌+◌, ◌≡◌}
 use Rattle.lexical_forms.proofs.FormLemmas.{IsBest, best_more, furthest_is, goes}
 use Rattle.lexical_forms.proofs.TokenLemmas.{IsBestYet, best_of, candidate_more, is_none}
 use Rattle.lexical_forms.proofs.token.scan.Goals as goal

@@ -1,4 +1,4 @@
-use Rattle.lexical_forms.proofs.Common.{◌-◌, length}
+use Rattle.lexical_forms.proofs.Common.{length, ◌-◌}
 use Rattle.lexical_forms.proofs.FormLemmas.{IsBest, goes}
 use Rattle.lexical_forms.proofs.TokenLemmas.{IsBestYet}
 use Rattle.lexical_forms.proofs.token.scan.Given as goal

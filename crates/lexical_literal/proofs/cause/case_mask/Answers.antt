@@ -1,7 +1,7 @@
 -- Each flag of the mask is that of a role.
-use Rattle.lexical_literal.proofs.Common.{arith, ℕ, ◌≡◌, ◌^◌, Bool, true, false, bit_or, refl, Flag, Notation, if◌then◌else◌, mask_of, case_set}
-use Rattle.lexical_util.specs.Layout as layout
+use Rattle.lexical_literal.proofs.Common.{Bool, Flag, Notation, arith, bit_or, case_set, false, if◌then◌else◌, mask_of, refl, true, ℕ, ◌^◌, ◌≡◌}
 use Rattle.lexical_util.specs.Record.{word_of}
+use Rattle.lexical_util.specs.Layout as layout
 use Rattle.lexical_literal.proofs.CauseLemmas.{same_mask}
 use Rattle.lexical_literal.proofs.cause.case_mask.Goals as goal
 

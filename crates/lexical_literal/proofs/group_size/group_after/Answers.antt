@@ -1,5 +1,5 @@
 -- The loop reads the text, byte by byte.
-use Rattle.lexical_literal.proofs.Common.{◌+◌, drop, take, sym, ap, ◌∙◌, arith, notation_of, group_after, grow}
+use Rattle.lexical_literal.proofs.Common.{ap, arith, drop, group_after, grow, notation_of, sym, take, ◌+◌, ◌∙◌}
 use Rattle.lexical_literal.proofs.SizeLemmas.{group_step, grown_small}
 use Rattle.lexical_literal.proofs.group_size.group_after.Goals as goal
 

@@ -1,4 +1,4 @@
-use Rattle.lexical_literal.proofs.Common.{◌-◌, ◌≡◌, ◌≤◌, Some, drop, take, notation_of, first_group, group_after}
+use Rattle.lexical_literal.proofs.Common.{Some, drop, first_group, group_after, notation_of, take, ◌-◌, ◌≡◌, ◌≤◌}
 use Rattle.lexical_literal.proofs.group_size.group_after.Given as goal
 
 abbrev pub invariant-loop-index : goal.invariant-loop-index

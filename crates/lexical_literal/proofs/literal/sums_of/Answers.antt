@@ -1,5 +1,5 @@
 -- The digits of the fraction follow those of the integer.
-use Rattle.lexical_literal.proofs.Common.{◌+◌, ◌%◌, ◌^◌, ap, ◌∙◌, mod-mod}
+use Rattle.lexical_literal.proofs.Common.{ap, mod-mod, ◌%◌, ◌+◌, ◌^◌, ◌∙◌}
 use Rattle.lexical_literal.proofs.MantissaLemmas.{both_digits, both_sums}
 use Rattle.lexical_literal.proofs.literal.sums_of.Goals as goal
 

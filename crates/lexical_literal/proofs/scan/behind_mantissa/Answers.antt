@@ -1,5 +1,5 @@
 -- An exponent is read, where its character follows.
-use Rattle.lexical_literal.proofs.Common.{◌≡◌, true, false, sym, subst, ◌∙◌, steps_of, takes, Stopped}
+use Rattle.lexical_literal.proofs.Common.{Stopped, false, steps_of, subst, sym, takes, true, ◌∙◌, ◌≡◌}
 use Rattle.lexical_util.specs.declared.feature_format.roles.Role.TheVariants as roles
 use Rattle.lexical_literal.proofs.JoinLemmas.{mark_at}
 use Rattle.lexical_literal.proofs.scan.behind_mantissa.Goals as goal

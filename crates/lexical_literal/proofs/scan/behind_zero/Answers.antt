@@ -1,5 +1,5 @@
 -- The digit behind the zero, and those behind it.
-use Rattle.lexical_literal.proofs.Common.{get_or, sym, subst, ◌+◌, ◌∙◌, raw, radix_of, steps_of, IsReadOn, at_stage}
+use Rattle.lexical_literal.proofs.Common.{IsReadOn, at_stage, get_or, radix_of, raw, steps_of, subst, sym, ◌+◌, ◌∙◌}
 use Rattle.lexical_util.specs.declared.format_flags.Part.TheVariants as parts
 use Rattle.lexical_literal.specs.declared.step.Piece.TheVariants as pieces
 use Rattle.lexical_literal.specs.declared.step.Stage.TheVariants as stages

@@ -1,7 +1,7 @@
 -- The first digit, and those behind it.
-use Rattle.lexical_literal.proofs.Common.{ℕ, ◌≡◌, ◌+◌, ◌&&◌, Bool, List, true, false, get_or, refl, sym, ap, subst, ◌∙◌, arith, raw, Part, radix_of, Grammar}
-use Rattle.lexical_literal.proofs.Common.{◌==◌, if◌then◌else◌, steps_of, HasRoles, IsReadOn, IsRunOn, at_stage, awaits_integer, digits_piece, has_digit}
-use Rattle.lexical_literal.proofs.Common.{is_signed, part_of, Reading, Stage, IsDigitAt, may_read, digits_of}
+use Rattle.lexical_literal.proofs.Common.{Bool, Grammar, HasRoles, IsDigitAt, IsReadOn, IsRunOn, List, Part, Reading, Stage, ap, arith, at_stage}
+use Rattle.lexical_literal.proofs.Common.{awaits_integer, digits_of, digits_piece, false, get_or, has_digit, if◌then◌else◌, is_signed, may_read, part_of}
+use Rattle.lexical_literal.proofs.Common.{radix_of, raw, refl, steps_of, subst, sym, true, ℕ, ◌&&◌, ◌+◌, ◌==◌, ◌∙◌, ◌≡◌}
 use Rattle.lexical_literal.specs.declared.step.Stage.TheVariants as stages
 use Rattle.lexical_literal.proofs.ScanLemmas.{read_first}
 use Rattle.lexical_literal.proofs.StepLemmas.{awaited_part}

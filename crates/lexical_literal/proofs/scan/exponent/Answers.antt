@@ -1,5 +1,5 @@
 -- The exponent, and its sign.
-use Rattle.lexical_literal.proofs.Common.{◌+◌, ◌-◌, sym, subst, steps_of, IsAt, IsBegun, IsReadOn, at_stage, cuts_of, Stopped, counts_of}
+use Rattle.lexical_literal.proofs.Common.{IsAt, IsBegun, IsReadOn, Stopped, at_stage, counts_of, cuts_of, steps_of, subst, sym, ◌+◌, ◌-◌}
 use Rattle.lexical_literal.specs.declared.step.Piece.TheVariants as pieces
 use Rattle.lexical_literal.proofs.JoinLemmas.{exponent_at}
 use Rattle.lexical_literal.proofs.scan.exponent.Goals as goal

@@ -1,5 +1,5 @@
 -- The fraction, and what follows it.
-use Rattle.lexical_literal.proofs.Common.{◌+◌, ◌-◌, subst, sym, raw, steps_of, IsBegun, IsReadOn, at_stage, after_point, has_digit}
+use Rattle.lexical_literal.proofs.Common.{IsBegun, IsReadOn, after_point, at_stage, has_digit, raw, steps_of, subst, sym, ◌+◌, ◌-◌}
 use Rattle.lexical_literal.specs.declared.step.Piece.TheVariants as pieces
 use Rattle.lexical_literal.proofs.JoinLemmas.{fraction_at}
 use Rattle.lexical_literal.proofs.MantissaLemmas.{fraction_sum}

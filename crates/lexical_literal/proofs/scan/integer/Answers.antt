@@ -1,5 +1,5 @@
 -- The integer, and what follows it.
-use Rattle.lexical_literal.proofs.Common.{◌≡◌, ◌+◌, ◌-◌, sym, subst, ◌∙◌, refl, true, false, IsBegun, steps_of, takes, Stopped}
+use Rattle.lexical_literal.proofs.Common.{IsBegun, Stopped, false, refl, steps_of, subst, sym, takes, true, ◌+◌, ◌-◌, ◌∙◌, ◌≡◌}
 use Rattle.lexical_util.specs.declared.feature_format.roles.Role.TheVariants as roles
 use Rattle.lexical_literal.proofs.JoinLemmas.{integer_at, point_at}
 use Rattle.lexical_literal.proofs.scan.integer.Goals as goal

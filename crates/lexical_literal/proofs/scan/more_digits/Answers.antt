@@ -1,5 +1,5 @@
 -- Each digit is read behind the others.
-use Rattle.lexical_literal.proofs.Common.{ℕ, ◌≡◌, ◌-◌, ◌+◌, sym, ap, subst, arith, raw, radix_of, steps_of, IsRunOn, Reading, up_to}
+use Rattle.lexical_literal.proofs.Common.{IsRunOn, Reading, ap, arith, radix_of, raw, steps_of, subst, sym, up_to, ℕ, ◌+◌, ◌-◌, ◌≡◌}
 use Rattle.lexical_literal.proofs.SumLemmas.{both_runs, more_digit, no_run, pushed}
 use Rattle.lexical_literal.proofs.scan.more_digits.Goals as goal
 

@@ -1,4 +1,4 @@
-use Rattle.lexical_literal.proofs.Common.{◌-◌, ◌≤◌, raw, radix_of, length, steps_of, IsRunOn, up_to}
+use Rattle.lexical_literal.proofs.Common.{IsRunOn, length, radix_of, raw, steps_of, up_to, ◌-◌, ◌≤◌}
 use Rattle.lexical_literal.proofs.scan.more_digits.Given as goal
 
 abbrev pub invariant-loop-digit : goal.invariant-loop-digit

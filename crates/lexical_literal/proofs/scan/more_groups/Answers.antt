@@ -1,5 +1,5 @@
 -- Digits, then a separator and the digit behind it.
-use Rattle.lexical_literal.proofs.Common.{◌≡◌, ◌≤◌, refl, sym, ap, subst, ◌∙◌, arith, raw, radix_of, length, steps_of, IsRunOn, part_of, Reading, is_run}
+use Rattle.lexical_literal.proofs.Common.{IsRunOn, Reading, ap, arith, is_run, length, part_of, radix_of, raw, refl, steps_of, subst, sym, ◌∙◌, ◌≡◌, ◌≤◌}
 use Rattle.lexical_literal.proofs.SumLemmas.{both_runs, more_separated, pushed, same_run}
 use Rattle.lexical_literal.proofs.scan.more_groups.Goals as goal
 

@@ -1,4 +1,4 @@
-use Rattle.lexical_literal.proofs.Common.{◌-◌, ◌≡◌, ◌≤◌, raw, radix_of, length, steps_of, IsRunOn}
+use Rattle.lexical_literal.proofs.Common.{IsRunOn, length, radix_of, raw, steps_of, ◌-◌, ◌≡◌, ◌≤◌}
 use Rattle.lexical_literal.proofs.scan.more_groups.Given as goal
 
 abbrev pub invariant-loop-value : goal.invariant-loop-value

@@ -1,5 +1,5 @@
 -- What comes before the digits.
-use Rattle.lexical_literal.proofs.Common.{sym, subst, ◌∙◌, steps_of, IsOpened}
+use Rattle.lexical_literal.proofs.Common.{IsOpened, steps_of, subst, sym, ◌∙◌}
 use Rattle.lexical_literal.proofs.JoinLemmas.{opened, opened_prefix}
 use Rattle.lexical_literal.proofs.scan.open.Goals as goal
 

@@ -1,6 +1,5 @@
 -- A zero, and the base prefix.
-use Rattle.lexical_literal.proofs.Common.{◌≡◌, ◌+◌, true, get_or, sym, subst, ◌∙◌, arith, raw, steps_of}
-use Rattle.lexical_util.specs.Roles.{prefix}
+use Rattle.lexical_literal.proofs.Common.{arith, get_or, prefix, raw, steps_of, subst, sym, true, ◌+◌, ◌∙◌, ◌≡◌}
 use Rattle.lexical_literal.proofs.ScanLemmas.{read_prefix}
 use Rattle.lexical_literal.proofs.scan.reads_prefix.Goals as goal
 

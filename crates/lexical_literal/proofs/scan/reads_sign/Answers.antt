@@ -1,5 +1,5 @@
 -- The byte is a sign that is allowed.
-use Rattle.lexical_literal.proofs.Common.{◌&&◌, ◌||◌, Bool, get_or, not, subst, arith, ◌==◌, IsTrue, steps_of, forbids_plus}
+use Rattle.lexical_literal.proofs.Common.{Bool, IsTrue, arith, forbids_plus, get_or, not, steps_of, subst, ◌&&◌, ◌==◌, ◌||◌}
 use Rattle.lexical_literal.proofs.ScanLemmas.{read_sign}
 use Rattle.lexical_literal.proofs.scan.reads_sign.Goals as goal
 

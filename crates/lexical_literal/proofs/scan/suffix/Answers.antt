@@ -1,6 +1,5 @@
 -- The suffix is read, or the byte that follows is refused.
-use Rattle.lexical_literal.proofs.Common.{◌≡◌, true, false, get_or, sym, subst, ◌∙◌, arith, false≢true, raw, steps_of, takes}
-use Rattle.lexical_util.specs.Roles.{suffix}
+use Rattle.lexical_literal.proofs.Common.{arith, false, false≢true, get_or, raw, steps_of, subst, suffix, sym, takes, true, ◌∙◌, ◌≡◌}
 use Rattle.lexical_util.specs.declared.feature_format.roles.Role.TheVariants as roles
 use Rattle.lexical_literal.proofs.JoinLemmas.{suffix_at}
 use Rattle.lexical_literal.proofs.PassedLemmas.{passed}
@@ -15,8 +14,8 @@ finished-requires-clause-at c =
     (subst (λ w. suffix (raw w) (get_or c.args.text.now at.size 0) ≡ true) c.view.ensures (sym c.is_base_suffix.ensures ∙ c.if-is_base_suffix.true))
     c.requires.going (sym c.takes.ensures ∙ c.if-takes.true) c.requires.free c.requires.at
 
-pub unfinished-requires-clause-exact : goal.unfinished-requires-clause-exact
-unfinished-requires-clause-exact c holds =
+pub unfinished-requires-clause-refused : goal.unfinished-requires-clause-refused
+unfinished-requires-clause-refused c holds =
     let m = steps_of c.args.grammar in
     let at = c.args.at in
     let b = get_or c.args.text.now at.size 0 in
@@ -27,7 +26,7 @@ unfinished-requires-clause-exact c holds =
           (sym (subst (λ v. suffix (raw v) b ≡ false) w.view.ensures (sym w.is_base_suffix.ensures ∙ w.if-is_base_suffix.false)) ∙ is))
       | else-size-text-via-else-size-text w ↦ absurd (omega (arith, w.if-size-text.false, inside))
     ] in
-    let is = c.is_passed-exact.ensures in
+    let is = c.is_passed-refused.ensures in
     let none = passed m at.read b (is.digit holds) (is.separator holds) (is.fresh holds) (is.prefix holds) (c.requires.point inside)
     (c.requires.exponent inside) suffix_passed in
     (inside, none)

@@ -1,5 +1,5 @@
 -- Where the last byte is neither a separator nor a sign, all of the text is before the first separators at its end.
-use Rattle.lexical_literal.proofs.Common.{◌-◌, sym, ◌∙◌, arith, notation_of, length, kind_set}
+use Rattle.lexical_literal.proofs.Common.{arith, kind_set, length, notation_of, sym, ◌-◌, ◌∙◌}
 use Rattle.lexical_literal.specs.declared.span.ByteKind.TheVariants as kinds
 use Rattle.lexical_literal.proofs.SpanLemmas.{behind_last}
 use Rattle.lexical_literal.proofs.span.body_ends.Goals as goal

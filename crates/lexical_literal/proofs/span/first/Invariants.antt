@@ -1,5 +1,4 @@
-use Rattle.lexical_literal.proofs.Common.{◌-◌, ◌+◌, ◌≡◌, ◌≤◌, notation_of, length, kind_set}
-use Rattle.std.specs.List.{position_or_len}
+use Rattle.lexical_literal.proofs.Common.{kind_set, length, notation_of, position_or_len, ◌+◌, ◌-◌, ◌≡◌, ◌≤◌}
 use Rattle.lexical_literal.proofs.span.first.Given as goal
 
 abbrev pub invariant-loop-rest : goal.invariant-loop-rest

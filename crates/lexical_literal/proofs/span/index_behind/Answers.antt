@@ -1,5 +1,5 @@
 -- One byte less.
-use Rattle.lexical_literal.proofs.Common.{◌-◌, sym, ◌∙◌, arith, notation_of, length, kind_set}
+use Rattle.lexical_literal.proofs.Common.{arith, kind_set, length, notation_of, sym, ◌-◌, ◌∙◌}
 use Rattle.lexical_literal.proofs.SpanLemmas.{behind_last}
 use Rattle.lexical_literal.proofs.span.index_behind.Goals as goal
 

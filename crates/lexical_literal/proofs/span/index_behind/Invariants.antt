@@ -1,4 +1,4 @@
-use Rattle.lexical_literal.proofs.Common.{◌≡◌, notation_of, length, kind_set, index_behind}
+use Rattle.lexical_literal.proofs.Common.{index_behind, kind_set, length, notation_of, ◌≡◌}
 use Rattle.lexical_literal.proofs.span.index_behind.Given as goal
 
 abbrev pub invariant-loop-front : goal.invariant-loop-front

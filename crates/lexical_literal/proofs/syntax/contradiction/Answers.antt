@@ -1,5 +1,5 @@
 -- Where the format contradicts no condition yet, the error is that of the next one, or of one behind it.
-use Rattle.lexical_literal.proofs.Common.{◌≡◌, ◌+◌, ◌∷◌, None, drop, drop-cons, get_or, add-one, sym, ap, ◌∙◌, raw, all_conditions, option_or, first_fault}
+use Rattle.lexical_literal.proofs.Common.{None, add-one, all_conditions, ap, drop, drop-cons, first_fault, get_or, option_or, raw, sym, ◌+◌, ◌∙◌, ◌∷◌, ◌≡◌}
 use Rattle.lexical_literal.specs.Syntax.{fault}
 use Rattle.lexical_literal.specs.declared.syntax.Condition.TheVariants as conditions
 use Rattle.lexical_literal.proofs.syntax.contradiction.Goals as goal

@@ -1,4 +1,4 @@
-use Rattle.lexical_literal.proofs.Common.{◌≡◌, ◌-◌, drop, raw, all_conditions, length, contradiction, first_fault}
+use Rattle.lexical_literal.proofs.Common.{all_conditions, contradiction, drop, first_fault, length, raw, ◌-◌, ◌≡◌}
 use Rattle.lexical_literal.proofs.syntax.contradiction.Given as goal
 
 abbrev pub invariant-loop-index : goal.invariant-loop-index

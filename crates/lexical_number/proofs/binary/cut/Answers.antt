@@ -1,9 +1,8 @@
 -- The lower bits are cut off.
-use Rattle.lexical_number.proofs.Common.{pow-add, pow_pos, ◌≡◌, ◌+◌, ◌-◌, ◌*◌, ◌/◌, ◌^◌, ap, ◌∙◌, arith}
+use Rattle.lexical_number.proofs.Common.{ap, arith, pow-add, pow_pos, shr-shr, ◌*◌, ◌+◌, ◌-◌, ◌/◌, ◌^◌, ◌∙◌, ◌≡◌}
 use Rattle.core.specs.Prelude.{bit_and}
 use lib.Bits.{and_mask}
 use Rattle.core.proofs.num.Products.{one_shl}
-use lib.Pow.{shr-shr}
 use Rattle.lexical_number.proofs.binary.cut.Goals as goal
 
 pub returns : goal.returns

@@ -1,6 +1,6 @@
 -- The highest bit becomes bit 127, and then bit 55.
-use Rattle.lexical_number.proofs.Common.{pow_pos, pow_mono, pow-add, leading_top, count_leading_zeros, nat_tests, ◌≡◌, ℕ, ◌+◌, ◌-◌, ◌*◌, ◌/◌, ◌%◌, ◌^◌, ◌<◌}
-use Rattle.lexical_number.proofs.Common.{◌≤◌, suc, true, ap, ◌∙◌, sym, arith, lt_of_not-le, lt_of_mul-lt-mul_right, mod-eq_of_lt, mul-le-mul_right}
+use Rattle.lexical_number.proofs.Common.{ap, arith, count_leading_zeros, leading_top, lt_of_mul-lt-mul_right, lt_of_not-le, mod-eq_of_lt, mul-le-mul_right}
+use Rattle.lexical_number.proofs.Common.{nat_tests, pow-add, pow_mono, pow_pos, suc, sym, true, ℕ, ◌%◌, ◌*◌, ◌+◌, ◌-◌, ◌/◌, ◌<◌, ◌^◌, ◌∙◌, ◌≡◌, ◌≤◌}
 use Rattle.lexical_number.proofs.BinaryLemmas.{to_top}
 use Rattle.lexical_number.proofs.LeadingLemmas.{multiple}
 use Rattle.lexical_number.proofs.binary.leading_word.Goals as goal

@@ -1,6 +1,6 @@
 -- The leading word has the same nearest float.
-use Rattle.lexical_number.proofs.Common.{pow_pos, IsNearestBits, nearest_of_zero, format_of, ◌≡◌, ℕ, Bool, ◌+◌, ◌*◌, ◌^◌, ◌<◌, false, ap, ◌∙◌, subst, sym}
-use Rattle.lexical_number.proofs.Common.{arith, mul-pos, IsCutTo, eq_of_mul-eq-mul_right}
+use Rattle.lexical_number.proofs.Common.{Bool, IsCutTo, IsNearestBits, ap, arith, eq_of_mul-eq-mul_right, false, format_of, mul-pos, nearest_of_zero, pow_pos}
+use Rattle.lexical_number.proofs.Common.{subst, sym, ℕ, ◌*◌, ◌+◌, ◌<◌, ◌^◌, ◌∙◌, ◌≡◌}
 use Rattle.lexical_number.proofs.BinaryLemmas.{far_above, far_below, without}
 use Rattle.lexical_number.proofs.LeadingLemmas.{exact, in_powers}
 use Rattle.lexical_number.proofs.binary.nearest_bits.Goals as goal

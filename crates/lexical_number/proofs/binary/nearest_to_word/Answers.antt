@@ -1,5 +1,5 @@
 -- The word has enough bits for a significand, and at least 3 more.
-use Rattle.lexical_number.proofs.Common.{count_leading_zeros, leading_top, pow_mono, format_of, ◌≡◌, ℕ, suc, ◌+◌, ◌^◌, ◌<◌, ◌≤◌, ap, arith, lt_of_not-le}
+use Rattle.lexical_number.proofs.Common.{ap, arith, count_leading_zeros, format_of, leading_top, lt_of_not-le, pow_mono, suc, ℕ, ◌+◌, ◌<◌, ◌^◌, ◌≡◌, ◌≤◌}
 use Rattle.lexical_number.proofs.BinaryLemmas.{significand_at, cut_at}
 use Rattle.lexical_number.proofs.binary.nearest_to_word.Goals as goal
 

@@ -1,5 +1,5 @@
 -- What is cut off decides how the kept bits are rounded, and all of it is less than half if these are more than 64.
-use Rattle.lexical_number.proofs.Common.{pow_mono, IsNearestBits, ◌^◌, ◌≤◌, refl, sym, subst, arith}
+use Rattle.lexical_number.proofs.Common.{IsNearestBits, arith, pow_mono, refl, subst, sym, ◌^◌, ◌≤◌}
 use Rattle.lexical_number.proofs.BinaryLemmas.{rounded, vanishes}
 use Rattle.lexical_number.proofs.binary.settle.Goals as goal
 

@@ -1,4 +1,4 @@
-use Rattle.lexical_number.proofs.Common.{number_after, length, drop, ◌-◌, ◌≡◌, ◌+◌, ◌*◌, ◌^◌, ◌≤◌, ℕ, Leads}
+use Rattle.lexical_number.proofs.Common.{Leads, drop, length, number_after, ℕ, ◌*◌, ◌+◌, ◌-◌, ◌^◌, ◌≡◌, ◌≤◌}
 use Rattle.lexical_number.proofs.leading.push_all.Given as goal
 
 -- The digits so far lead a number, which the rest continues to the whole.

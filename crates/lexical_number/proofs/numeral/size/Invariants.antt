@@ -1,4 +1,4 @@
-use Rattle.lexical_number.proofs.Common.{number_after, number, length, drop, ◌-◌, ◌≡◌, ◌≤◌}
+use Rattle.lexical_number.proofs.Common.{drop, length, number, number_after, ◌-◌, ◌≡◌, ◌≤◌}
 use Rattle.lexical_number.proofs.numeral.size.Given as goal
 
 -- The digits of what is left, after those of the size so far, are the number.

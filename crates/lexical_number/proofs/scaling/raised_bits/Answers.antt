@@ -1,8 +1,8 @@
 -- A large exponent makes 0 or infinity, and another one a scale.
-use Rattle.lexical_number.proofs.Common.{pow_pos, IsNearestBits, nearest_of_zero, format_of, ◌≡◌, ◌+◌, ◌*◌, ◌^◌, ◌≤◌, if◌then◌else◌, sym, subst, ap, ◌∙◌, arith}
-use Rattle.lexical_number.proofs.Common.{mul-le-mul_left, IsCutTo}
+use Rattle.lexical_number.proofs.Common.{IsCutTo, IsNearestBits, ap, arith, format_of, if◌then◌else◌, mul-le-mul_left, nearest_of_zero, pow_pos, subst, sym}
+use Rattle.lexical_number.proofs.Common.{◌*◌, ◌+◌, ◌^◌, ◌∙◌, ◌≡◌, ◌≤◌}
 use Rattle.lexical_number.proofs.BinaryLemmas.{raised}
-use Rattle.lexical_number.proofs.LeadingLemmas.{digits_le, few, many}
+use Rattle.lexical_number.proofs.LeadingLemmas.{digits_le, few}
 use Rattle.lexical_number.proofs.ScalingLemmas.{bound, explodes, in_radixes, pow_of, vanishes}
 use Rattle.lexical_number.proofs.scaling.raised_bits.Goals as goal
 
@@ -28,9 +28,6 @@ returns-else-negative c n e l h =
     in_radixes (λ num den. IsNearestBits (format_of c.args.double) num den c.infinity.result) n c.args.radix_bits c.args.places c.args.base_bits e
     c.args.negative (subst (IsNearestBits _ _ _) (sym c.infinity.ensures.value) (explodes (format_of c.args.double) n _ _ (omega (arith, digits_le l))
     (omega (arith, ap (λ b. if b then e * c.args.base_bits else 0) c.if-negative.false, ap (λ b. if b then 0 else e * c.args.base_bits) c.if-negative.false))))
-
-pub nearest_bits-requires-clause-more : goal.nearest_bits-requires-clause-more
-nearest_bits-requires-clause-more c more = omega (arith, many c.requires.leading.1 more)
 
 pub returns : goal.returns
 returns c n e l h =

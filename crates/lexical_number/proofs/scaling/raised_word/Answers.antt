@@ -1,6 +1,6 @@
 -- The digits are all of the number, and a power of two makes a word of them.
-use Rattle.lexical_number.proofs.Common.{leading_top, count_leading_zeros, pow_pos, IsNearestBits, format_of, ◌≡◌, ℕ, ◌+◌, ◌*◌, ◌%◌, ◌^◌, ◌<◌, ◌≤◌, Bool, true}
-use Rattle.lexical_number.proofs.Common.{false, if◌then◌else◌, subst, sym, ◌∙◌, mod-eq_of_lt, mul-le-mul_left, arith, IsCutTo}
+use Rattle.lexical_number.proofs.Common.{Bool, IsCutTo, IsNearestBits, arith, count_leading_zeros, false, format_of, if◌then◌else◌, leading_top, mod-eq_of_lt}
+use Rattle.lexical_number.proofs.Common.{mul-le-mul_left, pow_pos, subst, sym, true, ℕ, ◌%◌, ◌*◌, ◌+◌, ◌<◌, ◌^◌, ◌∙◌, ◌≡◌, ◌≤◌}
 use Rattle.lexical_number.proofs.BinaryLemmas.{lifted, to_top}
 use Rattle.lexical_number.proofs.ScalingLemmas.{in_radixes}
 use Rattle.lexical_number.proofs.scaling.raised_word.Goals as goal

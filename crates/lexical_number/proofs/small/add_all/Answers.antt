@@ -1,5 +1,5 @@
 -- One byte, a digit or not.
-use Rattle.lexical_number.proofs.Common.{◌+◌, ◌*◌, ◌%◌, ◌^◌, Some, None, get_or, sym, ap, ◌∙◌, arith, refl, mod-add-mod}
+use Rattle.lexical_number.proofs.Common.{None, Some, ap, arith, get_or, mod-add-mod, refl, sym, ◌%◌, ◌*◌, ◌+◌, ◌^◌, ◌∙◌}
 use Rattle.std.proofs.Math.Nat.{mod-mod}
 use Rattle.lexical_number.proofs.DigitLemmas.{at}
 use Rattle.lexical_number.proofs.SmallLemmas.{push_same}

@@ -1,6 +1,6 @@
 -- The zeros of the fraction count if the integer has no other digits.
-use Rattle.lexical_number.proofs.Common.{ℕ, ◌≡◌, ◌+◌, ◌++◌, Bool, List, true, false, refl, sym, ap, ◌∙◌, filter_map-append, ◌==◌, if◌then◌else◌, digits_in}
-use Rattle.lexical_number.proofs.Common.{places, leading_zeros}
+use Rattle.lexical_number.proofs.Common.{Bool, List, ap, digits_in, false, filter_map-append, if◌then◌else◌, leading_zeros, places, refl, sym, true, ℕ, ◌++◌}
+use Rattle.lexical_number.proofs.Common.{◌+◌, ◌==◌, ◌∙◌, ◌≡◌}
 use Rattle.lexical_number.proofs.SmallLemmas.{zeros_append}
 use Rattle.lexical_number.proofs.small.all_zeros.Goals as goal
 

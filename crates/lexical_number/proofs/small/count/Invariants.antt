@@ -1,4 +1,4 @@
-use Rattle.lexical_number.proofs.Common.{drop, ◌-◌, ◌≡◌, ◌+◌, ◌≤◌, length, places}
+use Rattle.lexical_number.proofs.Common.{drop, length, places, ◌+◌, ◌-◌, ◌≡◌, ◌≤◌}
 use Rattle.lexical_number.proofs.small.count.Given as goal
 
 abbrev pub invariant-loop-index : goal.invariant-loop-index

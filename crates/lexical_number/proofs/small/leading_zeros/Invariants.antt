@@ -1,4 +1,4 @@
-use Rattle.lexical_number.proofs.Common.{drop, ◌+◌, ◌-◌, ◌≡◌, ◌≤◌, length, digits_in, places, leading_zeros}
+use Rattle.lexical_number.proofs.Common.{digits_in, drop, leading_zeros, length, places, ◌+◌, ◌-◌, ◌≡◌, ◌≤◌}
 use Rattle.lexical_number.proofs.small.leading_zeros.Given as goal
 
 -- What has been passed are zeros.

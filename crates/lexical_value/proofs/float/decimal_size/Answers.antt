@@ -1,5 +1,5 @@
 -- The numbers, or the digits and the exponent, make the value.
-use Rattle.lexical_value.proofs.Common.{raw, format_of, number, places, ◌≡◌, ◌++◌, false, refl, round, exponent}
+use Rattle.lexical_value.proofs.Common.{exponent, false, format_of, number, places, raw, refl, round, ◌++◌, ◌≡◌}
 use Rattle.lexical_value.proofs.FloatLemmas.{decimals, of_value}
 use Rattle.lexical_value.proofs.float.decimal_size.Goals as goal
 

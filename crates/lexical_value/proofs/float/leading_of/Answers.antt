@@ -1,14 +1,9 @@
 -- All digits, or the leading ones.
-use Rattle.lexical_value.proofs.Common.{raw, mantissa, number_after, number, ◌≡◌, ◌++◌, sym, subst, ◌∙◌, Leads}
+use Rattle.lexical_value.proofs.Common.{Leads, mantissa, number, number_after, raw, subst, sym, ◌++◌, ◌∙◌, ◌≡◌}
 use Rattle.lexical_literal.specs.Parts.{literal_of}
 use Rattle.lexical_number.proofs.LeadingLemmas.{starts}
 use Rattle.lexical_number.proofs.DigitLemmas.{number_after-append}
 use Rattle.lexical_value.proofs.float.leading_of.Goals as goal
-
-pub returns-in-Some-clause-leads : goal.returns-in-Some-clause-leads
-returns-in-Some-clause-leads c =
-    subst (λ n. Leads c.args.radix n c.whole.result.digits c.whole.result.more c.whole.result.dropped) c.in-Some.ensures.value
-    (c.whole.ensures.leads c.args.radix c.requires.some)
 
 pub returns-in-None-clause-leads : goal.returns-in-None-clause-leads
 returns-in-None-clause-leads c =

@@ -1,15 +1,8 @@
 -- The leading digits and the exponent make the value.
-use Rattle.lexical_value.proofs.Common.{IsNearestBits, raw, mantissa, format_of, ap, ◌∙◌, sym, refl, exponent}
+use Rattle.lexical_value.proofs.Common.{IsNearestBits, ap, exponent, format_of, mantissa, raw, refl, sym, ◌∙◌}
 use Rattle.lexical_util.specs.Layout as layout
 use Rattle.lexical_value.proofs.FloatLemmas.{by_bits, of_value}
 use Rattle.lexical_value.proofs.float.long_binary_size.Goals as goal
-
-pub raised_bits-requires-clause-leading : goal.raised_bits-requires-clause-leading
-raised_bits-requires-clause-leading c = (
-  _,
-  by_bits _ _ _ _ _ _ (c.mantissa_radix.ensures.value ∙ ap (λ w. (raw w).byte layout.mantissa_radix) c.format.ensures ∙ c.requires.radix.2)
-      c.leading_of-leading.ensures.leads,
-)
 
 pub returns : goal.returns
 returns c =

@@ -1,6 +1,5 @@
 -- An integer that is worth itself is worth the nearest float.
-use Rattle.lexical_value.proofs.Common.{Kind, Some, ap, is_exact, is_float, raw, sym, worth, ◌∙◌}
-use Rattle.std.proofs.Common.{true≢false}
+use Rattle.lexical_value.proofs.Common.{Kind, Some, ap, is_exact, is_float, raw, sym, true≢false, worth, ◌∙◌}
 use Rattle.lexical_value.proofs.KindLemmas.{kept_worth}
 use Rattle.lexical_value.proofs.ScaledLemmas.{untrue}
 use Rattle.lexical_value.proofs.float.nearest_kind.Goals as goal

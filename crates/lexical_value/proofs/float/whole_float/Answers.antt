@@ -1,17 +1,13 @@
 -- A rounded integer is no NaN, and one that is worth itself is worth the nearest float.
-use Rattle.lexical_value.proofs.Common.{Kind, Ok, Some, ap, format_of, is_binary, is_decimal, is_exact, raw, sym, worth, ◌||◌, ◌∙◌}
-use Rattle.std.proofs.Common.{IfOk, Result, Err}
+use Rattle.lexical_value.proofs.Common.{Err, IfOk, Kind, Ok, Result, Some, ap, format_of, is_binary, is_decimal, is_exact, raw, sym, worth, ◌||◌, ◌∙◌}
+use Rattle.lexical_value.specs.Private.{is_word}
 use Rattle.lexical_value.proofs.FloatLemmas.{not_nan}
 use Rattle.lexical_value.proofs.KindLemmas.{kept_float}
-use Rattle.lexical_value.specs.Private.{is_word}
 use Rattle.lexical_value.proofs.float.whole_float.Goals as goal
 
 map_ok : {T E : Type 0} (P Q : T → Type 0) (result : Result T E) → ((x : T) → P x → Q x) → IfOk result P → IfOk result Q
 map_ok P Q (Ok x) f is = f x is
 map_ok P Q (Err error) f is = tt
-
-pub returns-in-Word-clause-no_nan : goal.returns-in-Word-clause-no_nan
-returns-in-Word-clause-no_nan g c = not_nan _ _ _ _ _ (c.signed.ensures _ _ c.digits_to_float.ensures)
 
 pub returns-in-Digits-clause-value : goal.returns-in-Digits-clause-value
 returns-in-Digits-clause-value g c =

@@ -1,17 +1,7 @@
 -- The format is that of the syntax, and the kind is exact.
-use Rattle.lexical_value.proofs.Common.{raw, format_of, ◌≡◌, ◌||◌, Ok, Err, subst, false, is_binary, is_decimal, nearest, float_worth}
+use Rattle.lexical_value.proofs.Common.{Err, Ok, false, float_worth, format_of, is_binary, is_decimal, nearest, raw, subst, ◌||◌, ◌≡◌}
 use Rattle.lexical_value.proofs.KindLemmas.{exact_float, exact_radix}
 use Rattle.lexical_value.proofs.parse.parse_float.Goals as goal
-
-pub returns-in-Ok-to_float-clause-value : goal.returns-in-Ok-to_float-clause-value
-returns-in-Ok-to_float-clause-value g c =
-    let read = c.in-Ok.ensures.found in
-    let l = c.in-Ok.literal.literal in
-    let f = format_of g.F.Float.DOUBLE in
-    let value = g.F.Float.value c.in-Ok-to_float.value in
-    let is = exact_float f (raw c.in-Ok.literal.format) l value
-    (subst (λ kind. float_worth kind f (raw c.in-Ok.literal.format).byte l ≡ Ok value) c.in-Ok.ensures.kind c.in-Ok-to_float.ensures.value) in
-    (l, read.1, subst (λ w. value ≡ nearest f (raw w).byte l) read.0 is)
 
 pub returns-in-Err-to_float-clause-value : goal.returns-in-Err-to_float-clause-value
 returns-in-Err-to_float-clause-value g c =

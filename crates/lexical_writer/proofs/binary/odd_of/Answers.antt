@@ -1,6 +1,5 @@
 -- The number has all its twos in the power.
-use Rattle.lexical_writer.proofs.Common.{ap, arith, format_of, one-le-pow, ◌%◌, ◌*◌, ◌+◌, ◌-◌, ◌/◌, ◌^◌}
-use lib.Count.{count_trailing_zeros}
+use Rattle.lexical_writer.proofs.Common.{ap, arith, count_trailing_zeros, format_of, one-le-pow, ◌%◌, ◌*◌, ◌+◌, ◌-◌, ◌/◌, ◌^◌}
 use Rattle.lexical_number.proofs.ReadLemmas.{same_size, units_size}
 use Rattle.lexical_number.proofs.ShortestLemmas.{low_most}
 use Rattle.lexical_writer.proofs.BinaryLemmas.{odd, shifted, without_twos}

@@ -1,6 +1,5 @@
 -- Both literals are worth the same float.
-use Rattle.lexical_writer.proofs.Common.{Ok, ap, arith, format_of, inl, nat_tests, sym, ◌∙◌, ◌≡◌}
-use Rattle.std.proofs.Common.{from_bits}
+use Rattle.lexical_writer.proofs.Common.{Ok, ap, arith, format_of, from_bits, inl, nat_tests, sym, ◌∙◌, ◌≡◌}
 use Rattle.lexical_writer.proofs.choice.is_same.Goals as goal
 
 pub returns-in-Some-Some : goal.returns-in-Some-Some

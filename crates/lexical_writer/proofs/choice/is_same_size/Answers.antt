@@ -1,6 +1,5 @@
 -- The digits are the same bytes, of the same radix.
-use Rattle.lexical_writer.proofs.Common.{ap, magnitude_size, number, refl, subst, sym, ◌∙◌, ◌≡◌}
-use lib.Pointwise.{bytes_decides}
+use Rattle.lexical_writer.proofs.Common.{ap, bytes_decides, magnitude_size, number, refl, subst, sym, ◌∙◌, ◌≡◌}
 use Rattle.lexical_writer.proofs.choice.is_same_size.Goals as goal
 
 pub returns-then-radix-base : goal.returns-then-radix-base

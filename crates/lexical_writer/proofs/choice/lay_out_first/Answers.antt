@@ -1,13 +1,9 @@
 -- The first form reads the text as the integer.
-use Rattle.lexical_writer.proofs.Common.{Form, Grammar, List, Reads, Some, ap, arith, get_or, laid_out, length}
-use Rattle.lexical_writer.proofs.Common.{notation_of, number_of_size, refl, slice_get, subst, sym}
-use Rattle.lexical_writer.proofs.Common.{text_of, true, with_sign, ◌<◌, ◌∙◌, ◌≡◌}
-use Rattle.std.proofs.lemmas.Option.{slice_get_read}
+use Rattle.lexical_writer.proofs.Common.{Form, Grammar, List, Reads, Some, ap, arith, get_or, integer_literal, laid_out, length, notation_of, number_of_size}
+use Rattle.lexical_writer.proofs.Common.{refl, slice_get, slice_get_read, subst, sym, text_of, true, turn, with_sign, ◌<◌, ◌∙◌, ◌≡◌}
 use Rattle.lexical_forms.proofs.MarkLemmas.{no_marks}
 use Rattle.lexical_writer.proofs.ChoiceLemmas.{first_reads}
 use Rattle.lexical_writer.proofs.PlainLemmas.{has_value}
-use Rattle.lexical_writer.specs.Choice.{turn}
-use Rattle.lexical_writer.specs.Layout.{integer_literal}
 use Rattle.lexical_writer.proofs.choice.lay_out_first.Goals as goal
 
 -- The form is the first of the list.

@@ -1,9 +1,8 @@
 -- The only form of the list reads the text.
-use Rattle.lexical_writer.proofs.Common.{Form, Grammar, IfOk, IsNumber, IsSomeAnd, List, Reads, ReadsForm, [], ap, notation_of, slice_get, subst, suc}
-use Rattle.lexical_writer.proofs.Common.{zero, ℕ}
+use Rattle.lexical_writer.proofs.Common.{Form, Grammar, IfOk, IsNumber, IsSomeAnd, List, Reads, ReadsForm, [], ap, notation_of, slice_get, subst, suc, zero, ℕ}
 use Rattle.lexical_writer.proofs.Common.{◌∙◌, ◌∷◌, ◌≡◌}
-use Rattle.lexical_forms.proofs.MarkLemmas.{plain_of}
 use Rattle.lexical_forms.specs.FormList.{FormList}
+use Rattle.lexical_forms.proofs.MarkLemmas.{plain_of}
 use Rattle.lexical_writer.proofs.choice.own_literal.Goals as goal
 
 only : (P : Form → Type 0) (form : Form) (index : ℕ) → IsSomeAnd (slice_get (form ∷ []) index) P → P form

@@ -1,6 +1,5 @@
 -- The token is the text, and worth the number.
-use Rattle.lexical_writer.proofs.Common.{arith, length, nat_tests, nil_from_length, subst, sym, ◌∙◌, ◌≡◌, ℕ, ◌==◌, Bool, true}
-use lib.Pointwise.{bytes_decides}
+use Rattle.lexical_writer.proofs.Common.{Bool, arith, bytes_decides, length, nat_tests, nil_from_length, subst, sym, true, ℕ, ◌==◌, ◌∙◌, ◌≡◌}
 use Rattle.lexical_forms.specs.Token.{IsReadByTokens}
 use Rattle.lexical_writer.proofs.choice.read_token.Goals as goal
 

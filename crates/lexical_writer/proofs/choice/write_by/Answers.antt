@@ -1,13 +1,13 @@
 -- The list reads the text as the number.
-use Rattle.lexical_writer.proofs.Common.{Form, Grammar, IfOk, IsNumber, IsSomeAnd, IsSyntax, List, Option, Read, Reads, ReadsForm, Some, ap}
-use Rattle.lexical_writer.proofs.Common.{arith, cases_lt}
-use Rattle.lexical_writer.proofs.Common.{inl, inr, is_float, length, min, notation_of, refl, rules, slice_get, subst, sym, take, text_of, ℕ, ◌-◌}
-use Rattle.lexical_writer.proofs.Common.{◌<◌, ◌^◌, ◌∙◌}
-use Rattle.lexical_writer.proofs.Common.{◌≡◌, ◌≤◌}
-use Rattle.std.proofs.lemmas.Option.{slice_get_read}
-use Rattle.lexical_writer.specs.Buffer.{IsTaken}
+use Rattle.lexical_writer.proofs.Common.{Bool, Err, Form, Grammar, IfErr, IfOk, IsNumber, IsRefused, IsSomeAnd, IsSyntax, IsTaken, List, Ok, Option, Read}
+use Rattle.lexical_writer.proofs.Common.{Reads, ReadsForm, Result, Some, WriteError, ap, arith, cases_lt, inl, inr, is_float, length, min, nat_tests, not}
+use Rattle.lexical_writer.proofs.Common.{notation_of, refl, rules, slice_get, slice_get_read, subst, sym, take, text_of, true, ℕ, ◌-◌, ◌<◌, ◌==◌, ◌^◌, ◌||◌}
+use Rattle.lexical_writer.proofs.Common.{◌∙◌, ◌≡◌, ◌≤◌}
 use Rattle.lexical_forms.proofs.MarkLemmas.{no_marks, plain_of}
 use Rattle.lexical_writer.proofs.ChoiceLemmas.{first_reads}
+use Rattle.lexical_writer.proofs.FloatLemmas.{residual}
+use Rattle.lexical_writer.proofs.OrderLemmas.{form_at, unused}
+use Rattle.lexical_writer.specs.declared.layout.WriteError.TheVariants as errors
 use Rattle.lexical_writer.proofs.choice.write_by.Goals as goal
 
 -- A literal of a form is one of its syntax, and has its kind.
@@ -36,7 +36,7 @@ returns-then-index-eq0-clause-value g c =
     let text = take c.in_ok-size.size c.write.new.buffer in
     let form = c.index-as_slice-index.result in
     let syntax = c.syntax-syntax.result in
-    let written = c.in_ok-size.ensures in
+    let written = c.in_ok-size.ensures.text in
     let whole = taken (text_of written.0) c.args.buffer.now c.write.new.buffer c.in_ok-size.size written.3 c.if-size-buffer.false
     (short _ _ written.3.counted c.if-size.false) in
     let here = ap (λ forms. slice_get forms c.args.index) (sym c.as_slice.ensures.list)
@@ -62,7 +62,7 @@ returns-then-form-index-clause-value g c =
     let literal = c.in-Ok-Literal.literal in
     let number = subst (λ r. IfOk r (IsNumber c.args.forms.now text)) c.in-Ok-Literal.is c.read.ensures.found in
     let both = subst (IsNumber c.args.forms.now text) c.in-Ok-Literal.field-0-is number in
-    let written = c.in_ok-size.ensures in
+    let written = c.in_ok-size.ensures.text in
     let whole = taken (text_of written.0) c.args.buffer.now c.write.new.buffer c.in_ok-size.size written.3 c.if-size-buffer.false
     (short _ _ written.3.counted c.if-size.false) in
     let here = ap (slice_get c.args.forms.now.forms) c.if-form-index.true
@@ -91,7 +91,7 @@ returns-then-is_read_as-clause-value g c =
     let one_reading = c.literal_facts.ensures.one_reading syntax lawful own.literal in
     let number = subst (λ r. IfOk r (IsNumber c.args.forms.now text)) c.in-Ok-Literal.is c.read.ensures.found in
     let both = subst (IsNumber c.args.forms.now text) c.in-Ok-Literal.field-0-is number in
-    let written = c.in_ok-size.ensures in
+    let written = c.in_ok-size.ensures.text in
     let whole = taken (text_of written.0) c.args.buffer.now c.write.new.buffer c.in_ok-size.size written.3 c.if-size-buffer.false
     (short _ _ written.3.counted c.if-size.false) in
     let same : own.literal ≡ written.0 = one_reading written.0 text c.in-Some.ensures.2
@@ -103,3 +103,76 @@ returns-then-is_read_as-clause-value g c =
       c.is_read_as.ensures c.if-is_read_as.true c.in-Some.ensures.0 syntax c.in-Some.ensures.1
           (subst (g.N.Writable.has c.args.number.now c.args.style syntax) (sym same) written.2),
     )
+
+each_error : (result : Result ℕ WriteError) (P : WriteError → Type 0) → ((error : WriteError) → P error) → IfErr result P
+each_error (Ok size) P all = tt
+each_error (Err error) P all = all error
+
+marks : (n m : ℕ) (marked : Bool) → marked ≡ (not (n == 0) || not (m == 0)) → marked ≡ true → n ≡ 0 → m ≡ 0 → ⊥
+marks n m marked is some none other = grind (arith, nat_tests)
+
+pub returns-then-is_marked-clause-error : goal.returns-then-is_marked-clause-error
+returns-then-is_marked-clause-error g c =
+    let form = c.index-as_slice-index.result in
+    let here = form_at c.as_slice.result.now c.args.forms.now.forms form c.args.index c.as_slice.ensures.list c.requires c.index-as_slice-index.is in
+    each_error c.write_around.result _
+    (λ error. subst (λ o. IsSomeAnd o (λ form. IsRefused (g.N.Writable.refuses c.args.number.now) (g.N.Writable.has c.args.number.now) c.args.style form error))
+    (sym here) (λ opening closing. absurd (marks _ _ c.is_marked.result c.is_marked.ensures c.if-is_marked.true opening closing)))
+
+pub returns-in_err-size-clause-error : goal.returns-in_err-size-clause-error
+returns-in_err-size-clause-error g c =
+    let form = c.index-as_slice-index.result in
+    let here = form_at c.as_slice.result.now c.args.forms.now.forms form c.args.index c.as_slice.ensures.list c.requires c.index-as_slice-index.is in
+    let refuses = g.N.Writable.refuses c.args.number.now in
+    let has = g.N.Writable.has c.args.number.now in
+    residual c.from_residual.result _
+    (λ error. IsSomeAnd (slice_get c.args.forms.now.forms c.args.index) (λ form. IsRefused refuses has c.args.style form error))
+    c.from_residual.ensures.1 (λ error same. subst
+    (λ o. IsSomeAnd o (λ form. IsRefused refuses has c.args.style form error)) (sym here)
+    (λ _ _. inl (subst (λ g. refuses c.args.style g error) c.syntax-syntax.ensures
+    (subst (refuses c.args.style c.syntax-syntax.result) (sym same) c.in_err-size.ensures.error))))
+
+pub returns-then-size-clause-error : goal.returns-then-size-clause-error
+returns-then-size-clause-error g c =
+    let form = c.index-as_slice-index.result in
+    let written = c.in_ok-size.ensures.text in
+    unused (g.N.Writable.refuses c.args.number.now) (g.N.Writable.has c.args.number.now) c.args.style _ form c.syntax-syntax.result written.0 _
+    c.syntax-syntax.ensures
+    (form_at c.as_slice.result.now c.args.forms.now.forms form c.args.index c.as_slice.ensures.list c.requires c.index-as_slice-index.is)
+    written.1 written.2 (inl (ap errors.Buffer written.3.counted))
+
+pub returns-in_default-clause-error : goal.returns-in_default-clause-error
+returns-in_default-clause-error g c =
+    let form = c.index-as_slice-index.result in
+    let written = c.in_ok-size.ensures.text in
+    unused (g.N.Writable.refuses c.args.number.now) (g.N.Writable.has c.args.number.now) c.args.style _ form c.syntax-syntax.result written.0 _
+    c.syntax-syntax.ensures
+    (form_at c.as_slice.result.now c.args.forms.now.forms form c.args.index c.as_slice.ensures.list c.requires c.index-as_slice-index.is)
+    written.1 written.2 (inr (inr refl))
+
+pub returns-in_default-2-clause-error : goal.returns-in_default-2-clause-error
+returns-in_default-2-clause-error g c =
+    let form = c.index-as_slice-index.result in
+    let written = c.in_ok-size.ensures.text in
+    unused (g.N.Writable.refuses c.args.number.now) (g.N.Writable.has c.args.number.now) c.args.style _ form c.syntax-syntax.result written.0 _
+    c.syntax-syntax.ensures
+    (form_at c.as_slice.result.now c.args.forms.now.forms form c.args.index c.as_slice.ensures.list c.requires c.index-as_slice-index.is)
+    written.1 written.2 (inr (inr refl))
+
+pub returns-in_default-own_literal-clause-error : goal.returns-in_default-own_literal-clause-error
+returns-in_default-own_literal-clause-error g c =
+    let form = c.index-as_slice-index.result in
+    let written = c.in_ok-size.ensures.text in
+    unused (g.N.Writable.refuses c.args.number.now) (g.N.Writable.has c.args.number.now) c.args.style _ form c.syntax-syntax.result written.0 _
+    c.syntax-syntax.ensures
+    (form_at c.as_slice.result.now c.args.forms.now.forms form c.args.index c.as_slice.ensures.list c.requires c.index-as_slice-index.is)
+    written.1 written.2 (inr (inr refl))
+
+pub returns-clause-error : goal.returns-clause-error
+returns-clause-error g c =
+    let form = c.index-as_slice-index.result in
+    let written = c.in_ok-size.ensures.text in
+    unused (g.N.Writable.refuses c.args.number.now) (g.N.Writable.has c.args.number.now) c.args.style _ form c.syntax-syntax.result written.0 _
+    c.syntax-syntax.ensures
+    (form_at c.as_slice.result.now c.args.forms.now.forms form c.args.index c.as_slice.ensures.list c.requires c.index-as_slice-index.is)
+    written.1 written.2 (inr c.mismatch.ensures)

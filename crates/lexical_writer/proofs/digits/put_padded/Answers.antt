@@ -1,7 +1,6 @@
 -- The parts are written one after the other.
 use Rattle.lexical_writer.proofs.Common.{List, ap, append_assoc, arith, at_least, digits_in, grouped, length, length-append, length-replicate, padded_values}
-use Rattle.lexical_writer.proofs.Common.{replicate, subst, sym, ℕ, ◌++◌, ◌+◌, ◌-◌, ◌∙◌, ◌≡◌}
-use Rattle.std.proofs.lemmas.List.{replicate-append-replicate}
+use Rattle.lexical_writer.proofs.Common.{replicate, replicate-append-replicate, subst, sym, ℕ, ◌++◌, ◌+◌, ◌-◌, ◌∙◌, ◌≡◌}
 use Rattle.lexical_writer.proofs.DigitLemmas.{padded_text}
 use Rattle.lexical_writer.proofs.digits.put_padded.Goals as goal
 

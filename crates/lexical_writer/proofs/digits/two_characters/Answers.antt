@@ -1,5 +1,4 @@
-use Rattle.lexical_writer.proofs.Common.{Some, ap, arith, digit_characters, refl, sym, ◌%◌, ◌/◌, ◌∙◌}
-use Rattle.std.proofs.Common.{slice_index_or}
+use Rattle.lexical_writer.proofs.Common.{Some, ap, arith, digit_characters, refl, slice_index_or, sym, ◌%◌, ◌/◌, ◌∙◌}
 use Rattle.lexical_base.proofs.ValueLemmas.{digit_character-get, same_at}
 use Rattle.lexical_writer.specs.declared.digits.TheConstants.{ONES, TENS}
 use Rattle.lexical_writer.proofs.digits.two_characters.Goals as goal

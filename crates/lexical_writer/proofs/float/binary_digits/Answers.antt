@@ -1,13 +1,11 @@
 -- The digits are those of the float, which has the value of its bits.
-use Rattle.lexical_writer.proofs.Common.{effective_exponent_base}
-use Rattle.lexical_number.specs.Float.{is_power_of_two}
-use Rattle.lexical_writer.proofs.Common.{HasShape, ap, arith, digits_in, digits_of, eqb-true, false, format_of, inl, length, number, number_digits_of}
-use Rattle.lexical_writer.proofs.Common.{number_from_digits, one-le-pow, places, raw, subst, sym, ℕ, ◌*◌, ◌^◌, ◌∙◌, ◌≡◌, ◌≤◌}
-use Rattle.std.specs.Prelude.{from_bits}
+use Rattle.lexical_writer.proofs.Common.{HasShape, ap, arith, digits_in, digits_of, effective_exponent_base, eqb-true, false, format_of, from_bits, inl}
+use Rattle.lexical_writer.proofs.Common.{is_power_of_two, length, number, number_digits_of, number_from_digits, one-le-pow, places, raw, subst, sym, ℕ, ◌*◌}
+use Rattle.lexical_writer.proofs.Common.{◌^◌, ◌∙◌, ◌≡◌, ◌≤◌}
+use Rattle.lexical_writer.specs.Amount.{IsTooLong}
 use Rattle.lexical_util.specs.Layout as layouts
 use Rattle.lexical_number.proofs.ReadLemmas.{whole_is}
 use Rattle.lexical_writer.proofs.FloatLemmas.{binary_radixes, residual, twos}
-use Rattle.lexical_writer.specs.Amount.{IsTooLong}
 use Rattle.lexical_writer.specs.declared.layout.WriteError.TheVariants as errors
 use Rattle.lexical_writer.proofs.float.binary_digits.Goals as goal
 

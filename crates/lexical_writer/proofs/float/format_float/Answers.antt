@@ -1,16 +1,11 @@
 -- What is not refused is supported and laid out, and what is written of a float has its value.
-use Rattle.lexical_writer.proofs.Common.{Amount, Option, Style, false, refl}
+use Rattle.lexical_writer.proofs.Common.{Amount, Bool, Err, Float, Grammar, IfErr, IfOk-weaker, IsFloatOf, IsLaidOut, IsWorth, Layout, None, Ok, Option, Result}
+use Rattle.lexical_writer.proofs.Common.{Style, WriteError, ap, arith, false, false≢true, first_error, float_error, format_of, from_bits, inl, inr, is_some}
+use Rattle.lexical_writer.proofs.Common.{is_whole, literal_of, not, raw, refl, refusal, subst, sym, true, with_minus, ◌∙◌, ◌≡◌}
 use lib.Ieee.Exact.{HasValue}
-use Rattle.lexical_writer.specs.Amount.{IsWorth}
-use Rattle.lexical_writer.proofs.Common.{Bool, Err, Grammar, IfErr, IfOk-weaker, IsFloatOf, IsLaidOut, Layout, None, Ok, Result, WriteError, ap, arith}
-use Rattle.lexical_writer.proofs.Common.{false≢true, first_error, format_of, inl, inr, is_some, literal_of, not, raw, subst, sym, true, ◌∙◌, ◌≡◌}
-use Rattle.std.specs.Prelude.{from_bits}
-use lib.Ieee.{Float}
-use Rattle.lexical_number.specs.Shortest.{is_whole}
+use Rattle.lexical_writer.specs.Amount.{IsFloatError}
 use Rattle.lexical_util.specs.Layout as layouts
 use Rattle.lexical_util.specs.declared.format_flags.Part.TheVariants as part
-use Rattle.lexical_writer.specs.Amount.{IsFloatError, float_error, with_minus}
-use Rattle.lexical_writer.specs.Layout.{refusal}
 use Rattle.lexical_writer.specs.declared.layout.WriteError.TheVariants as errors
 use Rattle.lexical_writer.proofs.FloatLemmas.{amount_nearest, amount_rounded, if_numbered, minus_value, minus_whole, minus_worth, not_refused, residual}
 use Rattle.lexical_writer.proofs.LiteralLemmas.{radixes}

@@ -1,7 +1,6 @@
 -- An odd number over a power of two is not whole.
-use Rattle.lexical_writer.proofs.Common.{ap, arith, eq-zero-or-pos, format_of, inl, inr, nat_lt, nat_tests, not, one-le-pow, pow-suc, pow-zero, suc}
-use Rattle.lexical_writer.proofs.Common.{sym, div-add-mod', ℕ, ◌%◌, ◌*◌, ◌-◌, ◌/◌, ◌<◌, ◌==◌, ◌^◌, ◌∙◌, ◌≡◌}
-use Rattle.std.specs.Prelude.{from_bits}
+use Rattle.lexical_writer.proofs.Common.{ap, arith, div-add-mod', eq-zero-or-pos, format_of, from_bits, inl, inr, nat_lt, nat_tests, not, one-le-pow, pow-suc}
+use Rattle.lexical_writer.proofs.Common.{pow-zero, suc, sym, ℕ, ◌%◌, ◌*◌, ◌-◌, ◌/◌, ◌<◌, ◌==◌, ◌^◌, ◌∙◌, ◌≡◌}
 use Rattle.lexical_number.proofs.ReadLemmas.{whole_is}
 use Rattle.lexical_writer.proofs.float.has_fraction.Goals as goal
 

@@ -1,14 +1,9 @@
 -- The number is the float that has its bits.
-use Rattle.lexical_writer.proofs.Common.{Bool, ap, arith, div-add-mod', eqb-true, false, false≢true, format_of, mod-eq_of_lt, not, one-le-pow, refl}
-use Rattle.lexical_writer.proofs.Common.{subst, sym, true, ◌%◌, ◌*◌, ◌/◌}
-use Rattle.lexical_writer.proofs.Common.{◌<◌, ◌==◌, ◌^◌, ◌∙◌, ◌≡◌}
-use Rattle.std.proofs.lemmas.Bool.{and_parts}
-use Rattle.std.specs.Prelude.{from_bits}
+use Rattle.lexical_writer.proofs.Common.{Bool, HasSize, and_parts, ap, arith, div-add-mod', eqb-true, false, false≢true, format_of, from_bits, mod-eq_of_lt}
+use Rattle.lexical_writer.proofs.Common.{not, one-le-pow, refl, subst, sym, true, with_minus, ◌%◌, ◌*◌, ◌/◌, ◌<◌, ◌==◌, ◌^◌, ◌∙◌, ◌≡◌}
 use lib.Ieee.Exact.{HasValue}
 use mathlib.Core.Bool.{beq}
-use Rattle.lexical_number.specs.Shortest.{HasSize}
 use Rattle.lexical_number.proofs.ReadLemmas.{same_size}
-use Rattle.lexical_writer.specs.Amount.{with_minus}
 use Rattle.lexical_writer.proofs.FloatLemmas.{minus_value}
 use Rattle.lexical_writer.proofs.float.is_integer.Goals as goal
 

@@ -1,10 +1,8 @@
 -- A float is a number if the bits of its size are below those of infinity.
-use Rattle.lexical_writer.proofs.Common.{Bool, Option, ap, arith, format_of, nat_le, refl, subst, sym, ℕ, ◌%◌, ◌*◌, ◌<◌, ◌∙◌, ◌≡◌, ◌≤◌}
+use Rattle.lexical_writer.proofs.Common.{Bool, IsFinite, Option, ap, arith, format_of, nat_le, refl, subst, sym, with_minus, ℕ, ◌%◌, ◌*◌, ◌<◌, ◌∙◌, ◌≡◌, ◌≤◌}
 use Rattle.std.specs.Prelude.{IfNone}
 use lib.Ieee.{hid, of_bits, ones, top}
-use Rattle.lexical_writer.specs.Amount.{IsFinite}
 use Rattle.lexical_writer.proofs.FloatLemmas.{finite, not_number, of_sign, special}
-use Rattle.lexical_writer.specs.Amount.{with_minus}
 use Rattle.lexical_writer.proofs.float.sign_and_size.Goals as goal
 
 pub returns-in_err-bits-clause-special : goal.returns-in_err-bits-clause-special

@@ -1,12 +1,11 @@
 -- Each integer is laid out, and its value is that of the integer.
-use Rattle.lexical_writer.proofs.Common.{Bool, Err, Grammar, HasNumber, IfErr, IfOk, IfOk-weaker, Ok, Reads, Result, Some, Style, WriteError, ap, arith}
-use Rattle.lexical_writer.proofs.Common.{false, has_exponent, has_point, is_float, laid_out, needs_exponent, notation_of}
-use Rattle.lexical_writer.proofs.Common.{number_of_size, raw, refl, refusal, subst, suc}
-use Rattle.lexical_writer.proofs.Common.{sym, text_of, true, with_sign, zero, ℕ, ℤ, ◌&&◌, ◌<◌, ◌||◌, ◌∙◌, ◌≡◌}
+use Rattle.lexical_writer.proofs.Common.{Bool, Err, Grammar, HasNumber, IfErr, IfOk, IfOk-weaker, Ok, Reads, Result, Some, Style, WriteError, ap, arith, false}
+use Rattle.lexical_writer.proofs.Common.{has_exponent, has_point, integer_literal, is_float, laid_out, needs_exponent, notation_of, number_of_size, raw, refl}
+use Rattle.lexical_writer.proofs.Common.{refusal, subst, suc, sym, text_of, true, with_sign, zero, ℕ, ℤ, ◌&&◌, ◌<◌, ◌||◌, ◌∙◌, ◌≡◌}
 use Rattle.lexical_value.specs.Integer.{IsInteger}
-use Rattle.lexical_util.specs.Layout as layouts
-use Rattle.lexical_writer.specs.Layout.{integer_literal, wants_exponent, whole, whole_refusal}
+use Rattle.lexical_writer.specs.Layout.{wants_exponent, whole, whole_refusal}
 use Rattle.lexical_writer.specs.declared.integer.WrittenInteger.{WrittenInteger}
+use Rattle.lexical_util.specs.Layout as layouts
 use Rattle.lexical_writer.proofs.LiteralLemmas.{float_if}
 use Rattle.lexical_writer.proofs.PlainLemmas.{has_value}
 use Rattle.lexical_writer.proofs.integer.format_integer.Goals as goal

@@ -1,10 +1,9 @@
 -- What is written of a literal whose point moves has its value.
 use Rattle.lexical_writer.proofs.Common.{Err, IfOk-weaker, IsMoved, WriteError, ap, arith, denominator, digits_in, down_of, eqb-true, false≢true, le-ltb}
-use Rattle.lexical_writer.proofs.Common.{length, number, numerator, raw, subst, sym, up_of, ◌*◌, ◌++◌, ◌+◌, ◌^◌, ◌∙◌}
+use Rattle.lexical_writer.proofs.Common.{length, number, numerator, or_limit, raw, subst, sym, up_of, ◌*◌, ◌++◌, ◌+◌, ◌^◌, ◌∙◌}
 use Rattle.lexical_literal.specs.Parts.{literal_of}
 use Rattle.lexical_util.specs.Layout as layout
 use Rattle.lexical_util.specs.declared.format_flags.Part.TheVariants as part
-use Rattle.lexical_writer.specs.Conversion.{or_limit}
 use Rattle.lexical_writer.specs.Layout.{literal_of as written}
 use Rattle.lexical_writer.specs.declared.layout.WriteError.TheVariants as errors
 use Rattle.lexical_writer.proofs.LiteralLemmas.{radixes}

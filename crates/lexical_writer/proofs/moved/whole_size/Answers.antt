@@ -1,8 +1,7 @@
 -- The digits and the exponent are those of the literal.
 use Rattle.lexical_writer.proofs.Common.{Bool, Err, IsEnding, IsOver, List, [], ap, arith, digits_in, eqb-true, false, if◌then◌else◌, inl, inr, is_absent}
-use Rattle.lexical_writer.proofs.Common.{le-ltb, length, nil_from_length, number, number_from_digits_after, raw, refl, subst, suc, sym, true, zero, ℕ, ◌*◌}
-use Rattle.lexical_writer.proofs.Common.{◌++◌, ◌-◌, ◌<◌, ◌==◌, ◌^◌, ◌∙◌, ◌∷◌, ◌≡◌, ◌≤◌}
-use Rattle.std.proofs.Math.Nat.{mul-le-mul_left}
+use Rattle.lexical_writer.proofs.Common.{le-ltb, length, mul-le-mul_left, nil_from_length, number, number_from_digits_after, raw, refl, subst, suc, sym, true}
+use Rattle.lexical_writer.proofs.Common.{zero, ℕ, ◌*◌, ◌++◌, ◌-◌, ◌<◌, ◌==◌, ◌^◌, ◌∙◌, ◌∷◌, ◌≡◌, ◌≤◌}
 use Rattle.lexical_writer.specs.declared.layout.WriteError.TheVariants as errors
 use Rattle.lexical_writer.proofs.SizeLemmas.{exact_of, far, found, integer_size, not_found, number_of, over_unit, some_number, zero_number, zero_size}
 use Rattle.lexical_writer.proofs.moved.whole_size.Goals.{else-size-eq0, then-size-eq0}

@@ -1,6 +1,5 @@
 -- One factor less is left.
-use Rattle.lexical_writer.proofs.Common.{ap, arith, cases_lt, inl, inr, pow-suc, suc, zero, ℕ, ◌*◌, ◌+◌, ◌/◌, ◌<◌, ◌^◌, ◌∙◌, ◌≡◌, ◌≤◌}
-use Rattle.std.proofs.lemmas.Nat.{div-add-mod'}
+use Rattle.lexical_writer.proofs.Common.{ap, arith, cases_lt, div-add-mod', inl, inr, pow-suc, suc, zero, ℕ, ◌*◌, ◌+◌, ◌/◌, ◌<◌, ◌^◌, ◌∙◌, ◌≡◌, ◌≤◌}
 use Rattle.lexical_value.proofs.ScaledLemmas.{far_power}
 use Rattle.lexical_writer.proofs.moved.without_factors.Goals as goal
 

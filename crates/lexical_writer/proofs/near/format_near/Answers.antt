@@ -1,6 +1,14 @@
 -- The float that is rounded is the nearest to the literal.
-use Rattle.lexical_writer.proofs.Common.{IfOk-weaker, IsRounded, SameFraction, decimals_in, format_of, inr, literal_of, nearest, raw, subst, ◌⊎◌}
+use Rattle.lexical_writer.proofs.Common.{Err, IfErr, IfOk-weaker, IsRounded, Ok, Result, SameFraction, WriteError, decimals_in, format_of, inr, literal_of}
+use Rattle.lexical_writer.proofs.Common.{nearest, raw, subst, ◌⊎◌}
 use Rattle.lexical_writer.proofs.near.format_near.Goals as goal
+
+any_error : {A : Type 0} (result : Result A WriteError) (P : Type 0) → P → IfErr result (λ _. P)
+any_error (Ok it) P holds = tt
+any_error (Err error) P holds = holds
+
+pub returns-in-Ok-float_instead-clause-error : goal.returns-in-Ok-float_instead-clause-error
+returns-in-Ok-float_instead-clause-error g c = any_error c.format_float.result _ (c.in-Err.error, c.in-Err.ensures.parts)
 
 pub returns-in-Ok-float_instead-clause-rounded : goal.returns-in-Ok-float_instead-clause-rounded
 returns-in-Ok-float_instead-clause-rounded g c n some =

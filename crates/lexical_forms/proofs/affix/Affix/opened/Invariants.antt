@@ -1,5 +1,4 @@
-use Rattle.lexical_forms.proofs.Common.{length, ◌-◌, ◌≤◌}
-use Rattle.lexical_forms.specs.Affix.{Begins}
+use Rattle.lexical_forms.proofs.Common.{Begins, length, ◌-◌, ◌≤◌}
 use Rattle.lexical_forms.proofs.affix.Affix.opened.Given as goal
 
 abbrev pub invariant-loop-size : goal.invariant-loop-size

@@ -1,5 +1,5 @@
 -- A front that is a literal ends where reading stops, or before.
-use Rattle.lexical_forms.proofs.Common.{◌∙◌, sym, arith, nat_tests}
+use Rattle.lexical_forms.proofs.Common.{arith, nat_tests, sym, ◌∙◌}
 use Rattle.lexical_forms.proofs.LeadingLemmas.{before_stop, stopped_within}
 use Rattle.lexical_forms.proofs.form.Form.bound.Goals as goal
 use Rattle.lexical_forms.proofs.form.Form.bound.Goals.{then-stop-eq0, else-stop-eq0}

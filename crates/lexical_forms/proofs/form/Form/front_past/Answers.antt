@@ -1,10 +1,8 @@
 -- What the syntax finds between the marks.
-use Rattle.lexical_forms.proofs.Common.{Grammar, IsNone, IsValidUpTo, ap, arith, notation_of, refl, subst, sym, ◌+◌}
-use Rattle.lexical_forms.specs.Additions.Forms.{NoFrontPast}
+use Rattle.lexical_forms.proofs.Common.{Grammar, IsNone, IsValidUpTo, NoFrontPast, ap, arith, length-drop, notation_of, refl, subst, sym, ◌+◌}
 use Rattle.lexical_forms.proofs.FormLemmas.{no_longer_front}
 use Rattle.lexical_forms.proofs.MarkLemmas.{found_in, past_longer, past_not_closed, past_opened}
 use Rattle.lexical_forms.proofs.OpeningLemmas.{past_before}
-use Rattle.std.proofs.lemmas.List.{length-drop}
 use Rattle.lexical_forms.proofs.form.Form.front_past.Goals as goal
 use Rattle.lexical_forms.proofs.form.Form.front_past.Goals.{then-opened-size-via-then-opened-size, then-opened-size-via-else-opened-size+then-lacks_longer}
 

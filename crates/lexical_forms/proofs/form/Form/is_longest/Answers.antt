@@ -1,5 +1,5 @@
 -- No literal goes on where reading stops, or behind a byte that plays no role.
-use Rattle.lexical_forms.proofs.Common.{◌≡◌, subst, arith, nat_tests, notation_of, Grammar, IsWithin}
+use Rattle.lexical_forms.proofs.Common.{Grammar, IsWithin, arith, nat_tests, notation_of, subst, ◌≡◌}
 use Rattle.lexical_forms.proofs.form.Form.is_longest.Goals as goal
 use Rattle.lexical_forms.proofs.form.Form.is_longest.Goals.{then-is_over, else-is_over}
 

@@ -1,5 +1,5 @@
 -- No literal goes on behind a byte that plays no role, or without the prefix that is required.
-use Rattle.lexical_forms.proofs.Common.{inl, subst, notation_of, Grammar, IsWithin}
+use Rattle.lexical_forms.proofs.Common.{Grammar, IsWithin, inl, notation_of, subst}
 use Rattle.lexical_forms.proofs.form.Form.is_past.Goals as goal
 
 pub returns-then-lacks_longer : goal.returns-then-lacks_longer

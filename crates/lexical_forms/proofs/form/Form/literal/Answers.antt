@@ -1,6 +1,5 @@
 -- The literal between the marks.
-use Rattle.lexical_forms.proofs.Common.{Grammar, NoLiteral, notation_of, refl, subst}
-use Rattle.lexical_literal.proofs.PieceLemmas.{measured_cut, whole_read}
+use Rattle.lexical_forms.proofs.Common.{Grammar, NoLiteral, measured_cut, notation_of, refl, subst, whole_read}
 use Rattle.lexical_forms.proofs.form.Form.literal.Goals as goal
 
 pub returns-then-excludes-clause-none : goal.returns-then-excludes-clause-none

@@ -1,6 +1,5 @@
 -- The front, or the front without its point.
-use Rattle.lexical_forms.proofs.Common.{sym, ◌∙◌, notation_of}
-use Rattle.lexical_forms.specs.Additions.Token.{IsOwn}
+use Rattle.lexical_forms.proofs.Common.{IsOwn, notation_of, sym, ◌∙◌}
 use Rattle.lexical_forms.proofs.TokenLemmas.{cut_none, cut_short, for_some, is_none, kept, none_is}
 use Rattle.lexical_forms.proofs.form.Form.own.Goals as goal
 

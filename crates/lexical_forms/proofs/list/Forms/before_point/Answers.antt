@@ -1,9 +1,6 @@
 -- The literal before a point that is given back.
-use Rattle.lexical_forms.proofs.Common.{◌≡◌, ◌∙◌, ◌+◌, ◌≤◌, ◌-◌, true, inr, ap, sym, subst, take, arith, nat_tests, Reads, notation_of, raw, IsMeasured}
-use Rattle.lexical_forms.proofs.Common.{AreSums, cut, cuts_of, IsWithin, FormList}
-use Rattle.lexical_forms.specs.Additions.Token.{AreNear, IsLeading}
-use Rattle.std.proofs.lemmas.List.{take-take}
-use Rattle.lexical_forms.specs.Token.{gives_back}
+use Rattle.lexical_forms.proofs.Common.{AreNear, AreSums, FormList, IsLeading, IsMeasured, IsWithin, Reads, ap, arith, cut, cuts_of, gives_back, inr, nat_tests}
+use Rattle.lexical_forms.proofs.Common.{notation_of, raw, subst, sym, take, take-take, true, ◌+◌, ◌-◌, ◌∙◌, ◌≡◌, ◌≤◌}
 use Rattle.lexical_forms.proofs.LeadingLemmas.{front_before}
 use Rattle.lexical_forms.proofs.list.Forms.before_point.Goals as goal
 

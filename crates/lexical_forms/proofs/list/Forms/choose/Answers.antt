@@ -1,7 +1,5 @@
 -- The longer of two candidates, with its form.
-use Rattle.lexical_forms.proofs.Common.{ℕ, ◌+◌, false, true, get_or, ap, refl, sym, subst, length, FormList, Form, Candidate}
-use Rattle.std.specs.Borrow.{Bor}
-use Rattle.lexical_forms.specs.Additions.Token.{IsBestOf, IsMade, IsPicked}
+use Rattle.lexical_forms.proofs.Common.{Bor, Candidate, Form, FormList, IsBestOf, IsMade, IsPicked, ap, false, get_or, length, refl, subst, sym, true, ℕ, ◌+◌}
 use Rattle.lexical_forms.proofs.FormLemmas.{form_at}
 use Rattle.lexical_forms.proofs.TokenLemmas.{for_some, plain_alone, plain_first, suffixed_alone, suffixed_first}
 use Rattle.lexical_forms.proofs.list.Forms.choose.Goals as goal

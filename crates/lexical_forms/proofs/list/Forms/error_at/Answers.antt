@@ -1,7 +1,5 @@
 -- The error of the form at the index.
-use Rattle.lexical_forms.proofs.Common.{subst, sym}
-use Rattle.lexical_forms.specs.Additions.Forms.{IsRefusedAt}
-use Rattle.lexical_forms.specs.Forms.{IsErrorOfForm}
+use Rattle.lexical_forms.proofs.Common.{IsErrorOfForm, IsRefusedAt, subst, sym}
 use Rattle.lexical_forms.proofs.FormLemmas.{at_index, error_is, form_at, inside_of}
 use Rattle.lexical_forms.proofs.list.Forms.error_at.Goals as goal
 

@@ -1,7 +1,5 @@
 -- The word where the form that goes furthest stops is a literal.
-use Rattle.lexical_forms.proofs.Common.{[], ap, sym, subst, ◌+◌, ◌∙◌, IsFurthestForm, NoForm}
-use Rattle.lexical_forms.specs.Forms.{IsFormError}
-use Rattle.lexical_forms.specs.Suffix.{word_size}
+use Rattle.lexical_forms.proofs.Common.{IsFormError, IsFurthestForm, NoForm, [], ap, subst, sym, word_size, ◌+◌, ◌∙◌}
 use Rattle.lexical_forms.proofs.TokenLemmas.{some_form}
 use Rattle.lexical_forms.proofs.list.Forms.fail.Goals as goal
 

@@ -1,4 +1,4 @@
-use Rattle.lexical_forms.proofs.Common.{◌-◌, ◌≤◌, length}
+use Rattle.lexical_forms.proofs.Common.{length, ◌-◌, ◌≤◌}
 use Rattle.lexical_forms.proofs.list.Forms.fail_marked.Given as goal
 
 abbrev pub invariant-loop-form : goal.invariant-loop-form

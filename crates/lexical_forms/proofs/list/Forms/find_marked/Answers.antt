@@ -1,7 +1,5 @@
 -- The first form that reads the text.
-use Rattle.lexical_forms.proofs.Common.{All-more, FormList, IsNone, NoForm, refl, subst, sym}
-use Rattle.lexical_literal.specs.Front.{NoneBy}
-use Rattle.lexical_forms.specs.Forms.{ReadsIn}
+use Rattle.lexical_forms.proofs.Common.{All-more, FormList, IsNone, NoForm, NoneBy, ReadsIn, refl, subst, sym}
 use Rattle.lexical_forms.proofs.FormLemmas.{all_tried, found_is}
 use Rattle.lexical_forms.proofs.list.Forms.find_marked.Goals as goal
 

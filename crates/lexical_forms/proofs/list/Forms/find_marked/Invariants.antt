@@ -1,4 +1,4 @@
-use Rattle.lexical_forms.proofs.Common.{take, ◌-◌, length, NoForm}
+use Rattle.lexical_forms.proofs.Common.{NoForm, length, take, ◌-◌}
 use Rattle.lexical_forms.proofs.list.Forms.find_marked.Given as goal
 
 abbrev pub invariant-loop-form : goal.invariant-loop-form

@@ -1,15 +1,9 @@
 -- The first form that reads the text, or the form whose error is that of the list.
-use Rattle.lexical_forms.proofs.Common.{ℕ, ◌≡◌, ◌+◌, IfSome, IsSomeAnd, None, Option, length-take-le}
-use Rattle.lexical_forms.proofs.Common.{take, refl, sym, subst, arith, slice_get, All-more, notation_of}
-use Rattle.lexical_forms.proofs.Common.{FormList, Grammar, NoForm, NoLiteral, Stopped, false, get_or}
-use Rattle.lexical_literal.specs.Front.{NoneBy}
-use Rattle.lexical_forms.specs.FormList.{have_marks}
-use Rattle.lexical_forms.specs.Forms.{ReadsIn}
+use Rattle.lexical_forms.proofs.Common.{All-more, FormList, Furthest, Grammar, IfSome, IsBehind, IsLed, IsLeftOut, IsRefusedAt, IsSomeAnd, NoForm, NoLiteral}
+use Rattle.lexical_forms.proofs.Common.{None, NoneBy, Option, ReadsIn, Stopped, arith, false, get_or, have_marks, length-take-le, measured_cut, notation_of}
+use Rattle.lexical_forms.proofs.Common.{refl, slice_get, subst, sym, take, whole_read, ℕ, ◌+◌, ◌≡◌}
 use Rattle.lexical_forms.proofs.MarkLemmas.{left_plain, none_plain, plain_in, plain_refused}
-use Rattle.lexical_forms.specs.Additions.Forms.{IsBehind, IsLed, IsLeftOut, IsRefusedAt}
-use Rattle.lexical_forms.specs.declared.list.Furthest.{Furthest}
 use Rattle.lexical_forms.proofs.FormLemmas.{all_tried, at_index, first_none, found_is, leads_all, leads_first, led_out, plain_at}
-use Rattle.lexical_literal.proofs.PieceLemmas.{measured_cut, whole_read}
 use Rattle.lexical_forms.proofs.list.Forms.find_plain.Goals as goal
 use Rattle.lexical_forms.proofs.list.Forms.find_plain.Goals.{in-Some, in_default, then-not-is_behind+else-is_whole+in-Err, else-not-is_behind}
 

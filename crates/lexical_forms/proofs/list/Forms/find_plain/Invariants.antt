@@ -1,5 +1,4 @@
-use Rattle.lexical_forms.proofs.Common.{take, ◌-◌, length, NoForm}
-use Rattle.lexical_forms.specs.Additions.Forms.{IsLed}
+use Rattle.lexical_forms.proofs.Common.{IsLed, NoForm, length, take, ◌-◌}
 use Rattle.lexical_forms.proofs.list.Forms.find_plain.Given as goal
 
 abbrev pub invariant-loop-form : goal.invariant-loop-form

@@ -1,11 +1,8 @@
 -- No form but the first has to be asked.
-use Rattle.lexical_forms.proofs.Common.{◌≡◌, All-more, FormList, Grammar, IsSomeAnd, NoLiteral, arith, get_or, nat_tests, notation_of, refl}
-use Rattle.lexical_forms.proofs.Common.{NoForm, slice_get, subst, sym}
-use Rattle.lexical_forms.specs.Additions.Forms.{IsLow, IsNoBetter, IsRefusedAt}
-use Rattle.lexical_forms.specs.Forms.{ReadsIn}
+use Rattle.lexical_forms.proofs.Common.{All-more, FormList, Grammar, IsLow, IsNoBetter, IsRefusedAt, IsSomeAnd, NoForm, NoLiteral, NoneBy, ReadsIn, arith}
+use Rattle.lexical_forms.proofs.Common.{get_or, nat_tests, notation_of, refl, slice_get, subst, sym, ◌≡◌}
 use Rattle.lexical_forms.proofs.FormLemmas.{all_tried, at_index, first_none, leads_all, leads_first, left_out}
 use Rattle.lexical_forms.proofs.MarkLemmas.{low_plain, none_plain}
-use Rattle.lexical_literal.specs.Front.{NoneBy}
 use Rattle.lexical_forms.proofs.list.Forms.first_leads.Goals as goal
 
 pub loop-form-init : goal.loop-form-init

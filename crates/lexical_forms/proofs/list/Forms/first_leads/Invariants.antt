@@ -1,5 +1,4 @@
-use Rattle.lexical_forms.proofs.Common.{take, ◌-◌, length, NoForm, false}
-use Rattle.lexical_forms.specs.Additions.Forms.{Leads}
+use Rattle.lexical_forms.proofs.Common.{Leads, NoForm, false, length, take, ◌-◌}
 use Rattle.lexical_forms.proofs.list.Forms.first_leads.Given as goal
 
 abbrev pub invariant-loop-form : goal.invariant-loop-form

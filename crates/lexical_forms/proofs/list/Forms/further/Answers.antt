@@ -1,5 +1,5 @@
 -- The form that goes further, or of equals the one whose cause is not stray.
-use Rattle.lexical_forms.proofs.Common.{Bool, ◌*◌, ◌+◌, ap, arith, if◌then◌else◌}
+use Rattle.lexical_forms.proofs.Common.{Bool, ap, arith, if◌then◌else◌, ◌*◌, ◌+◌}
 use Rattle.lexical_forms.proofs.FormLemmas.{goes_further, limit_within, no_further, settles, stays, takes}
 use Rattle.lexical_forms.proofs.list.Forms.further.Goals as goal
 

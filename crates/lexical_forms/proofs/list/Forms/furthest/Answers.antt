@@ -1,6 +1,6 @@
 -- The form whose error is that of the list, of those that have been asked.
-use Rattle.lexical_forms.proofs.Common.{◌+◌, arith, get_or, nat_tests, refl, sym, subst, slice_get, notation_of, FormList, Grammar, IsSomeAnd, NoForm}
-use Rattle.lexical_forms.specs.Additions.Forms.{IsLow, IsNoBetter, IsRefusedAt, Leads}
+use Rattle.lexical_forms.proofs.Common.{FormList, Grammar, IsLow, IsNoBetter, IsRefusedAt, IsSomeAnd, Leads, NoForm, arith, get_or, nat_tests, notation_of}
+use Rattle.lexical_forms.proofs.Common.{refl, slice_get, subst, sym, ◌+◌}
 use Rattle.lexical_forms.proofs.FormLemmas.{at_index, leads_all, leads_first, left_out}
 use Rattle.lexical_forms.proofs.MarkLemmas.{low_plain}
 use Rattle.lexical_forms.proofs.list.Forms.furthest.Goals as goal

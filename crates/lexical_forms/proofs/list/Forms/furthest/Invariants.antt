@@ -1,5 +1,4 @@
-use Rattle.lexical_forms.proofs.Common.{◌-◌, length}
-use Rattle.lexical_forms.specs.Additions.Forms.{Leads}
+use Rattle.lexical_forms.proofs.Common.{Leads, length, ◌-◌}
 use Rattle.lexical_forms.proofs.list.Forms.furthest.Given as goal
 
 abbrev pub invariant-loop-form : goal.invariant-loop-form

@@ -1,9 +1,6 @@
 -- The first form with a literal behind which no literal goes on.
-use Rattle.lexical_forms.proofs.Common.{◌≡◌, All, Some, ap, get_or, inl, sym, subst, take, arith, ◌-◌, slice_get-get_or, notation_of, Grammar, raw}
-use Rattle.lexical_forms.proofs.Common.{cuts_of, nat_tests, FormList, IsTrue, IsWithin, ◌+◌, length}
-use Rattle.lexical_forms.specs.Additions.Forms.{NoFrontPast}
-use Rattle.lexical_forms.specs.Additions.Token.{FrontsWithin}
-use Rattle.std.proofs.Common.{if◌then◌else◌, slice_get}
+use Rattle.lexical_forms.proofs.Common.{All, FormList, FrontsWithin, Grammar, IsTrue, IsWithin, NoFrontPast, Some, ap, arith, cuts_of, get_or, if◌then◌else◌}
+use Rattle.lexical_forms.proofs.Common.{inl, length, nat_tests, notation_of, raw, slice_get, slice_get-get_or, subst, sym, take, ◌+◌, ◌-◌, ◌≡◌}
 use Rattle.lexical_forms.proofs.LeadingLemmas.{front_of, fronts_more, fronts_past, near_more, sums_of_front, within_more}
 use Rattle.lexical_forms.proofs.list.Forms.leading.Goals as goal
 use Rattle.lexical_forms.proofs.list.Forms.leading.Goals.{then-not-lacks_longer+else-begun+else-gives_back, else-not-lacks_longer+else-from-form}

@@ -1,5 +1,4 @@
-use Rattle.lexical_forms.proofs.Common.{ℕ, ◌<◌, ◌≤◌, ◌-◌, All, Form, IsWithin, get_or, length, notation_of, sign_size, take}
-use Rattle.lexical_forms.specs.Additions.Token.{FrontsWithin}
+use Rattle.lexical_forms.proofs.Common.{All, Form, FrontsWithin, IsWithin, get_or, length, notation_of, sign_size, take, ℕ, ◌-◌, ◌<◌, ◌≤◌}
 use Rattle.lexical_forms.proofs.list.Forms.leading.Given as goal
 
 abbrev pub invariant-loop-form : goal.invariant-loop-form

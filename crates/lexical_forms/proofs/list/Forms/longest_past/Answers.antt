@@ -1,5 +1,5 @@
 -- The longest front of the forms that have been asked.
-use Rattle.lexical_forms.proofs.Common.{◌+◌, IsNone, refl, sym, subst}
+use Rattle.lexical_forms.proofs.Common.{IsNone, refl, subst, sym, ◌+◌}
 use Rattle.lexical_forms.proofs.FormLemmas.{AreWithin, front_more, front_stays, longest_past_is}
 use Rattle.lexical_forms.proofs.list.Forms.longest_past.Goals as goal
 use Rattle.lexical_forms.proofs.list.Forms.longest_past.Goals.{in-Some, in_default}

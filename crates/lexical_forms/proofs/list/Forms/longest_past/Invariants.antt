@@ -1,4 +1,4 @@
-use Rattle.lexical_forms.proofs.Common.{◌-◌, length}
+use Rattle.lexical_forms.proofs.Common.{length, ◌-◌}
 use Rattle.lexical_forms.proofs.FormLemmas.{AreWithin}
 use Rattle.lexical_forms.proofs.list.Forms.longest_past.Given as goal
 

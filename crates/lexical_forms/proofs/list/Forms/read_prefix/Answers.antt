@@ -1,12 +1,8 @@
 -- The front has the parts that were counted.
-use Rattle.lexical_forms.proofs.Common.{Form, IsSomeAnd, Some, ap, false≢true, length, slice_get, subst, sym, ◌+◌}
-use Rattle.lexical_forms.proofs.Common.{arith, length-take-le, ◌-◌, ◌≡◌, ◌∙◌}
-use Rattle.lexical_literal.specs.Front.{ReadsFrontBy}
-use Rattle.lexical_forms.specs.Additions.Forms.{IsFrontIn, behind}
-use Rattle.lexical_forms.specs.Forms.{ReadsIn}
+use Rattle.lexical_forms.proofs.Common.{Form, IsFrontIn, IsSomeAnd, ReadsFrontBy, ReadsIn, Some, ap, arith, behind, front_cut, front_read, length}
+use Rattle.lexical_forms.proofs.Common.{length-take-le, slice_get, subst, sym, ◌+◌, ◌-◌, ◌∙◌, ◌≡◌}
 use Rattle.lexical_forms.proofs.FormLemmas.{form_at, inside_of}
 use Rattle.lexical_forms.proofs.MarkLemmas.{front_in, inner_is, read_in}
-use Rattle.lexical_literal.proofs.PieceLemmas.{front_cut, front_read}
 use Rattle.lexical_forms.proofs.list.Forms.read_prefix.Goals as goal
 
 pub inner-requires : goal.inner-requires
@@ -52,6 +48,5 @@ returns-in-Ok c =
         ),
         c.split_at.ensures.back,
       );
-      none = λ err. absurd (false≢true err);
       error = tt;
     }

@@ -1,7 +1,5 @@
 -- The token that reading the forms once tells. A list that is marked has marks.
-use Rattle.lexical_forms.proofs.Common.{FormList, Ok, ap, false, false≢true, refl, subst, sym, ◌≡◌, ◌∙◌}
-use Rattle.lexical_forms.specs.FormList.{are_marked}
-use Rattle.lexical_forms.specs.Token.{IsReadByTokens}
+use Rattle.lexical_forms.proofs.Common.{FormList, IsReadByTokens, Ok, ap, are_marked, false, false≢true, refl, subst, sym, ◌∙◌, ◌≡◌}
 use Rattle.lexical_forms.proofs.list.Forms.token.Goals as goal
 
 pub returns-then-self : goal.returns-then-self

@@ -1,13 +1,8 @@
 -- The front has the parts and the sums that were counted, and is the literal of the token.
-use Rattle.lexical_forms.proofs.Common.{◌∙◌, ◌≡◌, ◌+◌, FormList, ap, drop, false, slice_get, take}
-use Rattle.lexical_forms.proofs.Common.{refl, sym, subst, arith, Reads, notation_of, raw, IsMeasured, AreSums, cut, cuts_of, ReadsSyntax}
-use Rattle.std.proofs.lemmas.List.{drop-drop}
-use Rattle.lexical_forms.specs.Additions.Token.{go_on_with}
-use Rattle.lexical_literal.specs.Cause.{is_in}
-use Rattle.lexical_forms.specs.Suffix.{suffix_size}
-use Rattle.lexical_forms.specs.Token.{IsToken}
+use Rattle.lexical_forms.proofs.Common.{AreSums, IsMeasured, IsToken, Reads, ReadsSyntax, ap, arith, cut, cuts_of, drop, drop-drop, go_on_with, is_in}
+use Rattle.lexical_forms.proofs.Common.{measured_cut, notation_of, raw, refl, slice_get, subst, suffix_size, sym, take, whole_read, ◌+◌, ◌||◌, ◌∙◌}
+use Rattle.lexical_forms.proofs.FormLemmas.{no_one}
 use Rattle.lexical_forms.proofs.LeadingLemmas.{leading_token}
-use Rattle.lexical_literal.proofs.PieceLemmas.{measured_cut, whole_read}
 use Rattle.lexical_forms.proofs.TokenLemmas.{some_is}
 use Rattle.lexical_forms.proofs.list.Forms.token_at.Goals as goal
 
@@ -27,13 +22,16 @@ returns c =
     let front = c.split_at.ensures.front in let back = c.split_at.ensures.back in let kinded = c.with_kind-literal in
     let is = whole_read _ c.split_at.result.0.now counts (subst (λ t. IsMeasured (notation_of it.syntax) t counts) (sym front) c.requires.measured)
     c.literal.result c.literal.ensures in
+    let none = no_one (is_in (go_on_with c.args.self.now.forms) (slice_get text (size + more)))
+    (is_in (go_on_with c.args.tokens.now.forms.now) (slice_get text (size + more)))
+    (ap (λ byte. is_in (go_on_with c.args.self.now.forms) byte || is_in (go_on_with c.args.tokens.now.forms.now) byte) (sym c.byte_at.ensures)
+    ∙ sym c.if-go_on_with.ensures) in
     λ token some. subst (IsToken c.args.self.now c.args.tokens.now text) (some_is _ token some)
     (leading_token c.args.self.now c.args.tokens.now text c.args.form it counts size c.requires.leading c.requires.measured more
     (c.suffix_size-more.ensures.size ∙ (λ j. suffix_size it.suffixes (c.is_float.ensures j) (back j)))
     (let less = c.suffix_size-more.ensures.within in let long = c.split_at.ensures.back_len in omega (arith, less, long, within))
     (sym c.if-is_stopped.ensures)
-    (ap (is_in (go_on_with c.args.self.now.forms)) (sym c.byte_at-next.ensures) ∙ sym c.if-go_on_with.ensures)
-    (ap (is_in (go_on_with c.args.tokens.now.forms.now)) (sym c.byte_at-next.ensures) ∙ sym c.if-go_on_with-2.ensures) _ refl
+    none.0 none.1 _ refl
     (subst (λ t. ReadsSyntax t kinded.result it) front
     (kinded.ensures.format ∙ is.0, subst (λ l. Reads (notation_of it.syntax) l c.split_at.result.0.now) (sym kinded.ensures.literal) is.1))
     (kinded.ensures.kind ∙ c.kind_with-kind.ensures)

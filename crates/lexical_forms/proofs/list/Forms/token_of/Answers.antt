@@ -1,7 +1,5 @@
 -- The token that was chosen, or why there is none.
-use Rattle.lexical_forms.proofs.Common.{ℕ, ◌≡◌, All, IsSomeAnd, true, false, inl, inr, refl, sym, subst, slice_get, FormList, IsAhead}
-use Rattle.lexical_forms.specs.Additions.Token.{IsBestOf}
-use Rattle.lexical_forms.specs.Suffix.{is_followed}
+use Rattle.lexical_forms.proofs.Common.{All, FormList, IsAhead, IsBestOf, IsSomeAnd, false, inl, inr, is_followed, refl, slice_get, subst, sym, true, ℕ, ◌≡◌}
 use Rattle.lexical_forms.proofs.TokenLemmas.{before_digit, ended, gone_on, not_both, token_is}
 use Rattle.lexical_forms.proofs.list.Forms.token_of.Goals as goal
 

@@ -1,7 +1,6 @@
-use Rattle.lexical_forms.proofs.Common.{◌∙◌, notation_of}
-use Rattle.lexical_forms.proofs.SpecialLemmas.{found}
+use Rattle.lexical_forms.proofs.Common.{Grammar, ap, notation_of, special_of, sym, ◌∙◌}
 use Rattle.lexical_forms.proofs.specials.Specials.read.Goals as goal
 
 pub returns : goal.returns
-returns c = let g = c.grammar.ensures.value in let split = c.split_sign-sign.ensures in
-    c.behind.ensures ∙ (λ j. found (notation_of (g j)) c.args.self.now (split.sign j) (split.rest j))
+returns c = c.behind.ensures ∙ sym (c.split_sign-sign.ensures (notation_of c.grammar.result) c.args.self.now)
+    ∙ ap (λ (g : Grammar). special_of (notation_of g) c.args.self.now c.args.text.now) c.grammar.ensures.value

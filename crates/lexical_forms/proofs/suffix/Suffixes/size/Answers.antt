@@ -1,5 +1,5 @@
 -- A suffix is in the word.
-use Rattle.lexical_forms.proofs.Common.{◌≡◌, Some, arith, nat_tests}
+use Rattle.lexical_forms.proofs.Common.{Some, arith, nat_tests, ◌≡◌}
 use Rattle.lexical_forms.proofs.LeadingLemmas.{suffix_within}
 use Rattle.lexical_forms.proofs.suffix.Suffixes.size.Goals as goal
 

@@ -1,7 +1,7 @@
 -- A separator, the case of a letter, or a byte.
-use Rattle.lexical_literal.proofs.Common.{ℕ, ◌≡◌, ◌≢◌, Bool, true, false, Option, Some, refl, sym, ap, ◌∙◌, arith, nat_tests, Notation, notation_of, place_of}
-use Rattle.lexical_literal.proofs.Common.{blame, mask_of, role_at, part_of, bare, Blame, Group, Summary, grammar_at, group_at, cases, otherwise, requirements}
-use Rattle.lexical_literal.proofs.Common.{separators, ◌==◌, if◌then◌else◌, goes}
+use Rattle.lexical_literal.proofs.Common.{Blame, Bool, Group, Notation, Option, Some, Summary, ap, arith, bare, blame, cases, false, goes, grammar_at, group_at}
+use Rattle.lexical_literal.proofs.Common.{if◌then◌else◌, mask_of, nat_tests, notation_of, otherwise, part_of, place_of, refl, requirements, role_at, separators}
+use Rattle.lexical_literal.proofs.Common.{sym, true, ℕ, ◌==◌, ◌∙◌, ◌≡◌, ◌≢◌}
 use Rattle.lexical_literal.specs.declared.cause.ReadErrorKind.TheVariants as causes
 use Rattle.lexical_literal.proofs.cause.Spot.blame.Goals as goal
 
@@ -28,7 +28,7 @@ returns-then-separators-ne0 c =
     let m = notation_of (grammar_at c.args.self) in
     let mask = c.separators-separators.ensures ∙ ap (λ next. mask_of (separators m s (group_at c.args.self) next)) c.in-Some.is in
     (λ j. record { kind = causes.Separator (c.part_of-then-separators-ne0.ensures j) (c.place.ensures j); mask = mask j })
-    ∙ is_blame m s (group_at c.args.self) c.in-Some.byte c.args.self.byte false _ (sym c.is_free.ensures ∙ c.if-is_free.false) c.in-Some.is
+    ∙ is_blame m s (group_at c.args.self) c.in-Some.byte c.args.self.byte false _ (sym c.goes_on_bare.ensures ∙ c.if-goes_on_bare.false) c.in-Some.is
     (nonzero _ (λ zero. c.if-separators-ne0.true (mask ∙ zero))) refl
 
 pub returns-then-mask-eq0 : goal.returns-then-mask-eq0
@@ -37,7 +37,7 @@ returns-then-mask-eq0 c =
     let m = notation_of (grammar_at c.args.self) in
     let mask = c.separators-separators.ensures ∙ ap (λ next. mask_of (separators m s (group_at c.args.self) next)) c.in-Some.is in
     (λ j. record { kind = causes.Byte; mask = c.case_flags-mask.ensures j })
-    ∙ is_blame m s (group_at c.args.self) c.in-Some.byte c.args.self.byte true true (sym c.is_free.ensures ∙ c.if-is_free.false) c.in-Some.is
+    ∙ is_blame m s (group_at c.args.self) c.in-Some.byte c.args.self.byte true true (sym c.goes_on_bare.ensures ∙ c.if-goes_on_bare.false) c.in-Some.is
     (ap (λ n. n == 0) (sym mask ∙ c.if-separators-ne0.false)) (ap (λ n. n == 0) (sym c.case_flags-mask.ensures ∙ c.if-mask-eq0.true))
 
 pub returns-else-mask-eq0 : goal.returns-else-mask-eq0
@@ -46,5 +46,5 @@ returns-else-mask-eq0 c =
     let m = notation_of (grammar_at c.args.self) in
     let mask = c.separators-separators.ensures ∙ ap (λ next. mask_of (separators m s (group_at c.args.self) next)) c.in-Some.is in
     (λ j. record { kind = causes.Case; mask = c.case_flags-mask.ensures j })
-    ∙ is_blame m s (group_at c.args.self) c.in-Some.byte c.args.self.byte true false (sym c.is_free.ensures ∙ c.if-is_free.false) c.in-Some.is
+    ∙ is_blame m s (group_at c.args.self) c.in-Some.byte c.args.self.byte true false (sym c.goes_on_bare.ensures ∙ c.if-goes_on_bare.false) c.in-Some.is
     (ap (λ n. n == 0) (sym mask ∙ c.if-separators-ne0.false)) (nonzero _ (λ zero. c.if-mask-eq0.false (c.case_flags-mask.ensures ∙ zero)))

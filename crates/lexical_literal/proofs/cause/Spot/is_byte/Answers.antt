@@ -1,11 +1,10 @@
 -- The cause is a wrong byte if nothing else is the cause.
-use Rattle.lexical_literal.proofs.Common.{ℕ, ◌≡◌, ◌&&◌, Bool, true, false, not, Option, None, Some, refl, sym, subst, arith, nat_tests, Notation, notation_of}
-use Rattle.lexical_literal.proofs.Common.{if◌then◌else◌, is_byte, place_of, blame, mask_of, part_of, role_at, bare, Blame, Group, Summary, grammar_at, group_at}
-use Rattle.lexical_literal.proofs.Common.{cases, requirements, separators, goes}
-use Rattle.std.specs.Prelude.{◌==◌}
+use Rattle.lexical_literal.proofs.Common.{Blame, Bool, Group, None, Notation, Option, Some, Summary, arith, bare, blame, cases, false, goes, grammar_at}
+use Rattle.lexical_literal.proofs.Common.{group_at, if◌then◌else◌, is_byte, mask_of, nat_tests, not, notation_of, part_of, place_of, refl, requirements}
+use Rattle.lexical_literal.proofs.Common.{role_at, separators, subst, sym, true, ℕ, ◌&&◌, ◌==◌, ◌≡◌}
 use Rattle.lexical_literal.specs.declared.cause.ReadErrorKind.TheVariants as causes
 use Rattle.lexical_literal.proofs.cause.Spot.is_byte.Goals as goal
-use Rattle.lexical_literal.proofs.cause.Spot.is_byte.Goals.{then-not-is_free, else-not-is_free}
+use Rattle.lexical_literal.proofs.cause.Spot.is_byte.Goals.{then-not-goes_on_bare, else-not-goes_on_bare}
 
 none_is : (free : Bool) (a b : Blame) → is_byte a.kind ≡ false → is_byte b.kind ≡ false → is_byte ((if◌then◌else◌ {A = Blame} free a b).kind) ≡ false
 none_is true a b one two = one
@@ -45,20 +44,20 @@ returns-in-None c = without (notation_of (grammar_at c.args.self)) c.args.self.r
 pub returns-then-separators-eq0 : goal.returns-then-separators-eq0
 returns-then-separators-eq0 c =
     let all = with_byte (notation_of (grammar_at c.args.self)) c.args.self.read (group_at c.args.self) c.args.self.byte c.in-Some.byte c.in-Some.is in
-    let free = c.is_free.ensures in
+    let free = c.goes_on_bare.ensures in
     let none = c.if-separators-eq0.true in
     let cases = c.case_flags.ensures in
-    elim c.if-not-is_free.branch [
-      | then-not-is_free w ↦ (let apart = w.if-not-is_free.true in let gap = w.separators.ensures in let value = w.value-is in grind (arith, nat_tests))
-      | else-not-is_free w ↦ (let value = w.value-is in grind (arith, nat_tests))
+    elim c.if-not-goes_on_bare.branch [
+      | then-not-goes_on_bare w ↦ (let not = w.if-not-goes_on_bare.true in let gap = w.separators.ensures in let value = w.value-is in grind (arith, nat_tests))
+      | else-not-goes_on_bare w ↦ (let value = w.value-is in grind (arith, nat_tests))
     ]
 
 pub returns-else-separators-eq0 : goal.returns-else-separators-eq0
 returns-else-separators-eq0 c =
     let all = with_byte (notation_of (grammar_at c.args.self)) c.args.self.read (group_at c.args.self) c.args.self.byte c.in-Some.byte c.in-Some.is in
-    let free = c.is_free.ensures in
+    let free = c.goes_on_bare.ensures in
     let some = c.if-separators-eq0.false in
-    elim c.if-not-is_free.branch [
-      | then-not-is_free w ↦ (let apart = w.if-not-is_free.true in let gap = w.separators.ensures in let value = w.value-is in grind (arith, nat_tests))
-      | else-not-is_free w ↦ (let apart = w.if-not-is_free.false in let value = w.value-is in grind (arith, nat_tests))
+    elim c.if-not-goes_on_bare.branch [
+      | then-not-goes_on_bare w ↦ (let not = w.if-not-goes_on_bare.true in let gap = w.separators.ensures in let value = w.value-is in grind (arith, nat_tests))
+      | else-not-goes_on_bare w ↦ (let apart = w.if-not-goes_on_bare.false in let value = w.value-is in grind (arith, nat_tests))
     ]

@@ -1,6 +1,6 @@
 -- The flag is added to those that require nothing.
-use Rattle.lexical_literal.proofs.Common.{◌≡◌, ◌^◌, ◌*◌, ◌%◌, ◌||◌, bit_or, sym, ap, ◌∙◌, arith, Flag, bit, raw, notation_of, ◌==◌, no_condition, bare}
-use Rattle.lexical_literal.proofs.Common.{with_rules, grammar_at, group_at, one_shl, goes}
+use Rattle.lexical_literal.proofs.Common.{Flag, ap, arith, bare, bit, bit_or, goes, grammar_at, group_at, no_condition, notation_of, one_shl, raw, sym}
+use Rattle.lexical_literal.proofs.Common.{with_rules, ◌%◌, ◌*◌, ◌==◌, ◌^◌, ◌||◌, ◌∙◌, ◌≡◌}
 use Rattle.lexical_literal.proofs.CauseLemmas.{flag_or, flag_pow}
 use Rattle.lexical_literal.proofs.cause.Spot.is_permitted.Goals as goal
 

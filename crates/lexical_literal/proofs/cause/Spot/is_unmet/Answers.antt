@@ -1,5 +1,5 @@
-use Rattle.lexical_literal.proofs.Common.{◌≡◌, Bool, true, false, not, ◌&&◌, ◌||◌, sym, ap, ◌∙◌, arith, false≢true, has, is_same, notation_of, Condition}
-use Rattle.lexical_literal.proofs.Common.{Conditions, bare, with_rules, grammar_at, group_at, goes}
+use Rattle.lexical_literal.proofs.Common.{Bool, Condition, Conditions, ap, arith, bare, false, false≢true, goes, grammar_at, group_at, has, is_same, not}
+use Rattle.lexical_literal.proofs.Common.{notation_of, sym, true, with_rules, ◌&&◌, ◌||◌, ◌∙◌, ◌≡◌}
 use Rattle.lexical_literal.proofs.NumberLemmas.{has_only}
 use Rattle.lexical_literal.proofs.cause.Spot.is_unmet.Goals as goal
 use Rattle.lexical_literal.proofs.cause.Spot.is_unmet.Goals.{then-has, else-has}
@@ -10,8 +10,8 @@ or_false x = grind arith
 both : (h f x : Bool) → h ≡ true → f ≡ true → not x ≡ (h && (f && not x))
 both h f x is free = grind arith
 
-pub returns-then-is_free : goal.returns-then-is_free
-returns-then-is_free c =
+pub returns-then-goes_on_bare : goal.returns-then-goes_on_bare
+returns-then-goes_on_bare c =
     let conditions = (grammar_at c.args.self).conditions in
     let m = notation_of (grammar_at c.args.self) in
     elim c.if-has.branch [
@@ -22,6 +22,6 @@ returns-then-is_free c =
           ap not (c.allows.ensures ∙ (λ j. goes (with_rules m (λ f. c.bare.ensures f j) (λ d. only d j))
           c.args.self.read (group_at c.args.self) c.args.self.byte))
           ∙ both (m.condition c.args.condition) (goes (bare m) c.args.self.read (group_at c.args.self) c.args.self.byte) _
-          set (sym w.is_free.ensures ∙ sym w.value-is ∙ c.if-is_free.true)
-      | else-has w ↦ absurd (false≢true (sym w.if-has.false ∙ sym w.value-is ∙ c.if-is_free.true))
+          set (sym w.goes_on_bare.ensures ∙ sym w.value-is ∙ c.if-goes_on_bare.true)
+      | else-has w ↦ absurd (false≢true (sym w.if-has.false ∙ sym w.value-is ∙ c.if-goes_on_bare.true))
     ]

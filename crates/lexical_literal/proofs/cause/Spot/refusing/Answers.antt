@@ -1,6 +1,6 @@
 -- One flag is asked after the other.
-use Rattle.lexical_literal.proofs.Common.{ℕ, ◌≡◌, bit_and, ◌+◌, ◌&&◌, Bool, nat_lt, not, true, false, sym, ap, ◌∙◌, arith, nat_tests, bit, raw, ◌==◌}
-use Rattle.lexical_literal.proofs.Common.{if◌then◌else◌, one_shl, part}
+use Rattle.lexical_literal.proofs.Common.{Bool, ap, arith, bit, bit_and, false, if◌then◌else◌, nat_lt, nat_tests, not, one_shl, part, raw, sym, true, ℕ, ◌&&◌}
+use Rattle.lexical_literal.proofs.Common.{◌+◌, ◌==◌, ◌∙◌, ◌≡◌}
 use Rattle.lexical_literal.proofs.CauseLemmas.{bit_below, flag_and, flag_not, is_unset, masked, one_flag}
 use Rattle.lexical_literal.proofs.cause.Spot.refusing.Goals as goal
 use Rattle.lexical_literal.proofs.cause.Spot.refusing.Goals.{then-mask-number-ne0, else-mask-number-ne0}

@@ -1,5 +1,5 @@
-use Rattle.lexical_literal.proofs.Common.{◌≡◌, ◌-◌, ◌&&◌, nat_lt, not, true, Flag, bit, raw, notation_of, if◌then◌else◌, adding, bare, grammar_at, group_at}
-use Rattle.lexical_literal.proofs.Common.{goes}
+use Rattle.lexical_literal.proofs.Common.{Flag, adding, bare, bit, goes, grammar_at, group_at, if◌then◌else◌, nat_lt, not, notation_of, raw, true, ◌&&◌, ◌-◌}
+use Rattle.lexical_literal.proofs.Common.{◌≡◌}
 use Rattle.lexical_literal.proofs.cause.Spot.refusing.Given as goal
 
 abbrev pub invariant-loop-number : goal.invariant-loop-number

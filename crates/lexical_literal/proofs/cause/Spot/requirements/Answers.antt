@@ -1,7 +1,6 @@
 -- Flags that refuse alone, or those on leading zeros.
-use Rattle.lexical_literal.proofs.Common.{ℕ, ◌≡◌, ◌&&◌, Bool, true, false, not, ap, ◌∙◌, arith, nat_tests, list_any, all_conditions, has, notation_of}
-use Rattle.lexical_literal.proofs.Common.{number_of, Conditions, ◌==◌, if◌then◌else◌, grammar_at, group_at, kept, goes, some_unmet, unmet, bare, requiring}
-use Rattle.lexical_literal.proofs.Common.{Spot}
+use Rattle.lexical_literal.proofs.Common.{Bool, Conditions, Spot, all_conditions, ap, arith, bare, false, goes, grammar_at, group_at, has, if◌then◌else◌, kept}
+use Rattle.lexical_literal.proofs.Common.{list_any, nat_tests, not, notation_of, number_of, requiring, some_unmet, true, unmet, ℕ, ◌&&◌, ◌==◌, ◌∙◌, ◌≡◌}
 use Rattle.lexical_literal.proofs.NumberLemmas.{has_kept}
 use Rattle.lexical_literal.proofs.cause.Spot.requirements.Goals as goal
 

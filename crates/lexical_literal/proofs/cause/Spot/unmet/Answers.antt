@@ -1,6 +1,6 @@
 -- After a condition, and after the last.
-use Rattle.lexical_literal.proofs.Common.{ℕ, ◌≡◌, ◌≤◌, ◌&&◌, Bool, true, false, nat_lt, get_or, sym, ap, ◌∙◌, arith, nat_tests, all_conditions, is_same}
-use Rattle.lexical_literal.proofs.Common.{notation_of, number_of, Condition, Conditions, if◌then◌else◌, length, unmet, grammar_at, group_at, order}
+use Rattle.lexical_literal.proofs.Common.{Bool, Condition, Conditions, all_conditions, ap, arith, false, get_or, grammar_at, group_at, if◌then◌else◌, is_same}
+use Rattle.lexical_literal.proofs.Common.{length, nat_lt, nat_tests, notation_of, number_of, order, sym, true, unmet, ℕ, ◌&&◌, ◌∙◌, ◌≡◌, ◌≤◌}
 use Rattle.lexical_literal.specs.declared.syntax.Condition.TheVariants as conditions
 use Rattle.lexical_literal.proofs.NumberLemmas.{is_kept, number_next}
 use Rattle.lexical_literal.proofs.cause.Spot.unmet.Goals as goal

@@ -1,5 +1,5 @@
-use Rattle.lexical_literal.proofs.Common.{grammar_at, group_at, ◌≡◌, ◌&&◌, ◌-◌, nat_lt, all_conditions, notation_of, number_of, Condition, if◌then◌else◌}
-use Rattle.lexical_literal.proofs.Common.{length, unmet, order}
+use Rattle.lexical_literal.proofs.Common.{Condition, all_conditions, grammar_at, group_at, if◌then◌else◌, length, nat_lt, notation_of, number_of, order, unmet}
+use Rattle.lexical_literal.proofs.Common.{◌&&◌, ◌-◌, ◌≡◌}
 use Rattle.lexical_literal.proofs.cause.Spot.unmet.Given as goal
 
 abbrev pub invariant-loop-index : goal.invariant-loop-index

@@ -1,4 +1,4 @@
-use Rattle.lexical_literal.proofs.Common.{sym, false≢true}
+use Rattle.lexical_literal.proofs.Common.{false≢true, sym}
 use Rattle.lexical_util.specs.Layout as layout
 use Rattle.lexical_literal.proofs.laws.examples.counterexamples.Goals as goal
 

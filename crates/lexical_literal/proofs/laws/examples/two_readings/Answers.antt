@@ -1,5 +1,5 @@
 -- In each text, one byte plays two roles.
-use Rattle.lexical_literal.proofs.Common.{[], ◌∷◌, refl, ap, Literal}
+use Rattle.lexical_literal.proofs.Common.{Literal, [], ap, refl, ◌∷◌}
 use Rattle.lexical_util.specs.Unfoldable.{on_literals}
 use Rattle.lexical_literal.proofs.ExampleLemmas.{two, a_literal}
 use Rattle.lexical_literal.proofs.laws.examples.two_readings.Goals as goal

@@ -1,7 +1,6 @@
 -- The invariant has the number.
-use Rattle.lexical_literal.proofs.Common.{◌≡◌, IfSome, IsSome, subst, raw, Read, IsShort}
+use Rattle.lexical_literal.proofs.Common.{IfSome, IsShort, IsSome, Read, mantissa, raw, subst, ◌≡◌}
 use Rattle.lexical_util.specs.Layout as layout
-use Rattle.lexical_literal.specs.Read.{mantissa}
 use Rattle.lexical_literal.proofs.literal.Literal.mantissa.Goals as goal
 
 pub returns-clause-some : goal.returns-clause-some

@@ -1,5 +1,5 @@
 -- The groups of what has been read fit.
-use Rattle.lexical_literal.proofs.Common.{◌≡◌, Some, None, take, sym, ap, ◌∙◌, notation_of, Grammar, first_group, group_after}
+use Rattle.lexical_literal.proofs.Common.{Grammar, None, Some, ap, first_group, group_after, notation_of, sym, take, ◌∙◌, ◌≡◌}
 use Rattle.lexical_literal.proofs.stop.Stopped.group.Goals as goal
 
 pub returns-in-None : goal.returns-in-None

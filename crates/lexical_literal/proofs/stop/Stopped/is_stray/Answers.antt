@@ -1,5 +1,5 @@
 -- A text has one error.
-use Rattle.lexical_literal.proofs.Common.{◌∙◌, ap, sym, notation_of}
+use Rattle.lexical_literal.proofs.Common.{ap, notation_of, sym, ◌∙◌}
 use Rattle.lexical_literal.specs.Cause.{is_stray}
 use Rattle.lexical_literal.proofs.OneCauseLemmas.{one_refusal}
 use Rattle.lexical_literal.proofs.stop.Stopped.is_stray.Goals as goal

@@ -1,5 +1,5 @@
 -- What has been read is a literal if it ends.
-use Rattle.lexical_literal.proofs.Common.{None, sym, ap, ◌∙◌, notation_of, Grammar, Group, goes}
+use Rattle.lexical_literal.proofs.Common.{Grammar, Group, None, ap, goes, notation_of, sym, ◌∙◌}
 use Rattle.lexical_literal.proofs.StoppedLemmas.{none_whole, same_group, whole_measured}
 use Rattle.lexical_literal.proofs.stop.Stopped.lengths.Goals as goal
 use Rattle.lexical_literal.proofs.stop.Stopped.lengths.Goals.{else-self-text-via-then-self-text+else-may_end, else-self-text-via-else-self-text}

@@ -1,6 +1,5 @@
 -- What has been read decides what may follow, and so why what follows is refused.
-use Rattle.lexical_literal.proofs.Common.{◌≡◌, sym, ap, subst, ◌∙◌, take, notation_of, IsRefusal, Group, slice_get, grammar_at}
-use Rattle.lexical_literal.proofs.Common.{refusal_of, spot_of, goes}
+use Rattle.lexical_literal.proofs.Common.{Group, IsRefusal, ap, goes, grammar_at, notation_of, refusal_of, slice_get, spot_of, subst, sym, take, ◌∙◌, ◌≡◌}
 use Rattle.lexical_literal.proofs.BlameLemmas.{refusal_at}
 use Rattle.lexical_literal.proofs.StoppedLemmas.{refused_there}
 use Rattle.lexical_literal.proofs.StopLemmas.{goes_too, is_read_of}

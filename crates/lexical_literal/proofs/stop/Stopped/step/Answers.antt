@@ -1,5 +1,5 @@
 -- One step decides.
-use Rattle.lexical_literal.proofs.Common.{Some, ap, get_or, inl, inr, sym, ◌∙◌, arith, refl, notation_of, Grammar, grow, steps_of, part_of, role_at, step}
+use Rattle.lexical_literal.proofs.Common.{Grammar, Some, ap, arith, get_or, grow, inl, inr, notation_of, part_of, refl, role_at, step, steps_of, sym, ◌∙◌}
 use Rattle.lexical_literal.proofs.StoppedLemmas.{same_grow, small_group, stops_at, underway_more}
 use Rattle.lexical_literal.proofs.stop.Stopped.step.Goals as goal
 

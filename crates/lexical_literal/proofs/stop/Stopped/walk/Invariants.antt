@@ -1,4 +1,4 @@
-use Rattle.lexical_literal.proofs.Common.{◌-◌, notation_of, length, IsUnderway}
+use Rattle.lexical_literal.proofs.Common.{IsUnderway, length, notation_of, ◌-◌}
 use Rattle.lexical_literal.proofs.stop.Stopped.walk.Given as goal
 
 abbrev pub invariant-loop-next : goal.invariant-loop-next

@@ -1,7 +1,6 @@
 -- Where none of the conditions before a place is one of them, the first is that at the place, or one behind it.
-use Rattle.lexical_literal.proofs.Common.{◌≡◌, ◌+◌, ◌∷◌, Some, false, drop, drop-cons, get_or, add-one, sym, ap, ◌∙◌, arith, all_conditions, has, if◌then◌else◌}
-use Rattle.lexical_literal.proofs.Common.{find}
-use Rattle.std.proofs.lemmas.List.{drop_all}
+use Rattle.lexical_literal.proofs.Common.{Some, add-one, all_conditions, ap, arith, drop, drop-cons, drop_all, false, find, get_or, has, if◌then◌else◌, sym}
+use Rattle.lexical_literal.proofs.Common.{◌+◌, ◌∙◌, ◌∷◌, ◌≡◌}
 use Rattle.lexical_literal.specs.declared.syntax.Condition.TheVariants as conditions
 use Rattle.lexical_literal.proofs.syntax.Conditions.first.Goals as goal
 
@@ -13,7 +12,3 @@ loop-index-preserved c =
     let cons : drop i all_conditions ≡ next ∷ rest = rw add-one (drop-cons all_conditions i conditions.BasePrefix c.loop-index-test.true) in
     let none : has c.args.self next ≡ false = sym c.has.ensures ∙ c.if-has.false in
     c.loop-index.invariant ∙ ap (find (has c.args.self)) cons ∙ ap (λ here. if here then Some next else find (has c.args.self) rest) none
-
-pub returns : goal.returns
-returns c = sym (c.loop-index.invariant
-    ∙ ap (find (has c.args.self)) (drop_all c.loop-index.index all_conditions (omega (arith, c.loop-index-test.false))))

@@ -1,4 +1,4 @@
-use Rattle.lexical_literal.proofs.Common.{◌≡◌, ◌-◌, drop, all_conditions, has, length, find}
+use Rattle.lexical_literal.proofs.Common.{all_conditions, drop, find, has, length, ◌-◌, ◌≡◌}
 use Rattle.lexical_literal.proofs.syntax.Conditions.first.Given as goal
 
 abbrev pub invariant-loop-index : goal.invariant-loop-index

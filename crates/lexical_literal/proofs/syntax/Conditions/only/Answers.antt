@@ -1,5 +1,5 @@
 -- One condition is added to none.
-use Rattle.lexical_literal.proofs.Common.{arith, nat_tests, is_same, number_of}
+use Rattle.lexical_literal.proofs.Common.{arith, is_same, nat_tests, number_of}
 use Rattle.lexical_literal.proofs.NumberLemmas.{is_kept}
 use Rattle.lexical_literal.proofs.syntax.Conditions.only.Goals as goal
 

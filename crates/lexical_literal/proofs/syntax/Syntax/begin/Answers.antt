@@ -1,7 +1,6 @@
 -- A syntax has what reading needs.
-use Rattle.lexical_literal.proofs.Common.{sym, ap, subst, ◌∙◌, raw, notation_of, Grammar, has_sizes, HasSizes, IsReady, steps_of, HasBegun, HasFound}
+use Rattle.lexical_literal.proofs.Common.{Grammar, HasBegun, HasFound, HasSizes, IsReady, IsTrue, ap, has_sizes, notation_of, raw, steps_of, subst, sym, ◌∙◌}
 use Rattle.lexical_literal.specs.Additions.Scan.{IsDecimal}
-use Rattle.std.specs.Prelude.{IsTrue}
 use Rattle.lexical_literal.proofs.StoppedLemmas.{begun_free}
 use Rattle.lexical_literal.proofs.MadeLemmas.{usual_sizes}
 use Rattle.lexical_literal.proofs.syntax.Syntax.begin.Goals as goal

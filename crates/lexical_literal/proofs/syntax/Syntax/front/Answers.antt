@@ -1,5 +1,5 @@
 -- The longest front that is a literal, and the lengths of its parts.
-use Rattle.lexical_literal.proofs.Common.{subst, notation_of, IsLongest}
+use Rattle.lexical_literal.proofs.Common.{IsLongest, notation_of, subst}
 use Rattle.lexical_literal.proofs.StoppedLemmas.{found_there, front_literal, fronted, no_front}
 use Rattle.lexical_literal.proofs.syntax.Syntax.front.Goals as goal
 

@@ -1,5 +1,5 @@
 -- A syntax has what reading needs.
-use Rattle.lexical_literal.proofs.Common.{subst, notation_of, Grammar, HasSizes, IsReady, steps_of}
+use Rattle.lexical_literal.proofs.Common.{Grammar, HasSizes, IsReady, notation_of, steps_of, subst}
 use Rattle.lexical_literal.proofs.RoleLemmas.{has_sizes_of, ready}
 use Rattle.lexical_literal.proofs.syntax.Syntax.grammar.Goals as goal
 

@@ -1,5 +1,5 @@
 -- A literal is its longest front.
-use Rattle.lexical_literal.proofs.Common.{◌≡◌, sym, subst, ◌∙◌, HasLengths, cuts_of, Found}
+use Rattle.lexical_literal.proofs.Common.{Found, HasLengths, cuts_of, subst, sym, ◌∙◌, ◌≡◌}
 use Rattle.lexical_literal.proofs.StoppedLemmas.{all_counted}
 use Rattle.lexical_literal.proofs.syntax.Syntax.lengths.Goals as goal
 

@@ -1,5 +1,5 @@
 -- The loop reads the text, byte by byte.
-use Rattle.lexical_literal.proofs.Common.{None, Some, true, false, arith, refl, sym, ap, ◌∙◌, notation_of, Grammar, count, cuts_of, goes}
+use Rattle.lexical_literal.proofs.Common.{Grammar, None, Some, ap, arith, count, cuts_of, false, goes, notation_of, refl, sym, true, ◌∙◌}
 use Rattle.lexical_literal.proofs.StoppedLemmas.{first_counted, longest_all, more_counted}
 use Rattle.lexical_literal.proofs.syntax.Syntax.longest.Goals as goal
 

@@ -1,4 +1,4 @@
-use Rattle.lexical_literal.proofs.Common.{◌-◌, notation_of, length}
+use Rattle.lexical_literal.proofs.Common.{length, notation_of, ◌-◌}
 use Rattle.lexical_literal.proofs.StoppedLemmas.{HasCounted}
 use Rattle.lexical_literal.proofs.syntax.Syntax.longest.Given as goal
 

@@ -1,5 +1,5 @@
 -- A text with a byte that is refused is no literal.
-use Rattle.lexical_literal.proofs.Common.{ℕ, List, Result, Ok, Err, IsErrAnd, arith, notation_of, Grammar, IsRefusal, NoLiteral, Read, IsRead}
+use Rattle.lexical_literal.proofs.Common.{Err, Grammar, IsErrAnd, IsRead, IsRefusal, List, NoLiteral, Ok, Read, Result, arith, notation_of, ℕ}
 use Rattle.lexical_literal.specs.Cause.{Explained}
 use Rattle.lexical_literal.proofs.StoppedLemmas.{none_whole}
 use Rattle.lexical_literal.proofs.PieceLemmas.{is_read, measured_cut}
@@ -12,11 +12,11 @@ refused g text (Err _) none is = record { found = tt; kind = tt; only = λ l rea
 
 pub refuse-requires-clause-refused : goal.refuse-requires-clause-refused
 refuse-requires-clause-refused c =
-    let stop = c.begin-begun.ensures.found.exact c.if-begun.true in none_whole _ _ _ stop.1 (λ all. absurd (omega (arith, all, stop.0)))
+    let stop = c.begin-begun.ensures.found.refused c.if-begun.true in none_whole _ _ _ stop.1 (λ all. absurd (omega (arith, all, stop.0)))
 
 pub returns-then-begun : goal.returns-then-begun
 returns-then-begun c =
-    let stop = c.begin-begun.ensures.found.exact c.if-begun.true in
+    let stop = c.begin-begun.ensures.found.refused c.if-begun.true in
     refused c.args.self.now c.args.text.now c.refuse.result (none_whole _ _ _ stop.1 (λ all. absurd (omega (arith, all, stop.0))))
     c.refuse.ensures
 

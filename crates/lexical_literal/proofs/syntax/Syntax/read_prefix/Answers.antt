@@ -1,6 +1,5 @@
 -- A text of which no front is a literal is none.
-use Rattle.lexical_literal.proofs.Common.{ap, false≢true, Read}
-use Rattle.std.proofs.Common.{is_some}
+use Rattle.lexical_literal.proofs.Common.{Read, ap, false≢true, is_some}
 use Rattle.lexical_literal.proofs.PieceLemmas.{front_cut, front_read, none_whole}
 use Rattle.lexical_literal.proofs.syntax.Syntax.read_prefix.Goals as goal
 

@@ -1,9 +1,8 @@
 -- A byte plays the role that it has in the integer, or else that in the exponent, and no other.
-use Rattle.lexical_literal.proofs.Common.{ℕ, ◌≡◌, Option, Some, None, true, false, refl, sym, ap, ◌∙◌, arith, false≢true, Role, notation_of, set_of_role}
-use Rattle.lexical_literal.proofs.Common.{Grammar, role_at, HasRoles, steps_of}
+use Rattle.lexical_literal.proofs.Common.{Grammar, HasRoles, IsOnlyRole, None, Option, Role, Some, ap, arith, false, false≢true, notation_of, refl, role_at}
+use Rattle.lexical_literal.proofs.Common.{set_of_role, steps_of, sym, true, ℕ, ◌∙◌, ◌≡◌}
 use Rattle.lexical_util.specs.declared.feature_format.roles.Role.TheVariants as roles
 use Rattle.lexical_util.specs.declared.format_flags.Part.TheVariants as parts
-use Rattle.lexical_literal.specs.Notation.{IsOnlyRole}
 use Rattle.lexical_literal.proofs.RefusalLemmas.{other_roles}
 use Rattle.lexical_literal.proofs.WalkLemmas.{as_role, no_role}
 use Rattle.lexical_literal.proofs.syntax.Syntax.role_of.Goals as goal

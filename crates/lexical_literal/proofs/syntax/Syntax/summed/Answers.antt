@@ -1,5 +1,5 @@
 -- The parts that were cut are those of the literal.
-use Rattle.lexical_literal.proofs.Common.{ap, ◌∙◌, raw, cut, cuts_of, effective_exponent_radix, literal_of}
+use Rattle.lexical_literal.proofs.Common.{ap, cut, cuts_of, effective_exponent_radix, literal_of, raw, ◌∙◌}
 use Rattle.lexical_util.specs.Layout as layout
 use Rattle.lexical_literal.proofs.MantissaLemmas.{made_sums}
 use Rattle.lexical_literal.proofs.syntax.Syntax.summed.Goals as goal

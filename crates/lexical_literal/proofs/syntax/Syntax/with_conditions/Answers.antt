@@ -1,4 +1,4 @@
-use Rattle.lexical_literal.proofs.Common.{◌≡◌, None, sym, ap, subst, ◌∙◌, raw, Grammar, contradiction}
+use Rattle.lexical_literal.proofs.Common.{Grammar, None, ap, contradiction, raw, subst, sym, ◌∙◌, ◌≡◌}
 use Rattle.lexical_literal.proofs.syntax.Syntax.with_conditions.Goals as goal
 
 pub invariant_of-result : goal.invariant_of-result

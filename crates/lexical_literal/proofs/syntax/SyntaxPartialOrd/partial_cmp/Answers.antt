@@ -1,5 +1,5 @@
 -- The fields are compared one after the other.
-use Rattle.lexical_literal.proofs.Common.{◌≡◌, Option, Ordering, arith}
+use Rattle.lexical_literal.proofs.Common.{Option, Ordering, arith, ◌≡◌}
 use Rattle.std.specs.Ordering.{partial_ordering_then}
 use Rattle.lexical_literal.proofs.syntax.SyntaxPartialOrd.partial_cmp.Goals as goal
 

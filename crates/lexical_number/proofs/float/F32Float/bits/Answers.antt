@@ -1,7 +1,5 @@
 -- The bits are those of the value.
-use Rattle.lexical_number.proofs.Common.{arith, passes, of_bits-to_bits}
-use lib.Ieee.{binary32}
-use lib.Ieee.Bits.{to_bits-lt}
+use Rattle.lexical_number.proofs.Common.{arith, binary32, of_bits-to_bits, passes, to_bits-lt}
 use Rattle.lexical_number.proofs.float.F32Float.bits.Goals as goal
 
 pub overflow_cast-result : goal.overflow_cast-result

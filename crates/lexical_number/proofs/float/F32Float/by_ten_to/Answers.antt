@@ -1,10 +1,10 @@
 -- Both numbers are floats.
-use Rattle.lexical_number.proofs.Common.{arith, IsTenTo-get_or}
+use Rattle.lexical_number.proofs.Common.{IsTenTo-get_or, arith}
 use Rattle.std.specs.Float.{binary32}
+use lib.Ieee.{of_bits}
 use Rattle.lexical_number.specs.declared.float.TheConstants.{TENS_F32}
 use Rattle.lexical_number.proofs.TenLemmas.{divided, multiplied}
 use Rattle.lexical_number.proofs.float.F32Float.by_ten_to.Goals as goal
-use lib.Ieee.{of_bits}
 
 pub returns-then-over : goal.returns-then-over
 unfolding of_bits

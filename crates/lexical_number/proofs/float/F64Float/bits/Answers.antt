@@ -1,6 +1,5 @@
 -- The bits are those of the value.
-use Rattle.lexical_number.proofs.Common.{passes, of_bits-to_bits}
-use lib.Ieee.{binary64}
+use Rattle.lexical_number.proofs.Common.{binary64, of_bits-to_bits, passes}
 use Rattle.lexical_number.proofs.float.F64Float.bits.Goals as goal
 
 pub returns-else-is_nan-clause-value : goal.returns-else-is_nan-clause-value

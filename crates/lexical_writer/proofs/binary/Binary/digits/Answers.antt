@@ -1,8 +1,6 @@
 -- The digits are those with an exponent or those without one, and the exponent is that of the float.
-use Rattle.lexical_writer.proofs.Common.{Bool, Grammar, HasUnits, IsWrittenWith, Record, Style, ap, arith, false, false≢true, is_long, is_shown}
-use Rattle.lexical_writer.proofs.Common.{nat_le, nat_lt, not, not-true, raw, refl, rounded, subst, sym, true, ℕ}
-use Rattle.lexical_writer.proofs.Common.{◌&&◌, ◌*◌, ◌/◌, ◌<◌, ◌^◌, ◌||◌, ◌∙◌, ◌≡◌, ◌≤◌}
-use Rattle.std.proofs.lemmas.Bool.{and_parts}
+use Rattle.lexical_writer.proofs.Common.{Bool, Grammar, HasUnits, IsWrittenWith, Record, Style, and_parts, ap, arith, false, false≢true, is_long, is_shown}
+use Rattle.lexical_writer.proofs.Common.{nat_le, nat_lt, not, not-true, raw, refl, rounded, subst, sym, true, ℕ, ◌&&◌, ◌*◌, ◌/◌, ◌<◌, ◌^◌, ◌||◌, ◌∙◌, ◌≡◌, ◌≤◌}
 use Rattle.lexical_util.specs.Layout as layouts
 use Rattle.lexical_writer.proofs.BinaryLemmas.{binary_written, exponent_is, whole}
 use Rattle.lexical_writer.proofs.FloatLemmas.{all_decimals, decimals_are}

@@ -1,7 +1,7 @@
 -- The exponent is that of the first bit, or one more.
-use mir.Val.{bool_byte}
 use Rattle.lexical_writer.proofs.Common.{Bool, ap, arith, false, if◌then◌else◌, mul-pos, nat_le, one-le-pow, refl, rounded, subst, sym, true, ◌*◌, ◌+◌, ◌/◌}
 use Rattle.lexical_writer.proofs.Common.{◌<◌, ◌^◌, ◌∙◌, ◌≡◌, ◌≤◌}
+use mir.Val.{bool_byte}
 use Rattle.lexical_writer.proofs.BinaryLemmas.{exponent_low, raised, rounded_up, whole}
 use Rattle.lexical_writer.proofs.RoundedLemmas.{rounded_whole}
 use Rattle.lexical_writer.proofs.binary.Binary.exponent.Goals as goal

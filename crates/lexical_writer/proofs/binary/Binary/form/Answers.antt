@@ -1,6 +1,6 @@
 -- The digits are those of the number over the power of its exponent.
-use Rattle.lexical_writer.proofs.Common.{HasUnits, ap, arith, effective_exponent_base, least_places, nat_lt, one-le-pow, raw, subst, sym, ◌*◌, ◌/◌, ◌<◌, ◌^◌}
-use Rattle.lexical_writer.proofs.Common.{Bool, false, if◌then◌else◌, le-ltb, true, ℕ, ◌&&◌, ◌∙◌, ◌≡◌, ◌≤◌}
+use Rattle.lexical_writer.proofs.Common.{Bool, HasUnits, ap, arith, effective_exponent_base, false, if◌then◌else◌, le-ltb, least_places, nat_lt, one-le-pow}
+use Rattle.lexical_writer.proofs.Common.{raw, subst, sym, true, ℕ, ◌&&◌, ◌*◌, ◌/◌, ◌<◌, ◌^◌, ◌∙◌, ◌≡◌, ◌≤◌}
 use Rattle.lexical_util.specs.Layout as layouts
 use Rattle.lexical_writer.proofs.AmountLemmas.{size}
 use Rattle.lexical_writer.proofs.BinaryLemmas.{last_bits, over_exponent, whole}

@@ -1,7 +1,6 @@
 -- A number has as many bits as its first one says, and those of the zeros behind it.
-use Rattle.lexical_writer.proofs.Common.{ap, arith, eq-zero-or-pos, inl, inr, lt-leb, lt-ltb, nat_le, one-le-pow, sym, ◌%◌, ◌&&◌, ◌*◌, ◌+◌, ◌-◌}
-use Rattle.lexical_writer.proofs.Common.{◌^◌, ◌∙◌, ◌≡◌}
-use lib.Count.{count_leading_zeros, leading_top}
+use Rattle.lexical_writer.proofs.Common.{ap, arith, count_leading_zeros, eq-zero-or-pos, inl, inr, leading_top, lt-leb, lt-ltb, nat_le, one-le-pow, sym, ◌%◌}
+use Rattle.lexical_writer.proofs.Common.{◌&&◌, ◌*◌, ◌+◌, ◌-◌, ◌^◌, ◌∙◌, ◌≡◌}
 use Rattle.lexical_writer.proofs.AmountLemmas.{compared}
 use Rattle.lexical_writer.proofs.PlainLemmas.{pow_twice}
 use Rattle.lexical_writer.proofs.binary.Binary.reaches.Goals as goal

@@ -1,6 +1,5 @@
 -- The first bit of the number is as many bits above the last as its length says.
-use Rattle.lexical_writer.proofs.Common.{arith}
-use lib.Count.{leading_top}
+use Rattle.lexical_writer.proofs.Common.{arith, leading_top}
 use Rattle.lexical_writer.proofs.AmountLemmas.{above, under}
 use Rattle.lexical_writer.proofs.binary.Binary.top.Goals as goal
 

@@ -2,8 +2,8 @@
 use Rattle.lexical_writer.proofs.Common.{literal_of}
 use Rattle.lexical_writer.proofs.choice.LiteralWritable.write.Goals as goal
 
-pub returns : goal.returns
-returns c =
+pub returns-clause-text : goal.returns-clause-text
+returns-clause-text c =
     let written = c.in_ok-format_near.ensures in (
       literal_of c.in_ok-format_near.field-0,
       written.literal,

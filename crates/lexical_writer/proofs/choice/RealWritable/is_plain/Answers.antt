@@ -1,6 +1,5 @@
 -- What is written is the float, or the float that is rounded.
-use Rattle.lexical_writer.proofs.Common.{format_of, is_exact, sym, ◌||◌, ◌∙◌}
-use Rattle.lexical_value.specs.Kind.{within}
+use Rattle.lexical_writer.proofs.Common.{format_of, is_exact, sym, within, ◌||◌, ◌∙◌}
 use Rattle.lexical_writer.proofs.ChoiceLemmas.{plain_real}
 use Rattle.lexical_writer.proofs.choice.RealWritable.is_plain.Goals as goal
 

@@ -3,8 +3,8 @@ use Rattle.lexical_writer.proofs.Common.{format_of, literal_of}
 use Rattle.lexical_writer.proofs.ChoiceLemmas.{written_real}
 use Rattle.lexical_writer.proofs.choice.RealWritable.write.Goals as goal
 
-pub returns : goal.returns
-returns g c =
+pub returns-clause-text : goal.returns-clause-text
+returns-clause-text g c =
     let written = c.in_ok-format_float.ensures in
     let l = literal_of c.in_ok-format_float.field-0 in (
       l,

@@ -1,11 +1,10 @@
 -- What is written has the value.
-use Rattle.lexical_writer.proofs.Common.{refl, sym, with_sign}
-use Rattle.lexical_writer.specs.Layout.{integer_literal}
+use Rattle.lexical_writer.proofs.Common.{integer_literal, refl, sym, with_sign}
 use Rattle.lexical_writer.proofs.PlainLemmas.{has_value}
 use Rattle.lexical_writer.proofs.choice.WholeWritable.write.Goals as goal
 
-pub returns : goal.returns
-returns c =
+pub returns-clause-text : goal.returns-clause-text
+returns-clause-text c =
     let written = c.in_ok-integer.ensures in
     let l = integer_literal c.in_ok-integer.integer in
     let number = written.written.1 in (

@@ -1,7 +1,7 @@
 -- The text is all that the buffer has taken.
 use Rattle.lexical_writer.proofs.Common.{[], ap, at_least, digits_of, grouped, option_to_list, raw, refl, ◌++◌, ◌∙◌}
-use Rattle.lexical_util.specs.Layout as layout
 use Rattle.lexical_writer.specs.Layout.{sign_of}
+use Rattle.lexical_util.specs.Layout as layout
 use Rattle.lexical_writer.proofs.BufferLemmas.{taken_as}
 use Rattle.lexical_writer.proofs.integer.WrittenInteger.fill.Goals as goal
 
