@@ -34,9 +34,6 @@ pub unsafe fn input<'a, T>(start: *const T, len: usize) -> Option<&'a [T]> {
 pub struct Out<T>(*mut T);
 
 impl<T> Out<T> {
-    /// No memory.
-    pub const NULL: Out<T> = Out(ptr::null_mut());
-
     /// Returns the value with an index of those that begin here.
     ///
     /// # Safety

@@ -73,23 +73,20 @@ fn write_value<T, C: From<T>>(value: Result<T, ValueErrorKind>, out: Out<C>) -> 
     }
 }
 
-/// Writes the value of a text, if it has one of this type, or why it is not a number, and returns whether it has.
-unsafe fn parse<T: FromLiteral>(
-    (forms, text, len): (Given<'_>, *const u8, usize),
-    out: Out<T>,
-    error: Out<ReadError>,
-) -> ValueStatus {
-    match whole(forms, text, len, error) {
+/// Writes the value of a number, if it has one of this type, and returns whether it has.
+#[inline(always)]
+fn write_number<T: FromLiteral>(number: Option<Number<'_>>, out: Out<T>) -> ValueStatus {
+    match number {
         Some(Number::Literal { literal, .. }) => write(&literal, out),
         Some(Number::Special(special)) => write_value(T::from_special(special), out),
         None => REFUSED,
     }
 }
 
-/// Returns the literal of the first form that a text is, if this is known at once.
+/// Returns the number that a text is, without why it is none.
 #[inline(never)]
-unsafe fn decimal<'a>(forms: Given<'_>, text: *const u8, len: usize) -> Option<literal::Literal<'a>> {
-    forms.ok()?.first_decimal(input(text, len)?)
+unsafe fn find<'a>(forms: Given<'_>, text: *const u8, len: usize) -> Option<Number<'a>> {
+    forms.ok()?.find(input(text, len)?)
 }
 
 /// Writes the value of each text, and whether it has one, and returns how many have none.
@@ -108,10 +105,7 @@ unsafe fn parse_column<T: FromLiteral>(
         // No text has so many bytes.
         let len = if first <= start && start <= end && end <= last { (end - start) as usize } else { usize::MAX };
         let text = bytes.wrapping_offset(start as isize);
-        let found = match decimal(forms, text, len) {
-            Some(literal) => write(&literal, values.at(index)),
-            None => parse((forms, text, len), values.at(index), Out::NULL),
-        };
+        let found = write_number(find(forms, text, len), values.at(index));
         status.at(index).write(found);
         usize::from(found != 0)
     };
@@ -126,7 +120,7 @@ macro_rules! parsers {
             unsafe extern "C" fn $call(
                 forms: *const Forms, text: *const u8, len: usize, out: Out<$T>, error: Out<ReadError>
             ) -> ValueStatus {
-                by(forms, |forms| parse((forms, text, len), out, error))
+                by(forms, |forms| write_number(whole(forms, text, len, error), out))
             }
 
             #[unsafe(no_mangle)]

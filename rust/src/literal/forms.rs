@@ -43,21 +43,11 @@ impl<'a> Forms<'a> {
     /// If `text` is neither a literal nor a special value, returns why it is not a literal.
     pub fn read<'t>(&self, text: &'t (impl AsRef<[u8]> + ?Sized)) -> Result<Number<'t>, FormError> {
         let text = text.as_ref();
-        let mut stop = None;
-        if self.asks_first(text) {
-            let Form { syntax, kind, .. } = self.as_slice()[0];
-            if syntax.is_decimal() {
-                let begun = syntax.begin(true, text, false);
-                if begun.is_whole(&syntax, text) {
-                    let literal = syntax.literal(text, begun.counts, begun.sums).with_kind(kind);
-                    return Ok(Number::Literal { literal, form: 0 });
-                }
-                if begun.refused || begun.at.is_refused(&syntax, text) {
-                    stop = Some(begun.at);
-                }
-            }
+        let first = if self.asks_first(text) { self.first_decimal(text) } else { Err(None) };
+        match first {
+            Ok(literal) => Ok(Number::Literal { literal, form: 0 }),
+            Err(stop) => self.read_behind(text, stop),
         }
-        self.read_behind(text, stop)
     }
 
     // Returns why `word`, up to `end`, is not a token, as the library for C reads all texts.
@@ -87,16 +77,40 @@ impl<'a> Forms<'a> {
         !cfg!(peltzivar_small) && !self.marked && (self.as_slice().len() == 1 || !has_letter_behind_zero(text))
     }
 
-    /// Returns the literal of the first form that `text` is, if this is known at once, as of most decimal ones.
-    #[doc(hidden)]
-    #[must_use]
-    pub fn first_decimal<'t>(&self, text: &'t [u8]) -> Option<Literal<'t>> {
+    // Returns the literal of the first form that `text` is, if this is known at once, as of most decimal ones, or where the
+    // form stops, if it refuses `text`.
+    #[inline(always)]
+    fn first_decimal<'t>(&self, text: &'t [u8]) -> Result<Literal<'t>, Option<Stopped>> {
         let Form { syntax, kind, .. } = self.as_slice()[0];
-        if self.marked || !syntax.is_decimal() {
-            return None;
+        if !syntax.is_decimal() {
+            return Err(None);
         }
         let begun = syntax.begin(true, text, false);
-        begun.is_whole(&syntax, text).then(|| syntax.literal(text, begun.counts, begun.sums).with_kind(kind))
+        if begun.is_whole(&syntax, text) {
+            return Ok(syntax.literal(text, begun.counts, begun.sums).with_kind(kind));
+        }
+        let is_refused = begun.refused || begun.at.is_refused(&syntax, text);
+        Err(is_refused.then_some(begun.at))
+    }
+
+    /// Returns the number that `text` is, as [`read`][Self::read] does, without why it is none.
+    #[doc(hidden)]
+    #[must_use]
+    pub fn find<'t>(&self, text: &'t [u8]) -> Option<Number<'t>> {
+        if self.marked {
+            return self.read_bytes(text).ok();
+        }
+        let stop = match self.first_decimal(text) {
+            Ok(literal) => return Some(Number::Literal { literal, form: 0 }),
+            Err(stop) => stop,
+        };
+        match self.find_plain(text, stop) {
+            Ok((form, literal)) => {
+                let literal = literal.with_kind(self.as_slice()[form].kind);
+                Some(Number::Literal { literal, form })
+            }
+            Err(_) => self.special(text).map(Number::Special),
+        }
     }
 
     /// Returns the longest literal of any form that `text` begins with, and the rest of `text`, which may be anything.
