@@ -191,7 +191,7 @@ defaults! { Style::PLAIN Grouping::AsSyntax ExponentStyle::AsNumber }
 
 impl Syntax {
     /// Returns the value of an integer as a literal of this syntax. [Parsing][Syntax::parse] the text returns
-    /// the same value.
+    /// the same value, with [`ExponentStyle::Always`] as a float: `5e0` has no value of an integer type.
     ///
     /// A `+` is written only where a sign is required. Digits are in uppercase.
     ///

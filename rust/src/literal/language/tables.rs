@@ -307,7 +307,7 @@ const C_PLUS_PLUS_KINDS: &[(&[u8], Kind)] = kinds! {
 };
 
 /// Units of CSS: any word, such as `px` and the `n-1` of `2n-1`. A name may also begin with `-` and have escapes: `1-x`, `1--x` and
-/// `1\78` are refused.
+/// `1\78` are refused. So is `1e+x`, in which `e` is a unit: `+` may begin an exponent.
 const CSS_WORDS: Suffixes = Suffixes::new(&[], &[], CSS_STOPS).any_word(&LETTERS).with_word_bytes(b"-");
 const CSS_STOPS: &[Stop] = &[Stop::new(b"", b"-", &LETTERS), Stop::new(b"", b"-", b"-\\"), Stop::new(b"", b"\\", b"")];
 const LETTERS: [u8; 181] = letters();
@@ -536,7 +536,8 @@ languages! {
     } radixes "#" "r" { integers(2, LISP, Conditions::NONE) => LISP_WORDS } => Tokens::new(&[], &[]);
 
     /// CSS's numbers, with signs (CSS Syntax Module Level 3, 4.3.12). A token has a word as its unit, which may
-    /// have `-` behind its first byte. One that begins with `-` or has an escape is refused. A token ends before `%`.
+    /// have `-` behind its first byte. One that begins with `-` or has an escape is refused, and so is the `e` of `1e+x`.
+    /// A token ends before `%`.
     CSS: "CSS" = { "decimal": numbers(b'e', b'.', NumberFormatBuilder::new()
         .no_special(true) // rejects `NaN` and `inf`
         .required_fraction_digits(true) // rejects `1.`, not `.5`
@@ -614,8 +615,8 @@ languages! {
     /// constants, such as `Z'FF'`, have no type of their own: here, they have at most 128 bits, and are not written.
     /// Integers have at most 31 bits, and `0.1`, but not `0.1d0`, is an `f32`. The suffix of a token is its
     /// kind: `0.1_8` is no `f32`. Of a named kind, such as `_dp`, neither the name nor the value is known, nor is that of
-    /// `_08`. gfortran also accepts `1q5`, and reads `1.q5` as one number. `-2147483648`, which compilers refuse, is read,
-    /// and written.
+    /// `_08`. Compilers refuse `1_` and `1_8x`, which are tokens here. gfortran also accepts `1q5`, and reads `1.q5` as one
+    /// number. `-2147483648`, which compilers refuse, is read, and written.
     FORTRAN: "Fortran" = {
         "decimal": numbers(b'e', b'.', NumberFormatBuilder::new().no_special(true)) => FORTRAN_WORDS; DEFAULT, // rejects `NaN` and `inf`
         "double precision": numbers(b'd', b'.', NumberFormatBuilder::new()
