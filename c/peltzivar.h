@@ -320,7 +320,7 @@ PELTZIVAR_MUST_USE bool peltzivar_read_prefix(const peltzivar_syntax *syntax, co
     peltzivar_literal *literal, peltzivar_read_error *error);
 
 /* Does what peltzivar_forms_read_special does by one syntax and spellings. Refuses a syntax that peltzivar_read
- * refuses, and reserved bytes of the spellings. */
+ * refuses, spellings that are null, and their reserved bytes. */
 PELTZIVAR_MUST_USE bool peltzivar_read_special(const peltzivar_syntax *syntax, const peltzivar_specials *specials,
     const char *text, size_t len, peltzivar_special *out);
 
@@ -409,8 +409,8 @@ enum {
     PELTZIVAR_WRITE_FLOAT = 5, /* Each literal has an exponent, and the number is of an integer type. */
     PELTZIVAR_WRITE_SPECIAL = 6, /* The number is NaN or infinity, and no spelling is read back as it. */
     PELTZIVAR_WRITE_BUFFER = 7, /* The buffer is too short. */
-    /* The syntax, the list, the style, the spellings or the special value is null, where it may not be, or refused, or
-     * no call has made the literal. */
+    /* The syntax, the list, the literal or the spellings are null, one of them, the style or the special value is
+     * refused, or no call has made the literal. */
     PELTZIVAR_WRITE_ARGUMENT = 8,
     /* Without an exponent, which no literal has, the text has more than 800 bytes, or by a list more than 4096. */
     PELTZIVAR_WRITE_LONG = 9,
@@ -700,7 +700,20 @@ struct peltzivar_forms {
 #define PELTZIVAR_FORMS_MAX 64
 #define PELTZIVAR_WORDS_MAX 256
 
-/* ERRORS */
+/* ERRORS
+ *
+ *     const char text[] = "1.5kg";
+ *     double value;
+ *     peltzivar_read_error error;
+ *     peltzivar_explanation why;
+ *     char sentence[PELTZIVAR_TEXT_SIZE];
+ *     if (peltzivar_parse_f64(peltzivar_language_json(), text, strlen(text), &value, &error) == PELTZIVAR_VALUE_REFUSED
+ *         && peltzivar_explain(&error, &why)) {
+ *         peltzivar_read_error_text(&error, sentence, sizeof sentence);
+ *         printf("%s\n", text); // 1.5kg
+ *         printf("%*s^ %s\n", (int)why.span.start, "", sentence); //    ^ unexpected character 'k'
+ *     }
+ */
 
 /* Writes why a text was refused as a sentence, such as "expected a digit after the exponent character", which may be in
  * UTF-8. If no call has written *error, writes an empty string. */

@@ -852,7 +852,7 @@ class WrongCell(metaclass=_Class):
 
     index: int
     text: Union[str, bytes]
-    error: ValueError
+    error: ValueError = field(compare=False)
 
     def __str__(self) -> str:
         return str(self.error)
@@ -895,7 +895,11 @@ class _Wrong(Sequence[WrongCell]):
         return _Wrong, (self._owner, {it: self._text(it) for it in self.indexes}, b"", None, self._status)
 
     def _text(self, index: int) -> Any:
-        return self._texts[index] if self._texts else self._data[self._offsets[index] : self._offsets[index + 1]]
+        """Returns a text, or None if its offsets do not ascend, or are not between the first and the last."""
+        if self._texts:
+            return self._texts[index]
+        start, end = self._offsets[index : index + 2]
+        return self._data[start:end] if self._offsets[0] <= start <= end <= self._offsets[-1] else None
 
     def __len__(self) -> int:
         return self._count
@@ -908,9 +912,11 @@ class _Wrong(Sequence[WrongCell]):
         if isinstance(at, slice):
             return [self[it] for it in range(len(self))[at]]
         text, status = self._text(index := self.indexes[at]), self._status[index]
-        is_refused = status == _c.REFUSED
-        error = LiteralError(self._owner, text) if is_refused else ValueError(_c.describe("value", status))
-        return WrongCell(index, text, error)
+        if text is None:
+            return WrongCell(index, b"", ValueError("the offsets do not ascend here"))
+        if status == _c.REFUSED:
+            return WrongCell(index, text, LiteralError(self._owner, text))
+        return WrongCell(index, text, ValueError(_TOO_LONG if status == _LONG else _c.describe("value", status)))
 
     def __repr__(self) -> str:
         return f"<{len(self)} wrong cells>"
@@ -982,10 +988,13 @@ class _Reader(_peltzivar.Reader):
 
     def format_column(self, numbers: Iterable[Any], *, fill: Optional[str] = None, **wishes: Any) -> List[str]:
         """Returns a list, or an array of numpy, as texts, as `format_number` does with the same wishes, several times
-        as fast. If `fill` is a text, that of None and NaN is this."""
+        as fast. If `fill` is a text, that of None, NaN and `pandas.NA` is this."""
         style = _style(**wishes)
         listed: Any = numbers.tolist() if hasattr(numbers, "tolist") else numbers
-        other = lambda it: fill if fill is not None and (it is None or it != it) else self._text_of(it, style)
+        other: Any = lambda it: self._text_of(it, style)
+        if fill is not None:
+            na, fill = _na(), _typed("fill", fill, str)
+            other = lambda it: fill if it is None or it is na or it != it else self._text_of(it, style)
         return cast("List[str]", self._write(tuple(listed), style, other))
 
     def _text_of(self, value: Any, style: Tuple[int, ...]) -> str:
@@ -1020,8 +1029,8 @@ class _Reader(_peltzivar.Reader):
         buffer has bytes. None, NaN and `pandas.NA` in a sequence are missing, and not wrong. `type` is `float`, `int`,
         `Decimal`, whose values are a list, or the format of an array: `d` or `f` for floats, `q` or `Q` for integers of
         64 bits. `values` is an `array.array`, or `out`, a writable buffer of such a format, such as an array of numpy.
-        A cell that is missing or wrong has the value `fill`, which is NaN for floats if it is None, and which integers
-        need. With the `errors` "raise", a wrong cell raises ColumnError after the whole column is read.
+        A cell that is missing or wrong has the value `fill`, which is NaN if it is None, and which integers need. With
+        the `errors` "raise", a wrong cell raises ColumnError after the whole column is read.
         With a `scale` from 0 to 255, `type` is `int`, and the values are those of `scaled(scale)` of literals: with 2,
         prices in cents.
         """
@@ -1034,26 +1043,41 @@ class _Reader(_peltzivar.Reader):
         if errors not in ("raise", "coerce"):
             raise ValueError(f"errors must be 'raise' or 'coerce', not {errors!r}")
         is_left = fill is None and kind in "qQ"
-        fill = fill if fill is not None else 0 if is_left else math.nan
+        fill = fill if fill is not None else 0 if is_left else Decimal("NaN") if type is Decimal else math.nan
         try:
             filling: Any = array(kind, [cast(Any, fill)])
         except OverflowError:
             raise ValueError(f"fill is not a value of the column: {fill!r}") from None
         values = array(kind, bytes(size * len(status))) if out is None else out
-        if (shape := memoryview(values).shape) != (len(status),):
-            raise ValueError(f"out has the shape {shape}, and there are {len(status)} cells")
-        na = getattr(sys.modules.get("pandas"), "NA", None)
-        missing = self._column(texts, data, offsets, kind, values, status, filling, na, places)
+        if out is not None:
+            with memoryview(out) as view:
+                if view.shape != (len(status),):
+                    raise ValueError(f"out has the shape {view.shape}, and there are {len(status)} cells")
+                if view.readonly or not view.contiguous:
+                    raise TypeError("out must be writable, and have its items one after another")
+        missing = self._column(texts, data, offsets, kind, values, status, filling, _na(), places)
         if is_left and (missing or errors == "coerce"):
             raise ValueError("integers have no NaN: pass `fill`, the value of cells that are missing or wrong")
         wrong = _Wrong(self, texts, data, offsets, bytes(status))
         if type is Decimal:
-            left = {*missing, *wrong.indexes}
-            values = [fill if at in left else self.read(wrong._text(at)).decimal() for at in range(len(status))]
+            # A float needs other radixes than a Decimal.
+            values, left, codes = [fill] * len(status), {*missing}, (0, _c.RADIX)
+            for at, code in enumerate(status):
+                if code in codes and at not in left:
+                    try:
+                        values[at], status[at] = self.read(wrong._text(at)).decimal(), 0
+                    except (OverflowError, ValueError):
+                        status[at] = code or _LONG
+            wrong = _Wrong(self, texts, data, offsets, bytes(status))
         column = Column(values, wrong, missing)
         if wrong and errors == "raise":
             raise ColumnError(column)
         return column
+
+
+def _na() -> Any:
+    """Returns `pandas.NA`, or None without pandas."""
+    return getattr(sys.modules.get("pandas"), "NA", None)
 
 
 _OFFSETS = ("i", "I", "l", "L", "q", "Q")
@@ -1112,12 +1136,18 @@ def _style(
     return *groups, *flags_of, least, wish, power, *last
 
 
+# An error names the method whose wishes are passed on.
+_style.__qualname__ = "format_column"
+
+
 # How often 2 and 5 divide each number that no other prime divides.
 _FACTORS = {2**twos * 5**fives: (twos, fives) for twos in range(6) for fives in range(3)}
 _MOST_DIGITS = 10**6
 # The members of a form behind its syntax, if it has the kind `Kind()`, and nothing else.
 _PLAIN = 0, 0, 0, 0, None, None, None, 0, 0, 0
 _TOO_LONG = "the exact value has more than 10^6 digits"
+# The status of a cell with such a value, which no call of C returns.
+_LONG = 255
 _EXACT = Context(_MOST_DIGITS, Emin=MIN_EMIN, Emax=MAX_EMAX, traps=[InvalidOperation, Rounded])
 # Numbers that are neither long nor far from 1.
 _NEAR = Context(400, Emin=-999, Emax=999, traps=[InvalidOperation, Rounded, Overflow, Subnormal])
@@ -1521,7 +1551,7 @@ class Kind(metaclass=_Class):
 
     def _numbers(self) -> Tuple[int, int, int, int]:
         number = 1 if self.at_most else 0 if not self.wraps else 3 if self.modulo else 2
-        return number, self.at_most or self.wraps or 0, int(self.single), _LIMITS.index(self.limits)
+        return number, int(self.at_most or self.wraps or 0), int(self.single), _LIMITS.index(self.limits)
 
     @classmethod
     def _of(cls, number: int, bits: int, single: int, limits: int) -> Kind:
@@ -1721,7 +1751,7 @@ class Forms(_Keyed, _Several, Mapping[str, Syntax]):
 
     def __reduce__(self) -> Tuple[Any, ...]:
         more = {name: getattr(self, name) for name in _OF_FORMS}
-        return functools.partial(Forms, **vars(self.specials), **more), ([*self.items()],)
+        return functools.partial(type(self), **vars(self.specials), **more), ([*self.items()],)
 
 
 def _forms_of(listed: Any, more: Dict[str, Any]) -> Forms:
@@ -1813,6 +1843,7 @@ for _of_class, _name in ((_Reader, "parse"), (_Reader, "format_number"), (Syntax
     # The method is one of C, with the signature and the documentation of that above, which it calls for what it leaves.
     _call = vars(_of_class)[_name]
     _call.__annotations__.clear()
+    _call.__qualname__ = _name
     _shown_as = str(inspect.signature(_call)).replace("(self", "($self", 1).replace("<class 'float'>", "float")
     setattr(_of_class, _name, _c.fast(_of_class, _call, f"{_name}{_shown_as}\n--\n\n{inspect.getdoc(_call)}"))
 _c.register(Literal, LiteralError)

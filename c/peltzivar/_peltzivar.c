@@ -349,7 +349,7 @@ static bool is_enough(Reader *by, const Text *window) {
 
 /* Finds the bytes of a text from an index on: of a str, those of a window, which is doubled until it is enough. */
 static bool opened_from(Reader *self, PyObject *text, PyObject *start, Text *to) {
-    Py_ssize_t index = PyLong_AsSsize_t(start), size = 32;
+    Py_ssize_t index = PyNumber_AsSsize_t(start, NULL), size = 32;
     if (index < 0 && !PyErr_Occurred()) PyErr_SetString(PyExc_ValueError, "start must be an index of the text");
     if (!is_made(self) || PyErr_Occurred()) return false;
     if (!PyUnicode_Check(text)) {
@@ -379,7 +379,7 @@ static PyObject *reader_token(PyObject *self, PyObject *const *given, Py_ssize_t
     PyObject *result = NULL;
     Literal *it = NULL;
     if (peltzivar_forms_token(by->forms, rest.bytes, (size_t)rest.size, &token, &error)) {
-        Py_ssize_t start = PyLong_AsSsize_t(given[1]), middle = start + (Py_ssize_t)token.suffix.start;
+        Py_ssize_t start = PyNumber_AsSsize_t(given[1], NULL), middle = start + (Py_ssize_t)token.suffix.start;
         Py_ssize_t end = start + (Py_ssize_t)token.size;
         if (PyUnicode_Check(given[0])) end = start + characters(rest.bytes, (Py_ssize_t)token.size);
         if ((it = new_literal(by, &rest))) {
@@ -1062,15 +1062,25 @@ static int filled(PyObject *module) {
     if (PyErr_Occurred() || PyModule_AddType(module, (PyTypeObject *)literal)) return -1;
     if (PyModule_AddType(module, state->reader)) return -1;
     Py_DECREF(literal);
-    PyObject *made = Py_BuildValue("{sN sN sN sN sN sN sN si si si si si si}", "MEMBERS", members, "SETTERS", setters,
-        "LANGUAGES", languages, "CONDITIONS", conditions, "NEW_FIELDS", fields(new),
+    PyObject *made = Py_BuildValue("{sN sN sN sN sN sN sN si si si si si si si}", "MEMBERS", members,
+        "SETTERS", setters, "LANGUAGES", languages, "CONDITIONS", conditions, "NEW_FIELDS", fields(new),
         "STANDARD", halves(PELTZIVAR_STANDARD), "VERSION", shown(PELTZIVAR_VERSION),
-        "NOT_WHOLE", PELTZIVAR_VALUE_NOT_WHOLE,
+        "NOT_WHOLE", PELTZIVAR_VALUE_NOT_WHOLE, "RADIX", PELTZIVAR_VALUE_RADIX,
         "FORMS_MAX", PELTZIVAR_FORMS_MAX, "WORDS_MAX", PELTZIVAR_WORDS_MAX, "REFUSED", PELTZIVAR_VALUE_REFUSED,
         "SPECIAL", PELTZIVAR_VALUE_SPECIAL, "WRITE_SPECIAL", PELTZIVAR_WRITE_SPECIAL);
     int status = made ? PyDict_Update(PyModule_GetDict(module), made) : -1;
     Py_XDECREF(made);
     return status;
+}
+
+/* The module is in a cycle with its classes, which an interpreter beside the main one leaves when it ends. */
+static int traversed(PyObject *module, visitproc visit, void *arg) {
+    State *state = STATE(module);
+    Py_VISIT(state->literal);
+    Py_VISIT(state->refusal);
+    for (int i = 0; i < 3; i++) Py_VISIT(state->slow[i]);
+    Py_VISIT(state->reader);
+    return 0;
 }
 
 static int cleared(PyObject *module) {
@@ -1084,7 +1094,7 @@ static int cleared(PyObject *module) {
 
 static PyModuleDef_Slot SLOTS[] = {{Py_mod_exec, (void *)filled}, {0, NULL}};
 static struct PyModuleDef MODULE = {
-    PyModuleDef_HEAD_INIT, "peltzivar._peltzivar", NULL, sizeof(State), FUNCTIONS, SLOTS, NULL, cleared, NULL};
+    PyModuleDef_HEAD_INIT, "peltzivar._peltzivar", NULL, sizeof(State), FUNCTIONS, SLOTS, traversed, cleared, NULL};
 
 PyMODINIT_FUNC PyInit__peltzivar(void);
 PyMODINIT_FUNC PyInit__peltzivar(void) { return PyModuleDef_Init(&MODULE); }

@@ -137,7 +137,7 @@ static void test_syntaxes(void) {
     peltzivar_literal literal;
     peltzivar_read_error error, unwritten;
     peltzivar_explanation why = {{1, 2}, 3, {4, 5}, 6, 7, 8, 9, 10, 11};
-    peltzivar_special special = {7, 7};
+    peltzivar_special special = {7, 7}, nan = {PELTZIVAR_SPELLING_NAN, 0};
     memset(&unwritten, 0, sizeof unwritten);
     for (int i = 0; i < 3; i++) CHECK(peltzivar_check_syntax(&wrong[i]) == errors[i]);
     for (size_t i = 0; i <= sizeof integers.reserved; i++) {
@@ -159,6 +159,9 @@ static void test_syntaxes(void) {
     CHECK(peltzivar_read(&integers, "1", 1, &literal, &error) && literal.form == 0 && !peltzivar_read(&integers, "1.", 2, NULL, NULL));
     CHECK(!peltzivar_read(&integers, "1.", 2, NULL, &error) && error.form == 0 && sizeof error.form == sizeof literal.form);
     CHECK(!peltzivar_read(&integers, "1", SIZE_MAX, NULL, &error) && !peltzivar_explain(&error, &why) && why.code == 6);
+    CHECK(peltzivar_format_literal(&integers, NULL, NULL, text, sizeof text, NULL) == PELTZIVAR_WRITE_ARGUMENT);
+    CHECK(peltzivar_format_special(&integers, NULL, nan, text, sizeof text, NULL) == PELTZIVAR_WRITE_ARGUMENT);
+    CHECK(!peltzivar_read_special(&integers, NULL, "NaN", 3, &special));
     CHECK(WRITES("the text has more than PTRDIFF_MAX bytes", peltzivar_read_error_text(&error, text, sizeof text)));
     CHECK(!peltzivar_explain(&unwritten, &why) && WRITES("", peltzivar_read_error_text(&unwritten, text, sizeof text)));
     CHECK(!peltzivar_read_special(&integers, &specials, "1", SIZE_MAX, &special) && special.sign == 7);

@@ -198,7 +198,7 @@ class Header(unittest.TestCase):
             return f"*{'const' if const else 'mut'} {in_rust(kind)}"
         if name in ("forms", "bytes", "offsets"):
             return f"*const {in_rust(kind)}"
-        if const and (name in ("syntax", "style") or "_status status" in others):
+        if const and (name in ("syntax", "style", "specials") or re.search(r"_status status|literal, const", others)):
             return f"Option<&{in_rust(kind)}>"
         if const or name == "fields":
             return f"&{'' if const else 'mut '}{in_rust(kind)}"

@@ -50,20 +50,27 @@ class Columns(unittest.TestCase):
                 values, wrong, missing = Language.CSV_DE.column(given, errors="coerce", out=out)
                 filled = Language.CSV_DE.column(given, fill=0, errors="coerce").values
                 self.assertEqual([str(it) for it in filled], "1.5 0.0 0.0 0.0 2.0 0.0 0.0 0.0 0.0".split())
+                self.assertEqual(Language.CSV_DE.format_column([na, 1.5], fill="-"), ["-", "1,5"])
                 with self.assertRaises(peltzivar.ColumnError) as caught:
                     Language.CSV_DE.column(given)
             self.assertEqual(([*map(str, values)], missing), ("1.5 nan nan nan 2.0 nan nan nan nan".split(), (1, 5, 6)))
             self.assertEqual([(it.index, it.text) for it in wrong], [(it, given[it]) for it in (2, 3, 7, 8)])
+            self.assertEqual((wrong.index(wrong[1]), {wrong[1], wrong[1]}), (1, {wrong[1]}))
             self.assertEqual([it.error.span for it in wrong[:2]] + [wrong[-1].index], [(0, 1), (0, 1 if given is cells else 2), 8])
             self.assertEqual(str(caught.exception), f"cell 2, {given[2]!r}: unexpected character 'x', the first of 4 wrong cells")
             self.assertEqual((caught.exception.column.missing, str(caught.exception.column.wrong[1])), (missing, "unexpected character '\u00e9'"))
         values, wrong, _ = Language.TOML.column(["1", "1.5", "inf", "99999999999999999999", None], int, errors="coerce", fill=-1)
         self.assertEqual((values.tolist(), [str(it)[:5] for it in wrong]), ([1, -1, -1, -1, -1], ["a flo", "NaN o", "above"]))
         self.assertRaisesRegex(TypeError, "^cell 1 must be a str, not float$", Language.CSV_DE.column, ["1,5", 1.5])
+        self.assertRaisesRegex(TypeError, "^fill must be a str", Language.CSV_DE.format_column, [None], fill=0)
+        for out in (memoryview(bytes(16)).cast("d"), memoryview(array("d", 4 * [0]))[::2]):
+            self.assertRaisesRegex(TypeError, "^out must be writable", Language.CSV_DE.column, ["1", "2"], out=out)
         for offsets in itertools.product(range(5), repeat=4):
             wrong = Language.JSON.column((b"1111", array("q", offsets)), errors="coerce").wrong
             outside = [not offsets[0] <= start < end <= offsets[-1] for start, end in zip(offsets, offsets[1:])]
             self.assertEqual([it.index for it in wrong], [index for index, it in enumerate(outside) if it], offsets)
+            empty = [offsets[0] <= offsets[it.index] == offsets[it.index + 1] <= offsets[-1] for it in wrong]
+            self.assertEqual([str(it)[:12] for it in wrong], ["expected a d" if it else "the offsets " for it in empty])
 
     def test_one_text(self):
         rows = [("1.5", float, 1.5), (b"15", int, 15), ("-inf", float, -math.inf)]
@@ -96,8 +103,11 @@ class Columns(unittest.TestCase):
     def test_columns_of_decimals_and_of_texts(self):
         self.assertEqual(Language.CSV_DE.column(["1.234,50", b"2"[:0].decode() or "7"], Decimal).values, [Decimal("1234.50"), Decimal(7)])
         cells = ["0,10", None, "x", "1,5"]
-        values, wrong, missing = Language.CSV_DE.column(cells, Decimal, errors="coerce", fill=Decimal("NaN"))
+        values, wrong, missing = Language.CSV_DE.column(cells, Decimal, errors="coerce")
         self.assertEqual((str(values), [it.index for it in wrong], missing), ("[Decimal('0.10'), Decimal('NaN'), Decimal('NaN'), Decimal('1.5')]", [2], (1,)))
+        values, wrong, _ = Language.JSON.column([f"1e{10**20}", "1"], Decimal, errors="coerce", fill=0)
+        self.assertEqual((values, [*map(str, wrong)]), ([0, 1], ["the exact value has more than 10^6 digits"]))
+        self.assertEqual(Syntax.of(radix=5, exponent="^").column(["1.3"], Decimal).values, [Decimal("1.6")])
         offsets = Language.CSV_DE.column((b"1,5-7", array("i", [0, 3, 5])), Decimal).values
         self.assertEqual(offsets, [Decimal("1.5"), Decimal(-7)])
         for wishes, values in itertools.product(({}, {"group": 3}, {"decimals": 2}, {"exponent": 3, "point": True}), ([1234.5, 7, Decimal("-0.125"), 10**30], [1e16, -0.0])):

@@ -549,7 +549,7 @@ WRONG = [
     ("Language.JSON.column(['1'], int, fill=2**63)", ValueError, "fill is not a value of the column: 9223372036854775808"),
     ("Language.C.token('1', -1)", ValueError, "start must be an index of the text"),
     ("Language.JSON.token('1')", ValueError, "these forms have no tokens"),
-    ("Language.CSV_DE.format_column([1], colour=7)", TypeError, "_style() got an unexpected keyword argument 'colour'"),
+    ("Language.CSV_DE.format_column([1], colour=7)", TypeError, "format_column() got an unexpected keyword argument 'colour'"),
     ("Syntax(Format()).format_number(1, decimals=300)", ValueError, "decimals must be a number from 0 to 255, not 300"),
     ("Suffixes('a\\0b')", ValueError, "a string has a null character: 'a\\x00b'"),
     ("Suffixes('u a-b')", ValueError, "a suffix has letters, digits, `_` and characters that are not ASCII: 'a-b'"),

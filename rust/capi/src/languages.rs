@@ -438,9 +438,9 @@ texts! {
 
 calls! {
     fn peltzivar_read_special(
-        syntax: Option<&Syntax>, specials: &Specials, text: *const u8, len: usize, out: Out<NumberedSpecial>
+        syntax: Option<&Syntax>, specials: Option<&Specials>, text: *const u8, len: usize, out: Out<NumberedSpecial>
     ) -> bool {
-        let read = |syntax| specials.spellings()?.read(&syntax, input(text, len)?);
+        let read = |syntax| specials?.spellings()?.read(&syntax, input(text, len)?);
         out.write_some(Syntax::given(syntax).and_then(read))
     }
 

@@ -235,14 +235,16 @@ calls! {
     }
 
     fn peltzivar_format_literal(
-        syntax: Option<&Syntax>, literal: &Literal, style: Option<&Style>, text: *mut u8, len: usize, needed: Out<usize>
+        syntax: Option<&Syntax>, literal: Option<&Literal>, style: Option<&Style>, text: *mut u8, len: usize,
+        needed: Out<usize>
     ) -> WriteStatus {
-        let Some(literal) = literal.value() else { return ARGUMENT };
+        let Some(literal) = literal.and_then(Literal::value) else { return ARGUMENT };
         write((syntax, style), (text, len, needed), |syntax, style| syntax.format_literal(literal, style))
     }
 
     fn peltzivar_format_special(
-        syntax: Option<&Syntax>, specials: &Specials, special: NumberedSpecial, text: *mut u8, len: usize, needed: Out<usize>
+        syntax: Option<&Syntax>, specials: Option<&Specials>, special: NumberedSpecial, text: *mut u8, len: usize,
+        needed: Out<usize>
     ) -> WriteStatus {
         let spelling = match special.spelling {
             1 => Spelling::Nan,
@@ -256,7 +258,7 @@ calls! {
             b'+' => Some(Sign::Plus),
             _ => return ARGUMENT,
         };
-        let Some(specials) = specials.spellings() else { return ARGUMENT };
+        let Some(specials) = specials.and_then(|it| it.spellings()) else { return ARGUMENT };
         write((syntax, None), (text, len, needed), |syntax, _| specials.format(syntax, Special { sign, spelling }))
     }
 
@@ -288,9 +290,10 @@ calls! {
     }
 
     fn peltzivar_forms_format_literal(
-        forms: *const Forms, literal: &Literal, style: Option<&Style>, text: *mut u8, len: usize, needed: Out<usize>
+        forms: *const Forms, literal: Option<&Literal>, style: Option<&Style>, text: *mut u8, len: usize,
+        needed: Out<usize>
     ) -> WriteStatus {
-        let Some(literal) = literal.value() else { return ARGUMENT };
+        let Some(literal) = literal.and_then(Literal::value) else { return ARGUMENT };
         let read = if literal.is_float() { of_floats } else { of_integers };
         literal.with_number(|number| write_number(read, (forms, style), (text, len, needed), number))
     }
