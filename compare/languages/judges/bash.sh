@@ -1,20 +1,17 @@
 #!/usr/bin/env bash
-# The judge of Bash: its arithmetic. Reads texts on standard input, and prints `-`, or `+` and the value.
+# The judge and scanner of Bash: its arithmetic, whose errors show the wrong token. Reads texts on standard input, and prints the length
+# and the value of the number that each begins with, or `-`. A text that begins with no digit is a name, or has an operator, in front
+# of which a token ends.
 LC_ALL=C
 
-# Returns whether an expression has a value, which is then in `value`, also if it is 0.
-evaluates() { let "value=$1" 1 2> /dev/null; }
-
-# A text that begins with no digit is a name, or has an operator. An expression is one token if it is none with a blank.
 judge() {
-    [[ $1 == [0-9]* ]] && evaluates "$1" || return 1
-    local found=$value
-    for ((at = 1; at < ${#1}; at++)); do
-        if evaluates "${1:0:at} ${1:at}"; then return 1; fi
-    done
-    value=$found
+    local front=${1%%[-+*/%<>=&|^?:,()!~ ]*} error it
+    [[ $front == [0-9]* ]] || return 1
+    if ! error=$(let "it=$front" 1 2>&1); then
+        error=${error#*(error token is \"}
+        front=${front%"${error%\")}"}
+    fi
+    [[ $front ]] && let "it=$front" 1 2> /dev/null && echo "${#front} $it"
 }
 
-while IFS= read -r text; do
-    if judge "$text"; then echo "+ $value"; else echo -; fi
-done
+while IFS= read -r text; do judge "$text" || echo -; done
