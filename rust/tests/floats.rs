@@ -24,31 +24,24 @@ trait Bits: WriteFloat + FromLiteral + LowerExp + Debug {
     fn near(value: f64) -> Self;
 }
 
-impl Bits for f64 {
-    const FRACTION: u32 = 52;
-    fn of(bits: u64) -> f64 {
-        f64::from_bits(bits)
-    }
-    fn word(self) -> u64 {
-        self.to_bits()
-    }
-    fn near(value: f64) -> f64 {
-        value
-    }
+macro_rules! bits {
+    ($($type:ident $fraction:literal)*) => {
+        $(impl Bits for $type {
+            const FRACTION: u32 = $fraction;
+            fn of(bits: u64) -> $type {
+                $type::from_bits(bits as _)
+            }
+            fn word(self) -> u64 {
+                self.to_bits().into()
+            }
+            fn near(value: f64) -> $type {
+                value as $type
+            }
+        })*
+    };
 }
 
-impl Bits for f32 {
-    const FRACTION: u32 = 23;
-    fn of(bits: u64) -> f32 {
-        f32::from_bits(bits as u32)
-    }
-    fn word(self) -> u64 {
-        self.to_bits().into()
-    }
-    fn near(value: f64) -> f32 {
-        value as f32
-    }
-}
+bits! { f64 52 f32 23 }
 
 /// Returns a float: of any bits, small or large, a power of two or beside one, subnormal, a decimal, or an integer.
 fn float<F: Bits>(state: &mut Random) -> F {
@@ -108,11 +101,20 @@ fn is_read_back<F: Bits>(value: F, syntax: &Syntax, style: Style) {
     }
 }
 
+/// Writes a float, and compares the text with that of std, which also has NaN and infinity.
+fn is_written<F: Bits>(value: F, style: Style, wanted: &str) {
+    match Language::JSON.forms()[0].syntax().format_float(value, style) {
+        Ok(text) => assert_eq!(text.to_string(), wanted, "{value:e}"),
+        Err(error) => {
+            assert!(error == WriteError::Special && !wanted.contains(char::is_numeric), "{value:e}: {error}")
+        }
+    }
+}
+
 /// Writes a float with the exponent of the number, with one and with none, as std does.
 #[test]
 fn floats_are_written_as_std_writes_them() {
     fn compare<F: Bits + Display>(value: F) {
-        let json = Language::JSON.forms()[0].syntax();
         let plain = format!("{value}");
         let never = if plain.ends_with(char::is_numeric) && !plain.contains('.') { plain + ".0" } else { plain };
         for (wish, wanted) in [
@@ -120,12 +122,7 @@ fn floats_are_written_as_std_writes_them() {
             (ExponentStyle::Always, format!("{value:e}")),
             (ExponentStyle::Never, never),
         ] {
-            match json.format_float(value, Style::PLAIN.exponent(wish)) {
-                Ok(text) => assert_eq!(text.to_string(), wanted, "{value:e}"),
-                Err(error) => {
-                    assert!(error == WriteError::Special && !wanted.contains(char::is_numeric), "{value:e}: {error}");
-                }
-            }
+            is_written(value, Style::PLAIN.exponent(wish), &wanted);
         }
     }
     let state = &mut Random::new(20_261_132);
@@ -139,17 +136,9 @@ fn floats_are_written_as_std_writes_them() {
 
 /// Rounds a float to so many digits behind the point, without an exponent and with one, as std does.
 fn is_rounded<F: Bits + Display>(value: F, places: usize) {
-    let json = Language::JSON.forms()[0].syntax();
     let style = Style::PLAIN.decimals(places as u8);
-    let [plain, scientific] = [format!("{value:.places$}"), format!("{value:.places$e}")];
-    for (style, wanted) in [(style, plain), (style.exponent(ExponentStyle::Always), scientific)] {
-        match json.format_float(value, style) {
-            Ok(text) => assert_eq!(text.to_string(), wanted, "{value:e}"),
-            Err(error) => {
-                assert!(error == WriteError::Special && !wanted.contains(char::is_numeric), "{value:e}: {error}");
-            }
-        }
-    }
+    is_written(value, style, &format!("{value:.places$}"));
+    is_written(value, style.exponent(ExponentStyle::Always), &format!("{value:.places$e}"));
 }
 
 #[test]

@@ -81,13 +81,8 @@ fn modules_for_serde_keep_values() {
     );
     std::fs::write(folder.join("Cargo.toml"), manifest).unwrap();
     let mut command = Command::new(env!("CARGO"));
-    command.current_dir(folder).args([
-        "run",
-        "--quiet",
-        "--offline",
-        "--config",
-        "source.crates-io.replace-with='debian'",
-    ]);
+    command.current_dir(folder).args(["run", "--quiet", "--offline"]);
+    command.args(["--config", "source.crates-io.replace-with='debian'"]);
     let output = command.args(["--config", &format!("source.debian.directory='{sources}'")]).output().expect("cargo");
     assert!(output.status.success(), "{}", String::from_utf8_lossy(&output.stderr));
 }

@@ -6,7 +6,7 @@ mod random;
 use peltzivar::format::FLAG_MASK;
 use peltzivar::literal::{
     Affix, Condition, Conditions, ExponentStyle, Form, Forms, Language, Literal, Sign, Special, Specials, Spelling,
-    Style, Syntax, WriteError,
+    Style, Syntax, WriteError, Written,
 };
 use peltzivar::{Format, NumberFormatBuilder, Part, Settings};
 use random::Random;
@@ -148,18 +148,19 @@ fn style_of(wishes: &str) -> Style {
     })
 }
 
-/// Writes a literal of a syntax in another one, or the float behind `=`, and returns the text, or the error behind `!`.
+/// Returns what is written, or the error behind `!`.
+fn shown(written: Result<Written<'_>, WriteError>) -> String {
+    written.map_or_else(|error| format!("!{error:?}"), |it| it.to_string())
+}
+
+/// Writes a literal of a syntax in another one, or the float behind `=`.
 fn convert(text: &str, source: &str, target: &str, style: &str) -> String {
     let (source, target, style) = (syntax_of(source), syntax_of(target), style_of(style));
     let literal = source.read(text.trim_start_matches('=')).unwrap();
-    let written = match text.strip_prefix('=') {
+    shown(match text.strip_prefix('=') {
         Some(float) => target.format_float(float.parse::<f64>().unwrap(), style),
         None => target.format_literal(&literal, style),
-    };
-    match written {
-        Ok(written) => written.to_string(),
-        Err(error) => format!("!{error:?}"),
-    }
+    })
 }
 
 #[test]
@@ -173,10 +174,9 @@ fn literals_are_written_as_the_rows_say() {
         assert_eq!(convert(text, source, target, style), wanted, "{line}");
         // An integer of Rust is written as the literal that std prints of it, if there is one without an exponent.
         if let Some(value) = text.parse::<i128>().ok().filter(|it| source.is_empty() && it.to_string() == text) {
-            let written = syntax_of(target).format_integer(value, style_of(style)).map(|it| it.to_string());
-            let is_float = syntax_of(target).format().required_exponent_notation();
-            let wanted = if is_float { "!Float" } else { wanted };
-            assert_eq!(written.unwrap_or_else(|error| format!("!{error:?}")), wanted, "{line}");
+            let target = syntax_of(target);
+            let wanted = if target.format().required_exponent_notation() { "!Float" } else { wanted };
+            assert_eq!(shown(target.format_integer(value, style_of(style))), wanted, "{line}");
         }
         count += 1;
     }
@@ -210,11 +210,7 @@ fn numbers_are_as_long_as_the_limits() {
 
 /// Returns what a language, or the forms of some settings, write for a literal of a language.
 fn chosen(source: Language, text: &str, target: &Forms<'_>) -> String {
-    let literal = source.read(text).unwrap().literal().unwrap();
-    match target.format_literal(&literal, Style::PLAIN) {
-        Ok(written) => written.to_string(),
-        Err(error) => format!("!{error:?}"),
-    }
+    shown(target.format_literal(&source.read(text).unwrap().literal().unwrap(), Style::PLAIN))
 }
 
 #[test]
