@@ -70,8 +70,6 @@ impl FormatError {
     }
 }
 
-impl core::error::Error for FormatError {}
-
 /// Prints the first of the [`reasons`][FormatError::reasons]. If there are none, prints that a word begins with `0x` if the
 /// text does not, what options or conditions are, and otherwise the [`code`][FormatError::code].
 ///

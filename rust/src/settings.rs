@@ -393,8 +393,6 @@ impl Finding {
     }
 }
 
-impl core::error::Error for Finding {}
-
 impl fmt::Display for Finding {
     fn fmt(&self, f: &mut fmt::Formatter<'_>) -> fmt::Result {
         match &self.kind {
@@ -469,8 +467,6 @@ impl LineError {
         takes_one.then_some(char::from(*byte))
     }
 }
-
-impl core::error::Error for LineError {}
 
 impl fmt::Display for LineError {
     fn fmt(&self, f: &mut fmt::Formatter<'_>) -> fmt::Result {

@@ -11,10 +11,19 @@ use crate::reasons::Reason;
 use crate::short_text::ShortText;
 use crate::view::{FormatView, Role};
 use crate::word_text::{parse_word, word_text};
+use crate::{literal, Finding, LineError};
 
-impl core::error::Error for EditError {}
+macro_rules! errors {
+    ($($Type:ty)*) => {
+        // Each prints the error that it holds, so that error is not its source.
+        $(impl core::error::Error for $Type {})*
+    };
+}
 
-impl core::error::Error for Reason {}
+errors! {
+    EditError Finding FormatError LineError Reason literal::ConditionsError literal::FormError literal::LanguageError
+    literal::ParseError literal::ReadError literal::TokenError literal::ValueError literal::WriteError
+}
 
 /// Parses a format word, whether or not it is [lawful][crate::Rule]: `0x` followed by 1 to 32 hexadecimal digits.
 ///

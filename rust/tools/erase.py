@@ -169,7 +169,7 @@ REPLACED += [
     ("marked.rt", "match self.literal(front) {", "match self.literal_of(front, candidate.counts) {"),
     ("marks.rt", "const fn between<", "pub(crate) const fn between<"),
     ("list.rt", "        if self.marked {\n            self.number(text, self.find_marked(text))", "        if !cfg!(peltzivar_small) && self.marked {\n            self.number(text, self.find_marked(text))"),
-    ("list.rt", "            let syntax = &self.forms[form].syntax;\n            if !is_behind(", "            let Some(text) = self.inside(text, form) else { form += 1; continue; }; let syntax = &self.forms[form].syntax;\n            if !is_behind("),
+    ("list.rt", "            let syntax = &self.forms[form].syntax;\n            if !is_behind(", "            let text = if cfg!(peltzivar_small) && self.marked { match self.forms[form].between(text) { Some(inside) => inside, None => { form += 1; continue; } } } else { text }; let syntax = &self.forms[form].syntax;\n            if !is_behind("),
     ("list.rt", "let begun = syntax.begin(false, text, false);", "let begun = syntax.begin_small(text, false);"),
     ("list.rt", "Err(stop) => furthest = self.further_on(", "Err(_) if cfg!(peltzivar_small) && self.marked => {}\n Err(stop) => furthest = self.further_on("),
     ("exclude.rt", "pub(crate) const fn is_settled(", "#[cfg_attr(not(peltzivar_small), inline(always))]\npub(crate) const fn is_settled("),

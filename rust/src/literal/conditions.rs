@@ -192,8 +192,6 @@ impl ConditionsError {
     }
 }
 
-impl core::error::Error for ConditionsError {}
-
 /// Prints the condition, and what contradicts it in the format.
 impl fmt::Display for ConditionsError {
     fn fmt(&self, f: &mut fmt::Formatter<'_>) -> fmt::Result {

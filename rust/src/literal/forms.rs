@@ -60,28 +60,18 @@ impl<'a> Forms<'a> {
         }
     }
 
-    // Returns what a form reads of `text`. In the library for C, which has one reader for all lists, that is what is
-    // between the opening and the closing of the form, if they are there.
-    #[inline(always)]
-    pub(crate) const fn inside<'t>(&self, text: &'t [u8], form: usize) -> Option<&'t [u8]> {
-        if !cfg!(peltzivar_small) || !self.marked {
-            return Some(text);
-        }
-        self.as_slice()[form].between(text)
-    }
-
     // Returns whether the first form is tried before the list is asked: it seldom reads texts such as `0x1F`. The library
     // for C and the page, which set `peltzivar_small`, have no second copy of the reader for this.
     #[inline(always)]
     fn asks_first(&self, text: &[u8]) -> bool {
-        !cfg!(peltzivar_small) && !self.marked && (self.as_slice().len() == 1 || !has_letter_behind_zero(text))
+        !cfg!(peltzivar_small) && !self.marked && (self.forms.len() == 1 || !has_letter_behind_zero(text))
     }
 
     // Returns the literal of the first form that `text` is, if this is known at once, as of most decimal ones, or where the
     // form stops, if it refuses `text`.
     #[inline(always)]
     fn first_decimal<'t>(&self, text: &'t [u8]) -> Result<Literal<'t>, Option<Stopped>> {
-        let Form { syntax, kind, .. } = self.as_slice()[0];
+        let Form { syntax, kind, .. } = self.forms[0];
         if !syntax.is_decimal() {
             return Err(None);
         }
@@ -106,7 +96,7 @@ impl<'a> Forms<'a> {
         };
         match self.find_plain(text, stop) {
             Ok((form, literal)) => {
-                let literal = literal.with_kind(self.as_slice()[form].kind);
+                let literal = literal.with_kind(self.forms[form].kind);
                 Some(Number::Literal { literal, form })
             }
             Err(_) => self.special(text).map(Number::Special),
@@ -131,7 +121,7 @@ impl<'a> Forms<'a> {
     pub fn parse<T: FromLiteral>(&self, text: impl AsRef<[u8]>) -> Result<T, ParseError> {
         let text = text.as_ref();
         if self.asks_first(text) {
-            let Form { syntax, kind, .. } = self.as_slice()[0];
+            let Form { syntax, kind, .. } = self.forms[0];
             match syntax.parse_decimal(kind, text) {
                 Decimal::Value(value) => return Ok(value),
                 Decimal::Stopped(at) => return self.parse_stopped(text, at),
@@ -159,7 +149,7 @@ impl<'a> Forms<'a> {
         }
         let (error, kind) = match self.find_plain(text, stop) {
             Ok((form, literal)) => {
-                let literal = literal.with_kind(self.as_slice()[form].kind);
+                let literal = literal.with_kind(self.forms[form].kind);
                 match T::from_literal(literal) {
                     Ok(value) => return Ok(value),
                     Err(error) => (error, literal.integer_kind()),
@@ -190,7 +180,7 @@ impl<'a> Forms<'a> {
     #[cold]
     fn refuse<T>(&self, text: &[u8], furthest: Furthest) -> Result<T, ParseError> {
         let Furthest { form, stop, .. } = furthest;
-        let Form { name, ref syntax, .. } = self.as_slice()[form];
+        let Form { name, ref syntax, .. } = self.forms[form];
         if cfg!(peltzivar_small) {
             return Err(ParseError::Read(self.error_at(text, furthest)));
         }
@@ -226,7 +216,7 @@ impl ops::Index<usize> for Forms<'_> {
 
     fn index(&self, index: usize) -> &Form {
         let behind = self.tokens.map_or(&[][..], |tokens| tokens.forms);
-        self.as_slice().get(index).unwrap_or_else(|| &behind[index - self.as_slice().len()])
+        self.forms.get(index).unwrap_or_else(|| &behind[index - self.forms.len()])
     }
 }
 
@@ -235,7 +225,7 @@ impl<'a> IntoIterator for &Forms<'a> {
     type IntoIter = slice::Iter<'a, Form>;
 
     fn into_iter(self) -> slice::Iter<'a, Form> {
-        self.as_slice().iter()
+        self.forms.iter()
     }
 }
 
@@ -399,5 +389,3 @@ impl fmt::Display for FormError {
         }
     }
 }
-
-impl core::error::Error for FormError {}

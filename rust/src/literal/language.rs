@@ -176,8 +176,6 @@ impl fmt::Display for LanguageError {
     }
 }
 
-impl core::error::Error for LanguageError {}
-
 /// Languages are equal if they have the same name.
 impl PartialEq for Language {
     fn eq(&self, other: &Self) -> bool {

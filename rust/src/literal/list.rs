@@ -323,9 +323,16 @@ impl<'a> Forms<'a> {
             form = 1;
         }
         while form < self.forms.len() {
-            let Some(text) = self.inside(text, form) else {
-                form += 1;
-                continue;
+            let text = if cfg!(peltzivar_small) && self.marked {
+                match self.forms[form].between(text) {
+                    Some(inside) => inside,
+                    None => {
+                        form += 1;
+                        continue;
+                    }
+                }
+            } else {
+                text
             };
             let syntax = &self.forms[form].syntax;
             if !is_behind(syntax.as_grammar(), text, furthest) {

@@ -216,8 +216,6 @@ const fn lowest(mask: u128) -> FlagSetter {
     FlagSetter::FLAGS[mask.trailing_zeros() as usize % FlagSetter::FLAGS.len()]
 }
 
-impl core::error::Error for ReadError {}
-
 /// Prints `expected` and what is missing, or `unexpected` and what must not be there, such as `unexpected plus sign` or
 /// `unexpected digit separator in the fraction after another`. With `{:#}`, prints the [text][Self::full_text] that names
 /// the flags to blame, too.

@@ -106,5 +106,3 @@ impl fmt::Display for TokenError {
         }
     }
 }
-
-impl core::error::Error for TokenError {}

@@ -276,9 +276,7 @@ impl Syntax {
             Some(other) => self.format_other(other, style),
         }
     }
-}
 
-impl Syntax {
     /// Returns the value of a literal that is not the number that it represents.
     #[cold]
     #[inline(never)]
@@ -527,5 +525,3 @@ impl fmt::Display for WriteError {
         })
     }
 }
-
-impl core::error::Error for WriteError {}

@@ -125,8 +125,6 @@ impl fmt::Display for ValueError {
     }
 }
 
-impl core::error::Error for ValueError {}
-
 /// Why a text has no value in a type.
 ///
 /// ```
@@ -206,6 +204,3 @@ impl fmt::Display for ParseError {
         }
     }
 }
-
-/// It prints the error that it holds, so that error is not its source.
-impl core::error::Error for ParseError {}
