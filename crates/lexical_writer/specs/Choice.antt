@@ -1,6 +1,6 @@
 -- Which form of a list writes a number, and how the text is read back.
 use Rattle.std.specs.Prelude.{ℕ, ◌≡◌, ◌≤◌, ◌-◌, ◌^◌, ◌+◌, ◌/◌, ◌%◌, ◌<◌, ◌==◌, ◌&&◌, ◌||◌, ◌⊎◌, not, if◌then◌else◌, Bool, true, false, is_some, List, []}
-use Rattle.std.specs.Prelude.{All, IsSomeAnd, Ok, Option, Some, None, ℤ, length, min, slice_get, take}
+use Rattle.std.specs.Prelude.{All, Err, IsSomeAnd, Ok, Option, Result, Some, None, ℤ, length, min, slice_get, take}
 use Rattle.std.specs.Borrow.{Bor}
 use Rattle.std.specs.Float.{Float, Format, binary64}
 use lib.Ieee.Exact.{HasValue as HasFraction}
@@ -23,8 +23,6 @@ use Rattle.lexical_writer.specs.Conversion.{IsNear, SameFraction}
 use Rattle.lexical_writer.specs.Layout.{HasValue, needs_exponent, wants_exponent}
 use Rattle.lexical_writer.specs.Rounded.{IsRounded, decimals_in}
 use Rattle.lexical_writer.specs.declared.choice.Order.{Order}
-use Rattle.lexical_writer.specs.declared.choice.Refused.{Refused}
-use Rattle.lexical_writer.specs.declared.choice.Refused.TheVariants as refusals
 use Rattle.lexical_writer.specs.declared.layout.ExponentStyle.TheVariants as exponents
 use Rattle.lexical_writer.specs.declared.layout.Style.{Style}
 use Rattle.lexical_writer.specs.declared.layout.WriteError.{WriteError}
@@ -39,10 +37,10 @@ turn radix integer g =
     if (raw g.word).byte layout.mantissa_radix == radix then late
     else (if (raw g.word).byte layout.mantissa_radix == 10 then late + 1 else late + 2)
 
--- `is_part order part exponent` is true if a form is asked in this part of its turn: in the first one without a word, and in the second one with
+-- `takes_part order part exponent` is true if a form is asked in this part of its turn: in the first one without a word, and in the second one with
 -- a word, if the number is an integer. If all literals of the form have an `exponent` that the style does not wish for, it is the third one.
-abbrev pub is_part : Order → ℕ → Bool → Bool
-is_part order part exponent =
+abbrev pub takes_part : Order → ℕ → Bool → Bool
+takes_part order part exponent =
     if part == 0 then order.all || not exponent else (if part == 1 then order.integer && not exponent else not order.all && exponent)
 
 -- `is_radix first g` is true if a syntax `g` has the radix of the form that is asked first, where the number is rounded.
@@ -52,7 +50,7 @@ is_radix (Some first) g = (raw g.word).byte layout.mantissa_radix == first.0
 
 -- `is_asked order step form` is true if `form` is asked in a step, of which each turn has three. A form that is only read is not asked.
 abbrev pub is_asked : Order → ℕ → Form → Bool
-is_asked order step form = ((turn order.radix order.integer form.syntax == step / 3 && is_part order (step % 3) (needs_exponent form.syntax))
+is_asked order step form = ((turn order.radix order.integer form.syntax == step / 3 && takes_part order (step % 3) (needs_exponent form.syntax))
     && not form.only_read) && is_radix order.first form.syntax
 
 -- `AreBefore P order forms step index` holds if `P` holds of each step and each form that is asked in it before the form with this index
@@ -81,61 +79,54 @@ pub record IsOrder (radix : ℕ) (integer rounded : Bool) (style : Style) (forms
   pub exact : rounded ≡ false → order.first ≡ None
   pub first : rounded ≡ true → IsFirstAsked (record order { first = None }) forms order.first
 
--- `keeps_all first g decimals` is true if a form with the syntax `g` does not round a number: in a list with floats, integers alone do not, unless to
--- no digit. `style_by first g style` is the style in which such a form is asked.
-abbrev pub keeps_all : Option (ℕ × Bool) → Grammar → Option ℕ → Bool
-keeps_all (Some first) g (Some n) = (first.1 && lacks_options g.options) && not (n == 0)
-keeps_all _ _ _ = false
+-- `is_unrounded first g decimals` is true if a form with the syntax `g` does not round a number: in a list with floats, integers alone do not, unless to
+-- no digit. `asked_style first g style` is the style in which such a form is asked.
+abbrev pub is_unrounded : Option (ℕ × Bool) → Grammar → Option ℕ → Bool
+is_unrounded (Some first) g (Some n) = (first.1 && lacks_options g.options) && not (n == 0)
+is_unrounded _ _ _ = false
 
-abbrev pub style_by : Option (ℕ × Bool) → Grammar → Style → Style
-style_by first g style = if keeps_all first g style.decimals then record style { decimals = None } else style
+abbrev pub asked_style : Option (ℕ × Bool) → Grammar → Style → Style
+asked_style first g style = if is_unrounded first g style.decimals then record style { decimals = None } else style
 
--- `is_fraction error` is true if `error` is `Fraction`. `first_reason first error` is the error of a list, where `first` is that of the forms before a
--- form with `error`, if there are any: the first one, but `Fraction` gives way to another one.
-abbrev pub is_fraction : WriteError → Bool
-is_fraction errors.Fraction = true
-is_fraction _ = false
+-- `is_replaced first` is true if the error `first` of the forms before, if there is one, gives way to that of the next form: if it is `Fraction`.
+-- `first_reason first error` is the error of a list, where `error` is that of the next form.
+abbrev pub is_replaced : Option WriteError → Bool
+is_replaced None = true
+is_replaced (Some errors.Fraction) = true
+is_replaced _ = false
 
 abbrev pub first_reason : Option WriteError → WriteError → Option WriteError
-first_reason None error = Some error
-first_reason (Some first) error = if is_fraction first then Some error else Some first
+first_reason first error = if is_replaced first then Some error else first
 
--- `IsRefused refuses has style form error` holds if `error` is why a form without an opening and a closing does not write a number in a style: it
--- `refuses` the number, or a literal that it `has` for the number is too long for a buffer, or not read back as the number.
-abbrev pub IsRefused : (Style → Grammar → WriteError → Type 0) → (Style → Grammar → Literal → Type 0) → Style → Form → WriteError → Type 0
-IsRefused refuses has style form error = (form.opening.size ≡ 0) → (form.closing.size ≡ 0) → refuses style form.syntax error
-    ⊎ ((l : Literal) × Reads (notation_of form.syntax) l (text_of l) × has style form.syntax l
+-- `IsRefused writes style form error` holds if `error` is why a form without an opening and a closing does not write a number in a style: no literal is
+-- written for the number, or one that is written is too long for a buffer, or not read back as the number.
+abbrev pub IsRefused : (Style → Grammar → Result Literal WriteError → Type 0) → Style → Form → WriteError → Type 0
+IsRefused writes style form error = (form.opening.size ≡ 0) → (form.closing.size ≡ 0) → writes style form.syntax (Err error)
+    ⊎ ((l : Literal) × Reads (notation_of form.syntax) l (text_of l) × writes style form.syntax (Ok l)
     × ((error ≡ errors.Buffer (min (length (text_of l)) (2 ^ 64 - 1))) ⊎ ((error ≡ errors.TooLarge) ⊎ (error ≡ errors.ReadBack))))
 
--- `IsUnused P style form error` holds if `P` holds of the style, the form and `error` or, where a wish for an exponent is dropped, of the style and
--- some error, and of the style without the wish and `error`.
-abbrev pub IsUnused : (Style → Form → WriteError → Type 0) → Style → Form → WriteError → Type 0
-IsUnused P style form error = P style form error
-    ⊎ (((first : WriteError) × P style form first) × P (record style { exponent = exponents.AsNumber }) form error)
+-- `IsPassedOver writes style form error` holds if the form is refused with `error` in the style or, where a wish for an exponent is dropped, with some
+-- error in the style, and with `error` without the wish.
+abbrev pub IsPassedOver : (Style → Grammar → Result Literal WriteError → Type 0) → Style → Form → WriteError → Type 0
+IsPassedOver writes style form error = IsRefused writes style form error
+    ⊎ (((first : WriteError) × IsRefused writes style form first) × IsRefused writes (record style { exponent = exponents.AsNumber }) form error)
 
--- `IsReason refuses has order style step form error` holds if `error` is why a form that is asked in a step without a word does not write a number.
-abbrev pub IsReason : (Style → Grammar → WriteError → Type 0) → (Style → Grammar → Literal → Type 0) → Order → Style → ℕ → Form → WriteError → Type 0
-IsReason refuses has order style step form error =
-    (step % 3 == 1) ≡ false → IsUnused (IsRefused refuses has) (style_by order.first form.syntax style) form error
+-- `IsReason writes order style step form error` holds if `error` is why a form that is asked in a step without a word does not write a number.
+abbrev pub IsReason : (Style → Grammar → Result Literal WriteError → Type 0) → Order → Style → ℕ → Form → WriteError → Type 0
+IsReason writes order style step form error = (step % 3 == 1) ≡ false → IsPassedOver writes (asked_style order.first form.syntax style) form error
 
--- `IsFraction P step form` holds if `P` holds of a step, a form and an error, which is `Fraction`.
+-- `IsFraction P step form` holds if `P` holds of a step, a form and `Fraction`.
 abbrev pub IsFraction : (ℕ → Form → WriteError → Type 0) → ℕ → Form → Type 0
-IsFraction P step form = (error : WriteError) × (is_fraction error ≡ true) × P step form error
+IsFraction P step form = (error : WriteError) × (is_replaced (Some error) ≡ true) × P step form error
 
 -- `IsSearched P order forms step index reason` holds if each form that is asked before this step and index has an error, of which `P` holds with the
 -- step and the form, and if `reason` is the first of these errors that is not `Fraction`, or `Fraction` if each is, or `None` if no form is asked.
 pub record IsSearched (P : ℕ → Form → WriteError → Type 0) (order : Order) (forms : List Form) (step index : ℕ) (reason : Option WriteError) : Type 0 where
   pub passed : AreBefore (λ before form. (error : WriteError) × P before form error) order forms step index
   pub none : reason ≡ None → AreBefore (λ before form. ⊥) order forms step index
-  pub fraction : (error : WriteError) → reason ≡ Some error → is_fraction error ≡ true → AreBefore (IsFraction P) order forms step index
-  pub other : (error : WriteError) → reason ≡ Some error → is_fraction error ≡ false → (at : ℕ) × (first : ℕ)
+  pub fraction : is_replaced reason ≡ true → AreBefore (IsFraction P) order forms step index
+  pub other : (error : WriteError) → reason ≡ Some error → is_replaced reason ≡ false → (at : ℕ) × (first : ℕ)
       × AreBefore (IsFraction P) order forms at first × IsSomeAnd (slice_get forms first) (λ form. (is_asked order at form ≡ true) × P at form error)
-
--- `IsEnd P order forms step it` holds if `it` is the error of the forms that are asked before a step, or that a text of at most 4,096 bytes needs a longer
--- buffer.
-abbrev pub IsEnd : (ℕ → Form → WriteError → Type 0) → Order → List Form → ℕ → Refused → Type 0
-IsEnd P order forms step (refusals.By reason) = IsSearched P order forms step 0 reason
-IsEnd P order forms step (refusals.Short error) = (n : ℕ) × (n ≤ 4096) × (error ≡ errors.Buffer n)
 
 -- `has_float read` is true if `read` has a decimal point or an exponent, and is worth a float.
 abbrev pub has_float : Read → Bool
