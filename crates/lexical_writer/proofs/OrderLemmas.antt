@@ -1,47 +1,53 @@
 -- The order in which forms are asked.
-use Rattle.lexical_writer.proofs.Common.{All, All-more, AreBefore, Bool, Form, Grammar, IsSearched, IsStyleOf, List, None, Option, Options, Order}
-use Rattle.lexical_writer.proofs.Common.{Some, Style, WriteError, ap, arith, asked_style, cases_lt, false, false≢true, get_or, if◌then◌else◌, inl, inr, is_asked}
-use Rattle.lexical_writer.proofs.Common.{is_some, lacks_options, length, length-take-le, not, refl, slice_get_read, subst, sym, take_all, true, ℕ, ◌+◌, ◌<◌}
-use Rattle.lexical_writer.proofs.Common.{◌∙◌, ◌≡◌, ◌≤◌}
+use Rattle.lexical_writer.proofs.Common.{AreBefore, Bool, Form, Grammar, IsSearched, IsSomeAnd, IsStyleOf, List, None, Option, Options, Order, Some, Style}
+use Rattle.lexical_writer.proofs.Common.{WriteError, ap, arith, asked_style, cases_lt, false, false≢true, if◌then◌else◌, inl, inr, is_asked, is_some}
+use Rattle.lexical_writer.proofs.Common.{lacks_options, length, not, refl, slice_get, subst, sym, true, unwrap_or, ℕ, ◌+◌, ◌<◌, ◌∙◌, ◌≡◌, ◌≤◌, ◌⊎◌}
 use Rattle.lexical_writer.specs.Choice.{IsFraction, first_reason, is_replaced, is_unrounded}
-use Rattle.std.specs.Prelude.{IsSomeAnd, slice_get}
-
--- The form at an index is the one that was read there.
-pub at_index : (P : Form → Type 0) (forms : List Form) (form : Form) (index : ℕ) → index < length forms → form ≡ get_or forms index form → P form
-    → IsSomeAnd (slice_get forms index) P
-at_index P forms form index inside is holds =
-    subst (λ o. IsSomeAnd o P) (sym (slice_get_read forms (length forms) index form refl inside is)) holds
+use Rattle.std.proofs.lemmas.Option.{slice_get_within}
 
 -- Nothing is asked before the first form in the first step.
-before_start : {P : ℕ → Form → Type 0} {order : Order} {forms : List Form} → AreBefore P order forms 0 0
-before_start {P} {order} {forms} = record {
-  earlier = λ before below. absurd (omega (arith, below));
-  here = λ k d below. absurd (omega (arith, below, length-take-le 0 forms (omega arith)));
+pub before_start : {P : ℕ → ℕ → Form → Type 0} {order : Order} {forms : List Form} → AreBefore P order forms 0 0
+before_start = record {
+  each = λ before at form earlier there asked. elim earlier [ inl less ↦ absurd (omega (arith, less)) | inr same ↦ absurd (omega (arith, same.1)) ];
 }
 
+-- The form at an index is one alone.
+one_form : (o : Option Form) (form it : Form) → o ≡ Some form → o ≡ Some it → form ≡ it
+one_form o form it here there = ap (λ o. unwrap_or o form) (sym here ∙ there)
+
 -- In a step, the next form is asked behind those before it.
-before_more : {P : ℕ → Form → Type 0} {order : Order} {forms : List Form} {step index : ℕ} (form : Form) → index < length forms
-    → form ≡ get_or forms index form → (is_asked order step form ≡ true → P step form) → AreBefore P order forms step index
-    → AreBefore P order forms step (index + 1)
-before_more {P} {order} {forms} {step} {index} form inside is new old = record {
-  earlier = old.earlier;
-  here = All-more (λ form. is_asked order step form ≡ true → P step form) forms index form inside old.here
-      (subst (λ form. is_asked order step form ≡ true → P step form) is new);
+pub before_more : {P : ℕ → ℕ → Form → Type 0} {order : Order} {forms : List Form} {step index : ℕ} (form : Form) → slice_get forms index ≡ Some form
+    → (is_asked order step form ≡ true → P step index form) → AreBefore P order forms step index → AreBefore P order forms step (index + 1)
+before_more {P} {order} {forms} {step} {index} form here new old = record {
+  each = λ before at it earlier there asked. elim earlier [
+    | inl less ↦ old.each before at it (inl less) there asked
+    | inr same ↦ elim (cases_lt at index) [
+      | inl less ↦ old.each before at it (inr (same.0, less)) there asked
+      | inr least ↦
+          let next : index ≡ at = omega (arith, least, same.1) in
+          let one : form ≡ it = one_form (slice_get forms index) form it here (ap (slice_get forms) next ∙ there) in
+          subst (λ i. P before i it) next (subst (λ s. P s index it) (sym same.0) (subst (P step index) one
+          (new (subst (λ s. is_asked order s form ≡ true) same.0 (subst (λ f. is_asked order before f ≡ true) (sym one) asked)))))
+    ]
+  ];
 }
 
 -- Behind the last form of a step is the first one of the next step.
-before_next : {P : ℕ → Form → Type 0} {order : Order} {forms : List Form} {step index : ℕ} → length forms ≤ index → AreBefore P order forms step index
-    → AreBefore P order forms (step + 1) 0
+pub before_next : {P : ℕ → ℕ → Form → Type 0} {order : Order} {forms : List Form} {step index : ℕ} → length forms ≤ index
+    → AreBefore P order forms step index → AreBefore P order forms (step + 1) 0
 before_next {P} {order} {forms} {step} {index} end old = record {
-  earlier = λ before below. elim (cases_lt before step) [
-    | inl less ↦ old.earlier before less
-    | inr least ↦ subst (λ s. All (λ form. is_asked order s form ≡ true → P s form) forms) {x = step} {y = before} (omega (arith, least, below))
-        (subst (All (λ form. is_asked order step form ≡ true → P step form)) (take_all index forms end) old.here)
+  each = λ before at form earlier there asked. elim earlier [
+    | inl below ↦
+        let last : (before < step) ⊎ ((before ≡ step) × (at < index)) = elim (cases_lt before step) [
+          | inl less ↦ inl less
+          | inr least ↦ inr (omega (arith, least, below), omega (arith, end, slice_get_within forms at form there))
+        ] in
+        old.each before at form last there asked
+    | inr none ↦ absurd (omega (arith, none.1))
   ];
-  here = λ k d below. absurd (omega (arith, below, length-take-le 0 forms (omega arith)));
 }
 
-module _ (P : ℕ → Form → WriteError → Type 0) (order : Order) (forms : List Form) where
+module _ (P : ℕ → ℕ → Form → WriteError → Type 0) (order : Order) (forms : List Form) where
   -- Before the first step, there is no reason.
   pub searched_start : IsSearched P order forms 0 0 None
   searched_start = record {
@@ -53,7 +59,7 @@ module _ (P : ℕ → Form → WriteError → Type 0) (order : Order) (forms : L
 
   module _ (step index : ℕ) (reason : Option WriteError) (old : IsSearched P order forms step index reason) where
     -- Behind forms that are not asked, the reason is the same.
-    moved : (to at : ℕ) → ((Q : ℕ → Form → Type 0) → AreBefore Q order forms step index → AreBefore Q order forms to at)
+    moved : (to at : ℕ) → ((Q : ℕ → ℕ → Form → Type 0) → AreBefore Q order forms step index → AreBefore Q order forms to at)
         → IsSearched P order forms to at reason
     moved to at carry = record {
       passed = carry _ old.passed;
@@ -65,30 +71,30 @@ module _ (P : ℕ → Form → WriteError → Type 0) (order : Order) (forms : L
     pub searched_next : length forms ≤ index → IsSearched P order forms (step + 1) 0 reason
     searched_next end = moved (step + 1) 0 (λ Q. before_next end)
 
-    module _ (form : Form) (inside : index < length forms) (is : form ≡ get_or forms index form) where
+    module _ (form : Form) (here : slice_get forms index ≡ Some form) where
       pub searched_skip : (is_asked order step form ≡ true → ⊥) → IsSearched P order forms step (index + 1) reason
-      searched_skip none = moved step (index + 1) (λ Q. before_more form inside is (λ asked. absurd (none asked)))
+      searched_skip none = moved step (index + 1) (λ Q. before_more form here (λ asked. absurd (none asked)))
 
       -- The error of a form takes the place of `Fraction`.
-      pub searched_more : (error : WriteError) → is_asked order step form ≡ true → P step form error
+      pub searched_more : (error : WriteError) → is_asked order step form ≡ true → P step index form error
           → IsSearched P order forms step (index + 1) (first_reason reason error)
       searched_more error asked holds = go (is_replaced reason) refl
         where
           go : (replaced : Bool) → is_replaced reason ≡ replaced → IsSearched P order forms step (index + 1) (if replaced then Some error else reason)
           go true replaced = record {
-            passed = before_more form inside is (λ _. (error, holds)) old.passed;
+            passed = before_more form here (λ _. (error, holds)) old.passed;
             none = λ same. absurd (false≢true (sym (ap is_some same)));
-            fraction = λ fraction. before_more form inside is (λ _. (error, fraction, holds)) (old.fraction replaced);
+            fraction = λ fraction. before_more form here (λ _. (error, fraction, holds)) (old.fraction replaced);
             other = λ other same _. (
               step,
               index,
               old.fraction replaced,
-              at_index (λ form. (is_asked order step form ≡ true) × P step form other) forms form index inside is
-                  (asked, subst (P step form) (cc same) holds),
+              subst (λ o. IsSomeAnd o (λ form. (is_asked order step form ≡ true) × P step index form other)) (sym here)
+                  (asked, subst (P step index form) (cc same) holds),
             );
           }
           go false replaced = record {
-            passed = before_more form inside is (λ _. (error, holds)) old.passed;
+            passed = before_more form here (λ _. (error, holds)) old.passed;
             none = λ same. absurd (false≢true (sym replaced ∙ ap is_replaced same));
             fraction = λ fraction. absurd (false≢true (sym replaced ∙ fraction));
             other = old.other;

@@ -1,8 +1,8 @@
 -- Which form of a list writes a number, and how the text is read back.
 use Rattle.std.specs.Prelude.{ℕ, ◌≡◌, ◌≤◌, ◌-◌, ◌^◌, ◌+◌, ◌/◌, ◌%◌, ◌<◌, ◌==◌, ◌&&◌, ◌||◌, ◌⊎◌, not, if◌then◌else◌, Bool, true, false, is_some, List, []}
-use Rattle.std.specs.Prelude.{All, Err, IsSomeAnd, Ok, Option, Result, Some, None, ℤ, length, min, slice_get, take}
+use Rattle.std.specs.Prelude.{Err, IsSomeAnd, Ok, Option, Result, Some, None, ℤ, is_ok, length, min, slice_get}
 use Rattle.std.specs.Borrow.{Bor}
-use Rattle.std.specs.Float.{Float, Format, binary64}
+use Rattle.std.specs.Float.{Float, Format, binary64, float_is_infinite}
 use lib.Ieee.Exact.{HasValue as HasFraction}
 use Rattle.lexical_util.specs.Layout as layout
 use Rattle.lexical_util.specs.Record.{Record, bytes_of, raw}
@@ -15,10 +15,13 @@ use Rattle.lexical_literal.specs.Notation.{lacks_options, notation_of}
 use Rattle.lexical_literal.specs.Read.{exact, Read}
 use Rattle.lexical_literal.specs.Literal.{Literal, Reads, is_float, is_minus, text_of}
 use Rattle.lexical_literal.specs.declared.syntax.Grammar.{Grammar}
+use Rattle.lexical_literal.specs.declared.kind.FloatKind.TheVariants as floats
+use Rattle.lexical_literal.specs.declared.kind.FloatLimits.TheVariants as limits
+use Rattle.lexical_number.specs.Float.{is_zero}
 use Rattle.lexical_number.specs.Numeral.{with_sign}
 use Rattle.lexical_value.specs.Float.{is_binary, is_decimal, nearest}
 use Rattle.lexical_value.specs.Integer.{integer_size}
-use Rattle.lexical_value.specs.Kind.{IsWorth, float_worth}
+use Rattle.lexical_value.specs.Kind.{IsWorth, float_worth, integer_worth, is_exact}
 use Rattle.lexical_writer.specs.Conversion.{IsNear, SameFraction}
 use Rattle.lexical_writer.specs.Layout.{HasValue, needs_exponent, wants_exponent}
 use Rattle.lexical_writer.specs.Rounded.{IsRounded, decimals_in}
@@ -53,11 +56,11 @@ abbrev pub is_asked : Order → ℕ → Form → Bool
 is_asked order step form = ((turn order.radix order.integer form.syntax == step / 3 && takes_part order (step % 3) (needs_exponent form.syntax))
     && not form.only_read) && is_radix order.first form.syntax
 
--- `AreBefore P order forms step index` holds if `P` holds of each step and each form that is asked in it before the form with this index
--- is asked in this step.
-pub record AreBefore (P : ℕ → Form → Type 0) (order : Order) (forms : List Form) (step index : ℕ) : Type 0 where
-  pub earlier : (before : ℕ) → before < step → All (λ form. is_asked order before form ≡ true → P before form) forms
-  pub here : All (λ form. is_asked order step form ≡ true → P step form) (take index forms)
+-- `AreBefore P order forms step index` holds if `P` holds of each step, index and form that is asked before the form with this index is asked in this
+-- step.
+pub record AreBefore (P : ℕ → ℕ → Form → Type 0) (order : Order) (forms : List Form) (step index : ℕ) : Type 0 where
+  pub each : (before at : ℕ) → (form : Form) → (before < step) ⊎ ((before ≡ step) × (at < index)) → slice_get forms at ≡ Some form
+      → is_asked order before form ≡ true → P before at form
 
 -- `IsAskedAs order step first form` holds if `form` is asked in a step, and `first` is its radix, and whether it has floats.
 abbrev pub IsAskedAs : Order → ℕ → ℕ × Bool → Form → Type 0
@@ -66,8 +69,8 @@ IsAskedAs order step first form = (is_asked order step form ≡ true) × (first.
 
 -- `IsFirstAsked order forms first` holds if `first` is the radix of the form that is asked first, and whether it has floats, or `None` if none is asked.
 abbrev pub IsFirstAsked : Order → List Form → Option (ℕ × Bool) → Type 0
-IsFirstAsked order forms None = (step : ℕ) → step < 18 → All (λ form. is_asked order step form ≡ true → ⊥) forms
-IsFirstAsked order forms (Some first) = (step : ℕ) × (index : ℕ) × AreBefore (λ step form. ⊥) order forms step index
+IsFirstAsked order forms None = AreBefore (λ step index form. ⊥) order forms 18 0
+IsFirstAsked order forms (Some first) = (step index : ℕ) × AreBefore (λ step index form. ⊥) order forms step index
     × IsSomeAnd (slice_get forms index) (IsAskedAs order step first)
 
 -- `IsOrder radix integer rounded style forms order` holds if `order` is that in which `forms` are asked to write an integer or, if `integer`
@@ -98,35 +101,56 @@ is_replaced _ = false
 abbrev pub first_reason : Option WriteError → WriteError → Option WriteError
 first_reason first error = if is_replaced first then Some error else first
 
--- `IsRefused writes style form error` holds if `error` is why a form without an opening and a closing does not write a number in a style: no literal is
--- written for the number, or one that is written is too long for a buffer, or not read back as the number.
-abbrev pub IsRefused : (Style → Grammar → Result Literal WriteError → Type 0) → Style → Form → WriteError → Type 0
-IsRefused writes style form error = (form.opening.size ≡ 0) → (form.closing.size ≡ 0) → writes style form.syntax (Err error)
+-- `whole_of read` is the sign and the size of the integer that `read` is worth by its kind, or `None` if it is worth none. `has_worth read` is true
+-- if `read` is worth an integer or, with a decimal point or an exponent, an `f64`.
+abbrev pub whole_of : Read → Option (Bool × ℕ)
+whole_of read = if is_float read.literal then None else integer_worth read.kind.integers (bytes_of read.format) read.literal
+
+abbrev pub has_worth : Read → Bool
+has_worth read =
+    if is_float read.literal then is_ok (float_worth read.kind binary64 (bytes_of read.format) read.literal) else is_some (whole_of read)
+
+-- `IsReadElse keeps forms index text error` holds if `forms` read `text`, which the form with this index writes for a number, as a literal that does not
+-- surely keep it. `keeps own read` says which do; `own` is true for a literal of this form. `error` is `ReadBack` or, if the literal has no worth, `TooLarge`.
+abbrev pub IsReadElse : (Bool → Read → Type 0) → List Form → ℕ → List ℕ → WriteError → Type 0
+IsReadElse keeps forms index text error = (at : ℕ) × (read : Read) × IsFirst forms text at read × HasKind forms at read
+    × (keeps (at == index) read → ⊥) × (error ≡ (if has_worth read then errors.ReadBack else errors.TooLarge))
+
+-- `IsRefused writes P style form error` holds if `error` is why a form without an opening and a closing does not write a number in a style: no literal is
+-- written for the number, or one that is written is too long for a buffer, or `P` holds of its text.
+abbrev pub IsRefused : (Style → Grammar → Result Literal WriteError → Type 0) → (Style → List ℕ → WriteError → Type 0) → Style → Form → WriteError
+    → Type 0
+IsRefused writes P style form error = (form.opening.size ≡ 0) → (form.closing.size ≡ 0) → writes style form.syntax (Err error)
     ⊎ ((l : Literal) × Reads (notation_of form.syntax) l (text_of l) × writes style form.syntax (Ok l)
-    × ((error ≡ errors.Buffer (min (length (text_of l)) (2 ^ 64 - 1))) ⊎ ((error ≡ errors.TooLarge) ⊎ (error ≡ errors.ReadBack))))
+    × ((error ≡ errors.Buffer (min (length (text_of l)) (2 ^ 64 - 1))) ⊎ P style (text_of l) error))
 
--- `IsPassedOver writes style form error` holds if the form is refused with `error` in the style or, where a wish for an exponent is dropped, with some
+-- `IsPassedOver writes P style form error` holds if the form is refused with `error` in the style or, where a wish for an exponent is dropped, with some
 -- error in the style, and with `error` without the wish.
-abbrev pub IsPassedOver : (Style → Grammar → Result Literal WriteError → Type 0) → Style → Form → WriteError → Type 0
-IsPassedOver writes style form error = IsRefused writes style form error
-    ⊎ (((first : WriteError) × IsRefused writes style form first) × IsRefused writes (record style { exponent = exponents.AsNumber }) form error)
+abbrev pub IsPassedOver : (Style → Grammar → Result Literal WriteError → Type 0) → (Style → List ℕ → WriteError → Type 0) → Style → Form → WriteError
+    → Type 0
+IsPassedOver writes P style form error = IsRefused writes P style form error
+    ⊎ (((first : WriteError) × IsRefused writes P style form first) × IsRefused writes P (record style { exponent = exponents.AsNumber }) form error)
 
--- `IsReason writes order style step form error` holds if `error` is why a form that is asked in a step without a word does not write a number.
-abbrev pub IsReason : (Style → Grammar → Result Literal WriteError → Type 0) → Order → Style → ℕ → Form → WriteError → Type 0
-IsReason writes order style step form error = (step % 3 == 1) ≡ false → IsPassedOver writes (asked_style order.first form.syntax style) form error
+-- `IsReason writes keeps order style forms step index form error` holds if `error` is why a form that is asked in a step without a word does not write a
+-- number.
+abbrev pub IsReason : (Style → Grammar → Result Literal WriteError → Type 0) → (Style → Bool → Read → Type 0) → Order → Style → List Form → ℕ → ℕ → Form
+    → WriteError → Type 0
+IsReason writes keeps order style forms step index form error = (step % 3 == 1) ≡ false
+    → IsPassedOver writes (λ style. IsReadElse (keeps style) forms index) (asked_style order.first form.syntax style) form error
 
--- `IsFraction P step form` holds if `P` holds of a step, a form and `Fraction`.
-abbrev pub IsFraction : (ℕ → Form → WriteError → Type 0) → ℕ → Form → Type 0
-IsFraction P step form = (error : WriteError) × (is_replaced (Some error) ≡ true) × P step form error
+-- `IsFraction P step index form` holds if `P` holds of a step, an index, a form and `Fraction`.
+abbrev pub IsFraction : (ℕ → ℕ → Form → WriteError → Type 0) → ℕ → ℕ → Form → Type 0
+IsFraction P step index form = (error : WriteError) × (is_replaced (Some error) ≡ true) × P step index form error
 
 -- `IsSearched P order forms step index reason` holds if each form that is asked before this step and index has an error, of which `P` holds with the
--- step and the form, and if `reason` is the first of these errors that is not `Fraction`, or `Fraction` if each is, or `None` if no form is asked.
-pub record IsSearched (P : ℕ → Form → WriteError → Type 0) (order : Order) (forms : List Form) (step index : ℕ) (reason : Option WriteError) : Type 0 where
-  pub passed : AreBefore (λ before form. (error : WriteError) × P before form error) order forms step index
-  pub none : reason ≡ None → AreBefore (λ before form. ⊥) order forms step index
+-- step, the index and the form, and if `reason` is the first of these errors that is not `Fraction`, or `Fraction` if each is, or `None` if no form is asked.
+pub record IsSearched (P : ℕ → ℕ → Form → WriteError → Type 0) (order : Order) (forms : List Form) (step index : ℕ) (reason : Option WriteError) : Type 0
+  where
+  pub passed : AreBefore (λ before at form. (error : WriteError) × P before at form error) order forms step index
+  pub none : reason ≡ None → AreBefore (λ before at form. ⊥) order forms step index
   pub fraction : is_replaced reason ≡ true → AreBefore (IsFraction P) order forms step index
-  pub other : (error : WriteError) → reason ≡ Some error → is_replaced reason ≡ false → (at : ℕ) × (first : ℕ)
-      × AreBefore (IsFraction P) order forms at first × IsSomeAnd (slice_get forms first) (λ form. (is_asked order at form ≡ true) × P at form error)
+  pub other : (error : WriteError) → reason ≡ Some error → is_replaced reason ≡ false → (before at : ℕ) × AreBefore (IsFraction P) order forms before at
+      × IsSomeAnd (slice_get forms at) (λ form. (is_asked order before form ≡ true) × P before at form error)
 
 -- `has_float read` is true if `read` has a decimal point or an exponent, and is worth a float.
 abbrev pub has_float : Read → Bool
@@ -158,6 +182,12 @@ abbrev pub IsWrittenReal : Format → Float → Option ℕ → Grammar → Liter
 IsWrittenReal f value None g l = value ≡ nearest f (bytes_of g.word) l
 IsWrittenReal f value (Some n) g l = IsRounded value (raw g.word) l (decimals_in g n)
 
+-- `IsKept value decimals read` holds if `read` is worth the nearest float, and if its limits, if there are any, take the float `value`, which is not rounded.
+abbrev pub IsKept : Float → Option ℕ → Read → Type 0
+IsKept value decimals read = ((is_decimal (bytes_of read.format) || is_binary (bytes_of read.format)) ≡ true) × (read.kind.floats ≡ floats.Nearest)
+    × ((is_exact read.kind.integers || is_float read.literal) ≡ true)
+    × ((read.kind.limits ≡ limits.None) ⊎ ((decimals ≡ None) × (float_is_infinite value ≡ false) × (is_zero value ≡ false)))
+
 -- `IsAmount f value decimals read` holds if `read` is worth the float `value` of `f` or, with a number of decimals, the float that is
 -- nearest to a literal that is `value`, rounded to these.
 abbrev pub IsAmount : Format → Float → Option ℕ → Read → Type 0
@@ -181,6 +211,12 @@ pub record IsWrittenNumber (read : Read) (style : Style) (g : Grammar) (l : Lite
   pub rounded : (n : ℕ) → style.decimals ≡ Some n → SameFraction (raw read.format) read.literal (raw g.word) l
       ⊎ IsRounded (nearest binary64 (bytes_of read.format) read.literal) (raw g.word) l (decimals_in g n)
   pub exact : style.nearest ≡ false → SameFraction (raw read.format) read.literal (raw g.word) l
+
+-- `IsKeptNumber a own b` holds if `a` and `b` are worth the same integer of at most 128 bits or, if `own` is true, if both are of the exact kind, and
+-- `b` is worth no float unless `a` has a decimal point or an exponent.
+abbrev pub IsKeptNumber : Read → Bool → Read → Type 0
+IsKeptNumber a own b = ((w : Bool × ℕ) × (w.1 < 2 ^ 128) × (whole_of a ≡ Some w) × (whole_of b ≡ Some w))
+    ⊎ ((own ≡ true) × (a.kind ≡ exact) × (b.kind ≡ exact) × ((is_float a.literal ≡ true) ⊎ (has_float b ≡ false)))
 
 -- `IsInStyle a style b` holds if `a` and `b` are the same number or, if the style wishes for the nearest float and for decimals, if `b`
 -- is worth the `f64` that is nearest to a literal that is written for `a`.

@@ -3,22 +3,24 @@
 ghost use Rattle.std.specs.Prelude.{◌≡◌, ◌≤◌, ◌<◌, ◌-◌, ◌^◌, ◌⊎◌, ◌||◌, if◌then◌else◌, not, Bool, true, false};
 ghost use Rattle.std.specs.Prelude.{ℕ, ◌+◌, All, Err, IfErr, IfOk, IfSome, IsFalse, IsSomeAnd, None, Ok, Option, Result, Some};
 ghost use Rattle.std.specs.Prelude.{unwrap_or, from_bits, is_some, length, slice_get, take, ℤ};
-ghost use Rattle.std.specs.Float.{Float as Value};
+ghost use Rattle.std.specs.Float.{Float as Value, float_is_infinite};
 ghost use Rattle.lexical_util.specs.Record.{bytes_of};
 ghost use Rattle.lexical_literal.specs.Read.{exact, Read};
 ghost use Rattle.lexical_literal.specs.Literal.{Literal as Parts, Reads, is_float, text_of};
 ghost use Rattle.lexical_literal.specs.Notation.{lacks_options, notation_of};
-ghost use Rattle.lexical_number.specs.Float.{format_of};
+ghost use Rattle.lexical_number.specs.Float.{format_of, is_zero};
+ghost use Rattle.lexical_literal.specs.declared.kind.FloatLimits.TheVariants as bounds;
 ghost use Rattle.lexical_literal.specs.declared.syntax.Grammar.{Grammar};
 ghost use Rattle.lexical_number.specs.Numeral.{magnitude_size, with_sign};
 ghost use Rattle.lexical_value.specs.Float.{is_binary, is_decimal};
 ghost use Rattle.lexical_value.specs.Kind.{float_worth, integer_worth, is_exact, width, within, worth};
 ghost use Rattle.lexical_literal.specs.declared.kind.FloatKind.TheVariants as floats;
 ghost use Rattle.lexical_writer.specs.Buffer.{IsTaken};
+ghost use Rattle.lexical_forms.specs.Forms.{HasKind, IsFirst, NoForm};
 ghost use Rattle.lexical_forms.specs.declared.form.Form.{Form as Asked};
 ghost use Rattle.lexical_writer.specs.Layout.{integer_literal, laid_out, literal_of as written, number_of_size};
-ghost use Rattle.lexical_writer.specs.Choice.{AreBefore, IsAskedAs, IsFirstAsked, IsOrder, IsPassedOver, IsReadBack, IsReadWith, IsReal, IsReason, IsRefused};
-ghost use Rattle.lexical_writer.specs.Choice.{IsSearched, IsStyleOf, IsTokenOf, IsWhole};
+ghost use Rattle.lexical_writer.specs.Choice.{AreBefore, IsAskedAs, IsFirstAsked, IsOrder, IsPassedOver, IsReadBack, IsReadElse, IsReadWith, IsReal, IsReason, IsRefused};
+ghost use Rattle.lexical_writer.specs.Choice.{IsSearched, IsStyleOf, IsTokenOf, IsWhole, has_worth, whole_of};
 ghost use Rattle.lexical_writer.specs.Choice.{asked_style, first_reason, is_asked, is_radix, is_unrounded, takes_part, turn};
 ghost use Rattle.lexical_writer.specs.declared.choice.Order.{Order as Turns};
 ghost use Rattle.lexical_writer.specs.declared.layout.ExponentStyle.TheVariants as exponents;
@@ -53,6 +55,9 @@ pub trait Writable {
 
     // A literal is this number in a style.
     ghost is: { Self → Wishes → Read → Type 0 };
+
+    // A literal that a list reads surely keeps the number in a style. Whether its form is the one that writes the number comes first.
+    ghost keeps: { Self → Wishes → Bool → Read → Type 0 };
 
     // The radix of the forms that are asked first.
     ghost base: { Self → ℕ };
@@ -92,17 +97,21 @@ pub trait Writable {
     /// Returns whether a literal of a syntax and a kind, with a decimal point or an exponent or without, is the number if it is
     /// written for it in a style.
     fn is_plain(&self, syntax: &Syntax, kind: Kind, style: Style, float: bool) -> bool
-        ensures { result ≡ true → (read : Read) → read.kind ≡ kind → read.format ≡ syntax.now.word → is_float read.literal ≡ float
-            → writes self.now style syntax.now (Ok read.literal) → is self.now style read };
+        ensures plain { result ≡ true → (read : Read) → read.kind ≡ kind → read.format ≡ syntax.now.word → is_float read.literal ≡ float
+            → writes self.now style syntax.now (Ok read.literal) → is self.now style read }
+        ensures kept { result ≡ false → (read : Read) → read.kind ≡ kind → read.format ≡ syntax.now.word → is_float read.literal ≡ float
+            → keeps self.now style true read → keeps self.now style false read };
 
     /// Returns whether a literal is worth the number in a style, of which `own` is what its form alone reads.
     fn is_read_as(&self, style: Style, own: &Literal, literal: &Literal) -> bool
-        ensures { result ≡ true → own.now.kind ≡ exact → (g : Grammar) → own.now.format ≡ g.word
-            → writes self.now style g (Ok own.now.literal) → is self.now style literal.now };
+        ensures same { result ≡ true → own.now.kind ≡ exact → (g : Grammar) → own.now.format ≡ g.word
+            → writes self.now style g (Ok own.now.literal) → is self.now style literal.now }
+        ensures kept { result ≡ false → keeps self.now style false literal.now → ⊥ };
 
     /// Returns whether a literal is worth the number in a style, whatever is written for it. A number that is rounded is not.
     fn is_worth(&self, style: Style, literal: &Literal) -> bool
-        ensures { result ≡ true → is self.now style literal.now };
+        ensures worth { result ≡ true → is self.now style literal.now }
+        ensures kept { result ≡ false → keeps self.now style false literal.now → ⊥ };
 }
 
 /// The value of an integer type, by its sign and its size.
@@ -127,7 +136,7 @@ impl Writable for Whole {
     ghost use Rattle.std.specs.Prelude.{◌≡◌, MatchResult, Some, false, true};
     ghost use Rattle.lexical_util.specs.Record.{raw};
     ghost use Rattle.lexical_number.specs.Numeral.{with_sign};
-    ghost use Rattle.lexical_writer.specs.Choice.{IsWhole, IsWrittenWhole};
+    ghost use Rattle.lexical_writer.specs.Choice.{IsWhole, IsWrittenWhole, whole_of};
     ghost use Rattle.lexical_writer.specs.Layout.{number_of_size, refusal};
 
     ghost base = { λ number. 10 };
@@ -140,6 +149,8 @@ impl Writable for Whole {
         (λ error. refusal g (number_of_size number.negative number.size) ≡ Some error) };
 
     ghost is = { λ number style read. IsWhole (with_sign number.negative number.size) read };
+
+    ghost keeps = { λ number style own read. whole_of read ≡ Some (number.negative, number.size) };
 
     fn radix(&self) -> u32 {
         10
@@ -188,10 +199,10 @@ pub struct Real<F> {
 }
 
 impl<F: Float> Writable for Real<F> {
-    ghost use Rattle.std.specs.Prelude.{MatchResult, false, is_some};
+    ghost use Rattle.std.specs.Prelude.{◌≡◌, MatchResult, false, is_some, true};
     ghost use Rattle.lexical_number.specs.Float.{format_of};
     ghost use Rattle.lexical_writer.specs.Amount.{IsFloatError};
-    ghost use Rattle.lexical_writer.specs.Choice.{IsAmount, IsWrittenReal};
+    ghost use Rattle.lexical_writer.specs.Choice.{IsAmount, IsKept, IsWrittenReal};
 
     ghost base = { λ number. 10 };
 
@@ -203,6 +214,8 @@ impl<F: Float> Writable for Real<F> {
         (IsFloatError (F.value number.value) g style) };
 
     ghost is = { λ number style read. IsAmount (format_of F.DOUBLE) (F.value number.value) style.decimals read };
+
+    ghost keeps = { λ number style own read. (own ≡ true) × IsKept (F.value number.value) style.decimals read };
 
     fn radix(&self) -> u32 {
         10
@@ -291,7 +304,7 @@ impl Writable for Literal<'_> {
     ghost use Rattle.lexical_literal.specs.Literal.{is_float};
     ghost use Rattle.lexical_util.specs.Layout as layout;
     ghost use Rattle.lexical_util.specs.Record.{raw};
-    ghost use Rattle.lexical_writer.specs.Choice.{IsInStyle, IsWrittenNumber};
+    ghost use Rattle.lexical_writer.specs.Choice.{IsInStyle, IsKeptNumber, IsWrittenNumber};
     ghost use Rattle.lexical_writer.specs.Conversion.{IsWritten};
     ghost use Rattle.lexical_writer.specs.declared.layout.WriteError.{WriteError as Reason};
 
@@ -305,6 +318,8 @@ impl Writable for Literal<'_> {
         (λ error. (other : Reason) × IsWritten number g style (Err other)) };
 
     ghost is = { λ number style read. IsInStyle number style read };
+
+    ghost keeps = { λ number style. IsKeptNumber number };
 
     fn radix(&self) -> u32 {
         self.format().mantissa_radix()
@@ -372,7 +387,8 @@ fn is_near(literal: &Literal, style: Style) -> bool
 
 // Returns whether two literals are worth the same integer.
 fn is_same_whole(own: &Literal, literal: &Literal) -> bool
-    ensures { result ≡ true → (z : ℤ) × IsWhole z own.now × IsWhole z literal.now }
+    ensures same { result ≡ true → (z : ℤ) × IsWhole z own.now × IsWhole z literal.now }
+    ensures kept { result ≡ false → (w : Bool × ℕ) → w.1 < 2 ^ 128 → whole_of own.now ≡ Some w → whole_of literal.now ≡ Some w → ⊥ }
 {
     match whole_worth(own) {
         Some((negative, size)) => is_worth(literal, negative, size),
@@ -423,6 +439,7 @@ fn has_floats(syntax: &Syntax) -> bool
 const fn is_nearest(kind: Kind, float: bool) -> bool
     ensures near { result ≡ true → kind.floats ≡ floats.Nearest }
     ensures plain { result ≡ true → (is_exact kind.integers || float) ≡ true }
+    ensures kept { result ≡ false → kind.floats ≡ floats.Nearest → (is_exact kind.integers || float) ≡ true → ⊥ }
 {
     match (kind.floats(), kind.integers()) {
         (FloatKind::Nearest, IntegerKind::Exact) => true,
@@ -434,8 +451,10 @@ const fn is_nearest(kind: Kind, float: bool) -> bool
 // Returns whether the float that is nearest to what is written for a float is known to be within limits. Without a number of decimals, it is
 // the same float.
 fn is_within<F: Float>(value: F, decimals: Option<u8>, limits: FloatLimits) -> bool
-    ensures { result ≡ true → (negative : Bool) → (n : ℕ) → (near : Value) → (decimals ≡ None → F.value value ≡ near)
+    ensures near { result ≡ true → (negative : Bool) → (n : ℕ) → (near : Value) → (decimals ≡ None → F.value value ≡ near)
         → within limits negative n near ≡ Ok near }
+    ensures kept { result ≡ false → (limits ≡ bounds.None)
+        ⊎ ((decimals ≡ None) × (float_is_infinite (F.value value) ≡ false) × (is_zero (F.value value) ≡ false)) → ⊥ }
 {
     match limits {
         FloatLimits::None => true,
@@ -466,7 +485,8 @@ const fn is_low(bits: u8, size: u128) -> bool
 // Returns whether a literal is worth an integer: as an integer, or as a float that is exactly this integer.
 #[inline(never)]
 fn is_worth(literal: &Literal, negative: bool, size: u128) -> bool
-    ensures { result ≡ true → IsWhole (with_sign negative size) literal.now }
+    ensures worth { result ≡ true → IsWhole (with_sign negative size) literal.now }
+    ensures kept { result ≡ false → whole_of literal.now ≡ Some (negative, size) → ⊥ }
 {
     if literal.is_float() {
         return match float_of::<f64>(literal) {
@@ -482,7 +502,8 @@ fn is_worth(literal: &Literal, negative: bool, size: u128) -> bool
 
 // Returns the sign and the size of what an integer literal is worth, if it has at most 128 bits.
 fn whole_worth(literal: &Literal) -> Option<(bool, u128)>
-    ensures { IfSome result (λ own. IsFalse (is_float literal.now.literal)
+    ensures none { result ≡ None → (w : Bool × ℕ) → w.1 < 2 ^ 128 → whole_of literal.now ≡ Some w → ⊥ }
+    ensures some { IfSome result (λ own. IsFalse (is_float literal.now.literal)
         × (integer_worth literal.now.kind.integers (bytes_of literal.now.format) literal.now.literal ≡ Some own)) }
 {
     match own_numeral(literal) {
@@ -496,7 +517,8 @@ fn whole_worth(literal: &Literal) -> Option<(bool, u128)>
 
 // Returns whether literals of a kind are the number that their digits represent.
 const fn is_exact(kind: Kind) -> bool
-    ensures { result ≡ true → kind ≡ exact }
+    ensures exact { result ≡ true → kind ≡ exact }
+    ensures kept { kind ≡ exact → result ≡ true }
 {
     matches!(
         (kind.integers(), kind.floats(), kind.limits()),
@@ -565,33 +587,19 @@ impl Order {
     {
         let mut step = 0;
         while step < STEPS {
-            match self.first_in(step, forms) {
-                Some(first) => return Some(first),
-                None => {}
+            let mut index = 0;
+            while index < forms.len() {
+                let it = &forms[index];
+                if self.is_asked(step, it) {
+                    let syntax = it.syntax();
+                    return Some((
+                        syntax.format().view().mantissa_radix(),
+                        syntax.options().is_some(),
+                    ));
+                }
+                index += 1;
             }
             step += 1;
-        }
-        None
-    }
-
-    // Returns the radix of the first form that is asked in a step, if any is, and whether it has floats.
-    #[inline(always)]
-    fn first_in(&self, step: u8, forms: &[Form]) -> Option<(u32, bool)>
-        ensures found { IfSome result (λ first. (index : ℕ) × All (λ form. is_asked self.now step form ≡ true → ⊥) (take index forms.now)
-            × IsSomeAnd (slice_get forms.now index) (IsAskedAs self.now step first)) }
-        ensures none { result ≡ None → All (λ form. is_asked self.now step form ≡ true → ⊥) forms.now }
-    {
-        let mut index = 0;
-        while index < forms.len() {
-            let it = &forms[index];
-            if self.is_asked(step, it) {
-                let syntax = it.syntax();
-                return Some((
-                    syntax.format().view().mantissa_radix(),
-                    syntax.options().is_some(),
-                ));
-            }
-            index += 1;
         }
         None
     }
@@ -686,12 +694,13 @@ pub fn choose<N: Writable>(
     ensures form { IfOk result (λ it. (order : Turns) × (step : ℕ) × IsOrder (N.base number.now) (N.integer number.now)
         (N.rounded number.now style) style forms.now.forms order
         × IsSomeAnd (slice_get forms.now.forms it.form) (λ form. is_asked order step form ≡ true)
-        × AreBefore (λ before form. (error : WriteError) × IsReason (N.writes number.now) order style before form error)
+        × AreBefore (λ before at form. (error : WriteError) × IsReason (N.writes number.now) (N.keeps number.now) order style
+        forms.now.forms before at form error)
         order forms.now.forms step it.form) }
     // The error is the first that is not `Fraction`, if there is one, or that of a text for which the buffer is too short.
     ensures error { IfErr result (λ error. ((n : ℕ) × (n ≤ 4096) × (error ≡ errors.Buffer n)) ⊎ ((order : Turns) × (first : Option WriteError)
         × IsOrder (N.base number.now) (N.integer number.now) (N.rounded number.now style) style forms.now.forms order
-        × IsSearched (IsReason (N.writes number.now) order style) order forms.now.forms 18 0 first
+        × IsSearched (IsReason (N.writes number.now) (N.keeps number.now) order style forms.now.forms) order forms.now.forms 18 0 first
         × (error ≡ unwrap_or first errors.ReadBack))) }
     ensures style { IfOk result (λ it. IsStyleOf (N.integer number.now) style it.style) }
 {
@@ -793,7 +802,8 @@ fn write_in<N: Writable>(
     ensures length { IfOk result (λ it. it.length ≤ length buffer.new) }
     ensures form { IfOk result (λ it. it.form ≡ index) }
     ensures style { IfOk result (λ it. IsStyleOf (N.integer number.now) style it.style) }
-    ensures error { with ≡ false → IfErr result (IsPassedOver (N.writes number.now) style form.now) }
+    ensures error { with ≡ false → IfErr result (IsPassedOver (N.writes number.now)
+        (λ style. IsReadElse (N.keeps number.now style) forms.now.forms index) style form.now) }
 {
     if with && number.is_integer() {
         return write_words(forms, index, form, number, style, buffer);
@@ -919,7 +929,7 @@ fn read_alone<N: Writable>(
 ) -> Result<(), WriteError>
     ensures { IfOk result (λ _. IsReadBack forms.now text.now (N.is number.now style)) }
 {
-    let Ok(Number::Literal { literal, .. }) = forms.read(text) else {
+    let Some((_, literal)) = read_literal(forms, text) else {
         return Err(WriteError::ReadBack);
     };
     if number.is_worth(style, &literal) {
@@ -966,7 +976,8 @@ fn write_by<N: Writable>(
     requires { slice_get forms.now.forms index ≡ Some form.now }
     ensures value { IfOk result (λ size. IsReadBack forms.now (take size buffer.new) (N.is number.now style)) }
     ensures length { IfOk result (λ size. size ≤ length buffer.new) }
-    ensures error { IfErr result (IsRefused (N.writes number.now) style form.now) }
+    ensures error { IfErr result (IsRefused (N.writes number.now) (λ style. IsReadElse (N.keeps number.now style) forms.now.forms index) style
+        form.now) }
 {
     if form.is_marked() {
         return write_around(forms, form, number, style, None, buffer);
@@ -997,7 +1008,7 @@ fn read_written<N: Writable>(
     requires unmarked { (form.now.opening.size ≡ 0) × (form.now.closing.size ≡ 0) }
     requires written { (l : Parts) × Reads (notation_of form.now.syntax) l text.now × N.writes number.now style form.now.syntax (Ok l) × (float ≡ is_float l) }
     ensures value { IfOk result (λ _. IsReadBack forms.now text.now (N.is number.now style)) }
-    ensures error { IfErr result (λ error. (error ≡ errors.TooLarge) ⊎ (error ≡ errors.ReadBack)) }
+    ensures error { IfErr result (IsReadElse (N.keeps number.now style) forms.now.forms index text.now) }
 {
     let syntax = form.syntax();
     let plain = number.is_plain(&syntax, form.kind(), style, float);
@@ -1006,10 +1017,10 @@ fn read_written<N: Writable>(
         return Ok(());
     }
     literal_facts();
-    let Ok(Number::Literal { literal, form }) = forms.read(text) else {
+    let Some((form, literal)) = read_literal(forms, text) else {
         return Err(WriteError::ReadBack);
     };
-    if plain && form == index {
+    if plain & (form == index) {
         return Ok(());
     }
     let Some(own) = own_literal(&syntax, text) else {
@@ -1021,30 +1032,50 @@ fn read_written<N: Writable>(
     Err(mismatch(&literal))
 }
 
-// Returns why a text is not used that is read as this literal, which is another number or has no value.
+// Returns why a text is not used that is read as this literal.
 fn mismatch(literal: &Literal) -> WriteError
-    ensures { (result ≡ errors.TooLarge) ⊎ (result ≡ errors.ReadBack) }
+    ensures { result ≡ (if has_worth literal.now then errors.ReadBack else errors.TooLarge) }
 {
-    let refused = if literal.is_float() {
-        to_float::<f64>(literal).is_err()
-    } else {
-        own_numeral(literal).is_err()
-    };
-    if refused {
-        WriteError::TooLarge
-    } else {
+    if has_worth(literal) {
         WriteError::ReadBack
+    } else {
+        WriteError::TooLarge
+    }
+}
+
+// Returns whether a literal is worth an integer or, with a decimal point or an exponent, an `f64`.
+fn has_worth(literal: &Literal) -> bool
+    ensures { result ≡ has_worth literal.now }
+{
+    if literal.is_float() {
+        to_float::<f64>(literal).is_ok()
+    } else {
+        own_numeral(literal).is_ok()
     }
 }
 
 // Returns the literal of a syntax that a text is, by the calls that lists share.
 fn own_literal<'a>(syntax: &Syntax, text: &'a [u8]) -> Option<Literal<'a>>
-    ensures { IfSome result (λ own. (own.kind ≡ exact) × (own.format ≡ syntax.now.word) × Reads (notation_of syntax.now) own.literal text.now) }
+    ensures some { IfSome result (λ own. (own.kind ≡ exact) × (own.format ≡ syntax.now.word) × Reads (notation_of syntax.now) own.literal text.now) }
+    ensures none { result ≡ None → (l : Parts) → Reads (notation_of syntax.now) l text.now → ⊥ }
 {
     let alone = [Form::new("", *syntax)];
     let list = Forms::new(&alone)?;
-    match list.read(text) {
-        Ok(Number::Literal { literal, .. }) => Some(literal),
-        _ => None,
+    match read_literal(&list, text) {
+        Some((_, literal)) => Some(literal),
+        None => None,
+    }
+}
+
+// Returns the index of the form of a list that a text is a literal of, and the literal, or `None` if there is none.
+#[inline(always)]
+fn read_literal<'t>(forms: &Forms, text: &'t [u8]) -> Option<(usize, Literal<'t>)>
+    ensures some { IfSome result (λ it. IsFirst forms.now.forms text.now it.0 it.1 × HasKind forms.now.forms it.0 it.1) }
+    ensures none { result ≡ None → NoForm forms.now.forms text.now }
+{
+    match forms.read(text) {
+        Ok(Number::Literal { literal, form }) => Some((form, literal)),
+        Ok(Number::Special(_)) => None,
+        Err(_) => None,
     }
 }

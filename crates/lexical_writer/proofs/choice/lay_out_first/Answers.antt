@@ -24,7 +24,7 @@ returns-clause-back c =
       0,
       read.0,
       read.1,
-      c.is_plain.ensures c.if-not-is_plain.false _ (sym c.kind.ensures) (ap (λ (g : Grammar). g.word) (sym c.syntax-syntax.ensures))
+      c.is_plain.ensures.plain c.if-not-is_plain.false _ (sym c.kind.ensures) (ap (λ (g : Grammar). g.word) (sym c.syntax-syntax.ensures))
           (sym c.is_float.ensures ∙ c.if-is_float.false) (
             has_value syntax c.args.number.now.negative c.args.number.now.size _ refl c.in-Ok.ensures.lawful l written.1,
             λ i. with_sign (sym written.1.sign i) (sym written.1.integer i),

@@ -1,5 +1,5 @@
 -- What is written is in the buffer, and is not used for one of the errors.
-use Rattle.lexical_writer.proofs.Common.{Bool, Err, Grammar, IfErr, IsRefused, IsTaken, List, Literal, Ok, Reads, Result, WriteError, ap, arith, cases_lt, inl, inr}
+use Rattle.lexical_writer.proofs.Common.{Bool, Err, Grammar, IfErr, IsReadElse, IsRefused, IsTaken, List, Literal, Ok, Reads, Result, WriteError, ap, arith, cases_lt, inl, inr}
 use Rattle.lexical_writer.proofs.Common.{is_float, length, min, nat_tests, not, notation_of, subst, sym, take, text_of, true, ℕ, ◌-◌, ◌<◌, ◌==◌, ◌^◌, ◌||◌}
 use Rattle.lexical_writer.proofs.Common.{◌∙◌, ◌≡◌, ◌≤◌, ◌⊎◌}
 use Rattle.lexical_forms.proofs.MarkLemmas.{no_marks}
@@ -21,13 +21,15 @@ each_error (Ok size) P all = tt
 each_error (Err error) P all = all error
 
 pub returns-then-is_marked-clause-error : goal.returns-then-is_marked-clause-error
-returns-then-is_marked-clause-error g c = each_error c.write_around.result (IsRefused (g.N.Writable.writes c.args.number.now) c.args.style c.args.form.now)
+returns-then-is_marked-clause-error g c = each_error c.write_around.result (IsRefused (g.N.Writable.writes c.args.number.now) (λ style. IsReadElse (g.N.Writable.keeps c.args.number.now style) c.args.forms.now.forms c.args.index)
+    c.args.style c.args.form.now)
     (λ error opening closing. absurd (marks _ _ c.is_marked.result c.is_marked.ensures c.if-is_marked.true opening closing))
 
 pub returns-in_err-size-clause-error : goal.returns-in_err-size-clause-error
 returns-in_err-size-clause-error g c =
     let writes = g.N.Writable.writes c.args.number.now c.args.style in
-    residual c.from_residual.result _ (IsRefused (g.N.Writable.writes c.args.number.now) c.args.style c.args.form.now) c.from_residual.ensures.1
+    residual c.from_residual.result _ (IsRefused (g.N.Writable.writes c.args.number.now) (λ style. IsReadElse (g.N.Writable.keeps c.args.number.now style) c.args.forms.now.forms c.args.index)
+    c.args.style c.args.form.now) c.from_residual.ensures.1
     (λ error same _ _. inl (subst (λ g. writes g (Err error)) c.syntax.ensures
     (subst (λ error. writes c.syntax.result (Err error)) (sym same) c.in_err-size.ensures.error)))
 
@@ -46,13 +48,16 @@ returns-then-size-clause-error g c _ _ =
 pub returns-in-Err-clause-error : goal.returns-in-Err-clause-error
 returns-in-Err-clause-error g c _ _ =
     let written = c.in_ok-size.ensures.text in
+    let whole = taken (text_of written.0) c.args.buffer.now c.write.new.buffer c.in_ok-size.size written.3 c.if-size-buffer.false c.if-size.false in
     inr (of_form _ (λ s l. g.N.Writable.writes c.args.number.now c.args.style s (Ok l)) _ _ written.0 c.syntax.ensures written.1 written.2
-    (inr c.in-Err.ensures.error))
+    (inr (subst (λ text. IsReadElse (g.N.Writable.keeps c.args.number.now c.args.style) c.args.forms.now.forms c.args.index text c.in-Err.error)
+    (sym whole) c.in-Err.ensures.error)))
 
 pub read_written-requires-clause-unmarked : goal.read_written-requires-clause-unmarked
 read_written-requires-clause-unmarked g c = no_marks _ _ c.is_marked.result c.is_marked.ensures c.if-is_marked.false
 
 pub read_written-requires-clause-written : goal.read_written-requires-clause-written
+unfolding of_form
 read_written-requires-clause-written g c =
     let written = c.in_ok-size.ensures.text in
     let all = of_form (λ l. c.in_ok-size.float ≡ is_float l) (λ s l. g.N.Writable.writes c.args.number.now c.args.style s (Ok l)) _ _ written.0
