@@ -1,7 +1,7 @@
 -- The order in which forms are asked.
-use Rattle.lexical_writer.proofs.Common.{AreBefore, Bool, Form, Grammar, IsSearched, IsSomeAnd, IsStyleOf, List, None, Option, Options, Order, Some, Style}
+use Rattle.lexical_writer.proofs.Common.{AreBefore, Bool, Form, Grammar, IsPassedOver, IsReason, IsSearched, IsUnusable, Literal, Read, Result, IsSomeAnd, IsStyleOf, List, None, Option, Options, Order, Some, Style}
 use Rattle.lexical_writer.proofs.Common.{WriteError, ap, arith, asked_style, cases_lt, false, false≢true, if◌then◌else◌, inl, inr, is_asked, is_some}
-use Rattle.lexical_writer.proofs.Common.{lacks_options, length, not, refl, slice_get, subst, sym, true, unwrap_or, ℕ, ◌+◌, ◌<◌, ◌∙◌, ◌≡◌, ◌≤◌, ◌⊎◌}
+use Rattle.lexical_writer.proofs.Common.{lacks_options, length, not, refl, slice_get, subst, sym, true, unwrap_or, ℕ, ◌%◌, ◌+◌, ◌<◌, ◌==◌, ◌∙◌, ◌≡◌, ◌≤◌, ◌⊎◌}
 use Rattle.lexical_writer.specs.Choice.{IsFraction, first_reason, is_replaced, is_unrounded}
 use Rattle.std.proofs.lemmas.Option.{slice_get_within}
 
@@ -99,6 +99,17 @@ module _ (P : ℕ → ℕ → Form → WriteError → Type 0) (order : Order) (f
             fraction = λ fraction. absurd (false≢true (sym replaced ∙ fraction));
             other = old.other;
           }
+
+-- Why a form does not write a number in its style, by a buffer of as much room, is its reason.
+pub reason_is : (writes : Style → Grammar → Result Literal WriteError → Type 0) (keeps : Style → Bool → Read → Type 0) (n room : ℕ) (order : Order)
+    (style own : Style) (list forms : List Form) (step index : ℕ) (form : Form) (error : WriteError) → own ≡ asked_style order.first form.syntax style
+    → list ≡ forms → n ≡ room
+    → ((step % 3 == 1) ≡ false → IsPassedOver writes (λ style. IsUnusable (keeps style) n forms index) own form error)
+    → IsReason writes keeps room order style list step index form error
+reason_is writes keeps n room order style own list forms step index form error is same long holds alone =
+    subst (λ (style : Style). IsPassedOver writes (λ style. IsUnusable (keeps style) room list index) style form error) is
+    (subst (λ forms. IsPassedOver writes (λ style. IsUnusable (keeps style) room forms index) own form error) (sym same)
+    (subst (λ n. IsPassedOver writes (λ style. IsUnusable (keeps style) n forms index) own form error) long (holds alone)))
 
 pub some_options : (o : Option Options) → is_some o ≡ not (lacks_options o)
 some_options None = refl

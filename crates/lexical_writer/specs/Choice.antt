@@ -116,13 +116,19 @@ abbrev pub IsReadElse : (Bool → Read → Type 0) → List Form → ℕ → Lis
 IsReadElse keeps forms index text error = (at : ℕ) × (read : Read) × IsFirst forms text at read × HasKind forms at read
     × (keeps (at == index) read → ⊥) × (error ≡ (if has_worth read then errors.ReadBack else errors.TooLarge))
 
+-- `IsUnusable keeps room forms index text error` holds if `error` is why a text is not used: it is longer than a buffer with this `room`, or it is read as
+-- a literal that does not surely keep the number.
+abbrev pub IsUnusable : (Bool → Read → Type 0) → ℕ → List Form → ℕ → List ℕ → WriteError → Type 0
+IsUnusable keeps room forms index text error =
+    (((room < length text) ⊎ (2 ^ 64 - 1 ≤ length text)) × (error ≡ errors.Buffer (min (length text) (2 ^ 64 - 1))))
+    ⊎ IsReadElse keeps forms index text error
+
 -- `IsRefused writes P style form error` holds if `error` is why a form without an opening and a closing does not write a number in a style: no literal is
--- written for the number, or one that is written is too long for a buffer, or `P` holds of its text.
+-- written for the number, or `P` holds of the text of one that is written.
 abbrev pub IsRefused : (Style → Grammar → Result Literal WriteError → Type 0) → (Style → List ℕ → WriteError → Type 0) → Style → Form → WriteError
     → Type 0
 IsRefused writes P style form error = (form.opening.size ≡ 0) → (form.closing.size ≡ 0) → writes style form.syntax (Err error)
-    ⊎ ((l : Literal) × Reads (notation_of form.syntax) l (text_of l) × writes style form.syntax (Ok l)
-    × ((error ≡ errors.Buffer (min (length (text_of l)) (2 ^ 64 - 1))) ⊎ P style (text_of l) error))
+    ⊎ ((l : Literal) × Reads (notation_of form.syntax) l (text_of l) × writes style form.syntax (Ok l) × P style (text_of l) error)
 
 -- `IsPassedOver writes P style form error` holds if the form is refused with `error` in the style or, where a wish for an exponent is dropped, with some
 -- error in the style, and with `error` without the wish.
@@ -131,12 +137,12 @@ abbrev pub IsPassedOver : (Style → Grammar → Result Literal WriteError → T
 IsPassedOver writes P style form error = IsRefused writes P style form error
     ⊎ (((first : WriteError) × IsRefused writes P style form first) × IsRefused writes P (record style { exponent = exponents.AsNumber }) form error)
 
--- `IsReason writes keeps order style forms step index form error` holds if `error` is why a form that is asked in a step without a word does not write a
--- number.
-abbrev pub IsReason : (Style → Grammar → Result Literal WriteError → Type 0) → (Style → Bool → Read → Type 0) → Order → Style → List Form → ℕ → ℕ → Form
-    → WriteError → Type 0
-IsReason writes keeps order style forms step index form error = (step % 3 == 1) ≡ false
-    → IsPassedOver writes (λ style. IsReadElse (keeps style) forms index) (asked_style order.first form.syntax style) form error
+-- `IsReason writes keeps room order style forms step index form error` holds if `error` is why a form that is asked in a step without a word does not write
+-- a number.
+abbrev pub IsReason : (Style → Grammar → Result Literal WriteError → Type 0) → (Style → Bool → Read → Type 0) → ℕ → Order → Style → List Form → ℕ → ℕ
+    → Form → WriteError → Type 0
+IsReason writes keeps room order style forms step index form error = (step % 3 == 1) ≡ false
+    → IsPassedOver writes (λ style. IsUnusable (keeps style) room forms index) (asked_style order.first form.syntax style) form error
 
 -- `IsFraction P step index form` holds if `P` holds of a step, an index, a form and `Fraction`.
 abbrev pub IsFraction : (ℕ → ℕ → Form → WriteError → Type 0) → ℕ → ℕ → Form → Type 0
@@ -151,6 +157,13 @@ pub record IsSearched (P : ℕ → ℕ → Form → WriteError → Type 0) (orde
   pub fraction : is_replaced reason ≡ true → AreBefore (IsFraction P) order forms step index
   pub other : (error : WriteError) → reason ≡ Some error → is_replaced reason ≡ false → (before at : ℕ) × AreBefore (IsFraction P) order forms before at
       × IsSomeAnd (slice_get forms at) (λ form. (is_asked order before form ≡ true) × P before at form error)
+
+-- `IsShort P order forms error` holds if `error` is that a text of at most 4,096 bytes needs a longer buffer: it is the error of a form, of which `P` holds,
+-- as of some error of each form that is asked before.
+abbrev pub IsShort : (ℕ → ℕ → Form → WriteError → Type 0) → Order → List Form → WriteError → Type 0
+IsShort P order forms error = (n : ℕ) × (n ≤ 4096) × (error ≡ errors.Buffer n) × (step index : ℕ)
+    × AreBefore (λ before at form. (other : WriteError) × P before at form other) order forms step index
+    × IsSomeAnd (slice_get forms index) (λ form. (is_asked order step form ≡ true) × P step index form error)
 
 -- `has_float read` is true if `read` has a decimal point or an exponent, and is worth a float.
 abbrev pub has_float : Read → Bool

@@ -20,7 +20,7 @@ ghost use Rattle.lexical_forms.specs.Forms.{HasKind, IsFirst, NoForm};
 ghost use Rattle.lexical_forms.specs.declared.form.Form.{Form as Asked};
 ghost use Rattle.lexical_writer.specs.Layout.{integer_literal, laid_out, literal_of as written, number_of_size};
 ghost use Rattle.lexical_writer.specs.Choice.{AreBefore, IsAskedAs, IsFirstAsked, IsOrder, IsPassedOver, IsReadBack, IsReadElse, IsReadWith, IsReal, IsReason, IsRefused};
-ghost use Rattle.lexical_writer.specs.Choice.{IsSearched, IsStyleOf, IsTokenOf, IsWhole, has_worth, whole_of};
+ghost use Rattle.lexical_writer.specs.Choice.{IsSearched, IsShort, IsStyleOf, IsTokenOf, IsUnusable, IsWhole, has_worth, whole_of};
 ghost use Rattle.lexical_writer.specs.Choice.{asked_style, first_reason, is_asked, is_radix, is_unrounded, takes_part, turn};
 ghost use Rattle.lexical_writer.specs.declared.choice.Order.{Order as Turns};
 ghost use Rattle.lexical_writer.specs.declared.layout.ExponentStyle.TheVariants as exponents;
@@ -92,6 +92,7 @@ pub trait Writable {
     ) -> Result<(usize, bool), WriteError>
         ensures text { IfOk result (λ it. (l : Parts) × Reads (notation_of syntax.now) l (text_of l)
             × writes self.now style syntax.now (Ok l) × IsTaken (text_of l) buffer.old buffer.new it.0 × (it.1 ≡ is_float l)) }
+        ensures room { length buffer.new ≡ length buffer.old }
         ensures error { IfErr result (λ error. writes self.now style syntax.now (Err error)) };
 
     /// Returns whether a literal of a syntax and a kind, with a decimal point or an exponent or without, is the number if it is
@@ -694,14 +695,15 @@ pub fn choose<N: Writable>(
     ensures form { IfOk result (λ it. (order : Turns) × (step : ℕ) × IsOrder (N.base number.now) (N.integer number.now)
         (N.rounded number.now style) style forms.now.forms order
         × IsSomeAnd (slice_get forms.now.forms it.form) (λ form. is_asked order step form ≡ true)
-        × AreBefore (λ before at form. (error : WriteError) × IsReason (N.writes number.now) (N.keeps number.now) order style
-        forms.now.forms before at form error)
-        order forms.now.forms step it.form) }
+        × AreBefore (λ before at form. (error : WriteError) × IsReason (N.writes number.now) (N.keeps number.now) (length buffer.old)
+        order style forms.now.forms before at form error) order forms.now.forms step it.form) }
     // The error is the first that is not `Fraction`, if there is one, or that of a text for which the buffer is too short.
-    ensures error { IfErr result (λ error. ((n : ℕ) × (n ≤ 4096) × (error ≡ errors.Buffer n)) ⊎ ((order : Turns) × (first : Option WriteError)
+    ensures error { IfErr result (λ error. (order : Turns)
         × IsOrder (N.base number.now) (N.integer number.now) (N.rounded number.now style) style forms.now.forms order
-        × IsSearched (IsReason (N.writes number.now) (N.keeps number.now) order style forms.now.forms) order forms.now.forms 18 0 first
-        × (error ≡ unwrap_or first errors.ReadBack))) }
+        × (IsShort (IsReason (N.writes number.now) (N.keeps number.now) (length buffer.old) order style forms.now.forms) order forms.now.forms error
+        ⊎ ((first : Option WriteError)
+        × IsSearched (IsReason (N.writes number.now) (N.keeps number.now) (length buffer.old) order style forms.now.forms) order forms.now.forms 18 0 first
+        × (error ≡ unwrap_or first errors.ReadBack)))) }
     ensures style { IfOk result (λ it. IsStyleOf (N.integer number.now) style it.style) }
 {
     let list = forms.as_slice();
@@ -800,10 +802,11 @@ fn write_in<N: Writable>(
     requires { slice_get forms.now.forms index ≡ Some form.now }
     ensures value { IfOk result (λ it. IsReadWith forms.now it.word (take it.length buffer.new) (N.is number.now it.style)) }
     ensures length { IfOk result (λ it. it.length ≤ length buffer.new) }
+    ensures room { length buffer.new ≡ length buffer.old }
     ensures form { IfOk result (λ it. it.form ≡ index) }
     ensures style { IfOk result (λ it. IsStyleOf (N.integer number.now) style it.style) }
     ensures error { with ≡ false → IfErr result (IsPassedOver (N.writes number.now)
-        (λ style. IsReadElse (N.keeps number.now style) forms.now.forms index) style form.now) }
+        (λ style. IsUnusable (N.keeps number.now style) (length buffer.old) forms.now.forms index) style form.now) }
 {
     if with && number.is_integer() {
         return write_words(forms, index, form, number, style, buffer);
@@ -853,6 +856,7 @@ fn write_words<N: Writable>(
     requires { N.integer number.now ≡ true }
     ensures value { IfOk result (λ it. IsReadWith forms.now it.word (take it.length buffer.new) (N.is number.now it.style)) }
     ensures length { IfOk result (λ it. it.length ≤ length buffer.new) }
+    ensures room { length buffer.new ≡ length buffer.old }
     ensures form { IfOk result (λ it. it.form ≡ index) }
     ensures style { IfOk result (λ it. IsStyleOf (N.integer number.now) style it.style) }
 {
@@ -887,6 +891,7 @@ fn write_around<N: Writable>(
 ) -> Result<usize, WriteError>
     ensures value { IfOk result (λ size. IsReadWith forms.now word.entry (take size buffer.new) (N.is number.now style)) }
     ensures length { IfOk result (λ size. size ≤ length buffer.new) }
+    ensures room { length buffer.new ≡ length buffer.old }
 {
     let (opening, closing) = (form.opening(), form.closing());
     let start = put_at(buffer, 0, opening.as_bytes());
@@ -976,8 +981,9 @@ fn write_by<N: Writable>(
     requires { slice_get forms.now.forms index ≡ Some form.now }
     ensures value { IfOk result (λ size. IsReadBack forms.now (take size buffer.new) (N.is number.now style)) }
     ensures length { IfOk result (λ size. size ≤ length buffer.new) }
-    ensures error { IfErr result (IsRefused (N.writes number.now) (λ style. IsReadElse (N.keeps number.now style) forms.now.forms index) style
-        form.now) }
+    ensures room { length buffer.new ≡ length buffer.old }
+    ensures error { IfErr result (IsRefused (N.writes number.now)
+        (λ style. IsUnusable (N.keeps number.now style) (length buffer.old) forms.now.forms index) style form.now) }
 {
     if form.is_marked() {
         return write_around(forms, form, number, style, None, buffer);
