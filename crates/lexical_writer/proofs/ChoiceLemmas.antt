@@ -1,12 +1,21 @@
 -- What a list reads is the number that a form has written.
 use Rattle.lexical_writer.proofs.Common.{Bool, Form, Grammar, HasKind, HasValue, IsFirst, IsRounded, IsSomeAnd, IsWhole, Kind, List, Literal, NoForm, None, Ok}
 use Rattle.lexical_writer.proofs.Common.{Option, Read, Reads, ReadsForm, Record, SameFraction, Some, Style, ap, arith, decimals_in, exact, false, false≢true}
-use Rattle.lexical_writer.proofs.Common.{float_worth, format_by, inl, inr, is_binary, is_decimal, is_exact, is_float, is_minus, is_some, length-take-le}
+use Rattle.lexical_writer.proofs.Common.{float_worth, format_by, if◌then◌else◌, inl, inr, integer_worth, is_binary, is_decimal, is_exact, is_float, is_minus, is_some, length-take-le}
 use Rattle.lexical_writer.proofs.Common.{mantissa, nearest, negsuc, notation_of, pos, raw, refl, slice_get, subst, suc, sym, take, true, with_sign, within}
-use Rattle.lexical_writer.proofs.Common.{worth, zero, ℕ, ℤ, ◌&&◌, ◌||◌, ◌∙◌, ◌≡◌, ◌⊎◌}
+use Rattle.lexical_writer.proofs.Common.{whole_of, worth, zero, ℕ, ℤ, ◌&&◌, ◌||◌, ◌<◌, ◌∙◌, ◌≡◌, ◌⊎◌}
+use Rattle.std.proofs.lemmas.Option.{get_or_from_slice_get, slice_get_within}
 use Rattle.std.specs.Float.{Float, Format, binary64}
+use Rattle.lexical_forms.specs.Forms.{ReadsIn}
+use Rattle.lexical_literal.specs.Front.{NoneBy}
+use Rattle.std.specs.Prelude.{Err, IsFalse, MatchOption, MatchResult, Result, is_ok}
+use Rattle.lexical_number.specs.Numeral.{size_of}
+use Rattle.lexical_number.specs.declared.numeral.Numeral.{Numeral}
 use Rattle.lexical_value.specs.Integer.{integer_size}
-use Rattle.lexical_writer.specs.Choice.{IsAmount, IsInStyle, IsReal, IsWrittenNumber, IsWrittenReal, IsWrittenWhole, has_float}
+use Rattle.lexical_value.specs.Kind.{IsNotWorth}
+use Rattle.lexical_value.specs.declared.integer.ValueErrorKind.{ValueErrorKind}
+use Rattle.lexical_value.specs.declared.integer.ValueErrorKind.TheVariants as kinds
+use Rattle.lexical_writer.specs.Choice.{IsAmount, IsInStyle, IsReal, IsWrittenNumber, IsWrittenReal, IsWrittenWhole, has_float, has_worth}
 use Rattle.lexical_forms.proofs.MarkLemmas.{plain_in}
 use Rattle.lexical_value.proofs.KindLemmas.{exact_float, limited_worth}
 use Rattle.lexical_literal.specs.declared.kind.FloatKind.TheVariants as floats
@@ -152,3 +161,51 @@ first_reads forms form text l index here first none reads =
       },
       subst (λ o. IsSomeAnd o (λ (form : Form). read.kind ≡ form.kind)) (sym here) refl,
     )
+
+-- An integer literal is worth what its kind says.
+pub whole_is : (read : Read) (o : Option (Bool × ℕ)) → is_float read.literal ≡ false
+    → integer_worth read.kind.integers (raw read.format).byte read.literal ≡ o → whole_of read ≡ o
+whole_is read o whole is =
+    ap (λ float. if float then None else integer_worth read.kind.integers (raw read.format).byte read.literal) whole ∙ is
+
+-- A literal with a decimal point or an exponent is worth no integer.
+pub no_whole : (read : Read) (w : Bool × ℕ) → is_float read.literal ≡ true → whole_of read ≡ Some w → ⊥
+no_whole read w float is = false≢true (ap is_some (sym
+    (ap (λ float. if float then None else integer_worth read.kind.integers (raw read.format).byte read.literal) float) ∙ is))
+
+-- What is above each number is none.
+above : (o : Option (Bool × ℕ)) (A : Type 0) (B : Bool × ℕ → Type 0) → ((most : ℕ) → MatchOption o A (λ w. B w × (most < w.1))) → o ≡ None
+above None A B all = refl
+above (Some w) A B all = absurd (omega (arith, (all w.1).1))
+
+-- What is worth no integer of any type, as an error says, is worth none.
+pub never_whole : (read : Read) (error : ValueErrorKind)
+    → ((least largest : ℕ) → IsNotWorth read.kind.integers least largest (raw read.format).byte read.literal error) → whole_of read ≡ None
+never_whole read kinds.Float none =
+    ap (λ float. if float then None else integer_worth read.kind.integers (raw read.format).byte read.literal) (none 0 0)
+never_whole read kinds.TooLarge none = whole_is read None (none 0 0).0 (above _ _ (λ w. w.0 ≡ false) (λ most. (none 0 most).1))
+never_whole read kinds.TooSmall none = whole_is read None (none 0 0).0 (above _ _ (λ w. w.0 ≡ true) (λ most. (none most 0).1))
+never_whole read kinds.Vanishes none = absurd (none 0 0)
+never_whole read kinds.UnsupportedRadix none = absurd (none 0 0)
+never_whole read kinds.Special none = absurd (none 0 0)
+never_whole read kinds.NotWhole none = absurd (none 0 0)
+never_whole read kinds.TooLong none = absurd (none 0 0)
+
+worth_whole : (read : Read) → is_float read.literal ≡ false → has_worth read ≡ is_some (whole_of read)
+worth_whole read whole = ap (λ float. if float then is_ok (float_worth read.kind binary64 (raw read.format).byte read.literal) else is_some (whole_of read)) whole
+
+-- A literal without a decimal point and an exponent has a worth if it is worth an integer.
+pub worth_is : (read : Read) (result : Result Numeral ValueErrorKind) → is_float read.literal ≡ false
+    → MatchResult result (λ own. IsFalse (is_float read.literal)
+    × (integer_worth read.kind.integers (raw read.format).byte read.literal ≡ Some (own.negative, size_of own)))
+    (λ error. (least largest : ℕ) → IsNotWorth read.kind.integers least largest (raw read.format).byte read.literal error)
+    → is_ok result ≡ has_worth read
+worth_is read (Ok own) whole is = sym (worth_whole read whole ∙ ap is_some (whole_is read _ whole is.1))
+worth_is read (Err error) whole is = sym (worth_whole read whole ∙ ap is_some (never_whole read error is))
+
+-- What is a literal of a form of a list is not a literal of none.
+pub none_at : (forms : List Form) (form : Form) (text : List ℕ) (index : ℕ) (l : Literal) → slice_get forms index ≡ Some form
+    → (form.opening.size ≡ 0) × (form.closing.size ≡ 0) → Reads (notation_of form.syntax) l text → NoForm forms text → ⊥
+none_at forms form text index l here none reads never = subst (λ (f : Form). NoneBy (ReadsIn f) text)
+    (get_or_from_slice_get forms index form form here) (never index form (slice_get_within forms index form here)) l
+    (plain_in form text none.0 none.1 l reads)

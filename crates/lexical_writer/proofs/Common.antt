@@ -29,7 +29,8 @@ pub use Rattle.lexical_value.specs.Value.{denominator, numerator, power, scale}
 pub use Rattle.lexical_writer.specs.Amount.{HasShape, HasUnits, IsExponent, IsFinite, IsFloatOf, IsRaised, IsTextOf, IsWorth, IsWrittenWith, asks, float_error}
 pub use Rattle.lexical_writer.specs.Amount.{is_far, is_long, is_shown, is_wanted, least_places, power_if, units_at, units_in, wished_places, with_minus}
 pub use Rattle.lexical_writer.specs.Buffer.{IsTaken}
-pub use Rattle.lexical_writer.specs.Choice.{AreBefore, IsFirstAsked, IsReason, IsRefused, IsSearched, IsStyleOf, IsUnused, IsWhole, is_asked, style_by, turn}
+pub use Rattle.lexical_writer.specs.Choice.{AreBefore, IsPassedOver, IsReadElse, IsReason, IsRefused, IsSearched, IsStyleOf, IsUnusable, IsWhole}
+pub use Rattle.lexical_writer.specs.Choice.{asked_style, is_asked, turn, whole_of}
 pub use Rattle.lexical_writer.specs.Conversion.{SameFraction, amount_of, fraction_of, or_limit, source_of}
 pub use Rattle.lexical_writer.specs.Digits.{at_least, begins_decimal, character, ends_group, grouped, grouped_front, no_groups, only_if, padded_values}
 pub use Rattle.lexical_writer.specs.Digits.{separated, size_of, values_of}

@@ -1,8 +1,8 @@
 -- Which form of a list writes a number, and how the text is read back.
 use Rattle.std.specs.Prelude.{ℕ, ◌≡◌, ◌≤◌, ◌-◌, ◌^◌, ◌+◌, ◌/◌, ◌%◌, ◌<◌, ◌==◌, ◌&&◌, ◌||◌, ◌⊎◌, not, if◌then◌else◌, Bool, true, false, is_some, List, []}
-use Rattle.std.specs.Prelude.{All, IsSomeAnd, Ok, Option, Some, None, ℤ, length, min, slice_get, take}
+use Rattle.std.specs.Prelude.{Err, IsSomeAnd, Ok, Option, Result, Some, None, ℤ, is_ok, length, min, slice_get}
 use Rattle.std.specs.Borrow.{Bor}
-use Rattle.std.specs.Float.{Float, Format, binary64}
+use Rattle.std.specs.Float.{Float, Format, binary64, float_is_infinite}
 use lib.Ieee.Exact.{HasValue as HasFraction}
 use Rattle.lexical_util.specs.Layout as layout
 use Rattle.lexical_util.specs.Record.{Record, bytes_of, raw}
@@ -15,16 +15,17 @@ use Rattle.lexical_literal.specs.Notation.{lacks_options, notation_of}
 use Rattle.lexical_literal.specs.Read.{exact, Read}
 use Rattle.lexical_literal.specs.Literal.{Literal, Reads, is_float, is_minus, text_of}
 use Rattle.lexical_literal.specs.declared.syntax.Grammar.{Grammar}
+use Rattle.lexical_literal.specs.declared.kind.FloatKind.TheVariants as floats
+use Rattle.lexical_literal.specs.declared.kind.FloatLimits.TheVariants as limits
+use Rattle.lexical_number.specs.Float.{is_zero}
 use Rattle.lexical_number.specs.Numeral.{with_sign}
 use Rattle.lexical_value.specs.Float.{is_binary, is_decimal, nearest}
 use Rattle.lexical_value.specs.Integer.{integer_size}
-use Rattle.lexical_value.specs.Kind.{IsWorth, float_worth}
+use Rattle.lexical_value.specs.Kind.{IsWorth, float_worth, integer_worth, is_exact}
 use Rattle.lexical_writer.specs.Conversion.{IsNear, SameFraction}
 use Rattle.lexical_writer.specs.Layout.{HasValue, needs_exponent, wants_exponent}
 use Rattle.lexical_writer.specs.Rounded.{IsRounded, decimals_in}
 use Rattle.lexical_writer.specs.declared.choice.Order.{Order}
-use Rattle.lexical_writer.specs.declared.choice.Refused.{Refused}
-use Rattle.lexical_writer.specs.declared.choice.Refused.TheVariants as refusals
 use Rattle.lexical_writer.specs.declared.layout.ExponentStyle.TheVariants as exponents
 use Rattle.lexical_writer.specs.declared.layout.Style.{Style}
 use Rattle.lexical_writer.specs.declared.layout.WriteError.{WriteError}
@@ -39,10 +40,10 @@ turn radix integer g =
     if (raw g.word).byte layout.mantissa_radix == radix then late
     else (if (raw g.word).byte layout.mantissa_radix == 10 then late + 1 else late + 2)
 
--- `is_part order part exponent` is true if a form is asked in this part of its turn: in the first one without a word, and in the second one with
+-- `takes_part order part exponent` is true if a form is asked in this part of its turn: in the first one without a word, and in the second one with
 -- a word, if the number is an integer. If all literals of the form have an `exponent` that the style does not wish for, it is the third one.
-abbrev pub is_part : Order → ℕ → Bool → Bool
-is_part order part exponent =
+abbrev pub takes_part : Order → ℕ → Bool → Bool
+takes_part order part exponent =
     if part == 0 then order.all || not exponent else (if part == 1 then order.integer && not exponent else not order.all && exponent)
 
 -- `is_radix first g` is true if a syntax `g` has the radix of the form that is asked first, where the number is rounded.
@@ -52,14 +53,14 @@ is_radix (Some first) g = (raw g.word).byte layout.mantissa_radix == first.0
 
 -- `is_asked order step form` is true if `form` is asked in a step, of which each turn has three. A form that is only read is not asked.
 abbrev pub is_asked : Order → ℕ → Form → Bool
-is_asked order step form = ((turn order.radix order.integer form.syntax == step / 3 && is_part order (step % 3) (needs_exponent form.syntax))
+is_asked order step form = ((turn order.radix order.integer form.syntax == step / 3 && takes_part order (step % 3) (needs_exponent form.syntax))
     && not form.only_read) && is_radix order.first form.syntax
 
--- `AreBefore P order forms step index` holds if `P` holds of each step and each form that is asked in it before the form with this index
--- is asked in this step.
-pub record AreBefore (P : ℕ → Form → Type 0) (order : Order) (forms : List Form) (step index : ℕ) : Type 0 where
-  pub earlier : (before : ℕ) → before < step → All (λ form. is_asked order before form ≡ true → P before form) forms
-  pub here : All (λ form. is_asked order step form ≡ true → P step form) (take index forms)
+-- `AreBefore P order forms step index` holds if `P` holds of each step, index and form that is asked before the form with this index is asked in this
+-- step.
+pub record AreBefore (P : ℕ → ℕ → Form → Type 0) (order : Order) (forms : List Form) (step index : ℕ) : Type 0 where
+  pub each : (before at : ℕ) → (form : Form) → (before < step) ⊎ ((before ≡ step) × (at < index)) → slice_get forms at ≡ Some form
+      → is_asked order before form ≡ true → P before at form
 
 -- `IsAskedAs order step first form` holds if `form` is asked in a step, and `first` is its radix, and whether it has floats.
 abbrev pub IsAskedAs : Order → ℕ → ℕ × Bool → Form → Type 0
@@ -68,8 +69,8 @@ IsAskedAs order step first form = (is_asked order step form ≡ true) × (first.
 
 -- `IsFirstAsked order forms first` holds if `first` is the radix of the form that is asked first, and whether it has floats, or `None` if none is asked.
 abbrev pub IsFirstAsked : Order → List Form → Option (ℕ × Bool) → Type 0
-IsFirstAsked order forms None = (step : ℕ) → step < 18 → All (λ form. is_asked order step form ≡ true → ⊥) forms
-IsFirstAsked order forms (Some first) = (step : ℕ) × (index : ℕ) × AreBefore (λ step form. ⊥) order forms step index
+IsFirstAsked order forms None = AreBefore (λ step index form. ⊥) order forms 18 0
+IsFirstAsked order forms (Some first) = (step index : ℕ) × AreBefore (λ step index form. ⊥) order forms step index
     × IsSomeAnd (slice_get forms index) (IsAskedAs order step first)
 
 -- `IsOrder radix integer rounded style forms order` holds if `order` is that in which `forms` are asked to write an integer or, if `integer`
@@ -81,61 +82,88 @@ pub record IsOrder (radix : ℕ) (integer rounded : Bool) (style : Style) (forms
   pub exact : rounded ≡ false → order.first ≡ None
   pub first : rounded ≡ true → IsFirstAsked (record order { first = None }) forms order.first
 
--- `keeps_all first g decimals` is true if a form with the syntax `g` does not round a number: in a list with floats, integers alone do not, unless to
--- no digit. `style_by first g style` is the style in which such a form is asked.
-abbrev pub keeps_all : Option (ℕ × Bool) → Grammar → Option ℕ → Bool
-keeps_all (Some first) g (Some n) = (first.1 && lacks_options g.options) && not (n == 0)
-keeps_all _ _ _ = false
+-- `is_unrounded first g decimals` is true if a form with the syntax `g` does not round a number: in a list with floats, integers alone do not, unless to
+-- no digit. `asked_style first g style` is the style in which such a form is asked.
+abbrev pub is_unrounded : Option (ℕ × Bool) → Grammar → Option ℕ → Bool
+is_unrounded (Some first) g (Some n) = (first.1 && lacks_options g.options) && not (n == 0)
+is_unrounded _ _ _ = false
 
-abbrev pub style_by : Option (ℕ × Bool) → Grammar → Style → Style
-style_by first g style = if keeps_all first g style.decimals then record style { decimals = None } else style
+abbrev pub asked_style : Option (ℕ × Bool) → Grammar → Style → Style
+asked_style first g style = if is_unrounded first g style.decimals then record style { decimals = None } else style
 
--- `is_fraction error` is true if `error` is `Fraction`. `first_reason first error` is the error of a list, where `first` is that of the forms before a
--- form with `error`, if there are any: the first one, but `Fraction` gives way to another one.
-abbrev pub is_fraction : WriteError → Bool
-is_fraction errors.Fraction = true
-is_fraction _ = false
+-- `is_replaced first` is true if the error `first` of the forms before, if there is one, gives way to that of the next form: if it is `Fraction`.
+-- `first_reason first error` is the error of a list, where `error` is that of the next form.
+abbrev pub is_replaced : Option WriteError → Bool
+is_replaced None = true
+is_replaced (Some errors.Fraction) = true
+is_replaced _ = false
 
 abbrev pub first_reason : Option WriteError → WriteError → Option WriteError
-first_reason None error = Some error
-first_reason (Some first) error = if is_fraction first then Some error else Some first
+first_reason first error = if is_replaced first then Some error else first
 
--- `IsRefused refuses has style form error` holds if `error` is why a form without an opening and a closing does not write a number in a style: it
--- `refuses` the number, or a literal that it `has` for the number is too long for a buffer, or not read back as the number.
-abbrev pub IsRefused : (Style → Grammar → WriteError → Type 0) → (Style → Grammar → Literal → Type 0) → Style → Form → WriteError → Type 0
-IsRefused refuses has style form error = (form.opening.size ≡ 0) → (form.closing.size ≡ 0) → refuses style form.syntax error
-    ⊎ ((l : Literal) × Reads (notation_of form.syntax) l (text_of l) × has style form.syntax l
-    × ((error ≡ errors.Buffer (min (length (text_of l)) (2 ^ 64 - 1))) ⊎ ((error ≡ errors.TooLarge) ⊎ (error ≡ errors.ReadBack))))
+-- `whole_of read` is the sign and the size of the integer that `read` is worth by its kind, or `None` if it is worth none. `has_worth read` is true
+-- if `read` is worth an integer or, with a decimal point or an exponent, an `f64`.
+abbrev pub whole_of : Read → Option (Bool × ℕ)
+whole_of read = if is_float read.literal then None else integer_worth read.kind.integers (bytes_of read.format) read.literal
 
--- `IsUnused P style form error` holds if `P` holds of the style, the form and `error` or, where a wish for an exponent is dropped, of the style and
--- some error, and of the style without the wish and `error`.
-abbrev pub IsUnused : (Style → Form → WriteError → Type 0) → Style → Form → WriteError → Type 0
-IsUnused P style form error = P style form error
-    ⊎ (((first : WriteError) × P style form first) × P (record style { exponent = exponents.AsNumber }) form error)
+abbrev pub has_worth : Read → Bool
+has_worth read =
+    if is_float read.literal then is_ok (float_worth read.kind binary64 (bytes_of read.format) read.literal) else is_some (whole_of read)
 
--- `IsReason refuses has order style step form error` holds if `error` is why a form that is asked in a step without a word does not write a number.
-abbrev pub IsReason : (Style → Grammar → WriteError → Type 0) → (Style → Grammar → Literal → Type 0) → Order → Style → ℕ → Form → WriteError → Type 0
-IsReason refuses has order style step form error =
-    (step % 3 == 1) ≡ false → IsUnused (IsRefused refuses has) (style_by order.first form.syntax style) form error
+-- `IsReadElse keeps forms index text error` holds if `forms` read `text`, which the form with this index writes for a number, as a literal that does not
+-- surely keep it. `keeps own read` says which do; `own` is true for a literal of this form. `error` is `ReadBack` or, if the literal has no worth, `TooLarge`.
+abbrev pub IsReadElse : (Bool → Read → Type 0) → List Form → ℕ → List ℕ → WriteError → Type 0
+IsReadElse keeps forms index text error = (at : ℕ) × (read : Read) × IsFirst forms text at read × HasKind forms at read
+    × (keeps (at == index) read → ⊥) × (error ≡ (if has_worth read then errors.ReadBack else errors.TooLarge))
 
--- `IsFraction P step form` holds if `P` holds of a step, a form and an error, which is `Fraction`.
-abbrev pub IsFraction : (ℕ → Form → WriteError → Type 0) → ℕ → Form → Type 0
-IsFraction P step form = (error : WriteError) × (is_fraction error ≡ true) × P step form error
+-- `IsUnusable keeps room forms index text error` holds if `error` is why a text is not used: it is longer than a buffer with this `room`, or it is read as
+-- a literal that does not surely keep the number.
+abbrev pub IsUnusable : (Bool → Read → Type 0) → ℕ → List Form → ℕ → List ℕ → WriteError → Type 0
+IsUnusable keeps room forms index text error =
+    (((room < length text) ⊎ (2 ^ 64 - 1 ≤ length text)) × (error ≡ errors.Buffer (min (length text) (2 ^ 64 - 1))))
+    ⊎ IsReadElse keeps forms index text error
+
+-- `IsRefused writes P style form error` holds if `error` is why a form without an opening and a closing does not write a number in a style: no literal is
+-- written for the number, or `P` holds of the text of one that is written.
+abbrev pub IsRefused : (Style → Grammar → Result Literal WriteError → Type 0) → (Style → List ℕ → WriteError → Type 0) → Style → Form → WriteError
+    → Type 0
+IsRefused writes P style form error = (form.opening.size ≡ 0) → (form.closing.size ≡ 0) → writes style form.syntax (Err error)
+    ⊎ ((l : Literal) × Reads (notation_of form.syntax) l (text_of l) × writes style form.syntax (Ok l) × P style (text_of l) error)
+
+-- `IsPassedOver writes P style form error` holds if the form is refused with `error` in the style or, where a wish for an exponent is dropped, with some
+-- error in the style, and with `error` without the wish.
+abbrev pub IsPassedOver : (Style → Grammar → Result Literal WriteError → Type 0) → (Style → List ℕ → WriteError → Type 0) → Style → Form → WriteError
+    → Type 0
+IsPassedOver writes P style form error = IsRefused writes P style form error
+    ⊎ (((first : WriteError) × IsRefused writes P style form first) × IsRefused writes P (record style { exponent = exponents.AsNumber }) form error)
+
+-- `IsReason writes keeps room order style forms step index form error` holds if `error` is why a form that is asked in a step without a word does not write
+-- a number.
+abbrev pub IsReason : (Style → Grammar → Result Literal WriteError → Type 0) → (Style → Bool → Read → Type 0) → ℕ → Order → Style → List Form → ℕ → ℕ
+    → Form → WriteError → Type 0
+IsReason writes keeps room order style forms step index form error = (step % 3 == 1) ≡ false
+    → IsPassedOver writes (λ style. IsUnusable (keeps style) room forms index) (asked_style order.first form.syntax style) form error
+
+-- `IsFraction P step index form` holds if `P` holds of a step, an index, a form and `Fraction`.
+abbrev pub IsFraction : (ℕ → ℕ → Form → WriteError → Type 0) → ℕ → ℕ → Form → Type 0
+IsFraction P step index form = (error : WriteError) × (is_replaced (Some error) ≡ true) × P step index form error
 
 -- `IsSearched P order forms step index reason` holds if each form that is asked before this step and index has an error, of which `P` holds with the
--- step and the form, and if `reason` is the first of these errors that is not `Fraction`, or `Fraction` if each is, or `None` if no form is asked.
-pub record IsSearched (P : ℕ → Form → WriteError → Type 0) (order : Order) (forms : List Form) (step index : ℕ) (reason : Option WriteError) : Type 0 where
-  pub passed : AreBefore (λ before form. (error : WriteError) × P before form error) order forms step index
-  pub none : reason ≡ None → AreBefore (λ before form. ⊥) order forms step index
-  pub fraction : (error : WriteError) → reason ≡ Some error → is_fraction error ≡ true → AreBefore (IsFraction P) order forms step index
-  pub other : (error : WriteError) → reason ≡ Some error → is_fraction error ≡ false → (at : ℕ) × (first : ℕ)
-      × AreBefore (IsFraction P) order forms at first × IsSomeAnd (slice_get forms first) (λ form. (is_asked order at form ≡ true) × P at form error)
+-- step, the index and the form, and if `reason` is the first of these errors that is not `Fraction`, or `Fraction` if each is, or `None` if no form is asked.
+pub record IsSearched (P : ℕ → ℕ → Form → WriteError → Type 0) (order : Order) (forms : List Form) (step index : ℕ) (reason : Option WriteError) : Type 0
+  where
+  pub passed : AreBefore (λ before at form. (error : WriteError) × P before at form error) order forms step index
+  pub none : reason ≡ None → AreBefore (λ before at form. ⊥) order forms step index
+  pub fraction : is_replaced reason ≡ true → AreBefore (IsFraction P) order forms step index
+  pub other : (error : WriteError) → reason ≡ Some error → is_replaced reason ≡ false → (before at : ℕ) × AreBefore (IsFraction P) order forms before at
+      × IsSomeAnd (slice_get forms at) (λ form. (is_asked order before form ≡ true) × P before at form error)
 
--- `IsEnd P order forms step it` holds if `it` is the error of the forms that are asked before a step, or that a text of at most 4,096 bytes needs a longer
--- buffer.
-abbrev pub IsEnd : (ℕ → Form → WriteError → Type 0) → Order → List Form → ℕ → Refused → Type 0
-IsEnd P order forms step (refusals.By reason) = IsSearched P order forms step 0 reason
-IsEnd P order forms step (refusals.Short error) = (n : ℕ) × (n ≤ 4096) × (error ≡ errors.Buffer n)
+-- `IsShort P order forms error` holds if `error` is that a text of at most 4,096 bytes needs a longer buffer: it is the error of a form, of which `P` holds,
+-- as of some error of each form that is asked before.
+abbrev pub IsShort : (ℕ → ℕ → Form → WriteError → Type 0) → Order → List Form → WriteError → Type 0
+IsShort P order forms error = (n : ℕ) × (n ≤ 4096) × (error ≡ errors.Buffer n) × (step index : ℕ)
+    × AreBefore (λ before at form. (other : WriteError) × P before at form other) order forms step index
+    × IsSomeAnd (slice_get forms index) (λ form. (is_asked order step form ≡ true) × P step index form error)
 
 -- `has_float read` is true if `read` has a decimal point or an exponent, and is worth a float.
 abbrev pub has_float : Read → Bool
@@ -167,6 +195,12 @@ abbrev pub IsWrittenReal : Format → Float → Option ℕ → Grammar → Liter
 IsWrittenReal f value None g l = value ≡ nearest f (bytes_of g.word) l
 IsWrittenReal f value (Some n) g l = IsRounded value (raw g.word) l (decimals_in g n)
 
+-- `IsKept value decimals read` holds if `read` is worth the nearest float, and if its limits, if there are any, take the float `value`, which is not rounded.
+abbrev pub IsKept : Float → Option ℕ → Read → Type 0
+IsKept value decimals read = ((is_decimal (bytes_of read.format) || is_binary (bytes_of read.format)) ≡ true) × (read.kind.floats ≡ floats.Nearest)
+    × ((is_exact read.kind.integers || is_float read.literal) ≡ true)
+    × ((read.kind.limits ≡ limits.None) ⊎ ((decimals ≡ None) × (float_is_infinite value ≡ false) × (is_zero value ≡ false)))
+
 -- `IsAmount f value decimals read` holds if `read` is worth the float `value` of `f` or, with a number of decimals, the float that is
 -- nearest to a literal that is `value`, rounded to these.
 abbrev pub IsAmount : Format → Float → Option ℕ → Read → Type 0
@@ -190,6 +224,12 @@ pub record IsWrittenNumber (read : Read) (style : Style) (g : Grammar) (l : Lite
   pub rounded : (n : ℕ) → style.decimals ≡ Some n → SameFraction (raw read.format) read.literal (raw g.word) l
       ⊎ IsRounded (nearest binary64 (bytes_of read.format) read.literal) (raw g.word) l (decimals_in g n)
   pub exact : style.nearest ≡ false → SameFraction (raw read.format) read.literal (raw g.word) l
+
+-- `IsKeptNumber a own b` holds if `a` and `b` are worth the same integer of at most 128 bits or, if `own` is true, if both are of the exact kind, and
+-- `b` is worth no float unless `a` has a decimal point or an exponent.
+abbrev pub IsKeptNumber : Read → Bool → Read → Type 0
+IsKeptNumber a own b = ((w : Bool × ℕ) × (w.1 < 2 ^ 128) × (whole_of a ≡ Some w) × (whole_of b ≡ Some w))
+    ⊎ ((own ≡ true) × (a.kind ≡ exact) × (b.kind ≡ exact) × ((is_float a.literal ≡ true) ⊎ (has_float b ≡ false)))
 
 -- `IsInStyle a style b` holds if `a` and `b` are the same number or, if the style wishes for the nearest float and for decimals, if `b`
 -- is worth the `f64` that is nearest to a literal that is written for `a`.

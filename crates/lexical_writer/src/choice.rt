@@ -1,25 +1,27 @@
 //! A list of forms writes numbers: in the first form whose text the list reads as the number.
 
 ghost use Rattle.std.specs.Prelude.{◌≡◌, ◌≤◌, ◌<◌, ◌-◌, ◌^◌, ◌⊎◌, ◌||◌, if◌then◌else◌, not, Bool, true, false};
-ghost use Rattle.std.specs.Prelude.{ℕ, ◌+◌, All, IfErr, IfOk, IfSome, IsFalse, IsSomeAnd, None, Ok, Option, Some};
+ghost use Rattle.std.specs.Prelude.{ℕ, ◌+◌, All, Err, IfErr, IfOk, IfSome, IsFalse, IsSomeAnd, None, Ok, Option, Result, Some};
 ghost use Rattle.std.specs.Prelude.{unwrap_or, from_bits, is_some, length, slice_get, take, ℤ};
-ghost use Rattle.std.specs.Float.{Float as Value};
+ghost use Rattle.std.specs.Float.{Float as Value, float_is_infinite};
 ghost use Rattle.lexical_util.specs.Record.{bytes_of};
 ghost use Rattle.lexical_literal.specs.Read.{exact, Read};
 ghost use Rattle.lexical_literal.specs.Literal.{Literal as Parts, Reads, is_float, text_of};
 ghost use Rattle.lexical_literal.specs.Notation.{lacks_options, notation_of};
-ghost use Rattle.lexical_number.specs.Float.{format_of};
+ghost use Rattle.lexical_number.specs.Float.{format_of, is_zero};
+ghost use Rattle.lexical_literal.specs.declared.kind.FloatLimits.TheVariants as bounds;
 ghost use Rattle.lexical_literal.specs.declared.syntax.Grammar.{Grammar};
 ghost use Rattle.lexical_number.specs.Numeral.{magnitude_size, with_sign};
 ghost use Rattle.lexical_value.specs.Float.{is_binary, is_decimal};
 ghost use Rattle.lexical_value.specs.Kind.{float_worth, integer_worth, is_exact, width, within, worth};
 ghost use Rattle.lexical_literal.specs.declared.kind.FloatKind.TheVariants as floats;
 ghost use Rattle.lexical_writer.specs.Buffer.{IsTaken};
+ghost use Rattle.lexical_forms.specs.Forms.{HasKind, IsFirst, NoForm};
 ghost use Rattle.lexical_forms.specs.declared.form.Form.{Form as Asked};
 ghost use Rattle.lexical_writer.specs.Layout.{integer_literal, laid_out, literal_of as written, number_of_size};
-ghost use Rattle.lexical_writer.specs.Choice.{AreBefore, IsAskedAs, IsEnd, IsFirstAsked, IsOrder, IsReadBack, IsReadWith, IsReal, IsReason, IsRefused};
-ghost use Rattle.lexical_writer.specs.Choice.{IsSearched, IsStyleOf, IsTokenOf, IsUnused, IsWhole};
-ghost use Rattle.lexical_writer.specs.Choice.{first_reason, is_asked, is_fraction, is_part, is_radix, keeps_all, style_by, turn};
+ghost use Rattle.lexical_writer.specs.Choice.{AreBefore, IsAskedAs, IsFirstAsked, IsOrder, IsPassedOver, IsReadBack, IsReadElse, IsReadWith, IsReal, IsReason, IsRefused};
+ghost use Rattle.lexical_writer.specs.Choice.{IsSearched, IsShort, IsStyleOf, IsTokenOf, IsUnusable, IsWhole, has_worth, whole_of};
+ghost use Rattle.lexical_writer.specs.Choice.{asked_style, first_reason, is_asked, is_radix, is_unrounded, takes_part, turn};
 ghost use Rattle.lexical_writer.specs.declared.choice.Order.{Order as Turns};
 ghost use Rattle.lexical_writer.specs.declared.layout.ExponentStyle.TheVariants as exponents;
 ghost use Rattle.lexical_writer.specs.declared.layout.WriteError.{WriteError as Reason};
@@ -48,14 +50,14 @@ pub trait Writable {
     // Whether the number is an integer.
     ghost integer: { Self → Bool };
 
-    // A literal of a syntax is written for this number in a style.
-    ghost has: { Self → Wishes → Grammar → Parts → Type 0 };
+    // A literal of a syntax is written for the number in a style, or none is, for a reason.
+    ghost writes: { Self → Wishes → Grammar → Result Parts Reason → Type 0 };
 
     // A literal is this number in a style.
     ghost is: { Self → Wishes → Read → Type 0 };
 
-    // No literal of a syntax is written for the number in a style, for this reason.
-    ghost refuses: { Self → Wishes → Grammar → Reason → Type 0 };
+    // A literal that a list reads surely keeps the number in a style. Whether its form is the one that writes the number comes first.
+    ghost keeps: { Self → Wishes → Bool → Read → Type 0 };
 
     // The radix of the forms that are asked first.
     ghost base: { Self → ℕ };
@@ -89,23 +91,28 @@ pub trait Writable {
         buffer: &mut [u8],
     ) -> Result<(usize, bool), WriteError>
         ensures text { IfOk result (λ it. (l : Parts) × Reads (notation_of syntax.now) l (text_of l)
-            × has self.now style syntax.now l × IsTaken (text_of l) buffer.old buffer.new it.0 × (it.1 ≡ is_float l)) }
-        ensures error { IfErr result (λ error. refuses self.now style syntax.now error) };
+            × writes self.now style syntax.now (Ok l) × IsTaken (text_of l) buffer.old buffer.new it.0 × (it.1 ≡ is_float l)) }
+        ensures room { length buffer.new ≡ length buffer.old }
+        ensures error { IfErr result (λ error. writes self.now style syntax.now (Err error)) };
 
     /// Returns whether a literal of a syntax and a kind, with a decimal point or an exponent or without, is the number if it is
     /// written for it in a style.
     fn is_plain(&self, syntax: &Syntax, kind: Kind, style: Style, float: bool) -> bool
-        ensures { result ≡ true → (read : Read) → read.kind ≡ kind → read.format ≡ syntax.now.word → is_float read.literal ≡ float
-            → has self.now style syntax.now read.literal → is self.now style read };
+        ensures plain { result ≡ true → (read : Read) → read.kind ≡ kind → read.format ≡ syntax.now.word → is_float read.literal ≡ float
+            → writes self.now style syntax.now (Ok read.literal) → is self.now style read }
+        ensures kept { result ≡ false → (read : Read) → read.kind ≡ kind → read.format ≡ syntax.now.word → is_float read.literal ≡ float
+            → keeps self.now style true read → keeps self.now style false read };
 
     /// Returns whether a literal is worth the number in a style, of which `own` is what its form alone reads.
     fn is_read_as(&self, style: Style, own: &Literal, literal: &Literal) -> bool
-        ensures { result ≡ true → own.now.kind ≡ exact → (g : Grammar) → own.now.format ≡ g.word
-            → has self.now style g own.now.literal → is self.now style literal.now };
+        ensures same { result ≡ true → own.now.kind ≡ exact → (g : Grammar) → own.now.format ≡ g.word
+            → writes self.now style g (Ok own.now.literal) → is self.now style literal.now }
+        ensures kept { result ≡ false → keeps self.now style false literal.now → ⊥ };
 
     /// Returns whether a literal is worth the number in a style, whatever is written for it. A number that is rounded is not.
     fn is_worth(&self, style: Style, literal: &Literal) -> bool
-        ensures { result ≡ true → is self.now style literal.now };
+        ensures worth { result ≡ true → is self.now style literal.now }
+        ensures kept { result ≡ false → keeps self.now style false literal.now → ⊥ };
 }
 
 /// The value of an integer type, by its sign and its size.
@@ -127,10 +134,10 @@ impl Whole {
 }
 
 impl Writable for Whole {
-    ghost use Rattle.std.specs.Prelude.{◌≡◌, Some, false, true};
+    ghost use Rattle.std.specs.Prelude.{◌≡◌, MatchResult, Some, false, true};
     ghost use Rattle.lexical_util.specs.Record.{raw};
     ghost use Rattle.lexical_number.specs.Numeral.{with_sign};
-    ghost use Rattle.lexical_writer.specs.Choice.{IsWhole, IsWrittenWhole};
+    ghost use Rattle.lexical_writer.specs.Choice.{IsWhole, IsWrittenWhole, whole_of};
     ghost use Rattle.lexical_writer.specs.Layout.{number_of_size, refusal};
 
     ghost base = { λ number. 10 };
@@ -139,11 +146,12 @@ impl Writable for Whole {
 
     ghost rounded = { λ number style. false };
 
-    ghost has = { λ number style g l. IsWrittenWhole (with_sign number.negative number.size) (raw g.word) l };
+    ghost writes = { λ number style g result. MatchResult result (IsWrittenWhole (with_sign number.negative number.size) (raw g.word))
+        (λ error. refusal g (number_of_size number.negative number.size) ≡ Some error) };
 
     ghost is = { λ number style read. IsWhole (with_sign number.negative number.size) read };
 
-    ghost refuses = { λ number style g error. refusal g (number_of_size number.negative number.size) ≡ Some error };
+    ghost keeps = { λ number style own read. whole_of read ≡ Some (number.negative, number.size) };
 
     fn radix(&self) -> u32 {
         10
@@ -192,10 +200,10 @@ pub struct Real<F> {
 }
 
 impl<F: Float> Writable for Real<F> {
-    ghost use Rattle.std.specs.Prelude.{false, is_some};
+    ghost use Rattle.std.specs.Prelude.{◌≡◌, MatchResult, false, is_some, true};
     ghost use Rattle.lexical_number.specs.Float.{format_of};
     ghost use Rattle.lexical_writer.specs.Amount.{IsFloatError};
-    ghost use Rattle.lexical_writer.specs.Choice.{IsAmount, IsWrittenReal};
+    ghost use Rattle.lexical_writer.specs.Choice.{IsAmount, IsKept, IsWrittenReal};
 
     ghost base = { λ number. 10 };
 
@@ -203,11 +211,12 @@ impl<F: Float> Writable for Real<F> {
 
     ghost rounded = { λ number style. is_some style.decimals };
 
-    ghost has = { λ number style g l. IsWrittenReal (format_of F.DOUBLE) (F.value number.value) style.decimals g l };
+    ghost writes = { λ number style g result. MatchResult result (IsWrittenReal (format_of F.DOUBLE) (F.value number.value) style.decimals g)
+        (IsFloatError (F.value number.value) g style) };
 
     ghost is = { λ number style read. IsAmount (format_of F.DOUBLE) (F.value number.value) style.decimals read };
 
-    ghost refuses = { λ number style g error. IsFloatError (F.value number.value) g style error };
+    ghost keeps = { λ number style own read. (own ≡ true) × IsKept (F.value number.value) style.decimals read };
 
     fn radix(&self) -> u32 {
         10
@@ -292,11 +301,11 @@ fn is_same<F: Float>(own: &Literal, literal: &Literal) -> bool
 }
 
 impl Writable for Literal<'_> {
-    ghost use Rattle.std.specs.Prelude.{Err, false, not};
+    ghost use Rattle.std.specs.Prelude.{Err, MatchResult, false, not};
     ghost use Rattle.lexical_literal.specs.Literal.{is_float};
     ghost use Rattle.lexical_util.specs.Layout as layout;
     ghost use Rattle.lexical_util.specs.Record.{raw};
-    ghost use Rattle.lexical_writer.specs.Choice.{IsInStyle, IsWrittenNumber};
+    ghost use Rattle.lexical_writer.specs.Choice.{IsInStyle, IsKeptNumber, IsWrittenNumber};
     ghost use Rattle.lexical_writer.specs.Conversion.{IsWritten};
     ghost use Rattle.lexical_writer.specs.declared.layout.WriteError.{WriteError as Reason};
 
@@ -306,11 +315,12 @@ impl Writable for Literal<'_> {
 
     ghost rounded = { λ number style. false };
 
-    ghost has = { λ number style g l. IsWrittenNumber number style g l };
+    ghost writes = { λ number style g result. MatchResult result (IsWrittenNumber number style g)
+        (λ error. (other : Reason) × IsWritten number g style (Err other)) };
 
     ghost is = { λ number style read. IsInStyle number style read };
 
-    ghost refuses = { λ number style g error. (other : Reason) × IsWritten number g style (Err other) };
+    ghost keeps = { λ number style. IsKeptNumber number };
 
     fn radix(&self) -> u32 {
         self.format().mantissa_radix()
@@ -378,7 +388,8 @@ fn is_near(literal: &Literal, style: Style) -> bool
 
 // Returns whether two literals are worth the same integer.
 fn is_same_whole(own: &Literal, literal: &Literal) -> bool
-    ensures { result ≡ true → (z : ℤ) × IsWhole z own.now × IsWhole z literal.now }
+    ensures same { result ≡ true → (z : ℤ) × IsWhole z own.now × IsWhole z literal.now }
+    ensures kept { result ≡ false → (w : Bool × ℕ) → w.1 < 2 ^ 128 → whole_of own.now ≡ Some w → whole_of literal.now ≡ Some w → ⊥ }
 {
     match whole_worth(own) {
         Some((negative, size)) => is_worth(literal, negative, size),
@@ -429,6 +440,7 @@ fn has_floats(syntax: &Syntax) -> bool
 const fn is_nearest(kind: Kind, float: bool) -> bool
     ensures near { result ≡ true → kind.floats ≡ floats.Nearest }
     ensures plain { result ≡ true → (is_exact kind.integers || float) ≡ true }
+    ensures kept { result ≡ false → kind.floats ≡ floats.Nearest → (is_exact kind.integers || float) ≡ true → ⊥ }
 {
     match (kind.floats(), kind.integers()) {
         (FloatKind::Nearest, IntegerKind::Exact) => true,
@@ -440,8 +452,10 @@ const fn is_nearest(kind: Kind, float: bool) -> bool
 // Returns whether the float that is nearest to what is written for a float is known to be within limits. Without a number of decimals, it is
 // the same float.
 fn is_within<F: Float>(value: F, decimals: Option<u8>, limits: FloatLimits) -> bool
-    ensures { result ≡ true → (negative : Bool) → (n : ℕ) → (near : Value) → (decimals ≡ None → F.value value ≡ near)
+    ensures near { result ≡ true → (negative : Bool) → (n : ℕ) → (near : Value) → (decimals ≡ None → F.value value ≡ near)
         → within limits negative n near ≡ Ok near }
+    ensures kept { result ≡ false → (limits ≡ bounds.None)
+        ⊎ ((decimals ≡ None) × (float_is_infinite (F.value value) ≡ false) × (is_zero (F.value value) ≡ false)) → ⊥ }
 {
     match limits {
         FloatLimits::None => true,
@@ -472,7 +486,8 @@ const fn is_low(bits: u8, size: u128) -> bool
 // Returns whether a literal is worth an integer: as an integer, or as a float that is exactly this integer.
 #[inline(never)]
 fn is_worth(literal: &Literal, negative: bool, size: u128) -> bool
-    ensures { result ≡ true → IsWhole (with_sign negative size) literal.now }
+    ensures worth { result ≡ true → IsWhole (with_sign negative size) literal.now }
+    ensures kept { result ≡ false → whole_of literal.now ≡ Some (negative, size) → ⊥ }
 {
     if literal.is_float() {
         return match float_of::<f64>(literal) {
@@ -488,7 +503,8 @@ fn is_worth(literal: &Literal, negative: bool, size: u128) -> bool
 
 // Returns the sign and the size of what an integer literal is worth, if it has at most 128 bits.
 fn whole_worth(literal: &Literal) -> Option<(bool, u128)>
-    ensures { IfSome result (λ own. IsFalse (is_float literal.now.literal)
+    ensures none { result ≡ None → (w : Bool × ℕ) → w.1 < 2 ^ 128 → whole_of literal.now ≡ Some w → ⊥ }
+    ensures some { IfSome result (λ own. IsFalse (is_float literal.now.literal)
         × (integer_worth literal.now.kind.integers (bytes_of literal.now.format) literal.now.literal ≡ Some own)) }
 {
     match own_numeral(literal) {
@@ -502,7 +518,8 @@ fn whole_worth(literal: &Literal) -> Option<(bool, u128)>
 
 // Returns whether literals of a kind are the number that their digits represent.
 const fn is_exact(kind: Kind) -> bool
-    ensures { result ≡ true → kind ≡ exact }
+    ensures exact { result ≡ true → kind ≡ exact }
+    ensures kept { kind ≡ exact → result ≡ true }
 {
     matches!(
         (kind.integers(), kind.floats(), kind.limits()),
@@ -528,12 +545,6 @@ pub struct Chosen {
 
 // How many steps there are in which forms are asked: three in each of the six turns.
 const STEPS: u8 = 18;
-
-// Why the forms of a step do not write a number: why the forms up to there do not, if any is asked, or that a text needs a longer buffer.
-enum Refused {
-    By(Option<WriteError>),
-    Short(WriteError),
-}
 
 // The order in which a list asks its forms to write a number: the number's radix, whether it is an integer, whether forms whose
 // literals all have an exponent are asked with the others, and of the form that is asked first, if the number is rounded, the radix,
@@ -561,22 +572,12 @@ impl Order {
             first: None,
         };
         if number.is_rounded(style) {
-            order.rounded(forms)
+            Order {
+                first: order.first_of(forms),
+                ..order
+            }
         } else {
             order
-        }
-    }
-
-    // Returns the order for a number that is rounded.
-    #[inline(always)]
-    fn rounded(self, forms: &[Form]) -> Order
-        requires { self.first ≡ None }
-        ensures order { result ≡ record self { first = result.first } }
-        ensures first { IsFirstAsked self forms.now result.first }
-    {
-        Order {
-            first: self.first_of(forms),
-            ..self
         }
     }
 
@@ -587,33 +588,19 @@ impl Order {
     {
         let mut step = 0;
         while step < STEPS {
-            match self.first_in(step, forms) {
-                Some(first) => return Some(first),
-                None => {}
+            let mut index = 0;
+            while index < forms.len() {
+                let it = &forms[index];
+                if self.is_asked(step, it) {
+                    let syntax = it.syntax();
+                    return Some((
+                        syntax.format().view().mantissa_radix(),
+                        syntax.options().is_some(),
+                    ));
+                }
+                index += 1;
             }
             step += 1;
-        }
-        None
-    }
-
-    // Returns the radix of the first form that is asked in a step, if any is, and whether it has floats.
-    #[inline(always)]
-    fn first_in(&self, step: u8, forms: &[Form]) -> Option<(u32, bool)>
-        ensures found { IfSome result (λ first. (index : ℕ) × All (λ form. is_asked self.now step form ≡ true → ⊥) (take index forms.now)
-            × IsSomeAnd (slice_get forms.now index) (IsAskedAs self.now step first)) }
-        ensures none { result ≡ None → All (λ form. is_asked self.now step form ≡ true → ⊥) forms.now }
-    {
-        let mut index = 0;
-        while index < forms.len() {
-            let it = &forms[index];
-            if self.is_asked(step, it) {
-                let syntax = it.syntax();
-                return Some((
-                    syntax.format().view().mantissa_radix(),
-                    syntax.options().is_some(),
-                ));
-            }
-            index += 1;
         }
         None
     }
@@ -627,15 +614,15 @@ impl Order {
         if turn(self.radix, self.integer, &syntax) != step / 3 {
             return false;
         }
-        self.is_part(step % 3, needs_exponent(&syntax))
+        self.takes_part(step % 3, needs_exponent(&syntax))
             & !form.is_only_read()
             & self.is_radix(&syntax)
     }
 
     // Returns whether a form is asked in a part of its turn, where all of its literals may have an exponent.
     #[inline(always)]
-    const fn is_part(&self, part: u8, exponent: bool) -> bool
-        ensures { result ≡ is_part self.now part exponent }
+    const fn takes_part(&self, part: u8, exponent: bool) -> bool
+        ensures { result ≡ takes_part self.now part exponent }
     {
         match part {
             0 => self.all || !exponent,
@@ -658,9 +645,9 @@ impl Order {
     // Returns the style in which a form with a syntax is asked to write the number.
     #[inline(always)]
     fn style(&self, syntax: &Syntax, style: Style) -> Style
-        ensures { result ≡ style_by self.now.first syntax.now style }
+        ensures { result ≡ asked_style self.now.first syntax.now style }
     {
-        if self.keeps_all(syntax, style.decimals) {
+        if self.is_unrounded(syntax, style.decimals) {
             Style {
                 decimals: None,
                 ..style
@@ -672,53 +659,14 @@ impl Order {
 
     // Returns whether a form with a syntax writes the number without rounding it.
     #[inline(always)]
-    fn keeps_all(&self, syntax: &Syntax, decimals: Option<u8>) -> bool
-        ensures { result ≡ keeps_all self.now.first syntax.now decimals }
+    fn is_unrounded(&self, syntax: &Syntax, decimals: Option<u8>) -> bool
+        ensures { result ≡ is_unrounded self.now.first syntax.now decimals }
     {
         match (self.first, decimals) {
             (Some((_, floats)), Some(count)) => floats && syntax.options().is_none() && count > 0,
             _ => false,
         }
     }
-}
-
-// Asks the forms of a step to write a number, or returns why they do not. `first` is why the forms of the steps before do not.
-#[inline(always)]
-fn ask<N: Writable>(
-    forms: &Forms,
-    order: &Order,
-    step: u8,
-    number: &N,
-    style: Style,
-    buffer: &mut [u8],
-    first: Option<WriteError>,
-) -> Result<Chosen, Refused>
-    requires float { is_some order.now.first ≡ true → N.integer number.now ≡ false }
-    requires searched { IsSearched (IsReason (N.refuses number.now) (N.has number.now) order.now style) order.now forms.now.forms step 0 first }
-    ensures value { IfOk result (λ it. IsReadWith forms.now it.word (take it.length buffer.new) (N.is number.now it.style)) }
-    ensures length { IfOk result (λ it. it.length ≤ length buffer.new) }
-    ensures form { IfOk result (λ it. IsSomeAnd (slice_get forms.now.forms it.form) (λ form. is_asked order.now step form ≡ true)) }
-    ensures passed { IfOk result (λ it. AreBefore (λ before form. (error : WriteError)
-        × IsReason (N.refuses number.now) (N.has number.now) order.now style before form error) order.now forms.now.forms step it.form) }
-    ensures searched { IfErr result (IsEnd (IsReason (N.refuses number.now) (N.has number.now) order.now style) order.now forms.now.forms (step + 1)) }
-    ensures style { IfOk result (λ it. IsStyleOf (N.integer number.now) style it.style) }
-{
-    let list = forms.as_slice();
-    let mut error = first;
-    let mut index = 0;
-    while index < list.len() {
-        let it = &list[index];
-        if order.is_asked(step, it) {
-            let own = order.style(&it.syntax(), style);
-            match write_in(forms, index, step % 3 == 1, number, own, buffer) {
-                Ok(chosen) => return Ok(chosen),
-                Err(other) if is_short(other) => return Err(Refused::Short(other)),
-                Err(other) => error = first_reason(error, other),
-            }
-        }
-        index += 1;
-    }
-    Err(Refused::By(error))
 }
 
 /// Writes a number by the first form whose text the list reads as this number, to the beginning of a buffer, and returns the
@@ -747,23 +695,34 @@ pub fn choose<N: Writable>(
     ensures form { IfOk result (λ it. (order : Turns) × (step : ℕ) × IsOrder (N.base number.now) (N.integer number.now)
         (N.rounded number.now style) style forms.now.forms order
         × IsSomeAnd (slice_get forms.now.forms it.form) (λ form. is_asked order step form ≡ true)
-        × AreBefore (λ before form. (error : WriteError) × IsReason (N.refuses number.now) (N.has number.now) order style before form error)
-        order forms.now.forms step it.form) }
+        × AreBefore (λ before at form. (error : WriteError) × IsReason (N.writes number.now) (N.keeps number.now) (length buffer.old)
+        order style forms.now.forms before at form error) order forms.now.forms step it.form) }
     // The error is the first that is not `Fraction`, if there is one, or that of a text for which the buffer is too short.
-    ensures error { IfErr result (λ error. ((n : ℕ) × (n ≤ 4096) × (error ≡ errors.Buffer n)) ⊎ ((order : Turns) × (first : Option WriteError)
+    ensures error { IfErr result (λ error. (order : Turns)
         × IsOrder (N.base number.now) (N.integer number.now) (N.rounded number.now style) style forms.now.forms order
-        × IsSearched (IsReason (N.refuses number.now) (N.has number.now) order style) order forms.now.forms 18 0 first
-        × (error ≡ unwrap_or first errors.ReadBack))) }
+        × (IsShort (IsReason (N.writes number.now) (N.keeps number.now) (length buffer.old) order style forms.now.forms) order forms.now.forms error
+        ⊎ ((first : Option WriteError)
+        × IsSearched (IsReason (N.writes number.now) (N.keeps number.now) (length buffer.old) order style forms.now.forms) order forms.now.forms 18 0 first
+        × (error ≡ unwrap_or first errors.ReadBack)))) }
     ensures style { IfOk result (λ it. IsStyleOf (N.integer number.now) style it.style) }
 {
-    let order = Order::of(forms.as_slice(), number, style);
+    let list = forms.as_slice();
+    let order = Order::of(list, number, style);
     let mut error = None;
     let mut step = 0;
     while step < STEPS {
-        match ask(forms, &order, step, number, style, buffer, error) {
-            Err(Refused::By(other)) => error = other,
-            Err(Refused::Short(short)) => return Err(short),
-            Ok(chosen) => return Ok(chosen),
+        let mut index = 0;
+        while index < list.len() {
+            let it = &list[index];
+            if order.is_asked(step, it) {
+                let own = order.style(&it.syntax(), style);
+                match write_in(forms, index, it, step % 3 == 1, number, own, buffer) {
+                    Ok(chosen) => return Ok(chosen),
+                    Err(other) if is_short(other) => return Err(other),
+                    Err(other) => error = first_reason(error, other),
+                }
+            }
+            index += 1;
         }
         step += 1;
     }
@@ -798,20 +757,9 @@ const fn first_reason(first: Option<WriteError>, error: WriteError) -> Option<Wr
     ensures { result ≡ first_reason first error }
 {
     match first {
-        None => Some(error),
-        Some(other) => if is_fraction(other) {
-            Some(error)
-        } else {
-            Some(other)
-        },
+        None | Some(WriteError::Fraction) => Some(error),
+        Some(_) => first,
     }
-}
-
-// Returns whether an error is `Fraction`.
-const fn is_fraction(error: WriteError) -> bool
-    ensures { result ≡ is_fraction error }
-{
-    matches!(error, WriteError::Fraction)
 }
 
 // Returns in which turn a form with a syntax is asked to write an integer, or another number, of a radix.
@@ -845,23 +793,25 @@ fn delay(integer: bool, syntax: &Syntax) -> u8
 fn write_in<N: Writable>(
     forms: &Forms,
     index: usize,
+    form: &Form,
     with: bool,
     number: &N,
     style: Style,
     buffer: &mut [u8],
 ) -> Result<Chosen, WriteError>
-    requires { index < length forms.now.forms }
+    requires { slice_get forms.now.forms index ≡ Some form.now }
     ensures value { IfOk result (λ it. IsReadWith forms.now it.word (take it.length buffer.new) (N.is number.now it.style)) }
     ensures length { IfOk result (λ it. it.length ≤ length buffer.new) }
+    ensures room { length buffer.new ≡ length buffer.old }
     ensures form { IfOk result (λ it. it.form ≡ index) }
     ensures style { IfOk result (λ it. IsStyleOf (N.integer number.now) style it.style) }
-    ensures error { with ≡ false → IfErr result (λ error. IsSomeAnd (slice_get forms.now.forms index) (λ form.
-        IsUnused (IsRefused (N.refuses number.now) (N.has number.now)) style form error)) }
+    ensures error { with ≡ false → IfErr result (IsPassedOver (N.writes number.now)
+        (λ style. IsUnusable (N.keeps number.now style) (length buffer.old) forms.now.forms index) style form.now) }
 {
     if with && number.is_integer() {
-        return write_words(forms, index, number, style, buffer);
+        return write_words(forms, index, form, number, style, buffer);
     }
-    let error = match write_by(forms, index, number, style, buffer) {
+    let error = match write_by(forms, index, form, number, style, buffer) {
         Ok(length) => return Ok(Chosen {
             form: index,
             word: None,
@@ -874,7 +824,7 @@ fn write_in<N: Writable>(
         return Err(error);
     }
     let style = without_wish(style);
-    let length = write_by(forms, index, number, style, buffer)?;
+    let length = write_by(forms, index, form, number, style, buffer)?;
     Ok(Chosen {
         form: index,
         word: None,
@@ -898,23 +848,24 @@ const fn without_wish(style: Style) -> Style
 fn write_words<N: Writable>(
     forms: &Forms,
     index: usize,
+    form: &Form,
     number: &N,
     style: Style,
     buffer: &mut [u8],
 ) -> Result<Chosen, WriteError>
-    requires index { index < length forms.now.forms }
-    requires integer { N.integer number.now ≡ true }
+    requires { N.integer number.now ≡ true }
     ensures value { IfOk result (λ it. IsReadWith forms.now it.word (take it.length buffer.new) (N.is number.now it.style)) }
     ensures length { IfOk result (λ it. it.length ≤ length buffer.new) }
+    ensures room { length buffer.new ≡ length buffer.old }
     ensures form { IfOk result (λ it. it.form ≡ index) }
     ensures style { IfOk result (λ it. IsStyleOf (N.integer number.now) style it.style) }
 {
-    let Some(suffixes) = forms.as_slice()[index].suffixes() else {
+    let Some(suffixes) = form.suffixes() else {
         return Err(WriteError::ReadBack);
     };
     let style = without_wish(style);
     for word in suffixes.written() {
-        match write_around(forms, index, number, style, Some(word), buffer) {
+        match write_around(forms, form, number, style, Some(word), buffer) {
             Ok(length) => return Ok(Chosen {
                 form: index,
                 word: Some(word),
@@ -932,21 +883,20 @@ fn write_words<N: Writable>(
 // why it is not used.
 fn write_around<N: Writable>(
     forms: &Forms,
-    index: usize,
+    form: &Form,
     number: &N,
     style: Style,
     word: Option<&'static &'static [u8]>,
     buffer: &mut [u8],
 ) -> Result<usize, WriteError>
-    requires { index < length forms.now.forms }
     ensures value { IfOk result (λ size. IsReadWith forms.now word.entry (take size buffer.new) (N.is number.now style)) }
     ensures length { IfOk result (λ size. size ≤ length buffer.new) }
+    ensures room { length buffer.new ≡ length buffer.old }
 {
-    let it = &forms.as_slice()[index];
-    let (opening, closing) = (it.opening(), it.closing());
+    let (opening, closing) = (form.opening(), form.closing());
     let start = put_at(buffer, 0, opening.as_bytes());
     let least = start.min(buffer.len());
-    let (size, _) = number.write(&it.syntax(), style, &mut buffer[least..])?;
+    let (size, _) = number.write(&form.syntax(), style, &mut buffer[least..])?;
     let end = put_at(buffer, start.saturating_add(size), closing.as_bytes());
     let end = match word {
         Some(word) => put_at(buffer, end, word),
@@ -984,7 +934,7 @@ fn read_alone<N: Writable>(
 ) -> Result<(), WriteError>
     ensures { IfOk result (λ _. IsReadBack forms.now text.now (N.is number.now style)) }
 {
-    let Ok(Number::Literal { literal, .. }) = forms.read(text) else {
+    let Some((_, literal)) = read_literal(forms, text) else {
         return Err(WriteError::ReadBack);
     };
     if number.is_worth(style, &literal) {
@@ -1023,72 +973,115 @@ const fn is_short(error: WriteError) -> bool
 fn write_by<N: Writable>(
     forms: &Forms,
     index: usize,
+    form: &Form,
     number: &N,
     style: Style,
     buffer: &mut [u8],
 ) -> Result<usize, WriteError>
-    requires { index < length forms.now.forms }
+    requires { slice_get forms.now.forms index ≡ Some form.now }
     ensures value { IfOk result (λ size. IsReadBack forms.now (take size buffer.new) (N.is number.now style)) }
     ensures length { IfOk result (λ size. size ≤ length buffer.new) }
-    ensures error { IfErr result (λ error. IsSomeAnd (slice_get forms.now.forms index) (λ form.
-        IsRefused (N.refuses number.now) (N.has number.now) style form error)) }
+    ensures room { length buffer.new ≡ length buffer.old }
+    ensures error { IfErr result (IsRefused (N.writes number.now)
+        (λ style. IsUnusable (N.keeps number.now style) (length buffer.old) forms.now.forms index) style form.now) }
 {
-    let it = &forms.as_slice()[index];
-    if it.is_marked() {
-        return write_around(forms, index, number, style, None, buffer);
+    if form.is_marked() {
+        return write_around(forms, form, number, style, None, buffer);
     }
-    let syntax = it.syntax();
-    let (size, float) = number.write(&syntax, style, buffer)?;
+    let (size, float) = number.write(&form.syntax(), style, buffer)?;
     // A text that is longer than a `usize` has the size `usize::MAX`.
     if size == usize::MAX || size > buffer.len() {
         return Err(WriteError::Buffer(size));
     }
-    let plain = number.is_plain(&syntax, it.kind(), style, float);
+    match read_written(forms, index, form, number, style, float, &buffer[..size]) {
+        Ok(()) => Ok(size),
+        Err(error) => Err(error),
+    }
+}
+
+// Returns nothing if the list reads a text, which is written for a number by one form, as the number, or why it is not used.
+#[inline(always)]
+fn read_written<N: Writable>(
+    forms: &Forms,
+    index: usize,
+    form: &Form,
+    number: &N,
+    style: Style,
+    float: bool,
+    text: &[u8],
+) -> Result<(), WriteError>
+    requires form { slice_get forms.now.forms index ≡ Some form.now }
+    requires unmarked { (form.now.opening.size ≡ 0) × (form.now.closing.size ≡ 0) }
+    requires written { (l : Parts) × Reads (notation_of form.now.syntax) l text.now × N.writes number.now style form.now.syntax (Ok l) × (float ≡ is_float l) }
+    ensures value { IfOk result (λ _. IsReadBack forms.now text.now (N.is number.now style)) }
+    ensures error { IfErr result (IsReadElse (N.keeps number.now style) forms.now.forms index text.now) }
+{
+    let syntax = form.syntax();
+    let plain = number.is_plain(&syntax, form.kind(), style, float);
     // A list reads what the first form reads as this form does.
     if plain && index == 0 {
-        return Ok(size);
+        return Ok(());
     }
-    let text = &buffer[..size];
     literal_facts();
-    let Ok(Number::Literal { literal, form }) = forms.read(text) else {
+    let Some((form, literal)) = read_literal(forms, text) else {
         return Err(WriteError::ReadBack);
     };
-    if plain && form == index {
-        return Ok(size);
+    if plain & (form == index) {
+        return Ok(());
     }
     let Some(own) = own_literal(&syntax, text) else {
         return Err(WriteError::ReadBack);
     };
     if number.is_read_as(style, &own, &literal) {
-        return Ok(size);
+        return Ok(());
     }
     Err(mismatch(&literal))
 }
 
-// Returns why a text is not used that is read as this literal, which is another number or has no value.
+// Returns why a text is not used that is read as this literal.
 fn mismatch(literal: &Literal) -> WriteError
-    ensures { (result ≡ errors.TooLarge) ⊎ (result ≡ errors.ReadBack) }
+    ensures { result ≡ (if has_worth literal.now then errors.ReadBack else errors.TooLarge) }
 {
-    let refused = if literal.is_float() {
-        to_float::<f64>(literal).is_err()
-    } else {
-        own_numeral(literal).is_err()
-    };
-    if refused {
-        WriteError::TooLarge
-    } else {
+    if has_worth(literal) {
         WriteError::ReadBack
+    } else {
+        WriteError::TooLarge
+    }
+}
+
+// Returns whether a literal is worth an integer or, with a decimal point or an exponent, an `f64`.
+fn has_worth(literal: &Literal) -> bool
+    ensures { result ≡ has_worth literal.now }
+{
+    if literal.is_float() {
+        to_float::<f64>(literal).is_ok()
+    } else {
+        own_numeral(literal).is_ok()
     }
 }
 
 // Returns the literal of a syntax that a text is, by the calls that lists share.
 fn own_literal<'a>(syntax: &Syntax, text: &'a [u8]) -> Option<Literal<'a>>
-    ensures { IfSome result (λ own. (own.kind ≡ exact) × (own.format ≡ syntax.now.word) × Reads (notation_of syntax.now) own.literal text.now) }
+    ensures some { IfSome result (λ own. (own.kind ≡ exact) × (own.format ≡ syntax.now.word) × Reads (notation_of syntax.now) own.literal text.now) }
+    ensures none { result ≡ None → (l : Parts) → Reads (notation_of syntax.now) l text.now → ⊥ }
 {
     let alone = [Form::new("", *syntax)];
     let list = Forms::new(&alone)?;
-    match list.read(text) {
-        Ok(Number::Literal { literal, .. }) => Some(literal),
-        _ => None,
+    match read_literal(&list, text) {
+        Some((_, literal)) => Some(literal),
+        None => None,
+    }
+}
+
+// Returns the index of the form of a list that a text is a literal of, and the literal, or `None` if there is none.
+#[inline(always)]
+fn read_literal<'t>(forms: &Forms, text: &'t [u8]) -> Option<(usize, Literal<'t>)>
+    ensures some { IfSome result (λ it. IsFirst forms.now.forms text.now it.0 it.1 × HasKind forms.now.forms it.0 it.1) }
+    ensures none { result ≡ None → NoForm forms.now.forms text.now }
+{
+    match forms.read(text) {
+        Ok(Number::Literal { literal, form }) => Some((form, literal)),
+        Ok(Number::Special(_)) => None,
+        Err(_) => None,
     }
 }

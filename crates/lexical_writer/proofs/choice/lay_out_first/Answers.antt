@@ -8,8 +8,7 @@ use Rattle.lexical_writer.proofs.choice.lay_out_first.Goals as goal
 
 -- The form is the first of the list.
 first : (list forms : List Form) (form : Form) → list ≡ forms → 0 < length forms → form ≡ get_or list 0 form → slice_get forms 0 ≡ Some form
-first list forms form same some is = ap (λ forms. slice_get forms 0) (sym same)
-    ∙ slice_get_read list (length list) 0 form refl (subst (λ (forms : List Form). 0 < length forms) (sym same) some) is
+first list forms form same some is = rw (← same) (slice_get_read list (length list) 0 form refl (rw same some) is)
 
 pub returns-clause-back : goal.returns-clause-back
 returns-clause-back c =
@@ -25,7 +24,7 @@ returns-clause-back c =
       0,
       read.0,
       read.1,
-      c.is_plain.ensures c.if-not-is_plain.false _ (sym c.kind.ensures) (ap (λ (g : Grammar). g.word) (sym c.syntax-syntax.ensures))
+      c.is_plain.ensures.plain c.if-not-is_plain.false _ (sym c.kind.ensures) (ap (λ (g : Grammar). g.word) (sym c.syntax-syntax.ensures))
           (sym c.is_float.ensures ∙ c.if-is_float.false) (
             has_value syntax c.args.number.now.negative c.args.number.now.size _ refl c.in-Ok.ensures.lawful l written.1,
             λ i. with_sign (sym written.1.sign i) (sym written.1.integer i),
