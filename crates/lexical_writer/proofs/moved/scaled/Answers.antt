@@ -7,7 +7,11 @@ use Rattle.lexical_writer.proofs.moved.scaled.Goals as goal
 pub overflow_sub-bits : goal.overflow_sub-bits
 overflow_sub-bits c =
     let it = c.without_factors-rest in
-    omega (arith, fewer c.args.unit c.args.bits 0 c.args.digits.last it.result.0 it.result.1 c.requires.unit it.ensures.factors it.ensures.some.0 c.requires.last.1)
+    omega (
+      arith,
+      fewer c.args.unit c.args.bits 0 c.args.digits.last it.result.0 it.result.1 c.requires.unit it.ensures.factors
+          it.ensures.some.0 c.requires.last.1,
+    )
 
 pub pow-requires : goal.pow-requires
 pow-requires c =
