@@ -9,11 +9,11 @@ use Rattle.std.proofs.lemmas.Nat.Bits.{bit_at-trailing_zeros}
 use Rattle.core.specs.Int.{w64}
 use Rattle.lexical_util.specs.Layout as layout
 use Rattle.lexical_writer.proofs.AmountLemmas.{compared, exact_crossed, plain_exponent, powers, rounded_exponent, size, units_crossed}
-use Rattle.lexical_writer.proofs.PlainLemmas.{pow_twice}
+use Rattle.lexical_value.proofs.ScaledLemmas.{pow_of}
 use Rattle.lexical_writer.proofs.RoundedLemmas.{rounded_from, rounded_same, rounded_to, rounded_whole}
 
 pub raised : (k b p : ℕ) → 2 ^ k * (2 ^ b) ^ p ≡ 2 ^ (k + b * p)
-raised k b p = ap (λ q. 2 ^ k * q) (pow_twice 2 b p) ∙ powers 2 k (p * b) (k + b * p) (omega arith)
+raised k b p = ap (λ q. 2 ^ k * q) (pow_of 2 b p) ∙ powers 2 k (p * b) (k + b * p) (omega arith)
 
 -- The digits of a number over a power of two, where some of its bits are cut.
 pub cut_units : (n k b p low : ℕ) → k + b * p < low → rounded n (2 ^ (low - (k + b * p))) ≡ rounded (n * 2 ^ k * (2 ^ b) ^ p) (2 ^ low)
@@ -98,10 +98,10 @@ over_exponent u n B b E Z some base is = (
 )
   where
     high : B ^ Z ≡ 2 ^ 1200
-    high = ap (λ B. B ^ Z) base ∙ pow_twice 2 b Z ∙ ap (λ e. 2 ^ e) is
+    high = ap (λ B. B ^ Z) base ∙ pow_of 2 b Z ∙ ap (λ e. 2 ^ e) is
 
     low : B ^ E ≡ 2 ^ (E * b)
-    low = ap (λ B. B ^ E) base ∙ pow_twice 2 b E
+    low = ap (λ B. B ^ E) base ∙ pow_of 2 b E
 
 -- The last digit is not a zero where there are more than are wished.
 pub last_bits : (o : Option ℕ) (n k b places least low u R : ℕ) → R ≡ 2 ^ b → 0 < b → least ≤ places → (is_some o ≡ true → places ≡ least)
@@ -134,11 +134,11 @@ far_bits n k b top some first none = elim (eq-zero-or-pos n) [
       let is = first positive in
       let low = (compared 2 (n * 2 ^ k) (4 * b) top 1200 (omega arith) is.0 is.1).0 in
       let high = (compared 2 (n * 2 ^ k) 0 top (1200 + 16 * b) (omega arith) is.0 is.1).1 in
-      let large = pow-add 2 1200 (16 * b) ∙ ap (λ p. 2 ^ 1200 * p) (sym (pow_twice 2 b 16)) in
+      let large = pow-add 2 1200 (16 * b) ∙ ap (λ p. 2 ^ 1200 * p) (sym (pow_of 2 b 16)) in
       let plain : n * 2 ^ k * 2 ^ 0 ≡ n * 2 ^ k = ap (λ p. n * 2 ^ k * p) (pow-zero 2) ∙ omega arith in
       let place : top + 0 ≡ top = omega arith in
       sym (λ i. lt-ltb 0 (n * 2 ^ k) (mul-pos positive (one-le-pow k 2 (omega arith))) i
-      && ((ap (λ p. nat_lt (n * 2 ^ k * p) (2 ^ 1200)) (pow_twice 2 b 4) ∙ low) i
+      && ((ap (λ p. nat_lt (n * 2 ^ k * p) (2 ^ 1200)) (pow_of 2 b 4) ∙ low) i
       || (sym (λ j. nat_le (large j) (plain j)) ∙ high ∙ ap (nat_le (1200 + 16 * b)) place) i))
 ]
   where
@@ -200,10 +200,10 @@ exponent_is r o n k bits places E Z base some all naught plain below least same 
     positive = subst (λ b. 0 < b) (sym base) (one-le-pow bits 2 (omega arith))
 
     high : B ^ Z ≡ 2 ^ 1200
-    high = ap (λ b. b ^ Z) base ∙ pow_twice 2 bits Z ∙ ap (λ e. 2 ^ e) all
+    high = ap (λ b. b ^ Z) base ∙ pow_of 2 bits Z ∙ ap (λ e. 2 ^ e) all
 
     low : B ^ E ≡ 2 ^ (E * bits)
-    low = ap (λ b. b ^ E) base ∙ pow_twice 2 bits E
+    low = ap (λ b. b ^ E) base ∙ pow_of 2 bits E
 
     one : 0 < 2 ^ 1200
     one = one-le-pow 1200 2 (omega arith)

@@ -15,6 +15,7 @@ use Rattle.std.proofs.Math.Nat.{div-eq_of_lt-le, div-lt_iff_lt-mul, mod-eq-sub-d
 use lib.Ieee.{Format, fin, hid, inf, is_nan, nan, neg, odd, of_bits, of_fields, ones, top}
 use lib.Ieee.Exact.{HasValue, odd_sign}
 use lib.Dec.{eqb, leb}
+use Rattle.lexical_value.proofs.ScaledLemmas.{some_denominator}
 use Rattle.lexical_writer.specs.Rounded.{HasDecimals}
 use Rattle.lexical_util.specs.Layout as layout
 use Rattle.core.proofs.dec2flt.Patterns.{neg-round}
@@ -131,18 +132,6 @@ pub some_down : (negative : Bool) (b e : ℕ) → 0 < b → 0 < raised_down nega
 some_down true b e some = one-le-pow e b some
 some_down false b e some = omega arith
 
-some_product : (m n : ℕ) → 0 < m → 0 < n → 0 < m * n
-some_product m n some more = grind arith
-
-some_denominator : (r : Record) (l : Literal) → (is_decimal r.byte || is_binary r.byte) ≡ true → 0 < denominator r.byte l
-some_denominator r l is =
-    let radixes = some_radixes r is in
-    some_product (scale r.byte l) _ (one-le-pow _ _ (let two = radixes.0 in omega (arith, two))) (some (is_minus l.exponent_sign))
-  where
-    some : (b : Bool) → 0 < (if b then power r.byte l else 1)
-    some true = one-le-pow _ _ (some_radixes r is).1
-    some false = omega arith
-
 -- The power of an exponent that is shown, or of none.
 powers_of : (base radix e : ℕ) (shown negative : Bool) (power : Option Power) → power ≡ power_if shown negative e → (shown ≡ false → e ≡ 0)
     → (raised_up (unwrap_or power no_power).negative base (size_of radix (unwrap_or power no_power).source) ≡ raised_up negative base e)
@@ -185,8 +174,10 @@ amount_nearest f x g style l supported plain is =
     let above : numerator r.byte l ≡ it.is.units * p.factor * raised_up it.is.negative (effective_exponent_base r) it.is.e = (λ i. p.mantissa i * p.up i) in
     let below : denominator r.byte l ≡ r.byte layout.mantissa_radix ^ it.is.places * p.factor * raised_down it.is.negative (effective_exponent_base r) it.is.e =
     (λ i. p.scale i * p.down i) in
+    let radixes = some_radixes r supported in
+    let some = some_denominator r l (let two = radixes.0 in omega (arith, two)) radixes.1 in
     is.3.near plain
-    ∙ round_same f is.0 is.1 is.2 (numerator r.byte l) (denominator r.byte l) is.3.some (some_denominator r l supported)
+    ∙ round_same f is.0 is.1 is.2 (numerator r.byte l) (denominator r.byte l) is.3.some some
     (omega (arith, ap (λ n. is.1 * n) below, ap (λ n. n * p.factor) exact, ap (λ n. n * is.2) above))
     ∙ ap (λ sign. round f sign (numerator r.byte l) (denominator r.byte l)) (sym (it.number.sign ∙ it.sign))
 

@@ -22,13 +22,6 @@ zeros_after radix n (suc k) =
     ap (λ m. number_from_digits_after radix m (replicate k 0)) {x = n * radix + 0} {y = n * radix} (omega arith) ∙ zeros_after radix (n * radix) k
     ∙ omega (arith, ap (λ p. n * p) (pow-suc radix k))
 
--- A power of a power.
-pub pow_twice : (base k n : ℕ) → (base ^ k) ^ n ≡ base ^ (n * k)
-pow_twice base k zero = pow-zero (base ^ k) ∙ sym (ap (λ e. base ^ e) {x = 0 * k} {y = 0} (omega arith) ∙ pow-zero base)
-pow_twice base k (suc n) =
-    pow-suc (base ^ k) n ∙ ap (λ p. p * base ^ k) (pow_twice base k n) ∙ sym (pow-add base (n * k) k)
-    ∙ ap (λ e. base ^ e) {x = n * k + k} {y = suc n * k} (omega arith)
-
 -- The digits on both sides of a point that moves are those of the number, between zeros.
 left_digits : (n : ℕ) (i f : List ℕ)
     → take (length i - n) i ++ (replicate (n - length i) 0 ++ (drop (length i - n) i ++ f)) ≡ replicate (n - length i) 0 ++ (i ++ f)

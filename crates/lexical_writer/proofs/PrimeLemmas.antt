@@ -1,23 +1,13 @@
 -- A number times one power and over others, prime by prime.
 use Rattle.lexical_writer.proofs.Common.{Err, IsOver, None, Option, Result, Some, SomeIff, WriteError, ap, arith, cases_lt, div-add-mod'}
-use Rattle.lexical_writer.proofs.Common.{eq_of_mul-eq-mul_right, inl, inr, le-mul_of_pos_right, mod-lt, mod-mul-add, mul-le-mul_right, mul-pow, ok_or}
+use Rattle.lexical_writer.proofs.Common.{eq_of_mul-eq-mul_right, inl, inr, le-mul_of_pos_right, mod-eq_of_lt, mod-lt, mul-mod_left, mul-pow, ok_or}
 use Rattle.lexical_writer.proofs.Common.{one-le-pow, pow-add, pow-suc, pow-zero, subst, suc, sym, zero, ℕ, ◌%◌, ◌*◌, ◌+◌, ◌-◌, ◌/◌, ◌<◌, ◌^◌, ◌∙◌, ◌≡◌, ◌≤◌}
+use Rattle.std.proofs.Math.Nat.{dvd-add_iff_right, dvd-mul_left_of_dvd, dvd-mul_right_of_dvd, dvd_of_mod-eq-zero, dvd_trans, mod-eq-zero_of_dvd}
+use Rattle.std.proofs.Math.Nat.{le_refl, mod_self, pos_of_ne-zero}
+use Rattle.std.proofs.lemmas.Nat.{mul-mod_first}
+use Rattle.lexical_writer.specs.Moved.{HasFactors}
 use Rattle.lexical_writer.specs.declared.layout.WriteError.TheVariants as errors
-use Rattle.lexical_writer.proofs.PlainLemmas.{pow_twice}
-
--- A multiple and what is left of a larger one.
-pub left_over : (n m p l : ℕ) → n * p ≡ m * p + l → (n - m) * p ≡ l
-left_over n m p l is = elim (cases_lt n m) [
-  | inl less ↦
-      let few : n ≤ m = omega (arith, less) in
-      omega (arith, is, mul-le-mul_right p few, ap (λ k. k * p) {x = n - m} {y = 0} (omega (arith, less)))
-  | inr fits ↦ omega (arith, is, ap (λ k. k * p) {x = n} {y = n - m + m} (omega (arith, fits)))
-]
-
--- A multiple of a number is 0, or it is not below this number.
-pub too_small : (k p l : ℕ) → k * p ≡ l → 0 < l → l < p → ⊥
-too_small zero p l is some below = omega (arith, is, some)
-too_small (suc k) p l is some below = omega (arith, is, below)
+use Rattle.lexical_value.proofs.ScaledLemmas.{pow_of}
 
 pub once : (n : ℕ) → n ≡ n ^ 1
 once n = sym (pow-suc n 0 ∙ ap (λ p. p * n) (pow-zero n) ∙ omega arith)
@@ -28,174 +18,124 @@ split_power p x y less = ap (λ k. p ^ k) {x = x} {y = (x - y) + y} (omega (arit
 pub one_less : (p k : ℕ) → 0 < k → p ^ k ≡ p ^ (k - 1) * p
 one_less p k some = ap (λ k. p ^ k) {x = k} {y = suc (k - 1)} (omega (arith, some)) ∙ pow-suc p (k - 1)
 
--- What is not at most a limit is more.
-pub over : (n : ℕ) → (n ≤ 2 ^ 128 - 1 → ⊥) → 2 ^ 128 - 1 < n
-over n large = elim (cases_lt (2 ^ 128 - 1) n) [ inl more ↦ more | inr fits ↦ absurd (large (omega (arith, fits))) ]
-
 -- A result of at most 128 bits is a number over another one, and so is one that has more.
 pub over_if : (o : Option ℕ) (v a b : ℕ) (result : Result ℕ WriteError) → result ≡ ok_or o errors.Radix → SomeIff o (v ≤ 2 ^ 128 - 1) v → v * b ≡ a
     → IsOver a b result
 over_if o v a b result is given value = subst (IsOver a b) (sym is) (go o given)
   where
     go : (o : Option ℕ) → SomeIff o (v ≤ 2 ^ 128 - 1) v → IsOver a b (ok_or o errors.Radix)
-    go None large = (v, value, over v large)
+    go None large = (v, value, omega (arith, large))
     go (Some n) is = (ap (λ n. n * b) is.1 ∙ value, subst (λ n. n ≤ 2 ^ 128 - 1) (sym is.1) is.0)
 
--- `Divides p n` holds if `n` is a multiple of `p`.
-abbrev pub Divides : ℕ → ℕ → Type 0
-Divides p n = (k : ℕ) × (n ≡ k * p)
-
--- `IsPrime p` holds if no number from 2 on below `p` divides `p`, which is at least 2.
-abbrev pub IsPrime : ℕ → Type 0
-IsPrime p = (2 ≤ p) × ((q : ℕ) → 2 ≤ q → q < p → Divides q p → ⊥)
-
--- A prime that divides a number times one that is smaller than the prime divides the first one.
-small_factor : (most p a b : ℕ) → IsPrime p → a ≤ most → 0 < a → a < p → Divides p (a * b) → Divides p b
-small_factor zero p a b prime fits some below is = absurd (omega (arith, fits, some))
-small_factor (suc most) p a b prime fits some below is = elim (cases_lt 1 a) [
-  | inr one ↦ (is.0, sym (ap (λ a. a * b) {x = a} {y = 1} (omega (arith, one, some)) ∙ omega arith) ∙ is.1)
-  | inl more ↦
-      let t = p / a in
-      let whole = div-add-mod' p a in
-      let less = mod-lt p some in
-      let rest : 0 < p % a = elim (cases_lt 0 (p % a)) [
-        | inl positive ↦ positive
-        | inr none ↦ absurd (prime.1 a more below (t, omega (arith, whole, none)))
-      ] in
-      let all : b * p ≡ (t * is.0) * p + (p % a) * b = omega (arith, ap (λ m. b * m) whole, ap (λ m. t * m) is.1) in
-      small_factor most p (p % a) b prime (omega (arith, fits, less)) rest (omega (arith, less, below)) (b - t * is.0, sym (left_over b (t * is.0) p _ all))
-]
-
--- A prime that divides a product divides one of its factors.
-pub one_factor : (p a b : ℕ) → IsPrime p → (Divides p a → ⊥) → Divides p (a * b) → Divides p b
-one_factor p a b prime none is =
-    let whole = div-add-mod' a p in
-    let some : 0 < p = omega (arith, prime.0) in
-    let less = mod-lt a some in
-    let rest : 0 < a % p = elim (cases_lt 0 (a % p)) [
-      | inl positive ↦ positive
-      | inr least ↦ absurd (none (a / p, omega (arith, whole, least)))
-    ] in
-    let all : is.0 * p ≡ ((a / p) * b) * p + (a % p) * b = omega (arith, is.1, ap (λ m. m * b) whole) in
-    small_factor (a % p) p (a % p) b prime (omega arith) rest less (is.0 - (a / p) * b, sym (left_over is.0 ((a / p) * b) p _ all))
-
-pub no_product : (p a b : ℕ) → IsPrime p → (Divides p a → ⊥) → (Divides p b → ⊥) → Divides p (a * b) → ⊥
-no_product p a b prime first second is = second (one_factor p a b prime first is)
-
-pub no_power : (p a k : ℕ) → IsPrime p → (Divides p a → ⊥) → Divides p (a ^ k) → ⊥
-no_power p a zero prime none is = too_small is.0 p 1 (sym is.1 ∙ pow-zero a) (omega arith) (omega (arith, prime.0))
-no_power p a (suc k) prime none is = no_product p (a ^ k) a prime (no_power p a k prime none) none (is.0, sym (pow-suc a k) ∙ is.1)
-
--- A number without factors of a prime divides none of its powers.
-pub power_factor : (p w k m t : ℕ) → IsPrime p → (Divides p w → ⊥) → m * w ≡ t * p ^ k → (n : ℕ) × (m ≡ n * p ^ k) × (n * w ≡ t)
-power_factor p w zero m t prime none is =
-    (m, sym (ap (λ q. m * q) (pow-zero p) ∙ omega arith), is ∙ ap (λ q. t * q) (pow-zero p) ∙ omega arith)
-power_factor p w (suc k) m t prime none is =
-    let once : m * w ≡ (t * p ^ k) * p = omega (arith, is, ap (λ q. t * q) (pow-suc p k)) in
-    let first = one_factor p w m prime none (t * p ^ k, omega (arith, once)) in
-    let rest = power_factor p w k first.0 t prime none (eq_of_mul-eq-mul_right p (omega (arith, prime.0)) _ _
-    (omega (arith, once, ap (λ m. m * w) first.1))) in
-    (rest.0, omega (arith, first.1, ap (λ m. m * p) rest.1, ap (λ q. rest.0 * q) (pow-suc p k)), rest.2)
-
--- All factors of a prime are taken from a number, the radix and the base.
-module _ (p number radix base n r b f i j places up down : ℕ) (two : 2 ≤ p) (is_number : number ≡ n * p ^ f) (is_radix : radix ≡ r * p ^ i)
-    (is_base : base ≡ b * p ^ j) where
-  abbrev pub above : ℕ
-  above = f + up * j
-
-  abbrev pub below : ℕ
-  below = places * i + down * j
-
-  abbrev pub rest : ℕ
-  rest = r ^ places * b ^ down
-
-  factored : (n rest i k : ℕ) → n ≡ rest * p ^ i → n ^ k ≡ rest ^ k * p ^ (k * i)
-  factored n rest i k is = ap (λ n. n ^ k) is ∙ mul-pow rest (p ^ i) k ∙ ap (λ m. rest ^ k * m) (pow_twice p i k)
-
-  paired : (a x c y : ℕ) → (a * p ^ x) * (c * p ^ y) ≡ (a * c) * p ^ (x + y)
-  paired a x c y = omega (arith, ap (λ q. a * c * q) (pow-add p x y))
-
-  bottom : radix ^ places * base ^ down ≡ rest * p ^ below
-  bottom = (λ k. factored radix r i places is_radix k * factored base b j down is_base k) ∙ paired (r ^ places) (places * i) (b ^ down) (down * j)
-
-  top : number * base ^ up ≡ (n * b ^ up) * p ^ above
-  top = (λ k. is_number k * factored base b j up is_base k) ∙ paired n f (b ^ up) (up * j)
-
-  pub times_is : (m : ℕ) → below ≤ above → m * rest ≡ n * b ^ up → (m * p ^ (above - below)) * (radix ^ places * base ^ down) ≡ number * base ^ up
-  times_is m enough is = omega (
-    arith,
-    ap (λ q. m * p ^ (above - below) * q) bottom,
-    ap (λ q. q * (p ^ (above - below) * p ^ below)) is,
-    ap (λ q. n * b ^ up * q) (split_power p above below enough),
-    top,
-  )
-
-  module _ (prime : IsPrime p) (apart_radix : Divides p r → ⊥) (apart_base : Divides p b → ⊥) where
-    plain : (m x : ℕ) → x ≤ below → x ≤ above → m * (radix ^ places * base ^ down) ≡ number * base ^ up
-        → (m * rest) * p ^ (below - x) ≡ (n * b ^ up) * p ^ (above - x)
-    plain m x low high is = eq_of_mul-eq-mul_right (p ^ x) (one-le-pow x p (omega (arith, two))) _ _ (omega (
-      arith,
-      ap (λ q. m * rest * q) (split_power p below x low),
-      ap (λ q. m * q) bottom,
-      is,
-      top,
-      ap (λ q. n * b ^ up * q) (split_power p above x high),
-    ))
-
-    -- Too few are above the line.
-    pub not_whole : (Divides p n → ⊥) → above < below → IsOver (number * base ^ up) (radix ^ places * base ^ down) (Err errors.Fraction)
-    not_whole apart less m is =
-        let all = plain m above (omega (arith, less)) (omega arith) is in
-        let none = ap (λ k. n * b ^ up * p ^ k) {x = above - above} {y = 0} (omega arith) ∙ ap (λ q. n * b ^ up * q) (pow-zero p) in
-        no_product p n (b ^ up) prime apart (no_power p b up prime apart_base)
-        (m * rest * p ^ (below - above - 1), omega (arith, all, none, ap (λ q. m * rest * q) (one_less p (below - above) (omega (arith, less)))))
-
-    -- The error of what is left is that of the whole.
-    pub error_is : (error : WriteError) → below ≤ above → IsOver (n * b ^ up) rest (Err error)
-        → IsOver (number * base ^ up) (radix ^ places * base ^ down) (Err error)
-    error_is errors.Fraction enough none = λ m is.
-        let nothing = ap (λ k. m * rest * p ^ k) {x = below - below} {y = 0} (omega arith) ∙ ap (λ q. m * rest * q) (pow-zero p) in
-        let all : m * rest ≡ (n * b ^ up) * p ^ (above - below) = omega (arith, nothing, plain m below (omega arith) enough is) in
-        let left = power_factor p rest (above - below) m (n * b ^ up) prime
-        (no_product p (r ^ places) (b ^ down) prime (no_power p r places prime apart_radix) (no_power p b down prime apart_base)) all in
-        none left.0 left.2
-    error_is errors.Radix enough it = (
-      it.0 * p ^ (above - below),
-      times_is it.0 enough it.1,
-      omega (arith, it.2, le-mul_of_pos_right it.0 (one-le-pow (above - below) p (omega (arith, two)))),
-    )
-    error_is _ enough none = absurd none
-
--- `IsLeft p n` holds if no number from 2 on below `p` divides `n`.
+-- `IsLeft p n` holds if no number from 2 on below `p` divides `n`. A number `p` from 2 on is prime if `IsLeft p p` holds.
 abbrev pub IsLeft : ℕ → ℕ → Type 0
 IsLeft p n = (q : ℕ) → 2 ≤ q → q < p → n % q ≡ 0 → ⊥
 
-pub multiple : (k q n : ℕ) → 0 < q → n ≡ k * q → n % q ≡ 0
-multiple k q n some is = ap (λ n. n % q) {x = n} {y = k * q + 0} (omega (arith, is)) ∙ mod-mul-add k q 0 some
-
-divides_of : (n q : ℕ) → n % q ≡ 0 → Divides q n
-divides_of n q none = (n / q, let whole = div-add-mod' n q in omega (arith, whole, none))
-
 -- A number that divides another one is prime if no smaller one divides that.
-pub prime_of : (p n : ℕ) → 2 ≤ p → IsLeft p n → n % p ≡ 0 → IsPrime p
-prime_of p n two left none = (
-  two,
-  λ q least less d. let whole = divides_of n p none in
-      left q least less (multiple (whole.0 * d.0) q n (omega (arith, least)) (omega (arith, whole.1, ap (λ p. whole.0 * p) d.1))),
-)
+pub prime_of : (p n : ℕ) → IsLeft p n → n % p ≡ 0 → IsLeft p p
+prime_of p n left is q two below divides =
+    left q two below (mod-eq-zero_of_dvd q (dvd_trans q (dvd_of_mod-eq-zero q divides) (dvd_of_mod-eq-zero p is)))
 
-pub next_left : (p n r x : ℕ) → n ≡ r * x → IsLeft p n → (Divides p r → ⊥) → IsLeft (p + 1) r
-next_left p n r x is left apart q least less none = let d = divides_of r q none in elim (cases_lt q p) [
-  | inl before ↦ left q least before (multiple (d.0 * x) q n (omega (arith, least)) (omega (arith, is, ap (λ r. r * x) d.1)))
-  | inr from ↦ apart (d.0, d.1 ∙ ap (λ q. d.0 * q) {x = q} {y = p} (omega (arith, from, less)))
+-- A prime that divides a number times one that is smaller than the prime divides the other one.
+small_factor : (most p a b : ℕ) → IsLeft p p → a ≤ most → 0 < a → a < p → (a * b) % p ≡ 0 → b % p ≡ 0
+small_factor zero p a b prime fits some below is = absurd (omega (arith, fits, some))
+small_factor (suc most) p a b prime fits some below is = elim (cases_lt 1 a) [
+  | inr one ↦ ap (λ n. n % p) {x = b} {y = a * b} (sym (ap (λ a. a * b) {x = a} {y = 1} (omega (arith, one, some)) ∙ omega arith)) ∙ is
+  | inl more ↦
+      let less = mod-lt p some in
+      let all : p / a * (a * b) + p % a * b ≡ b * p = omega (arith, ap (λ m. m * b) (div-add-mod' p a)) in
+      small_factor most p (p % a) b prime (omega (arith, fits, less)) (pos_of_ne-zero (prime a more below)) (omega (arith, less, below))
+      (mod-eq-zero_of_dvd p ((dvd-add_iff_right p (dvd-mul_left_of_dvd p (dvd_of_mod-eq-zero p is) (p / a))).1
+      (dvd_of_mod-eq-zero p (ap (λ n. n % p) all ∙ mul-mod_left b p))))
 ]
 
-pub skipped : (p n : ℕ) → 2 ≤ p → IsLeft p n → (n % p ≡ 0 → ⊥) → IsLeft (p + 1) n
-skipped p n two left none = next_left p n n 1 (omega arith) left (λ d. none (multiple d.0 p n (omega (arith, two)) d.1))
+module _ (p : ℕ) (two : 2 ≤ p) (prime : IsLeft p p) where
+  -- A prime that divides neither of two numbers does not divide their product.
+  no_product : (a b : ℕ) → (a % p ≡ 0 → ⊥) → (b % p ≡ 0 → ⊥) → (a * b) % p ≡ 0 → ⊥
+  no_product a b first second is = second (small_factor (a % p) p (a % p) b prime (le_refl (a % p)) (pos_of_ne-zero first)
+      (mod-lt a (omega (arith, two))) (mul-mod_first a b p ∙ is))
+
+  no_power : (a k : ℕ) → (a % p ≡ 0 → ⊥) → (a ^ k) % p ≡ 0 → ⊥
+  no_power a zero none is = absurd (omega (arith, is, ap (λ n. n % p) (pow-zero a), mod-eq_of_lt {n = 1} {m = p} two))
+  no_power a (suc k) none is = no_product (a ^ k) a (no_power a k none) none (ap (λ n. n % p) (sym (pow-suc a k)) ∙ is)
+
+  -- The factors of a product, and of a power.
+  of_product : {a b r s i j : ℕ} → HasFactors p a r i → HasFactors p b s j → HasFactors p (a * b) (r * s) (i + j)
+  of_product {a} {b} {r} {s} {i} {j} first second = record {
+    is = (λ k. first.is k * second.is k) ∙ omega (arith, ap (λ q. r * s * q) (pow-add p i j));
+    apart = no_product r s first.apart second.apart;
+  }
+
+  of_power : {a r i : ℕ} (k : ℕ) → HasFactors p a r i → HasFactors p (a ^ k) (r ^ k) (k * i)
+  of_power {a} {r} {i} k all = record {
+    is = ap (λ n. n ^ k) all.is ∙ mul-pow r (p ^ i) k ∙ ap (λ m. r ^ k * m) (pow_of p i k);
+    apart = no_power r k all.apart;
+  }
+
+  -- The factors of a number times a power, and of the powers that this is over.
+  pub of_both : {number n f radix r i base b j : ℕ} (places up down : ℕ) → HasFactors p number n f → HasFactors p radix r i → HasFactors p base b j
+      → HasFactors p (number * base ^ up) (n * b ^ up) (f + up * j)
+      × HasFactors p (radix ^ places * base ^ down) (r ^ places * b ^ down) (places * i + down * j)
+  of_both {number} {n} {f} {radix} {r} {i} {base} {b} {j} places up down whole first second =
+      (of_product whole (of_power up second), of_product (of_power places first) (of_power down second))
+
+  -- A multiple of a number that the prime does not divide is still one without a power of the prime.
+  power_factor : (w k m t : ℕ) → (w % p ≡ 0 → ⊥) → m * w ≡ t * p ^ k → (n : ℕ) × (n * w ≡ t)
+  power_factor w zero m t none is = (m, is ∙ ap (λ q. t * q) (pow-zero p) ∙ omega arith)
+  power_factor w (suc k) m t none is =
+      let once : m * w ≡ (t * p ^ k) * p = omega (arith, is, ap (λ q. t * q) (pow-suc p k)) in
+      let whole : m / p * p ≡ m = elim (cases_lt 0 (m % p)) [
+        | inl some ↦ absurd (no_product m w (λ is. omega (arith, some, is)) none (ap (λ n. n % p) once ∙ mul-mod_left (t * p ^ k) p))
+        | inr least ↦ omega (arith, least, div-add-mod' m p)
+      ] in
+      power_factor w k (m / p) t none (eq_of_mul-eq-mul_right p (omega (arith, two)) _ _ (omega (arith, once, ap (λ m. m * w) whole)))
+
+-- A number over another one, by the factors of both.
+module _ {p x n a y w b : ℕ} (two : 2 ≤ p) (over : HasFactors p x n a) (under : HasFactors p y w b) where
+  pub not_whole : a < b → (m : ℕ) → m * y ≡ x → ⊥
+  not_whole less m is = over.apart (ap (λ n. n % p) {x = n} {y = m * w * p ^ (b - a - 1) * p} (eq_of_mul-eq-mul_right (p ^ a)
+      (one-le-pow a p (omega (arith, two))) _ _ (omega (
+        arith,
+        is,
+        over.is,
+        ap (λ q. m * q) under.is,
+        ap (λ q. m * w * q) (split_power p b a (omega (arith, less))),
+        ap (λ q. m * w * q * p ^ a) (one_less p (b - a) (omega (arith, less))),
+      ))) ∙ mul-mod_left (m * w * p ^ (b - a - 1)) p)
+
+  pub times_is : (m : ℕ) → b ≤ a → m * w ≡ n → (m * p ^ (a - b)) * y ≡ x
+  times_is m enough is = omega (
+    arith,
+    ap (λ q. m * p ^ (a - b) * q) under.is,
+    ap (λ q. q * (p ^ (a - b) * p ^ b)) is,
+    ap (λ q. n * q) (split_power p a b enough),
+    over.is,
+  )
+
+  -- The error of what is left is that of the whole.
+  pub error_is : (error : WriteError) → IsLeft p p → b ≤ a → IsOver n w (Err error) → IsOver x y (Err error)
+  error_is errors.Fraction prime enough none = λ m is.
+      let all : m * w ≡ n * p ^ (a - b) = eq_of_mul-eq-mul_right (p ^ b) (one-le-pow b p (omega (arith, two))) _ _
+      (omega (arith, is, over.is, ap (λ q. m * q) under.is, ap (λ q. n * q) (split_power p a b enough))) in
+      let left = power_factor p two prime w (a - b) m n under.apart all in
+      none left.0 left.1
+  error_is errors.Radix prime enough it = (
+    it.0 * p ^ (a - b),
+    times_is it.0 enough it.1,
+    omega (arith, it.2, le-mul_of_pos_right it.0 (one-le-pow (a - b) p (omega (arith, two)))),
+  )
+  error_is _ prime enough none = absurd none
+
+-- No number up to a prime divides what is left without its factors.
+pub next_left : {p n r k : ℕ} → HasFactors p n r k → IsLeft p n → IsLeft (p + 1) r
+next_left {p} {n} {r} {k} all left q two below none = elim (cases_lt q p) [
+  | inl less ↦ left q two less (ap (λ n. n % q) all.is ∙ mod-eq-zero_of_dvd q (dvd-mul_right_of_dvd q (dvd_of_mod-eq-zero q none) (p ^ k)))
+  | inr least ↦ all.apart (ap (λ q. r % q) {x = p} {y = q} (omega (arith, least, below)) ∙ none)
+]
 
 -- What no number up to 36 divides is 1.
 pub one_left : (n p : ℕ) → 0 < n → n ≤ 36 → 36 < p → IsLeft p n → n ≡ 1
 one_left n p some few last left = elim (cases_lt 1 n) [
-  | inl more ↦ absurd (left n (omega (arith, more)) (omega (arith, few, last)) (multiple 1 n n some (omega arith)))
+  | inl more ↦ absurd (left n more (omega (arith, few, last)) (mod_self n))
   | inr least ↦ omega (arith, some, least)
 ]

@@ -6,14 +6,16 @@ use Rattle.lexical_writer.proofs.Common.{eq_of_mul-eq-mul_right, eqb-true, false
 use Rattle.lexical_writer.proofs.Common.{is_power_of_two, is_unknown, le-ltb, le-mul_of_pos_right, length, length-digits_of_step, mantissa, nat_lt, nat_tests}
 use Rattle.lexical_writer.proofs.Common.{ne_eqb, not, number, number_after, number_after_append, number_from_digits, number_from_digits_after, numerator, ok_or}
 use Rattle.lexical_writer.proofs.Common.{one-le-pow, places_of, pow-add, pow-le-pow_right, pow-suc, pow-zero, refl, subst, suc, sym, take, true, up_of, zero, ℕ}
-use Rattle.lexical_writer.proofs.Common.{◌&&◌, ◌*◌, ◌++◌, ◌+◌, ◌-◌, ◌<◌, ◌==◌, ◌^◌, ◌||◌, ◌∙◌, ◌∷◌, ◌≡◌, ◌≤◌, ◌⊎◌}
+use Rattle.lexical_writer.proofs.Common.{◌%◌, ◌&&◌, ◌*◌, ◌++◌, ◌+◌, ◌-◌, ◌<◌, ◌==◌, ◌^◌, ◌||◌, ◌∙◌, ◌∷◌, ◌≡◌, ◌≤◌, ◌⊎◌}
 use Rattle.std.specs.Result.{is_ok}
 use Rattle.lexical_literal.specs.Parts.{literal_of}
 use Rattle.lexical_util.specs.Layout as layout
 use Rattle.lexical_writer.specs.declared.layout.WriteError.TheVariants as errors
 use Rattle.lexical_writer.proofs.MovedLemmas.{up_to}
-use Rattle.lexical_writer.proofs.PlainLemmas.{pow_twice}
-use Rattle.lexical_writer.proofs.PrimeLemmas.{left_over, one_less, over_if, split_power}
+use Rattle.lexical_value.proofs.ScaledLemmas.{pow_of}
+use Rattle.lexical_writer.proofs.PrimeLemmas.{one_less, over_if, split_power}
+use Rattle.lexical_writer.specs.Moved.{HasFactors}
+use Rattle.std.proofs.Math.Nat.{mod-eq_of_lt, mul-add-mod_self_right}
 
 -- The byte at an index is a digit, or it is none.
 pub digit_at : (radix n i d : ℕ) (bytes : List ℕ) (o : Option ℕ) → i < length bytes → o ≡ digit_of (get_or bytes i 0) radix → o ≡ Some d
@@ -80,52 +82,43 @@ digit_read radix n d it front some below given is = (
 )
 
 -- A unit, of which the radix is a power, divides the number of digits as often as the last one.
-module _ (unit bits q last rest factors : ℕ) (two : 2 ≤ unit) (is_last : last ≡ rest * unit ^ factors) (apart : (k : ℕ) → rest ≡ k * unit → ⊥)
-    (some : 0 < rest) (below : last < unit ^ bits) where
-  abbrev pub left : ℕ
-  left = q * unit ^ (bits - factors) + rest
-
-  positive : (k : ℕ) → 0 < unit ^ k
-  positive k = one-le-pow k unit (omega (arith, two))
-
+module _ (unit bits q last rest factors : ℕ) (two : 2 ≤ unit) (of_last : HasFactors unit last rest factors) (some : 0 < rest)
+    (below : last < unit ^ bits) where
   pub fewer : factors < bits
   fewer = elim (cases_lt factors bits) [
     | inl less ↦ less
     | inr many ↦
         let more = pow-le-pow_right {n = unit} (omega (arith, two)) {i = bits} {j = factors} many in
-        absurd (omega (arith, more, le-mul_of_pos_right (unit ^ factors) some, is_last, below))
+        absurd (omega (arith, more, le-mul_of_pos_right (unit ^ factors) some, of_last.is, below))
   ]
 
-  left_apart : (k : ℕ) → left ≡ k * unit → ⊥
-  left_apart k is = apart (k - q * unit ^ (bits - factors - 1)) (sym (left_over k (q * unit ^ (bits - factors - 1)) unit rest
-      (omega (arith, is, ap (λ p. q * p) (one_less unit (bits - factors) (omega (arith, fewer)))))))
-
-  module _ (n zeros up down above : ℕ) (is_number : n ≡ (q * unit ^ bits + last) * (unit ^ bits) ^ zeros) (is_above : above ≡ up + zeros * bits + factors) where
-    top : n * unit ^ up ≡ left * unit ^ above
-    top =
+  pub of_digits : (n zeros up : ℕ) → n ≡ (q * unit ^ bits + last) * (unit ^ bits) ^ zeros
+      → HasFactors unit (n * unit ^ up) (q * unit ^ (bits - factors) + rest) (up + zeros * bits + factors)
+  of_digits n zeros up is_number = record {
+    is =
+        let left = q * unit ^ (bits - factors) + rest in
         let whole : q * unit ^ bits + last ≡ left * unit ^ factors =
-        omega (arith, ap (λ p. q * p) (split_power unit bits factors (omega (arith, fewer))), is_last) in
-        let power = ap (λ k. unit ^ k) is_above ∙ pow-add unit (up + zeros * bits) factors ∙ ap (λ p. p * unit ^ factors) (pow-add unit up (zeros * bits)) in
-        ap (λ m. m * unit ^ up) (is_number ∙ (λ j. whole j * pow_twice unit bits zeros j)) ∙ omega (arith, ap (λ p. left * p) power)
+        omega (arith, ap (λ p. q * p) (split_power unit bits factors (omega (arith, fewer))), of_last.is) in
+        let power = pow-add unit (up + zeros * bits) factors ∙ ap (λ p. p * unit ^ factors) (pow-add unit up (zeros * bits)) in
+        ap (λ m. m * unit ^ up) (is_number ∙ (λ j. whole j * pow_of unit bits zeros j)) ∙ omega (arith, ap (λ p. left * p) power);
+    apart = λ is. of_last.apart (sym (mul-add-mod_self_right (q * unit ^ (bits - factors - 1)) unit rest)
+        ∙ ap (λ n. n % unit) {x = q * unit ^ (bits - factors - 1) * unit + rest} {y = q * unit ^ (bits - factors) + rest}
+        (omega (arith, ap (λ p. q * p) (one_less unit (bits - factors) (omega (arith, fewer))))) ∙ is);
+  }
 
-    pub not_whole : above < down → (m : ℕ) → m * unit ^ down ≡ n * unit ^ up → ⊥
-    not_whole less m is =
-        let all : m * unit ^ (down - above) ≡ left = eq_of_mul-eq-mul_right (unit ^ above) (positive above) _ _
-        (omega (arith, ap (λ p. m * p) (split_power unit down above (omega (arith, less))), is, top)) in
-        left_apart (m * unit ^ (down - above - 1)) (omega (arith, all, ap (λ p. m * p) (one_less unit (down - above) (omega (arith, less)))))
-
-    pub whole_is : down ≤ above → (left * unit ^ (above - down)) * unit ^ down ≡ n * unit ^ up
-    whole_is enough = omega (arith, ap (λ p. left * p) (split_power unit above down enough), top)
+-- A power of a number from 2 on has only its factors.
+pub of_own_power : (p k : ℕ) → 2 ≤ p → HasFactors p (p ^ k) 1 k
+of_own_power p k two = record { is = omega arith; apart = λ is. absurd (omega (arith, is, mod-eq_of_lt {n = 1} {m = p} two)) }
 
 -- A radix and a base that are powers of a unit.
 pub over_unit : (unit bits base_bits radix base n up down places : ℕ) (result : Result ℕ WriteError) → radix ≡ unit ^ bits → base ≡ unit ^ base_bits
     → IsOver (n * unit ^ (up * base_bits)) (unit ^ (places * bits + down * base_bits)) result
     → IsOver (n * base ^ up) (radix ^ places * base ^ down) result
 over_unit unit bits base_bits radix base n up down places result is_radix is_base over =
-    let powers : (k : ℕ) → base ^ k ≡ unit ^ (k * base_bits) = λ k. ap (λ b. b ^ k) is_base ∙ pow_twice unit base_bits k in
+    let powers : (k : ℕ) → base ^ k ≡ unit ^ (k * base_bits) = λ k. ap (λ b. b ^ k) is_base ∙ pow_of unit base_bits k in
     subst (λ m. IsOver m (radix ^ places * base ^ down) result) (ap (λ p. n * p) (sym (powers up)))
     (subst (λ d. IsOver (n * unit ^ (up * base_bits)) d result) (pow-add unit (places * bits) (down * base_bits)
-    ∙ sym (λ j. (ap (λ b. b ^ places) is_radix ∙ pow_twice unit bits places) j * powers down j)) over)
+    ∙ sym (λ j. (ap (λ b. b ^ places) is_radix ∙ pow_of unit bits places) j * powers down j)) over)
 
 -- A number that is not at most a limit.
 pub far : (most n : ℕ) → (n ≤ most → ⊥) → nat_lt most n ≡ true

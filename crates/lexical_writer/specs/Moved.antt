@@ -1,5 +1,5 @@
 -- How the point of a number moves, so that the number needs no exponent, and which whole number it is.
-use Rattle.std.specs.Prelude.{ℕ, ◌≡◌, ◌<◌, ◌≤◌, ◌+◌, ◌-◌, ◌*◌, ◌==◌, ◌^◌, ◌&&◌, ◌||◌, not, nat_lt, true, false}
+use Rattle.std.specs.Prelude.{ℕ, ◌≡◌, ◌<◌, ◌≤◌, ◌+◌, ◌-◌, ◌*◌, ◌%◌, ◌==◌, ◌^◌, ◌&&◌, ◌||◌, not, nat_lt, true, false}
 use Rattle.std.specs.Prelude.{Bool, if◌then◌else◌, List, [], ◌∷◌, ◌++◌, length, None, Result, Ok, Err, is_some}
 use Rattle.std.specs.Int.Digits.{number_from_digits}
 use Rattle.std.specs.Option.{SomeIff}
@@ -68,6 +68,11 @@ IsOver a b (Ok n) = (n * b ≡ a) × (n ≤ 2 ^ 128 - 1)
 IsOver a b (Err errors.Fraction) = (n : ℕ) → n * b ≡ a → ⊥
 IsOver a b (Err errors.Radix) = (n : ℕ) × (n * b ≡ a) × (2 ^ 128 - 1 < n)
 IsOver a b (Err _) = ⊥
+
+-- `HasFactors p n rest k` holds if `n` is `rest` times `p ^ k`, and `p` does not divide `rest`.
+pub record HasFactors (p n rest k : ℕ) : Type 0 where
+  pub is : n ≡ rest * p ^ k
+  pub apart : rest % p ≡ 0 → ⊥
 
 -- `is_unknown r parts` is true if the writer does not find out whether `parts` are a whole number: the mantissa radix and the exponent base
 -- differ, and are not both powers of two, the exponent is not 0, and the digits alone have more than 128 bits.

@@ -9,7 +9,7 @@ ghost use Rattle.lexical_number.specs.Float.{is_power_of_two};
 ghost use Rattle.lexical_number.specs.Number.{number_after, digits_in, number, places as digit_count};
 ghost use Rattle.lexical_number.specs.Numeral.{size_of as numeral_size};
 ghost use Rattle.lexical_writer.specs.Digits.{padded_values};
-ghost use Rattle.lexical_writer.specs.Moved.{IsMoved, IsOver, IsEnding, IsSize, can_move, down_of, places_of, too_far, trimmed, up_of};
+ghost use Rattle.lexical_writer.specs.Moved.{HasFactors, IsMoved, IsOver, IsEnding, IsSize, can_move, down_of, places_of, too_far, trimmed, up_of};
 
 use crate::form::fraction_in;
 use crate::layout::{Amount, WriteError};
@@ -256,8 +256,7 @@ fn unit_of(radix: u32, base: u32) -> Option<(u32, u128, u128)>
 // Returns a number without the factors `prime`, and how many it has.
 fn without_factors(number: u128, prime: u32) -> (u128, u128)
     requires { (0 < number) × (2 ≤ prime) }
-    ensures number { number ≡ result.0 * prime ^ result.1 }
-    ensures rest { (k : ℕ) → result.0 ≡ k * prime → ⊥ }
+    ensures factors { HasFactors prime number result.0 result.1 }
     ensures some { (0 < result.0) × (result.0 ≤ number) }
     ensures few { result.1 < 128 }
 {

@@ -1,8 +1,9 @@
 -- What is not refused is supported and laid out, and what is written of a float has its value.
 use Rattle.lexical_writer.proofs.Common.{Amount, Bool, Err, Float, Grammar, IfErr, IfOk-weaker, IsFloatOf, IsLaidOut, IsWorth, Layout, None, Ok, Option, Result}
-use Rattle.lexical_writer.proofs.Common.{Style, WriteError, ap, arith, false, false≢true, first_error, float_error, format_of, from_bits, inl, inr, is_some}
-use Rattle.lexical_writer.proofs.Common.{is_whole, literal_of, not, raw, refl, refusal, subst, sym, true, with_minus, ◌∙◌, ◌≡◌}
+use Rattle.lexical_writer.proofs.Common.{Style, WriteError, ap, arith, false≢true, first_error, float_error, format_of, from_bits, inl, inr, is_some}
+use Rattle.lexical_writer.proofs.Common.{is_whole, literal_of, not, raw, refusal, subst, sym, true, with_minus, ◌∙◌, ◌≡◌}
 use lib.Ieee.Exact.{HasValue}
+use Rattle.std.proofs.lemmas.Bool.{not-false}
 use Rattle.lexical_writer.specs.Amount.{IsFloatError}
 use Rattle.lexical_util.specs.Layout as layouts
 use Rattle.lexical_util.specs.declared.format_flags.Part.TheVariants as part
@@ -98,10 +99,6 @@ laid : (g : Grammar) (style : Style) (amount : Amount) (result : Result Layout W
 laid g style amount (Ok layout) Q is none = tt
 laid g style amount (Err error) Q is none = absurd (false≢true (ap is_some (sym none ∙ is)))
 
-not_false : (b : Bool) → not b ≡ false → b ≡ true
-not_false true is = refl
-not_false false is = absurd (false≢true (sym is))
-
 pub returns-clause-error : goal.returns-clause-error
 returns-clause-error g c =
     let it = c.in-Some in
@@ -113,7 +110,7 @@ returns-clause-error g c =
     laid g' c.args.style amount.result c.lay_out.result _ c.lay_out.ensures.parts
     (not_refused g' c.args.style amount.result (not whole) shape.shown shape.negative shape.exponent shape.places form.0 form.1 _
     (ap (λ s. float_error g' c.args.style s (not whole)) amount.ensures.sign ∙ sym c.refusal.ensures ∙ c.in_default-refusal.is)
-    (λ is. form.2.whole (not_false whole is)) form.2.some form.3 shape.hidden amount.ensures.some amount.ensures.power)
+    (λ is. form.2.whole (not-false whole is)) form.2.some form.3 shape.hidden amount.ensures.some amount.ensures.power)
 
 pub returns-in_err-bytes-clause-error : goal.returns-in_err-bytes-clause-error
 returns-in_err-bytes-clause-error g c =

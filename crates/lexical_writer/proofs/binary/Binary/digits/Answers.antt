@@ -4,7 +4,7 @@ use Rattle.lexical_writer.proofs.Common.{nat_le, nat_lt, not, not-true, raw, ref
 use Rattle.lexical_util.specs.Layout as layouts
 use Rattle.lexical_writer.proofs.BinaryLemmas.{binary_written, exponent_is, whole}
 use Rattle.lexical_writer.proofs.FloatLemmas.{all_decimals, decimals_are}
-use Rattle.lexical_writer.proofs.PlainLemmas.{pow_twice}
+use Rattle.lexical_value.proofs.ScaledLemmas.{pow_of}
 use Rattle.lexical_writer.proofs.binary.Binary.digits.Goals as goal
 
 -- The digits without an exponent.
@@ -17,7 +17,7 @@ long_is : (r : Record) (n bits after places : ℕ) (many : Bool) → r.byte layo
     → many ≡ nat_le (2 ^ (800 * bits)) (n * (2 ^ bits) ^ after)
     → (nat_lt 799 places || many) ≡ is_long r places (n * r.byte layouts.mantissa_radix ^ after)
 long_is r n bits after places many radix is = ap (λ many. nat_lt 799 places || many)
-    (is ∙ (λ i. nat_le (sym (ap (λ r. r ^ 800) radix ∙ pow_twice 2 bits 800) i) (n * sym radix i ^ after)))
+    (is ∙ (λ i. nat_le (sym (ap (λ r. r ^ 800) radix ∙ pow_of 2 bits 800) i) (n * sym radix i ^ after)))
 
 not_long : (long allows : Bool) → (long && not allows) ≡ false → allows ≡ false → long ≡ false
 not_long true allows is never = absurd (false≢true (sym is ∙ ap not never))

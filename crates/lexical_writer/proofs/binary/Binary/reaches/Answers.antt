@@ -2,7 +2,7 @@
 use Rattle.lexical_writer.proofs.Common.{ap, arith, count_leading_zeros, eq-zero-or-pos, inl, inr, leading_top, lt-leb, lt-ltb, nat_le, one-le-pow, sym, ◌%◌}
 use Rattle.lexical_writer.proofs.Common.{◌&&◌, ◌*◌, ◌+◌, ◌-◌, ◌^◌, ◌∙◌, ◌≡◌}
 use Rattle.lexical_writer.proofs.AmountLemmas.{compared}
-use Rattle.lexical_writer.proofs.PlainLemmas.{pow_twice}
+use Rattle.lexical_value.proofs.ScaledLemmas.{pow_of}
 use Rattle.lexical_writer.proofs.binary.Binary.reaches.Goals as goal
 
 pub returns : goal.returns
@@ -16,6 +16,6 @@ returns c =
           let count = t.1 in
           let first : 63 - count_leading_zeros 64 n % 64 ≡ t.0 = omega (arith, count) in
           let same = (compared 2 n (b * c.args.after) t.0 c.args.bits (omega arith) t.2 t.3).1 in
-          let power : (2 ^ b) ^ c.args.after ≡ 2 ^ (b * c.args.after) = pow_twice 2 b c.args.after ∙ ap (λ k. 2 ^ k) {x = c.args.after * b} (omega arith) in
+          let power : (2 ^ b) ^ c.args.after ≡ 2 ^ (b * c.args.after) = pow_of 2 b c.args.after ∙ ap (λ k. 2 ^ k) {x = c.args.after * b} (omega arith) in
           (λ i. lt-ltb 0 n some i && nat_le c.args.bits (first i + b * c.args.after)) ∙ sym same ∙ sym (ap (λ p. nat_le (2 ^ c.args.bits) (n * p)) power)
     ]
