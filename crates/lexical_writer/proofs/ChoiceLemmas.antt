@@ -1,7 +1,8 @@
 -- What a list reads is the number that a form has written.
 use Rattle.lexical_writer.proofs.Common.{Bool, Form, Grammar, HasKind, HasValue, IsFirst, IsRounded, IsSomeAnd, IsWhole, Kind, List, Literal, NoForm, None, Ok}
 use Rattle.lexical_writer.proofs.Common.{Option, Read, Reads, ReadsForm, Record, SameFraction, Some, Style, ap, arith, decimals_in, exact, false, false≢true}
-use Rattle.lexical_writer.proofs.Common.{float_worth, format_by, if◌then◌else◌, inl, inr, integer_worth, is_binary, is_decimal, is_exact, is_float, is_minus, is_some, length-take-le}
+use Rattle.lexical_writer.proofs.Common.{float_worth, format_by, if◌then◌else◌, inl, inr, integer_worth, is_binary, is_decimal, is_exact, is_float, is_minus}
+use Rattle.lexical_writer.proofs.Common.{is_some, length-take-le}
 use Rattle.lexical_writer.proofs.Common.{mantissa, nearest, negsuc, notation_of, pos, raw, refl, slice_get, subst, suc, sym, take, true, with_sign, within}
 use Rattle.lexical_writer.proofs.Common.{whole_of, worth, zero, ℕ, ℤ, ◌&&◌, ◌||◌, ◌<◌, ◌∙◌, ◌≡◌, ◌⊎◌}
 use Rattle.std.proofs.lemmas.Option.{get_or_from_slice_get, slice_get_within}
@@ -192,7 +193,8 @@ never_whole read kinds.NotWhole none = absurd (none 0 0)
 never_whole read kinds.TooLong none = absurd (none 0 0)
 
 worth_whole : (read : Read) → is_float read.literal ≡ false → has_worth read ≡ is_some (whole_of read)
-worth_whole read whole = ap (λ float. if float then is_ok (float_worth read.kind binary64 (raw read.format).byte read.literal) else is_some (whole_of read)) whole
+worth_whole read whole =
+    ap (λ float. if float then is_ok (float_worth read.kind binary64 (raw read.format).byte read.literal) else is_some (whole_of read)) whole
 
 -- A literal without a decimal point and an exponent has a worth if it is worth an integer.
 pub worth_is : (read : Read) (result : Result Numeral ValueErrorKind) → is_float read.literal ≡ false

@@ -1,5 +1,6 @@
 -- The order in which forms are asked.
-use Rattle.lexical_writer.proofs.Common.{AreBefore, Bool, Form, Grammar, IsPassedOver, IsReason, IsSearched, IsUnusable, Literal, Read, Result, IsSomeAnd, IsStyleOf, List, None, Option, Options, Order, Some, Style}
+use Rattle.lexical_writer.proofs.Common.{AreBefore, Bool, Form, Grammar, IsPassedOver, IsReason, IsSearched, IsUnusable, Literal, Read, Result, IsSomeAnd}
+use Rattle.lexical_writer.proofs.Common.{IsStyleOf, List, None, Option, Options, Order, Some, Style}
 use Rattle.lexical_writer.proofs.Common.{WriteError, ap, arith, asked_style, cases_lt, false, false≢true, if◌then◌else◌, inl, inr, is_asked, is_some}
 use Rattle.lexical_writer.proofs.Common.{lacks_options, length, not, refl, slice_get, subst, sym, true, unwrap_or, ℕ, ◌%◌, ◌+◌, ◌<◌, ◌==◌, ◌∙◌, ◌≡◌, ◌≤◌, ◌⊎◌}
 use Rattle.lexical_writer.specs.Choice.{IsFraction, first_reason, is_replaced, is_unrounded}

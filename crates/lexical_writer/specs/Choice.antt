@@ -152,11 +152,11 @@ IsFraction P step index form = (error : WriteError) × (is_replaced (Some error)
 -- step, the index and the form, and if `reason` is the first of these errors that is not `Fraction`, or `Fraction` if each is, or `None` if no form is asked.
 pub record IsSearched (P : ℕ → ℕ → Form → WriteError → Type 0) (order : Order) (forms : List Form) (step index : ℕ) (reason : Option WriteError) : Type 0
   where
-  pub passed : AreBefore (λ before at form. (error : WriteError) × P before at form error) order forms step index
-  pub none : reason ≡ None → AreBefore (λ before at form. ⊥) order forms step index
-  pub fraction : is_replaced reason ≡ true → AreBefore (IsFraction P) order forms step index
-  pub other : (error : WriteError) → reason ≡ Some error → is_replaced reason ≡ false → (before at : ℕ) × AreBefore (IsFraction P) order forms before at
-      × IsSomeAnd (slice_get forms at) (λ form. (is_asked order before form ≡ true) × P before at form error)
+    pub passed : AreBefore (λ before at form. (error : WriteError) × P before at form error) order forms step index
+    pub none : reason ≡ None → AreBefore (λ before at form. ⊥) order forms step index
+    pub fraction : is_replaced reason ≡ true → AreBefore (IsFraction P) order forms step index
+    pub other : (error : WriteError) → reason ≡ Some error → is_replaced reason ≡ false → (before at : ℕ) × AreBefore (IsFraction P) order forms before at
+        × IsSomeAnd (slice_get forms at) (λ form. (is_asked order before form ≡ true) × P before at form error)
 
 -- `IsShort P order forms error` holds if `error` is that a text of at most 4,096 bytes needs a longer buffer: it is the error of a form, of which `P` holds,
 -- as of some error of each form that is asked before.

@@ -357,12 +357,6 @@ pub struct Chosen {
 // How many steps there are in which forms are asked: three in each of the six turns.
 const STEPS: u8 = 18;
 
-// Why the forms of a step do not write a number: why the forms up to there do not, if any is asked, or that a text needs a longer buffer.
-enum Refused {
-    By(Option<WriteError>),
-    Short(WriteError),
-}
-
 // The order in which a list asks its forms to write a number: the number's radix, whether it is an integer, whether forms whose
 // literals all have an exponent are asked with the others, and of the form that is asked first, if the number is rounded, the radix,
 // and whether it has floats.
@@ -382,16 +376,10 @@ impl Order {
         let order =
             Order { radix: number.radix(), integer, all: !integer | wants_exponent(style.exponent), first: None };
         if number.is_rounded(style) {
-            order.rounded(forms)
+            Order { first: order.first_of(forms), ..order }
         } else {
             order
         }
-    }
-
-    // Returns the order for a number that is rounded.
-    #[inline(always)]
-    fn rounded(self, forms: &[Form]) -> Order {
-        Order { first: self.first_of(forms), ..self }
     }
 
     // Returns the radix of the form that is asked first, if any is, and whether it has floats.
@@ -399,26 +387,16 @@ impl Order {
     fn first_of(&self, forms: &[Form]) -> Option<(u32, bool)> {
         let mut step = 0;
         while step < STEPS {
-            match self.first_in(step, forms) {
-                Some(first) => return Some(first),
-                None => {}
+            let mut index = 0;
+            while index < forms.len() {
+                let it = &forms[index];
+                if self.is_asked(step, it) {
+                    let syntax = it.syntax();
+                    return Some((syntax.format().view().mantissa_radix(), syntax.options().is_some()));
+                }
+                index += 1;
             }
             step += 1;
-        }
-        None
-    }
-
-    // Returns the radix of the first form that is asked in a step, if any is, and whether it has floats.
-    #[inline(always)]
-    fn first_in(&self, step: u8, forms: &[Form]) -> Option<(u32, bool)> {
-        let mut index = 0;
-        while index < forms.len() {
-            let it = &forms[index];
-            if self.is_asked(step, it) {
-                let syntax = it.syntax();
-                return Some((syntax.format().view().mantissa_radix(), syntax.options().is_some()));
-            }
-            index += 1;
         }
         None
     }
@@ -430,12 +408,12 @@ impl Order {
         if turn(self.radix, self.integer, &syntax) != step / 3 {
             return false;
         }
-        self.is_part(step % 3, needs_exponent(&syntax)) & !form.is_only_read() & self.is_radix(&syntax)
+        self.takes_part(step % 3, needs_exponent(&syntax)) & !form.is_only_read() & self.is_radix(&syntax)
     }
 
     // Returns whether a form is asked in a part of its turn, where all of its literals may have an exponent.
     #[inline(always)]
-    const fn is_part(&self, part: u8, exponent: bool) -> bool {
+    const fn takes_part(&self, part: u8, exponent: bool) -> bool {
         match part {
             0 => self.all || !exponent,
             1 => self.integer && !exponent,
@@ -455,7 +433,7 @@ impl Order {
     // Returns the style in which a form with a syntax is asked to write the number.
     #[inline(always)]
     fn style(&self, syntax: &Syntax, style: Style) -> Style {
-        if self.keeps_all(syntax, style.decimals) {
+        if self.is_unrounded(syntax, style.decimals) {
             Style { decimals: None, ..style }
         } else {
             style
@@ -464,41 +442,12 @@ impl Order {
 
     // Returns whether a form with a syntax writes the number without rounding it.
     #[inline(always)]
-    fn keeps_all(&self, syntax: &Syntax, decimals: Option<u8>) -> bool {
+    fn is_unrounded(&self, syntax: &Syntax, decimals: Option<u8>) -> bool {
         match (self.first, decimals) {
             (Some((_, floats)), Some(count)) => floats && syntax.options().is_none() && count > 0,
             _ => false,
         }
     }
-}
-
-// Asks the forms of a step to write a number, or returns why they do not. `first` is why the forms of the steps before do not.
-#[inline(always)]
-fn ask<N: Writable + ?Sized>(
-    forms: &Forms,
-    order: &Order,
-    step: u8,
-    number: &N,
-    style: Style,
-    buffer: &mut [u8],
-    first: Option<WriteError>,
-) -> Result<Chosen, Refused> {
-    let list = forms.as_slice();
-    let mut error = first;
-    let mut index = 0;
-    while index < list.len() {
-        let it = &list[index];
-        if order.is_asked(step, it) {
-            let own = order.style(&it.syntax(), style);
-            match write_in(forms, index, step % 3 == 1, number, own, buffer) {
-                Ok(chosen) => return Ok(chosen),
-                Err(other) if is_short(other) => return Err(Refused::Short(other)),
-                Err(other) => error = first_reason(error, other),
-            }
-        }
-        index += 1;
-    }
-    Err(Refused::By(error))
 }
 
 /// Writes a number by the first form whose text the list reads as this number, to the beginning of a buffer, and returns the
@@ -520,14 +469,23 @@ pub fn choose<N: Writable + ?Sized>(
     style: Style,
     buffer: &mut [u8],
 ) -> Result<Chosen, WriteError> {
-    let order = Order::of(forms.as_slice(), number, style);
+    let list = forms.as_slice();
+    let order = Order::of(list, number, style);
     let mut error = None;
     let mut step = 0;
     while step < STEPS {
-        match ask(forms, &order, step, number, style, buffer, error) {
-            Err(Refused::By(other)) => error = other,
-            Err(Refused::Short(short)) => return Err(short),
-            Ok(chosen) => return Ok(chosen),
+        let mut index = 0;
+        while index < list.len() {
+            let it = &list[index];
+            if order.is_asked(step, it) {
+                let own = order.style(&it.syntax(), style);
+                match write_in(forms, index, it, step % 3 == 1, number, own, buffer) {
+                    Ok(chosen) => return Ok(chosen),
+                    Err(other) if is_short(other) => return Err(other),
+                    Err(other) => error = first_reason(error, other),
+                }
+            }
+            index += 1;
         }
         step += 1;
     }
@@ -554,20 +512,9 @@ pub fn lay_out_first(forms: &Forms, number: &Whole, style: Style) -> Option<Writ
 // Returns the first of the reasons why forms do not write a number. `Fraction` gives way to another one.
 const fn first_reason(first: Option<WriteError>, error: WriteError) -> Option<WriteError> {
     match first {
-        None => Some(error),
-        Some(other) => {
-            if is_fraction(other) {
-                Some(error)
-            } else {
-                Some(other)
-            }
-        }
+        None | Some(WriteError::Fraction) => Some(error),
+        Some(_) => first,
     }
-}
-
-// Returns whether an error is `Fraction`.
-const fn is_fraction(error: WriteError) -> bool {
-    matches!(error, WriteError::Fraction)
 }
 
 // Returns in which turn a form with a syntax is asked to write an integer, or another number, of a radix.
@@ -597,15 +544,16 @@ fn delay(integer: bool, syntax: &Syntax) -> u8 {
 fn write_in<N: Writable + ?Sized>(
     forms: &Forms,
     index: usize,
+    form: &Form,
     with: bool,
     number: &N,
     style: Style,
     buffer: &mut [u8],
 ) -> Result<Chosen, WriteError> {
     if with && number.is_integer() {
-        return write_words(forms, index, number, style, buffer);
+        return write_words(forms, index, form, number, style, buffer);
     }
-    let error = match write_by(forms, index, number, style, buffer) {
+    let error = match write_by(forms, index, form, number, style, buffer) {
         Ok(length) => return Ok(Chosen { form: index, word: None, length, style }),
         Err(error) => error,
     };
@@ -613,7 +561,7 @@ fn write_in<N: Writable + ?Sized>(
         return Err(error);
     }
     let style = without_wish(style);
-    let length = write_by(forms, index, number, style, buffer)?;
+    let length = write_by(forms, index, form, number, style, buffer)?;
     Ok(Chosen { form: index, word: None, length, style })
 }
 
@@ -627,16 +575,17 @@ const fn without_wish(style: Style) -> Style {
 fn write_words<N: Writable + ?Sized>(
     forms: &Forms,
     index: usize,
+    form: &Form,
     number: &N,
     style: Style,
     buffer: &mut [u8],
 ) -> Result<Chosen, WriteError> {
-    let Some(suffixes) = forms.as_slice()[index].suffixes() else {
+    let Some(suffixes) = form.suffixes() else {
         return Err(WriteError::ReadBack);
     };
     let style = without_wish(style);
     for word in suffixes.written() {
-        match write_around(forms, index, number, style, Some(word), buffer) {
+        match write_around(forms, form, number, style, Some(word), buffer) {
             Ok(length) => return Ok(Chosen { form: index, word: Some(word), length, style }),
             Err(error) if is_short(error) => return Err(error),
             Err(_) => {}
@@ -649,17 +598,16 @@ fn write_words<N: Writable + ?Sized>(
 // why it is not used.
 fn write_around<N: Writable + ?Sized>(
     forms: &Forms,
-    index: usize,
+    form: &Form,
     number: &N,
     style: Style,
     word: Option<&'static &'static [u8]>,
     buffer: &mut [u8],
 ) -> Result<usize, WriteError> {
-    let it = &forms.as_slice()[index];
-    let (opening, closing) = (it.opening(), it.closing());
+    let (opening, closing) = (form.opening(), form.closing());
     let start = put_at(buffer, 0, opening.as_bytes());
     let least = start.min(buffer.len());
-    let (size, _) = number.write(&it.syntax(), style, &mut buffer[least..])?;
+    let (size, _) = number.write(&form.syntax(), style, &mut buffer[least..])?;
     let end = put_at(buffer, start.saturating_add(size), closing.as_bytes());
     let end = match word {
         Some(word) => put_at(buffer, end, word),
@@ -688,7 +636,7 @@ fn put_at(buffer: &mut [u8], index: usize, bytes: &[u8]) -> usize {
 
 // Returns nothing if the list reads a text as the number, or why it is not used.
 fn read_alone<N: Writable + ?Sized>(forms: &Forms, number: &N, style: Style, text: &[u8]) -> Result<(), WriteError> {
-    let Ok(Number::Literal { literal, .. }) = forms.read(text) else {
+    let Some((_, literal)) = read_literal(forms, text) else {
         return Err(WriteError::ReadBack);
     };
     if number.is_worth(style, &literal) {
@@ -723,48 +671,72 @@ const fn is_short(error: WriteError) -> bool {
 fn write_by<N: Writable + ?Sized>(
     forms: &Forms,
     index: usize,
+    form: &Form,
     number: &N,
     style: Style,
     buffer: &mut [u8],
 ) -> Result<usize, WriteError> {
-    let it = &forms.as_slice()[index];
-    if it.is_marked() {
-        return write_around(forms, index, number, style, None, buffer);
+    if form.is_marked() {
+        return write_around(forms, form, number, style, None, buffer);
     }
-    let syntax = it.syntax();
-    let (size, float) = number.write(&syntax, style, buffer)?;
+    let (size, float) = number.write(&form.syntax(), style, buffer)?;
     // A text that is longer than a `usize` has the size `usize::MAX`.
     if size == usize::MAX || size > buffer.len() {
         return Err(WriteError::Buffer(size));
     }
-    let plain = number.is_plain(&syntax, it.kind(), style, float);
+    match read_written(forms, index, form, number, style, float, &buffer[..size]) {
+        Ok(()) => Ok(size),
+        Err(error) => Err(error),
+    }
+}
+
+// Returns nothing if the list reads a text, which is written for a number by one form, as the number, or why it is not used.
+#[inline(always)]
+fn read_written<N: Writable + ?Sized>(
+    forms: &Forms,
+    index: usize,
+    form: &Form,
+    number: &N,
+    style: Style,
+    float: bool,
+    text: &[u8],
+) -> Result<(), WriteError> {
+    let syntax = form.syntax();
+    let plain = number.is_plain(&syntax, form.kind(), style, float);
     // A list reads what the first form reads as this form does.
     if plain && index == 0 {
-        return Ok(size);
+        return Ok(());
     }
-    let text = &buffer[..size];
-    let Ok(Number::Literal { literal, form }) = forms.read(text) else {
+    let Some((form, literal)) = read_literal(forms, text) else {
         return Err(WriteError::ReadBack);
     };
-    if plain && form == index {
-        return Ok(size);
+    if plain & (form == index) {
+        return Ok(());
     }
     let Some(own) = own_literal(&syntax, text) else {
         return Err(WriteError::ReadBack);
     };
     if number.is_read_as(style, &own, &literal) {
-        return Ok(size);
+        return Ok(());
     }
     Err(mismatch(&literal))
 }
 
-// Returns why a text is not used that is read as this literal, which is another number or has no value.
+// Returns why a text is not used that is read as this literal.
 fn mismatch(literal: &Literal) -> WriteError {
-    let refused = if literal.is_float() { to_float::<f64>(literal).is_err() } else { own_numeral(literal).is_err() };
-    if refused {
-        WriteError::TooLarge
-    } else {
+    if has_worth(literal) {
         WriteError::ReadBack
+    } else {
+        WriteError::TooLarge
+    }
+}
+
+// Returns whether a literal is worth an integer or, with a decimal point or an exponent, an `f64`.
+fn has_worth(literal: &Literal) -> bool {
+    if literal.is_float() {
+        to_float::<f64>(literal).is_ok()
+    } else {
+        own_numeral(literal).is_ok()
     }
 }
 
@@ -772,8 +744,18 @@ fn mismatch(literal: &Literal) -> WriteError {
 fn own_literal<'a>(syntax: &Syntax, text: &'a [u8]) -> Option<Literal<'a>> {
     let alone = [Form::new("", *syntax)];
     let list = Forms::new(&alone)?;
-    match list.read(text) {
-        Ok(Number::Literal { literal, .. }) => Some(literal),
-        _ => None,
+    match read_literal(&list, text) {
+        Some((_, literal)) => Some(literal),
+        None => None,
+    }
+}
+
+// Returns the index of the form of a list that a text is a literal of, and the literal, or `None` if there is none.
+#[inline(always)]
+fn read_literal<'t>(forms: &Forms, text: &'t [u8]) -> Option<(usize, Literal<'t>)> {
+    match forms.read(text) {
+        Ok(Number::Literal { literal, form }) => Some((form, literal)),
+        Ok(Number::Special(_)) => None,
+        Err(_) => None,
     }
 }

@@ -1,5 +1,6 @@
 -- The form is asked in some step, and each form before it has a reason.
-use Rattle.lexical_writer.proofs.Common.{AreBefore, Form, IsReason, IsSearched, IsSomeAnd, IsStyleOf, ap, arith, asked_style, false≢true, inl, inr, is_asked, length}
+use Rattle.lexical_writer.proofs.Common.{AreBefore, Form, IsReason, IsSearched, IsSomeAnd, IsStyleOf, ap, arith, asked_style, false≢true, inl, inr, is_asked}
+use Rattle.lexical_writer.proofs.Common.{length}
 use Rattle.lexical_writer.proofs.Common.{WriteError, refl, slice_get, slice_get_read, subst, sym, true, ℕ, ◌+◌, ◌∙◌, ◌≡◌}
 use Rattle.lexical_writer.proofs.OrderLemmas.{reason_is, searched_more, searched_next, searched_skip, searched_start, style_is}
 use Rattle.lexical_writer.proofs.choice.choose.Goals as goal
@@ -30,20 +31,20 @@ loop-index-preserved g c =
     let here = slice_get_read _ _ index form refl c.loop-index-test.true c.index-list-index.is in
     elim c.if-is_asked.branch [
       | then-is_asked+in-Err-2 w ↦ record {
-          room = ap length w.buffer-is ∙ w.in-Err.ensures.room ∙ c.loop-index.invariant.room;
-          searched = subst (λ reason. IsSearched P order list step (index + 1) reason) (sym (w.error-is ∙ w.first_reason-error.ensures))
-              (searched_more P order list step index c.loop-index.error c.loop-index.invariant.searched form here w.in-Err.other
-              (sym c.is_asked.ensures ∙ w.if-is_asked.true)
-              (reason_is writes keeps _ room order c.args.style w.style-own.result list _ step index form w.in-Err.other
-              (w.style-own.ensures ∙ ap (λ g. asked_style order.first g c.args.style) w.syntax.ensures) c.as_slice-list.ensures.list
-              c.loop-index.invariant.room w.in-Err.ensures.error));
-        }
+        room = ap length w.buffer-is ∙ w.in-Err.ensures.room ∙ c.loop-index.invariant.room;
+        searched = subst (λ reason. IsSearched P order list step (index + 1) reason) (sym (w.error-is ∙ w.first_reason-error.ensures))
+            (searched_more P order list step index c.loop-index.error c.loop-index.invariant.searched form here w.in-Err.other
+            (sym c.is_asked.ensures ∙ w.if-is_asked.true)
+            (reason_is writes keeps _ room order c.args.style w.style-own.result list _ step index form w.in-Err.other
+            (w.style-own.ensures ∙ ap (λ g. asked_style order.first g c.args.style) w.syntax.ensures) c.as_slice-list.ensures.list
+            c.loop-index.invariant.room w.in-Err.ensures.error));
+      }
       | else-is_asked w ↦ record {
-          room = ap length w.buffer-is ∙ c.loop-index.invariant.room;
-          searched = subst (λ reason. IsSearched P order list step (index + 1) reason) (sym w.error-is)
-              (searched_skip P order list step index c.loop-index.error c.loop-index.invariant.searched form here
-              (λ asked. false≢true (sym (sym c.is_asked.ensures ∙ w.if-is_asked.false) ∙ asked)));
-        }
+        room = ap length w.buffer-is ∙ c.loop-index.invariant.room;
+        searched = subst (λ reason. IsSearched P order list step (index + 1) reason) (sym w.error-is)
+            (searched_skip P order list step index c.loop-index.error c.loop-index.invariant.searched form here
+            (λ asked. false≢true (sym (sym c.is_asked.ensures ∙ w.if-is_asked.false) ∙ asked)));
+      }
     ]
 
 pub loop-step-preserved : goal.loop-step-preserved
@@ -66,7 +67,7 @@ returns-in-Ok-clause-form g c =
     let order = c.of-order.result in
     let step = c.loop-step.step in
     let P = λ (n before at : ℕ) (form : Form) (error : WriteError). IsReason (g.N.Writable.writes c.args.number.now) (g.N.Writable.keeps c.args.number.now)
-        n order c.args.style list before at form error in
+    n order c.args.style list before at form error in
     let Q : ℕ → ℕ → Type 0 = λ n at. AreBefore (λ before at form. (error : WriteError) × P n before at form error) order list step at in
     rw (← c.as_slice-list.ensures.list) (
       order,
@@ -94,31 +95,39 @@ returns-in-Err-clause-error g c =
     let writes = g.N.Writable.writes c.args.number.now in
     let keeps = g.N.Writable.keeps c.args.number.now in
     let Q : ℕ → Type 0 = λ n. AreBefore (λ before at form. (error : WriteError) × IsReason writes keeps n order c.args.style list before at form error)
-        order list step index in
+    order list step index in
     let short = c.is_short.ensures c.if-is_short.true in
-    rw (← c.as_slice-list.ensures.list) (order, c.of-order.ensures.order, inl (
-      short.0,
-      short.1,
-      short.2,
-      step,
-      index,
-      subst Q c.loop-step.invariant.room c.loop-index.invariant.searched.passed,
-      rw (slice_get_read _ _ index c.index-list-index.result refl c.loop-index-test.true c.index-list-index.is) (
-        sym c.is_asked.ensures ∙ c.if-is_asked.true,
-        reason_is writes keeps _ _ order c.args.style c.style-own.result list _ step index c.index-list-index.result c.in-Err.other
-            (c.style-own.ensures ∙ ap (λ g. asked_style order.first g c.args.style) c.syntax.ensures) c.as_slice-list.ensures.list
-            (c.loop-index.invariant.room ∙ c.loop-step.invariant.room) c.in-Err.ensures.error,
+    rw (← c.as_slice-list.ensures.list) (
+      order,
+      c.of-order.ensures.order,
+      inl (
+        short.0,
+        short.1,
+        short.2,
+        step,
+        index,
+        subst Q c.loop-step.invariant.room c.loop-index.invariant.searched.passed,
+        rw (slice_get_read _ _ index c.index-list-index.result refl c.loop-index-test.true c.index-list-index.is) (
+          sym c.is_asked.ensures ∙ c.if-is_asked.true,
+          reason_is writes keeps _ _ order c.args.style c.style-own.result list _ step index c.index-list-index.result c.in-Err.other
+              (c.style-own.ensures ∙ ap (λ g. asked_style order.first g c.args.style) c.syntax.ensures) c.as_slice-list.ensures.list
+              (c.loop-index.invariant.room ∙ c.loop-step.invariant.room) c.in-Err.ensures.error,
+        ),
       ),
-    ))
+    )
 
 pub returns-clause-error : goal.returns-clause-error
 returns-clause-error g c =
     let list = c.as_slice-list.result.now in
     let order = c.of-order.result in
     let P = IsReason (g.N.Writable.writes c.args.number.now) (g.N.Writable.keeps c.args.number.now) (length c.args.buffer.now) order c.args.style list in
-    rw (← c.as_slice-list.ensures.list) (order, c.of-order.ensures.order, inr (
-      c.loop-step.error,
-      subst (λ step. IsSearched P order list step 0 c.loop-step.error) {x = c.loop-step.step} {y = 18}
-          (omega (arith, c.loop-step-test.false, c.loop-step.invariant.most)) c.loop-step.invariant.searched,
-      c.unwrap_or.ensures,
-    ))
+    rw (← c.as_slice-list.ensures.list) (
+      order,
+      c.of-order.ensures.order,
+      inr (
+        c.loop-step.error,
+        subst (λ step. IsSearched P order list step 0 c.loop-step.error) {x = c.loop-step.step} {y = 18}
+            (omega (arith, c.loop-step-test.false, c.loop-step.invariant.most)) c.loop-step.invariant.searched,
+        c.unwrap_or.ensures,
+      ),
+    )

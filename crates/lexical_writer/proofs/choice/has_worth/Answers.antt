@@ -4,5 +4,5 @@ use Rattle.lexical_writer.proofs.ChoiceLemmas.{worth_is}
 use Rattle.lexical_writer.proofs.choice.has_worth.Goals as goal
 
 pub returns-else-is_float : goal.returns-else-is_float
-returns-else-is_float c = c.is_ok-else-is_float.ensures.value ∙ worth_is c.args.literal.now c.own_numeral.result (sym c.is_float.ensures.value ∙ c.if-is_float.false)
-    c.own_numeral.ensures
+returns-else-is_float c = c.is_ok-else-is_float.ensures.value
+    ∙ worth_is c.args.literal.now c.own_numeral.result (sym c.is_float.ensures.value ∙ c.if-is_float.false) c.own_numeral.ensures

@@ -1,5 +1,6 @@
 -- The list reads the text as the number.
-use Rattle.lexical_writer.proofs.Common.{Bool, Grammar, IfErr, IfOk, IsNumber, IsSomeAnd, IsSyntax, Literal, Ok, ReadsForm, Reads, ap, is_float, notation_of, not-true, refl, rules, slice_get, true}
+use Rattle.lexical_writer.proofs.Common.{Bool, Grammar, IfErr, IfOk, IsNumber, IsSomeAnd, IsSyntax, Literal, Ok, ReadsForm, Reads, ap, is_float, notation_of}
+use Rattle.lexical_writer.proofs.Common.{not-true, refl, rules, slice_get, true}
 use Rattle.lexical_writer.proofs.Common.{false, subst, sym, ◌&&◌, ◌==◌, ◌∙◌, ◌≡◌}
 use Rattle.lexical_writer.proofs.Common.{Some, eqb-true, false≢true}
 use Rattle.lexical_forms.specs.declared.form.Form.{Form}
@@ -44,7 +45,8 @@ returns-then-plain-form-clause-value g c =
       c.in-Some.form,
       both.0,
       both.1,
-      c.is_plain-plain.ensures.plain (and_first _ _ c.if-plain-form.true) literal (subst (λ o. IsSomeAnd o (λ (form : Form). literal.kind ≡ form.kind)) here both.1 ∙ sym c.kind.ensures)
+      c.is_plain-plain.ensures.plain (and_first _ _ c.if-plain-form.true) literal
+          (subst (λ o. IsSomeAnd o (λ (form : Form). literal.kind ≡ form.kind)) here both.1 ∙ sym c.kind.ensures)
           (by.0 ∙ sym (ap (λ (g : Grammar). g.word) c.syntax-syntax.ensures)) (ap is_float (sym same) ∙ sym float)
           (subst (λ l. g.N.Writable.writes c.args.number.now c.args.style c.syntax-syntax.result (Ok l)) same
           (subst (λ s. g.N.Writable.writes c.args.number.now c.args.style s (Ok l)) (sym c.syntax-syntax.ensures) has)),

@@ -1,5 +1,6 @@
 -- What is written is in the buffer, and is not used for one of the errors.
-use Rattle.lexical_writer.proofs.Common.{Bool, Err, Grammar, IfErr, IsReadElse, IsRefused, IsTaken, IsUnusable, List, Literal, Ok, Reads, Result, WriteError, ap, arith, cases_lt, inl, inr}
+use Rattle.lexical_writer.proofs.Common.{Bool, Err, Grammar, IfErr, IsReadElse, IsRefused, IsTaken, IsUnusable, List, Literal, Ok, Reads, Result, WriteError}
+use Rattle.lexical_writer.proofs.Common.{ap, arith, cases_lt, inl, inr}
 use Rattle.lexical_writer.proofs.Common.{is_float, length, min, nat_tests, not, notation_of, subst, sym, take, text_of, true, ℕ, ◌-◌, ◌<◌, ◌==◌, ◌^◌, ◌||◌}
 use Rattle.lexical_writer.proofs.Common.{◌∙◌, ◌≡◌, ◌≤◌, ◌⊎◌}
 use Rattle.lexical_forms.proofs.MarkLemmas.{no_marks}
@@ -21,14 +22,16 @@ each_error (Ok size) P all = tt
 each_error (Err error) P all = all error
 
 pub returns-then-is_marked-clause-error : goal.returns-then-is_marked-clause-error
-returns-then-is_marked-clause-error g c = each_error c.write_around.result (IsRefused (g.N.Writable.writes c.args.number.now) (λ style. IsUnusable (g.N.Writable.keeps c.args.number.now style) (length c.args.buffer.now) c.args.forms.now.forms c.args.index)
+returns-then-is_marked-clause-error g c = each_error c.write_around.result (IsRefused (g.N.Writable.writes c.args.number.now)
+    (λ style. IsUnusable (g.N.Writable.keeps c.args.number.now style) (length c.args.buffer.now) c.args.forms.now.forms c.args.index)
     c.args.style c.args.form.now)
     (λ error opening closing. absurd (marks _ _ c.is_marked.result c.is_marked.ensures c.if-is_marked.true opening closing))
 
 pub returns-in_err-size-clause-error : goal.returns-in_err-size-clause-error
 returns-in_err-size-clause-error g c =
     let writes = g.N.Writable.writes c.args.number.now c.args.style in
-    residual c.from_residual.result _ (IsRefused (g.N.Writable.writes c.args.number.now) (λ style. IsUnusable (g.N.Writable.keeps c.args.number.now style) (length c.args.buffer.now) c.args.forms.now.forms c.args.index)
+    residual c.from_residual.result _ (IsRefused (g.N.Writable.writes c.args.number.now)
+    (λ style. IsUnusable (g.N.Writable.keeps c.args.number.now style) (length c.args.buffer.now) c.args.forms.now.forms c.args.index)
     c.args.style c.args.form.now) c.from_residual.ensures.1
     (λ error same _ _. inl (subst (λ g. writes g (Err error)) c.syntax.ensures
     (subst (λ error. writes c.syntax.result (Err error)) (sym same) c.in_err-size.ensures.error)))
@@ -43,10 +46,13 @@ pub returns-then-size-clause-error : goal.returns-then-size-clause-error
 returns-then-size-clause-error g c _ _ =
     let written = c.in_ok-size.ensures.text in
     inr (of_form _ (λ s l. g.N.Writable.writes c.args.number.now c.args.style s (Ok l)) _ _ written.0 c.syntax.ensures written.1 written.2
-    (inl (elim c.then-size.either [
-      | inl most ↦ inr (omega (arith, most, written.3.counted))
-      | inr over ↦ inl (omega (arith, over.1, written.3.counted, c.in_ok-size.ensures.room))
-    ], ap errors.Buffer written.3.counted)))
+    (inl (
+      elim c.then-size.either [
+        | inl most ↦ inr (omega (arith, most, written.3.counted))
+        | inr over ↦ inl (omega (arith, over.1, written.3.counted, c.in_ok-size.ensures.room))
+      ],
+      ap errors.Buffer written.3.counted,
+    )))
 
 pub returns-in-Err-clause-error : goal.returns-in-Err-clause-error
 returns-in-Err-clause-error g c _ _ =
@@ -64,6 +70,10 @@ unfolding of_form
 read_written-requires-clause-written g c =
     let written = c.in_ok-size.ensures.text in
     let all = of_form (λ l. c.in_ok-size.float ≡ is_float l) (λ s l. g.N.Writable.writes c.args.number.now c.args.style s (Ok l)) _ _ written.0
-    c.syntax.ensures written.1 written.2 written.4 in
-    (all.0, subst (Reads (notation_of c.args.form.now.syntax) all.0)
-    (taken (text_of all.0) c.args.buffer.now c.write.new.buffer c.in_ok-size.size written.3 c.if-size-buffer.false c.if-size.false) all.1, all.2, all.3)
+    c.syntax.ensures written.1 written.2 written.4 in (
+      all.0,
+      subst (Reads (notation_of c.args.form.now.syntax) all.0)
+          (taken (text_of all.0) c.args.buffer.now c.write.new.buffer c.in_ok-size.size written.3 c.if-size-buffer.false c.if-size.false) all.1,
+      all.2,
+      all.3,
+    )

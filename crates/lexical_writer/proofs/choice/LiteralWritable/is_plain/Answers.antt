@@ -1,5 +1,6 @@
 -- What is written is the number.
-use Rattle.lexical_writer.proofs.Common.{Bool, ap, arith, false, false≢true, is_binary, is_decimal, raw, inl, inr, not, not-true, refl, sym, true, ◌&&◌, ◌||◌, ◌∙◌, ◌≡◌, ◌⊎◌}
+use Rattle.lexical_writer.proofs.Common.{Bool, ap, arith, false, false≢true, is_binary, is_decimal, raw, inl, inr, not, not-true, refl, sym, true, ◌&&◌, ◌||◌}
+use Rattle.lexical_writer.proofs.Common.{◌∙◌, ◌≡◌, ◌⊎◌}
 use Rattle.lexical_writer.proofs.ChoiceLemmas.{no_float, plain_number}
 use Rattle.lexical_writer.proofs.choice.LiteralWritable.is_plain.Goals as goal
 
@@ -12,7 +13,8 @@ parts false b c d e same = absurd (false≢true same)
 pub returns-clause-plain : goal.returns-clause-plain
 returns-clause-plain c equal read kind word float has =
     let all = parts c.is_exact.result c.is_exact-2.result c.is_float.result c.args.float c.has_floats.result equal in
-    plain_number c.args.self.now c.args._style c.args.syntax.now read (sym c.kind.ensures ∙ c.is_exact.ensures.exact all.0) (kind ∙ c.is_exact-2.ensures.exact all.1) word
+    plain_number c.args.self.now c.args._style c.args.syntax.now read (sym c.kind.ensures ∙ c.is_exact.ensures.exact all.0)
+    (kind ∙ c.is_exact-2.ensures.exact all.1) word
     (elim all.2 [
       | inl own ↦ inl (sym c.is_float.ensures.value ∙ own)
       | inr none ↦ inr (no_float c.args.syntax.now read _ word c.has_floats.ensures ((λ i. float i && c.has_floats.result) ∙ none))

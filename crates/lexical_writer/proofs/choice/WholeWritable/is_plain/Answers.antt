@@ -7,7 +7,8 @@ and_false : (b : Bool) → (b && false) ≡ false
 and_false b = grind arith
 
 pub returns-then-is_exact-clause-plain : goal.returns-then-is_exact-clause-plain
-returns-then-is_exact-clause-plain c equal read kind word float has = plain_whole _ c.args.syntax.now read (kind ∙ c.is_exact.ensures.exact c.if-is_exact.true) word
+returns-then-is_exact-clause-plain c equal read kind word float has =
+    plain_whole _ c.args.syntax.now read (kind ∙ c.is_exact.ensures.exact c.if-is_exact.true) word
     (no_float c.args.syntax.now read _ word c.has_floats.ensures ((λ i. is_float read.literal && not-true _ equal i) ∙ and_false _)) has
 
 pub returns-else-float-clause-plain : goal.returns-else-float-clause-plain
