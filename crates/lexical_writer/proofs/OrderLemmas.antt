@@ -3,7 +3,7 @@ use Rattle.lexical_writer.proofs.Common.{AreBefore, Bool, Form, Grammar, IsPasse
 use Rattle.lexical_writer.proofs.Common.{IsStyleOf, List, None, Option, Options, Order, Some, Style}
 use Rattle.lexical_writer.proofs.Common.{WriteError, ap, arith, asked_style, cases_lt, false, false≢true, if◌then◌else◌, inl, inr, is_asked, is_some}
 use Rattle.lexical_writer.proofs.Common.{lacks_options, length, not, refl, slice_get, subst, sym, true, unwrap_or, ℕ, ◌%◌, ◌+◌, ◌<◌, ◌==◌, ◌∙◌, ◌≡◌, ◌≤◌, ◌⊎◌}
-use Rattle.lexical_writer.specs.Choice.{IsFraction, first_reason, is_replaced, is_unrounded}
+use Rattle.lexical_writer.specs.Choice.{first_reason, is_replaced, is_unrounded}
 use Rattle.std.proofs.lemmas.Option.{slice_get_within}
 
 -- Nothing is asked before the first form in the first step.

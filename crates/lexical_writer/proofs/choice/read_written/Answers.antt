@@ -1,6 +1,6 @@
 -- The list reads the text as the number.
-use Rattle.lexical_writer.proofs.Common.{Bool, Grammar, IfErr, IfOk, IsNumber, IsSomeAnd, IsSyntax, Literal, Ok, ReadsForm, Reads, ap, is_float, notation_of}
-use Rattle.lexical_writer.proofs.Common.{not-true, refl, rules, slice_get, true}
+use Rattle.lexical_writer.proofs.Common.{Bool, Grammar, IsSomeAnd, IsSyntax, Ok, ReadsForm, Reads, ap, is_float, notation_of}
+use Rattle.lexical_writer.proofs.Common.{refl, rules, slice_get, true}
 use Rattle.lexical_writer.proofs.Common.{false, subst, sym, ◌&&◌, ◌==◌, ◌∙◌, ◌≡◌}
 use Rattle.lexical_writer.proofs.Common.{Some, eqb-true, false≢true}
 use Rattle.lexical_forms.specs.declared.form.Form.{Form}

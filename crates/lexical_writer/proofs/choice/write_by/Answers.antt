@@ -1,8 +1,8 @@
 -- What is written is in the buffer, and is not used for one of the errors.
 use Rattle.lexical_writer.proofs.Common.{Bool, Err, Grammar, IfErr, IsReadElse, IsRefused, IsTaken, IsUnusable, List, Literal, Ok, Reads, Result, WriteError}
-use Rattle.lexical_writer.proofs.Common.{ap, arith, cases_lt, inl, inr}
-use Rattle.lexical_writer.proofs.Common.{is_float, length, min, nat_tests, not, notation_of, subst, sym, take, text_of, true, ℕ, ◌-◌, ◌<◌, ◌==◌, ◌^◌, ◌||◌}
-use Rattle.lexical_writer.proofs.Common.{◌∙◌, ◌≡◌, ◌≤◌, ◌⊎◌}
+use Rattle.lexical_writer.proofs.Common.{ap, arith, inl, inr}
+use Rattle.lexical_writer.proofs.Common.{is_float, length, nat_tests, not, notation_of, subst, sym, take, text_of, true, ℕ, ◌-◌, ◌==◌, ◌^◌, ◌||◌}
+use Rattle.lexical_writer.proofs.Common.{◌∙◌, ◌≡◌, ◌≤◌}
 use Rattle.lexical_forms.proofs.MarkLemmas.{no_marks}
 use Rattle.lexical_writer.proofs.FloatLemmas.{residual}
 use Rattle.lexical_writer.specs.declared.layout.WriteError.TheVariants as errors
