@@ -455,7 +455,7 @@ _mark = cast(Callable[[str], Union[str, int, None]], lambda meaning: _Field(f"Th
 _radix = cast(Callable[[str], int], lambda meaning: _Field(f"The {meaning}."))
 
 
-class FormatView(metaclass=_Class):
+class FormatView(_Keyed):
     """A view of a format word, lawful or not. `int(view)` is the word, and `str(view)` is its text.
 
     An absent digit separator, base prefix or base suffix is None. An absent exponent base or exponent radix has the
@@ -621,13 +621,8 @@ class FormatView(metaclass=_Class):
             raise ValueError("; ".join(note.text for note in _notes(changed) if note.mask >> 64 & 255))
         return view
 
-    def __eq__(self, other: object) -> bool:
-        if (word := getattr(other, "_word", None)) is None:
-            return NotImplemented
-        return bool(self._word == word)
-
-    def __hash__(self) -> int:
-        return hash(self._word)
+    def _key(self) -> int:
+        return self._word
 
     def __int__(self) -> int:
         return self._word
@@ -994,7 +989,8 @@ class _Reader(_peltzivar.Reader):
         other: Any = lambda it: self._text_of(it, style)
         if fill is not None:
             na, fill = _na(), _typed("fill", fill, str)
-            other = lambda it: fill if it is None or it is na or it != it else self._text_of(it, style)
+            is_nan: Any = lambda it: it.is_nan() if isinstance(it, Decimal) else it != it
+            other = lambda it: fill if it is None or it is na or is_nan(it) else self._text_of(it, style)
         return cast("List[str]", self._write(tuple(listed), style, other))
 
     def _text_of(self, value: Any, style: Tuple[int, ...]) -> str:
@@ -1302,7 +1298,8 @@ def _writable(value: Any, radix: int, syntax: Syntax, style: Tuple[int, ...]) ->
     """Returns a number as what C writes: a float, or a literal. A float is rounded by C, and any other number here. An
     int of more than 128 bits is a literal of the radix."""
     kind, (*_, wish, least, _, has_decimals, places, _) = type(value), style
-    if kind is bool or not (hasattr(kind, "__float__") or hasattr(kind, "__index__")):
+    # numpy has a bool of its own, with one name or the other.
+    if kind.__name__ in ("bool", "bool_") or not (hasattr(kind, "__float__") or hasattr(kind, "__index__")):
         raise TypeError(f"value must be a number or a Literal, not {kind.__name__}")
     is_rounded = has_decimals and radix == 10
     is_literal = isinstance(value, _peltzivar.Found)

@@ -265,7 +265,7 @@ static void test_columns(void) {
 /* The settings, behind another one, with which the most bytes are written. */
 #define LONGEST "\nbase_prefix='x'\nbase_suffix='h'\ndigit_separator='_'\ninternal_digit_separator=true"
 
-/* Numbers are written as literals, and a buffer that is too short has the beginning. */
+/* Numbers are written as literals, also by forms, and a buffer that is too short has the beginning. fuzz.c reads them back. */
 static void test_writing(void) {
     static const peltzivar_style styles[] = {{3, 0, false, false, 0, 0, 0, false, false, 0, false, {0}}, {3, 0, true, false, 0, 0, 0, false, false, 0, false, {0}}}, bare = {0, 0, true, false, 0, 0, 0, false, false, 0, false, {0}};
     static const peltzivar_style ones = {1, 1, false, false, 255, PELTZIVAR_STYLE_ALWAYS, 0, false, false, 0, false, {0}};
@@ -302,6 +302,8 @@ static void test_writing(void) {
     CHECK(make_syntax("exponent=none\npoint=none", &other) && peltzivar_format_f64(&other, 1e-7, NULL, text, 1, NULL) == PELTZIVAR_WRITE_FRACTION);
     CHECK(peltzivar_format_f64(&json, HUGE_VAL, NULL, text, sizeof text, &needed) == PELTZIVAR_WRITE_SPECIAL && needed == 327);
     CHECK(peltzivar_format_literal(&json, &literal, NULL, text, sizeof text, NULL) == PELTZIVAR_WRITE_ARGUMENT);
+    CHECK(peltzivar_forms_format_literal(&list, &literal, NULL, text, sizeof text, NULL) == PELTZIVAR_WRITE_ARGUMENT);
+    CHECK(peltzivar_forms_format_i64(NULL, 1, NULL, text, sizeof text, NULL) == PELTZIVAR_WRITE_ARGUMENT);
     CHECK(peltzivar_read(&german, "-1.234,50", 9, &literal, NULL));
     memset(text, '#', sizeof text);
     CHECK(peltzivar_format_literal(&json, &literal, NULL, text, 8, &needed) == PELTZIVAR_WRITE_BUFFER && needed == 9);
@@ -319,21 +321,6 @@ static void test_special_values(void) {
     CHECK(peltzivar_format_special(&source, &specials, none, text, sizeof text, &needed) == PELTZIVAR_WRITE_ARGUMENT && needed == 5);
     CHECK(make_syntax("no_special=true", &target));
     CHECK(peltzivar_format_special(&target, &specials, minus, text, sizeof text, NULL) == PELTZIVAR_WRITE_SPECIAL);
-}
-
-/* Forms write numbers of each type. fuzz.c reads them back. */
-static void test_choice(void) {
-    static const peltzivar_i128 wide = {0, 1};
-    const peltzivar_forms *const c = language("C"), *const python = language("PYTHON");
-    peltzivar_literal literal;
-    size_t needed = 7;
-    CHECK(peltzivar_forms_read(c, "0x1.8p1", 7, &literal, NULL));
-    CHECK(!peltzivar_forms_format_literal(python, &literal, NULL, text, 2, &needed) && !strcmp(text, "3") && needed == 2);
-    CHECK(peltzivar_forms_format_literal(python, &literal, NULL, text, 1, &needed) == PELTZIVAR_WRITE_BUFFER && needed == 2 && !*text);
-    CHECK(!peltzivar_forms_format_i128(python, wide, NULL, text, sizeof text, NULL) && !strcmp(text, "18446744073709551616"));
-    CHECK(peltzivar_forms_format_i64(NULL, 1, NULL, text, sizeof text, NULL) == PELTZIVAR_WRITE_ARGUMENT);
-    memset(&literal, 0, sizeof literal);
-    CHECK(peltzivar_forms_format_literal(c, &literal, NULL, text, sizeof text, NULL) == PELTZIVAR_WRITE_ARGUMENT);
 }
 
 /* Returns whether two errors are the same. */
@@ -561,7 +548,7 @@ static void test_null(void) {
 static void *test_all(void *unused) {
     for (int i = 0; i < 5; i++) {
         test_constants(), test_setters(), test_words(), test_syntaxes(), test_errors(), test_values(), test_columns();
-        test_writing(), test_special_values(), test_choice(), test_languages(), test_forms(), test_tokens(), test_null(), test_room(), test_parse_errors();
+        test_writing(), test_special_values(), test_languages(), test_forms(), test_tokens(), test_null(), test_room(), test_parse_errors();
     }
     return unused;
 }

@@ -172,9 +172,9 @@ class Header(unittest.TestCase):
         exported = re.findall(r"\bfn (peltzivar_\w+)\( ?(.*?) ?\) -> ([\w *]+) \{", sources)
         languages = re.findall(r"^    (\w+): \"", (TOP / "rust/src/literal/language/tables.rs").read_text(), re.M)
         exported += [(f"peltzivar_language_{it.lower()}", "", "*const Forms") for it in languages]
-        types = re.findall(r"\b(\w+): (peltzivar_parse_\w+) (\w+),", sources)
-        (one, column) = re.findall(r"extern \"C\" fn \$\w+\( (.*?) \) -> (\w+) \{", sources)
-        exported += [(name, of.replace("$T", kind), result) for kind, *names in types for name, (of, result) in zip(names, (one, column))]
+        types = re.findall(r"\b(\w+): (peltzivar_to_\w+) (\w+) (\w+),", sources)
+        calls = re.findall(r"extern \"C\" fn \$\w+\( ?([^()]+?) ?\) -> (\w+) \{", sources)
+        exported += [(name, of.replace("$T", kind), result) for kind, *names in types for name, (of, result) in zip(names, calls, strict=True)]
         wanted = {
             (name, tuple(it.split(": ")[1] for it in re.split(r", (?=\w+: )", of) if it), result)
             for name, of, result in exported

@@ -50,7 +50,7 @@ class Columns(unittest.TestCase):
                 values, wrong, missing = Language.CSV_DE.column(given, errors="coerce", out=out)
                 filled = Language.CSV_DE.column(given, fill=0, errors="coerce").values
                 self.assertEqual([str(it) for it in filled], "1.5 0.0 0.0 0.0 2.0 0.0 0.0 0.0 0.0".split())
-                self.assertEqual(Language.CSV_DE.format_column([na, 1.5], fill="-"), ["-", "1,5"])
+                self.assertEqual(Language.CSV_DE.format_column([na, Decimal("sNaN"), 1.5], fill="-"), ["-", "-", "1,5"])
                 with self.assertRaises(peltzivar.ColumnError) as caught:
                     Language.CSV_DE.column(given)
             self.assertEqual(([*map(str, values)], missing), ("1.5 nan nan nan 2.0 nan nan nan nan".split(), (1, 5, 6)))

@@ -116,6 +116,7 @@ def random_syntax(at):
         fields.update({f"{it}_digit_separator_flags": True for it in parts if at.random() < 0.3})
         fields.update(dict(zip(("digit_separator", "base_prefix", "base_suffix", "exponent", "point"), at.sample(BYTES, 5))))
         fields["mantissa_radix"], fields["exponent_radix"] = at.choice([2, 8, 10, 10, 11, 16, 36]), at.choice([0, 10, 16])
+        fields["exponent_base"] = at.choice([0, 0, 2, 10])
         for change in at.sample(CONDITIONS, at.choice([0, 0, 1, 2])):
             fields.update({name: it if it is True else at.choice([2, 3, 4]) for name, it in change.items()})
         syntax = syntax_of(**fields)

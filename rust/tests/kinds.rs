@@ -142,8 +142,6 @@ fn values_are_those_of_the_language() {
     // It is below 0, in each call alike.
     assert_eq!(Language::JAVA.parse::<u32>("0xffffffff").unwrap_err().to_string(), "below 0, the least u32");
     assert_eq!(Language::JAVA.parse_prefix::<i64>("0xffffffff;"), Ok((-1, &b";"[..])));
-    let error = Language::JAVA.parse::<i64>("3000000000").unwrap_err();
-    assert_eq!(error.to_string(), "above 2147483647, the largest number of its form");
     assert_eq!(Language::JAVA.parse("4.9e-324"), Ok(5e-324));
     let error = Language::JAVA.parse::<f64>("1e400").unwrap_err();
     assert_eq!(error.to_string(), "above the largest f64");
@@ -195,14 +193,11 @@ fn values_are_written() {
         (Language::JAVA, "0xffffffff", Language::C, Err(WriteError::Negative)),
         (Language::JAVA, "0x7fffffff", Language::C, Ok("2147483647")),
         (Language::JAVA, "3000000000", Language::C, Err(WriteError::TooLarge)),
-        (Language::JAVA, "3000000000L", Language::C, Ok("3000000000")),
-        (Language::NASM, "0x10000000000000001", Language::C, Ok("1")),
         (Language::FORTRAN, "0.1", Language::PYTHON, Ok("0.10000000149011612")),
         (Language::FORTRAN, "0.50", Language::PYTHON, Ok("0.50")),
         (Language::FORTRAN, "0.1d0", Language::PYTHON, Ok("0.1e0")),
         (Language::JAVA, "0.1f", Language::JAVASCRIPT, Ok("0.10000000149011612")),
         (Language::FORTRAN, "1e39", Language::PYTHON, Err(WriteError::TooLarge)),
-        (Language::JAVA, "1e-400", Language::PYTHON, Err(WriteError::TooLarge)),
         (Language::C, "1e400", Language::PYTHON, Ok("1e400")),
     ];
     for (source, text, target, wanted) in rows {

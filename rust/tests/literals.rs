@@ -232,27 +232,6 @@ fn sentences_name_what_is_seen() {
     }
 }
 
-/// The parts of the number at the top of the page, and of the longest front that is a literal.
-#[test]
-fn parts_are_known() {
-    #[rustfmt::skip]
-    let rows = [
-        ("digit_separator=95 internal_digit_separator=true base_prefix=120 base_suffix=104", "-0x1_000.5e+12h", "- 0x 1_000 . 5 e + 12 h"),
-        ("no_exponent_notation=true", "-12.5e3", "- 12 . 5"),
-        ("digit_separator=95 special_digit_separator=true", "12_3.4", "12"),
-        ("base_prefix=120", "0x", "0"),
-        ("base_prefix='x' radix=16 exponent_radix=10 exponent='p'", "0xF.8p-12", "0x F . 8 p - 12"),
-        ("base_suffix='h' required_base_suffix=true", "1h2", "1 h"),
-    ];
-    for (settings, text, wanted) in rows {
-        let syntax = syntax_of(settings);
-        let result = read(syntax, text);
-        let (literal, _) = syntax.read_prefix(text).unwrap();
-        assert!(present(literal).into_iter().eq(wanted.split(' ').map(str::as_bytes)), "{text}: {literal:?}");
-        assert_eq!(result.is_ok(), text == wanted.replace(' ', ""), "{text}");
-    }
-}
-
 /// An integer is compared exactly, and a float by its bits. If `f` is the end of the value, it is that of an `f32`, also as an `f64`.
 /// A word that is not a value names a part of a grammar.
 fn has_value(number: Number<'_>, value: &str) -> bool {

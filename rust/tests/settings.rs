@@ -12,10 +12,8 @@ use settings::load;
 #[test]
 fn files_give_a_syntax_and_what_is_found() {
     #[rustfmt::skip]
-    let rows: [(&[u8], &str, &[&str]); 48] = [
+    let rows: [(&[u8], &str, &[&str]); 46] = [
         (include_bytes!("../examples/settings.txt"), "0x100A10007800005F000000010000000C 112 46", &[]),
-        // Nothing is set.
-        (b"\n \t\r\n\r\n", "0x0A0A0A0000000000000000000000000C 101 46", &[]),
         // A byte order mark is read over before the first line alone.
         (b"\xEF\xBB\xBFradix=8", "0x0808080000000000000000000000000C 101 46", &[]),
         (b"\xEF\xBB\xBF\t # octal\nradix=8", "0x0808080000000000000000000000000C 101 46", &[]),
@@ -24,7 +22,6 @@ fn files_give_a_syntax_and_what_is_found() {
         (b"base_prefix='x'\nrequired_base_prefix=true", "0x0A0A0A0078000000000000000000000C 101 46 required_base_prefix=true", &[]),
         (b"required_base_suffix=true\nbase_suffix='h'\n\nbase_suffix=none", "",
             &["lines 1, 4: required_base_suffix is set, and the format has no base suffix", "lines 2, 4: a later setting overrides base_suffix"]),
-        (b"digit_separator=','\ninternal_digit_separator=true\ninteger_group_size=3", "0x0A0A0A000000002C000000070000000C 101 46 integer_group_size=3", &[]),
         (b"integer_group_size=9", "", &["line 1: integer_group_size takes a number from 2 to 8, or `none`, not `9`"]),
         (b"digit_separator=','\ninternal_digit_separator=true\ninteger_group_size=3\nhigher_group_size=2\nfraction_group_size=4", "0x0A0A0A000000002C000000070000000C 101 46 integer_group_size=3 higher_group_size=2 fraction_group_size=4", &[]),
         (b"internal_digit_separator=true\ninteger_group_size=3\nhigher_group_size=2\nfraction_group_size=4", "", &[
@@ -142,8 +139,6 @@ fn reading_ends_at_the_first_error() {
     let settings = Settings::read(&texts[..2]).unwrap();
     // The options do not matter to the format.
     assert_eq!(settings.build_format().unwrap().word(), 0x00001000_00000000_00000000_0000000C);
-    let error = Settings::read(["exponent=none"]).unwrap().build_syntax().unwrap_err();
-    assert!(error.to_string().ends_with("set no_exponent_notation"));
 }
 
 /// An option shares no bit with a field, so none overrides the other.

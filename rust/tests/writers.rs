@@ -1,16 +1,11 @@
-//! Writers: what is written, and that it is read back with the same value.
+//! Writers: what is written, and that it is read back with the same value. `c/tests/test_writing.py` compares values in any
+//! syntax.
 
-#[path = "../../compare/rust/src/random.rs"]
-mod random;
-
-use peltzivar::format::FLAG_MASK;
 use peltzivar::literal::{
-    Affix, Condition, Conditions, ExponentStyle, Form, Forms, Language, Literal, Sign, Special, Specials, Spelling,
-    Style, Syntax, WriteError, Written,
+    Affix, ExponentStyle, Form, Forms, Language, Literal, Sign, Special, Specials, Spelling, Style, Syntax, WriteError,
+    Written,
 };
-use peltzivar::{Format, NumberFormatBuilder, Part, Settings};
-use random::Random;
-use std::collections::BTreeMap;
+use peltzivar::{NumberFormatBuilder, Part, Settings};
 use std::num::NonZeroU8;
 
 const LITERALS: &str = include_str!("literals.txt");
@@ -24,100 +19,6 @@ fn rows() -> impl Iterator<Item = (Language, &'static str)> {
         let language = *Language::ALL.iter().find(|it| it.name() == name)?;
         language.read(text).ok()?.literal().map(|_| (language, text))
     })
-}
-
-/// A value: what is left of the mantissa when it is divided by primes up to 31, with the lowest 32 bits first, how often each
-/// prime divides the value, and whether it is negative. Two literals have the same value if and only if these are the same.
-type Value = (Vec<u32>, BTreeMap<u32, i128>, bool);
-
-const PRIMES: [u32; 11] = [2, 3, 5, 7, 11, 13, 17, 19, 23, 29, 31];
-
-/// Divides a number if there is no remainder, and returns whether there is none.
-fn divide(number: &mut [u32], by: u32) -> bool {
-    let whole = |rest: u64, word: u32| rest << 32 | u64::from(word);
-    if number.iter().rev().fold(0, |rest, word| whole(rest, *word) % u64::from(by)) > 0 {
-        return false;
-    }
-    number.iter_mut().rev().fold(0, |rest, word| {
-        let whole = whole(rest, *word);
-        *word = (whole / u64::from(by)) as u32;
-        whole % u64::from(by)
-    });
-    true
-}
-
-/// Returns the value of a literal of a syntax, whose exponent is short in the tests.
-fn value(literal: &Literal, syntax: &Syntax) -> Value {
-    let (radix, base) = (syntax.format().mantissa_radix(), syntax.format().exponent_base());
-    let mut number = Vec::new();
-    for digit in literal.digits(Part::Integer).chain(literal.digits(Part::Fraction)) {
-        let carry = number.iter_mut().fold(u64::from(digit), |carry, word| {
-            let sum = u64::from(*word) * u64::from(radix) + carry;
-            *word = sum as u32;
-            sum >> 32
-        });
-        number.extend((carry > 0).then_some(carry as u32));
-    }
-    let place = -(literal.digits(Part::Fraction).count() as i128);
-    let scale = i128::from(literal.radix(Part::Exponent));
-    let size = literal.digits(Part::Exponent).fold(0, |size, digit| size * scale + i128::from(digit));
-    let exponent = if literal.exponent_sign() == b"-" { -size } else { size };
-    while number.last() == Some(&0) {
-        number.pop();
-    }
-    let mut powers = BTreeMap::new();
-    for prime in if number.is_empty() { &[] } else { &PRIMES[..] } {
-        let times = |number: u32| (1..).find(|power| number % prime.pow(*power) != 0).unwrap_or(1) - 1;
-        let mut count = place * i128::from(times(radix)) + exponent * i128::from(times(base));
-        while divide(&mut number, *prime) {
-            count += 1;
-        }
-        powers.extend((count != 0).then_some((*prime, count)));
-    }
-    while number.last() == Some(&0) {
-        number.pop();
-    }
-    (number, powers, literal.is_negative())
-}
-
-/// Returns whether a value is whole.
-fn is_whole(value: &Value) -> bool {
-    value.1.values().all(|count| *count > 0)
-}
-
-/// Returns whether a value has at most 128 bits.
-fn is_short(value: &Value) -> bool {
-    let top = value.0.last().map_or(0.0, |word| f64::from(*word).log2() + 32.0 * (value.0.len() - 1) as f64);
-    top + value.1.iter().map(|(prime, count)| f64::from(*prime).log2() * *count as f64).sum::<f64>() < 127.9
-}
-
-/// Returns whether the writer finds out what the value of a literal with an exponent is: the radix and the base are one, or powers
-/// of two, or the digits certainly have at most 128 bits.
-fn is_found_out(literal: &Literal, radix: u32, base: u32) -> bool {
-    let digits = literal.digits(Part::Integer).count() + literal.digits(Part::Fraction).count();
-    let bits = digits as f64 * f64::from(radix).log2();
-    base == radix || radix.is_power_of_two() && base.is_power_of_two() || bits < 128.0
-}
-
-/// Returns whether an error is why a literal of `source` cannot be written in `target`, and the first such one.
-fn is_reason(error: WriteError, literal: &Literal, exact: &Value, source: &Syntax, target: &Syntax) -> bool {
-    let (from, to) = (source.format(), target.format());
-    let has_exponent = !literal.exponent_character().is_empty();
-    let is_known = !has_exponent || is_found_out(literal, from.radix(), from.exponent_base());
-    let is_fraction = target.point().is_none() && !is_whole(exact);
-    let is_number = is_known && (is_fraction || is_whole(exact) && is_short(exact));
-    match error {
-        WriteError::Radix => from.radix() != to.radix() && !is_number,
-        WriteError::Negative => {
-            let is_negative = literal.is_negative() || literal.to_f64().is_ok_and(f64::is_sign_negative);
-            is_negative && target.conditions().has(Condition::NegativeSign)
-        }
-        WriteError::TooLarge => literal.to_f64().is_err(),
-        WriteError::Special => literal.to_f64().is_ok_and(f64::is_infinite),
-        WriteError::Fraction => is_fraction,
-        WriteError::Exponent => has_exponent && from.exponent_base() != from.radix() && !is_number,
-        _ => false,
-    }
 }
 
 /// Returns the syntax with these settings, in which no digits are required unless they say so.
@@ -200,9 +101,6 @@ fn numbers_are_as_long_as_the_limits() {
     }
     assert_eq!(convert(&long, "", "", ""), long);
     assert_eq!(convert(&long, "", "exponent_radix=2", ""), "!Radix");
-    let integers = Syntax::integers(Format::default());
-    assert_eq!(integers.format_integer(-12, style_of("min_digits=3")).unwrap().to_string(), "-012");
-    assert_eq!(syntax_of("").format_integer(-12, style_of("exponent=always")).unwrap().to_string(), "-12e0");
 }
 
 /// Returns what a language, or the forms of some settings, write for a literal of a language.
@@ -217,26 +115,19 @@ fn forms_write_what_they_read_as_the_same_number() {
         (Language::C, "0x1.8p1", Language::JAVA, "0x1.8p1"),
         (Language::C, "0x1p-3", Language::JSON, "!Radix"),
         (Language::C, "0x1.8p0", Language::PYTHON, "!Radix"),
-        (Language::C, "9007199254740993", Language::JAVA, "9007199254740993L"),
-        (Language::RUST, "9223372036854775808", Language::JAVA, "0x8000000000000000p0"),
-        (Language::RUST, "18446744073709551615", Language::C, "18446744073709551615ULL"),
         (Language::C, "0xffffffff", Language::JAVA, "0xFFFFFFFFL"),
-        (Language::JAVA, "2147483647", Language::FORTRAN, "2147483647"),
-        (Language::C, "2147483648", Language::FORTRAN, "2147483648_8"),
         (Language::C, "017", Language::PYTHON, "0o17"),
         (Language::C, "017", Language::JSON, "15"),
         (Language::PYTHON, "0o17", Language::C, "017"),
         // What a literal is worth by its kind, and a form whose floats are single.
         (Language::JAVA, "0xffffffff", Language::PYTHON, "!Negative"),
         (Language::JAVA, "0xffffffff", Language::JSON, "-1"),
-        (Language::C, "4294967295", Language::JAVA, "4294967295L"),
         (Language::PYTHON, "0.1", Language::FORTRAN, "0.1d0"),
         (Language::JAVA, "0x80000000", Language::FORTRAN, "-2147483648"),
         (Language::FORTRAN, "0.1", Language::PYTHON, "0.10000000149011612"),
         (Language::LUA, "0x6f0621c5a5adf4f0e7dcF", Language::C, "2043045296116497871"),
         (Language::PYTHON, "1_000", Language::TOML, "1000"),
         (Language::PYTHON, "0xFF", Language::JSON, "255"),
-        (Language::RUBY, "-1", Language::C, "!Negative"),
         (Language::TOML, "-0", Language::JSON, "-0"),
         (Language::JSON, "1e400", Language::JSON, "1e400"),
     ] {
@@ -397,116 +288,6 @@ fn special_values_have_the_required_sign() {
             let written = specials.format(&Syntax::integers(signed), Special { sign, spelling }).unwrap();
             let text = format!("{shown}{word}");
             assert_eq!((written.to_string(), written.write_into(&mut [0; 8])), (text.clone(), Ok(&*text)));
-        }
-    }
-}
-
-/// Returns one of some bytes, as a number.
-fn pick(state: &mut Random, bytes: &[u8]) -> u128 {
-    state.pick(bytes).into()
-}
-
-/// Returns a pseudo-random format with a mantissa radix, whose flags are `flags` or any others.
-fn random_format(state: &mut Random, radix: u128, flags: Option<u128>) -> Format {
-    loop {
-        let drawn = (0..45).filter(|_| state.below(4) == 0).fold(0, |flags, bit| flags | 1 << bit) & FLAG_MASK;
-        let (separator, prefix) = (pick(state, b"\0_,"), pick(state, b"\0x"));
-        let (suffix, base) = (pick(state, b"\0h"), pick(state, &[0, 2, 10, radix as u8]));
-        let bytes = [(separator, 64), (prefix, 88), (suffix, 96), (radix, 104), (base, 112), (10, 120)];
-        let word = bytes.iter().fold(flags.unwrap_or(drawn), |word, (byte, bit)| word | byte << bit);
-        if let Ok(format) = Format::new(word) {
-            return format;
-        }
-    }
-}
-
-/// Returns a pseudo-random syntax, often with conditions.
-fn random_syntax(state: &mut Random) -> Syntax {
-    let radix = pick(state, &[10, 10, 10, 16, 16, 4, 3, 30]);
-    let format = random_format(state, radix, None);
-    let options = Syntax::new(format, b'^', b'.').ok().filter(|_| state.below(4) > 0);
-    let syntax = options.unwrap_or(Syntax::integers(format));
-    let mut draw = || state.below(3) == 0;
-    let conditions = Conditions::NONE.required_base_prefix(draw()).no_negative_mantissa_sign(draw());
-    let sizes = draw().then_some(2 + state.below(3) as u8);
-    syntax.with_conditions(conditions.integer_group_size(sizes)).unwrap_or(syntax)
-}
-
-/// Returns digits of a radix, at most `most`.
-fn random_digits(state: &mut Random, radix: u128, most: u64) -> String {
-    let digit = |state: &mut Random| if state.below(3) == 0 { 0 } else { state.below(radix as u64) as u32 };
-    (0..state.below(most + 1)).map(|_| char::from_digit(digit(state), 36).unwrap()).collect()
-}
-
-/// Returns whether a number was written with the right value, or refused for a reason.
-fn is_right(literal: &Literal, exact: &Value, source: &Syntax, target: &Syntax, style: Style) -> bool {
-    match target.format_literal(literal, style).map(|text| text.to_string()) {
-        Ok(text) => target.read(&text).is_ok_and(|read| value(&read, target) == *exact),
-        Err(WriteError::Long) => {
-            target.exponent().is_none_or(|_| target.format().exponent_base() != source.format().exponent_base())
-                || target.format().no_exponent_notation()
-        }
-        Err(error) => is_reason(error, literal, exact, source, target),
-    }
-}
-
-/// Returns whether a text is a literal with the value of an integer.
-fn is_integer(text: &str, integer: i64, target: &Syntax) -> bool {
-    let decimal = Syntax::integers(NumberFormatBuilder::new().build_format_or_panic());
-    let digits = integer.to_string();
-    let exact = value(&decimal.read(&digits).unwrap(), &decimal);
-    target.read(text).is_ok_and(|read| value(&read, target) == exact)
-}
-
-/// Returns a pseudo-random text, and a syntax that requires no digits, often of the radix of `target`.
-fn random_literal(state: &mut Random, target: &Syntax, index: usize) -> (Syntax, String) {
-    let radix = if state.below(8) == 0 { 10 } else { u128::from(target.format().mantissa_radix()) };
-    let source = Syntax::new(random_format(state, radix, Some(0)), b'^', b'.').unwrap();
-    let [integer, fraction] = [(); 2].map(|()| random_digits(state, radix, 6));
-    let exponent = random_digits(state, 10, 3);
-    let (sign, power) = (["", "-"][index % 2], ["^", "^-"][index / 2 % 2]);
-    let point = if fraction.is_empty() { "" } else { "." };
-    let power = if exponent.is_empty() { "" } else { power };
-    (source, format!("{sign}{integer}{point}{fraction}{power}{exponent}"))
-}
-
-/// Each number is written in one of eight styles. It is proved that no literal is what an error refuses.
-#[test]
-fn numbers_are_read_back_or_refused_in_any_syntax() {
-    let state = &mut Random::new(20_261_127);
-    for _ in 0..500 {
-        let target = random_syntax(state);
-        let size = 1 + state.below(4) as usize;
-        let least = Style::PLAIN.min_digits(state.below(12) as u8);
-        let styles = [
-            Style::PLAIN,
-            Style::PLAIN.without_base(),
-            Style::PLAIN.group(size).fraction_group(5 - size),
-            least.group(0).fraction_group(0).lowercase(),
-            least.group(size),
-            Style::PLAIN.exponent(ExponentStyle::Never).without_base(),
-            least.exponent(ExponentStyle::Always).lowercase(),
-            Style::PLAIN.exponent(ExponentStyle::From(size as u32)).fraction_group(size),
-        ];
-        for index in 0..400 {
-            let (value, style) = ((state.next() << 32) as i64 >> state.below(64), styles[index % 8]);
-            match target.format_integer(value, style).map(|text| text.to_string()) {
-                Ok(text) if style.exponent == ExponentStyle::Always => assert!(is_integer(&text, value, &target)),
-                Ok(text) => assert_eq!(target.parse::<i64>(&text), Ok(value), "{text} in {target}"),
-                Err(WriteError::Negative) => assert!(value < 0),
-                Err(error) => {
-                    let float = target.format().required_exponent_notation();
-                    assert_eq!((error, float), (WriteError::Float, true));
-                }
-            }
-        }
-        for index in 0..100 {
-            let (source, text) = random_literal(state, &target, index);
-            if let Ok(literal) = source.read(&text) {
-                let (exact, style) = (value(&literal, &source), styles[index % 8]);
-                let right = is_right(&literal, &exact, &source, &target, style);
-                assert!(right, "{text} of {source} in {target}, {style:?}");
-            }
         }
     }
 }

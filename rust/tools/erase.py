@@ -84,12 +84,12 @@ REPLACED = [
 ]
 
 # Files in which each function is const in plain Rust. Rattle's `split_at` is not, nor is what calls it.
-CONST = ("lexical_literal/src/stop.rt", "affix.rt", "marked.rt", "marks.rt", "list.rt", "span.rt", "token.rt", "lexical_literal/src/literal.rt")
+CONST = ("lexical_literal/src/stop.rt", "affix.rt", "candidate.rt", "marks.rt", "list.rt", "span.rt", "token.rt", "lexical_literal/src/literal.rt")
 
 # Functions that are inlined in plain Rust, and of which the library for C has one copy.
 ONE_COPY = {
     "affix.rt": "opened", "exclude.rt": "excludes is_over lacks_longer", "lexical_value/src/float.rt": "beyond", "lexical_literal/src/stop.rt": "front step",
-    "lexical_value/src/integer.rt": "keeps", "marked.rt": r"\w+", "marks.rt": r"\w+", "reasons.rt": "clash reason_for", "scaled.rt": "settled",
+    "lexical_value/src/integer.rt": "keeps", "candidate.rt": r"\w+", "marks.rt": r"\w+", "reasons.rt": "clash reason_for", "scaled.rt": "settled",
     "step.rt": "admits step_as", "suffix.rt": "is_word_byte has_word_byte is_stopped", "token.rt": r"\w+",
 }  # fmt: skip
 
@@ -164,9 +164,9 @@ REPLACED += [
     ("token.rt", "it.syntax.begin(false, text, true)", "it.syntax.begin_small(text, true)"),
     ("token.rt", "it.syntax.begin(false, front, true)", "it.syntax.begin_small(front, true)"),
     # The library for C has one copy of these.
-    ("token.rt", "None => self.token_of(", "None if cfg!(peltzivar_small) => self.token_marked(tokens, text),\n            None => self.token_of("),
-    ("marked.rt", "match self.find_marked(word) {", "if cfg!(peltzivar_small) { return self.fault(word, end); } match self.find_marked(word) {"),
-    ("marked.rt", "match self.literal(front) {", "match self.literal_of(front, candidate.counts) {"),
+    ("candidate.rt", "match self.find_marked(word) {", "if cfg!(peltzivar_small) { return self.fault(word, end); } match self.find_marked(word) {"),
+    ("token.rt", "        if has_letter_behind_zero(text) {", "        if !cfg!(peltzivar_small) && has_letter_behind_zero(text) {"),
+    ("token.rt", "match self.leading(tokens, text, sign) {", "let start = if cfg!(peltzivar_small) && has_letter_behind_zero(text) { sign + 1 } else { sign };\n        match self.leading(tokens, text, start) {"),
     ("marks.rt", "const fn between<", "pub(crate) const fn between<"),
     ("list.rt", "        if self.marked {\n            self.number(text, self.find_marked(text))", "        if !cfg!(peltzivar_small) && self.marked {\n            self.number(text, self.find_marked(text))"),
     ("list.rt", "            let syntax = &self.forms[form].syntax;\n            if !is_behind(", "            let text = if cfg!(peltzivar_small) && self.marked { match self.forms[form].between(text) { Some(inside) => inside, None => { form += 1; continue; } } } else { text }; let syntax = &self.forms[form].syntax;\n            if !is_behind("),

@@ -1,18 +1,20 @@
 -- The names that most proofs of this crate cite, passed on from one place. Declares nothing.
-pub use Rattle.lexical_forms.specs.Additions.Forms.{AreBelow, AreFalse, GoesTo, IsBehind, IsBetween, IsEnding, IsFoundForm, IsFoundFrontForm, IsFrontIn}
-pub use Rattle.lexical_forms.specs.Additions.Forms.{IsFurthestForm, IsLed, IsLeftOut, IsLongestPast, IsLow, IsNearSign, IsNoBetter, IsOpened, IsOpenedTo}
-pub use Rattle.lexical_forms.specs.Additions.Forms.{IsRefusedAt, IsSpare, IsStoppedBefore, IsStoppedBehind, IsStranger, LacksZero, Leads, NoFrontPast}
-pub use Rattle.lexical_forms.specs.Additions.Forms.{NoneOpenedPast, NonePast, PlaysNoRole, behind, greater, limit, reach, right_in, sign_size}
-pub use Rattle.lexical_forms.specs.Additions.Token.{AreNear, FrontsWithin, HasFrontOfSyntax, IsBestMade, IsBestOf, IsEnd, IsInside, IsLeading, IsMade, IsNear}
-pub use Rattle.lexical_forms.specs.Additions.Token.{IsOwn, IsPicked, IsWithin, NoOwn, ReadsSyntax, better, go_on_with, goes_on, has_float, has_prefix, suffixed}
-pub use Rattle.lexical_forms.specs.Additions.Token.{whole}
-pub use Rattle.lexical_forms.specs.Affix.{Begins, is_free, spelling, spells}
+pub use Rattle.lexical_forms.specs.Additions.Forms.{AreBelow, AreFalse, GoesTo, IsBehind, IsBetween, IsEnding, IsFirstOf, IsFoundForm, IsFoundFrontForm}
+pub use Rattle.lexical_forms.specs.Additions.Forms.{IsFrontIn, IsLed, IsLeftOut, IsLongestPast, IsLow, IsNearSign, IsNoBetter, IsOpened}
+pub use Rattle.lexical_forms.specs.Additions.Forms.{IsOpenedTo, IsRefusedAt, IsSpare, IsStoppedBefore, IsStoppedBehind, IsStranger, LacksZero, Leads}
+pub use Rattle.lexical_forms.specs.Additions.Forms.{NoFrontPast, NoneOpenedPast, NonePast, OpensIn, PlaysNoRole, Reaches, behind, further, limit, reach}
+pub use Rattle.lexical_forms.specs.Additions.Forms.{right_in}
+pub use Rattle.lexical_forms.specs.Additions.Forms.{sign_size, special_separator, spells}
+pub use Rattle.lexical_forms.specs.Additions.Token.{AreBare, AreNear, FrontsWithin, HasFrontOfSyntax, IsBestMade, IsBestOf, IsCounted, IsEnd, IsLeading, IsMade}
+pub use Rattle.lexical_forms.specs.Additions.Token.{IsNear, IsOwn, IsPicked, IsWithin, NoOwn, better, go_on_with, goes_on, has_float, has_prefix}
+pub use Rattle.lexical_forms.specs.Additions.Token.{is_in_word, suffixed, whole}
 pub use Rattle.lexical_forms.specs.FormList.{FormList, are_marked, have_marks}
-pub use Rattle.lexical_forms.specs.Forms.{HasFront, HasKind, IsErrorIn, IsErrorOfForm, IsFirst, IsFormError, IsGreatest, IsReadByForms, KeepsError, NoForm}
-pub use Rattle.lexical_forms.specs.Forms.{OpensIn, Reaches, ReadsForm, ReadsIn, reach_in, refusal_in}
-pub use Rattle.lexical_forms.specs.Specials.{is_spelled, letter_of, signed, special_behind, special_of, special_separator}
-pub use Rattle.lexical_forms.specs.Suffix.{byte_before, is_digit, is_followed, is_in_word, is_stopped, is_word_byte, kind_with, longest_word, meets, more_of}
-pub use Rattle.lexical_forms.specs.Suffix.{stop_end, suffix_size, suffix_words, word_size}
+pub use Rattle.lexical_forms.specs.Forms.{Begins, HasFront, IsErrorIn, IsErrorOfForm, IsFirst, IsFormError, IsGreatest, IsReadByForms, KeepsError, NoForm}
+pub use Rattle.lexical_forms.specs.Affix.{is_free, spelling}
+pub use Rattle.lexical_forms.specs.Forms.{ReadsForm, ReadsIn, reach_in, refusal_in}
+pub use Rattle.lexical_forms.specs.Specials.{is_spelled, letter_of, signed, special_behind, special_of}
+pub use Rattle.lexical_forms.specs.Suffix.{begins, byte_before, is_followed, is_stopped, is_word_byte, kind_with, meets, more_of, stop_end, suffix_size}
+pub use Rattle.lexical_forms.specs.Suffix.{suffix_words, word_size}
 pub use Rattle.lexical_forms.specs.Token.{AllShorter, IsAhead, IsCandidate, IsChosen, IsCut, IsFollowed, IsOver, IsReadByTokens, IsRefused, IsToken}
 pub use Rattle.lexical_forms.specs.Token.{IsTokenError, NoCandidate, NoLonger, gives_back, is_alone, is_shorter, takes_point}
 pub use Rattle.lexical_forms.specs.declared.form.Form.{Form}
@@ -20,7 +22,7 @@ pub use Rattle.lexical_forms.specs.declared.list.Furthest.{Furthest}
 pub use Rattle.lexical_forms.specs.declared.list.PointsBack.{PointsBack}
 pub use Rattle.lexical_forms.specs.declared.list.Tokens.{Tokens}
 pub use Rattle.lexical_forms.specs.declared.specials.Sign.{Sign}
-pub use Rattle.lexical_forms.specs.declared.token.Candidate.{Candidate}
+pub use Rattle.lexical_forms.specs.declared.candidate.Candidate.{Candidate}
 pub use Rattle.lexical_forms.specs.declared.token.Token.{Token}
 pub use Rattle.lexical_literal.proofs.OneCauseLemmas.{one_refusal}
 pub use Rattle.lexical_literal.proofs.PieceLemmas.{front_cut, front_read, measured_cut, whole_read}
@@ -47,9 +49,10 @@ pub use Rattle.lexical_util.specs.Record.{Record, raw}
 pub use Rattle.lexical_util.specs.Roles.{other_case, signs}
 pub use Rattle.lexical_util.specs.declared.feature_format.roles.Role.{Role}
 pub use Rattle.lexical_util.specs.declared.format_flags.Part.{Part}
-pub use Rattle.std.proofs.Common.{All, Bool, Err, IfSome, IsNone, IsSomeAnd, IsTrue, List, None, Ok, Option, Some, [], ap, append-nil, arith, drop, false}
-pub use Rattle.std.proofs.Common.{get_or, if◌then◌else◌, inl, inr, length, length-append, min, nat_eq, nat_lt, not, option_map, position, refl, rules}
-pub use Rattle.std.proofs.Common.{slice_get, subst, sym, take, true, unwrap_or, ℕ, ◌&&◌, ◌*◌, ◌++◌, ◌+◌, ◌-◌, ◌<◌, ◌==◌, ◌||◌, ◌∙◌, ◌∷◌, ◌≡◌, ◌≤◌, ◌⊎◌}
+pub use Rattle.std.proofs.Common.{All, Bool, Err, IfSome, IsNone, IsSomeAnd, IsTrue, List, None, Ok, Option, Some, [], ap, append-nil, arith, cond, drop, false}
+pub use Rattle.std.proofs.Common.{filter, fold, get_or, if◌then◌else◌, inl, inr, length, length-append, map, max, min, nat_eq, nat_le, nat_lt, not, option_map}
+pub use Rattle.std.proofs.Common.{position, refl, rules, slice_get, subst, sym, take, true, unwrap_or, ℕ, ◌&&◌, ◌*◌, ◌++◌, ◌+◌, ◌-◌, ◌<◌, ◌==◌, ◌||◌, ◌∙◌, ◌∷◌}
+pub use Rattle.std.proofs.Common.{◌≡◌, ◌≤◌, ◌⊎◌}
 pub use Rattle.std.proofs.Math.Nat.{le_antisymm}
 pub use Rattle.std.proofs.lemmas.Bool.{cases_lt, false≢true}
 pub use Rattle.std.proofs.lemmas.Bool.Decides.{nat_tests}
@@ -58,6 +61,7 @@ pub use Rattle.std.proofs.lemmas.List.{append_assoc, drop-append-le, drop-drop, 
 pub use Rattle.std.proofs.lemmas.List.{get_or-take, get_or_append_left, length-drop, length-take, length-take-le, take-append-drop, take-append-le, take-take}
 pub use Rattle.std.proofs.lemmas.List.{take_all, take_at}
 pub use Rattle.std.proofs.lemmas.List.Elements.{All-append, All-from_recursion, All-get_or, All-more, All-take, All-weaker}
-pub use Rattle.std.proofs.lemmas.Option.{slice_get-get_or, slice_get_past, slice_get_within}
+pub use Rattle.std.proofs.lemmas.Option.{get_or_from_slice_get, slice_get-get_or, slice_get_past, slice_get_within}
 pub use Rattle.std.specs.Borrow.{Bor}
+pub use Rattle.std.specs.Char.{is_ascii_digit}
 pub use Rattle.std.specs.List.{AllByRecursion, list_any}

@@ -132,20 +132,6 @@ module _ (m : Notation) (text : List ℕ) (n : ℕ) (is : IsValidUpTo m text n) 
     | inr near ↦ near
   ]
 
-  -- It ends behind the first byte that a required prefix is not.
-  pub near_prefix : IsTrue (m.condition conditions.BasePrefix) → (BeginsPrefixed m text → ⊥) → n ≤ sign_size text + 1
-  near_prefix required none = elim (cases_lt (sign_size text + 1) n) [
-    | inl below ↦
-        let begins = prefix_begins m is.front.literal whole is.front.reads required in
-        let same = same_sign (omega (arith, below)) in
-        absurd (none (record {
-          inside = omega (arith, below, is.within);
-          zero = sym (same_byte (sign_size text) (omega (arith, below))) ∙ ap (λ i. get_or whole i 0) (sym same) ∙ begins.zero;
-          prefix = ap m.prefix (sym (same_byte (sign_size text + 1) below) ∙ ap (λ i. get_or whole (i + 1) 0) (sym same)) ∙ begins.prefix;
-        }))
-    | inr near ↦ near
-  ]
-
 -- A byte that has no role behind the beginning of the integer, and is no digit of an exponent.
 module _ (g : Grammar) (b : ℕ) where
   none_of : role_at (notation_of g) parts.Integer b ≡ None → (notation_of g).digit parts.Exponent b ≡ false → (r : Role)

@@ -1,12 +1,14 @@
 -- What the parts of a token are, and which tokens are a whole text.
-use Rattle.lexical_forms.proofs.Common.{All, All-take, Bool, Form, FormList, IsCandidate, IsChosen, IsFirst, IsSomeAnd, IsToken, List, Literal, Reads}
-use Rattle.lexical_forms.proofs.Common.{ReadsForm, Token, Tokens, [], ap, arith, drop, drop-drop, false, false≢true, get_or, gives_back}
-use Rattle.lexical_forms.proofs.Common.{have_marks, if◌then◌else◌, inl, inr, is_float, is_in, length, length-drop, length-take, min, more_of}
-use Rattle.lexical_forms.proofs.Common.{nat_tests, notation_of, refl, slice_get_past, subst, suffix_size, sym, take, take-append-drop, take_all}
-use Rattle.lexical_forms.proofs.Common.{takes_point, text_of, true, word_size, ℕ, ◌&&◌, ◌++◌, ◌+◌, ◌-◌, ◌∙◌, ◌∷◌, ◌≡◌, ◌≤◌}
-use Rattle.lexical_forms.proofs.FormLemmas.{all_at, plain_at}
-use Rattle.lexical_forms.proofs.LeadingLemmas.{front_of, less_or_same, suffix_within}
-use Rattle.lexical_forms.proofs.MarkLemmas.{plain_in, plain_of}
+use Rattle.lexical_forms.proofs.Common.{AreBare, Bool, Bor, Form, FormList, IsCandidate, IsChosen, IsFirst, IsSomeAnd, IsToken, List, Literal, None}
+use Rattle.lexical_forms.proofs.Common.{Option, Reads, ReadsForm, ReadsIn, Some, Token, Tokens, [], ap, arith, behind, drop, drop-drop, false, false≢true}
+use Rattle.lexical_forms.proofs.Common.{get_or}
+use Rattle.lexical_forms.proofs.Common.{gives_back, if◌then◌else◌, inl, inr, is_float, is_in, kind_with, length, length-drop, length-take, min}
+use Rattle.lexical_forms.proofs.Common.{more_of, nat_tests, notation_of, refl, slice_get_past, subst, suffix_size, sym, take, take-append-drop}
+use Rattle.lexical_forms.proofs.Common.{take_all, takes_point, text_of, true, word_size, ℕ, ◌&&◌, ◌++◌, ◌+◌, ◌-◌, ◌∙◌, ◌∷◌, ◌≡◌, ◌≤◌}
+use Rattle.lexical_forms.specs.declared.suffix.Suffixes.{Suffixes}
+use Rattle.lexical_forms.proofs.FormLemmas.{all_at}
+use Rattle.lexical_forms.proofs.LeadingLemmas.{IsBare, are_bare, less_or_same, suffix_within}
+use Rattle.lexical_forms.proofs.MarkLemmas.{plain_of}
 
 -- A form has no suffix at the end of a text.
 no_more : (form : Form) (float : Bool) (text : List ℕ) (size : ℕ) → length text ≤ size → suffix_size form.suffixes float (drop size text) ≡ 0
@@ -20,6 +22,9 @@ no_more form float text size past =
 kept : (a b : Bool) → b ≡ false → (a && b) ≡ false
 kept a b is = grind arith
 
+kept_too : (a b : Bool) → a ≡ false → (a && b) ≡ false
+kept_too a b is = grind arith
+
 module _ (list : FormList) (t : Tokens) (text : List ℕ) (token : Token) (is : IsToken list t text token) where
   -- The form has a candidate, which needs a suffix or not.
   candidate : (needs : Bool) × IsCandidate t.gives_points_back needs text is.form is.size is.end
@@ -30,22 +35,26 @@ module _ (list : FormList) (t : Tokens) (text : List ℕ) (token : Token) (is : 
     of (inr (behind, same, at, best, others)) =
         (true, subst (λ o. IsSomeAnd o (λ form. IsCandidate t.gives_points_back true text form is.size is.end)) at best.here)
 
-  pub parts_are : text ≡ text_of token.literal.literal ++ (token.suffix.now ++ token.rest.now)
-  parts_are =
-      let end = candidate.1.end_is in
-      let sum : is.size + (is.end - is.size) ≡ is.end = omega (arith, end) in
-      sym (take-append-drop is.size text)
-      ∙ (λ j. is.literal.1.whole j ++ sym (take-append-drop (is.end - is.size) (drop is.size text)) j)
-      ∙ (λ j. text_of token.literal.literal ++ (sym is.suffix j ++ (drop-drop (is.end - is.size) is.size text ∙ ap (λ k. drop k text) sum ∙ sym is.rest) j))
+  module _ (bare : AreBare list t) where
+    own_bare : IsBare is.form
+    own_bare = of is.chosen where
+      of : IsChosen list t text token.form is.form is.size is.end → IsBare is.form
+      of (inl (at, best, others)) = all_at IsBare list.forms token.form is.form at (are_bare list.forms bare.0)
+      of (inr (behind, same, at, best, others)) = all_at IsBare t.forms.now behind is.form at (are_bare t.forms.now bare.1)
+
+    reads_plain : Reads (notation_of is.form.syntax) token.literal.literal (take is.size text)
+    reads_plain = plain_of is.form (take is.size text) own_bare.0 own_bare.1 token.literal.literal is.literal.1
+
+    pub parts_are : text ≡ text_of token.literal.literal ++ (token.suffix.now ++ token.rest.now)
+    parts_are =
+        let end = candidate.1.end_is in
+        let sum : is.size + (is.end - is.size) ≡ is.end = omega (arith, end) in
+        sym (take-append-drop is.size text)
+        ∙ (λ j. reads_plain.whole j ++ sym (take-append-drop (is.end - is.size) (drop is.size text)) j)
+        ∙ (λ j. text_of token.literal.literal ++ (sym is.suffix j ++ (drop-drop (is.end - is.size) is.size text ∙ ap (λ k. drop k text) sum ∙ sym is.rest) j))
 
   -- The whole text is the literal, if it has neither a suffix nor a rest.
-  module _ (bare : have_marks list.forms ≡ false) (no_suffix : token.suffix.now ≡ []) (no_rest : token.rest.now ≡ []) where
-    abbrev IsPlain : Form → Type 0
-    IsPlain form = (form.opening.size ≡ 0) × (form.closing.size ≡ 0)
-
-    plain : All IsPlain list.forms
-    plain k d below = plain_at list.forms k d below bare
-
+  module _ (no_suffix : token.suffix.now ≡ []) (no_rest : token.rest.now ≡ []) where
     past : length text ≤ is.size
     past =
         let behind : length text - is.end ≡ 0 = sym (length-drop is.end text) ∙ ap length (sym is.rest ∙ no_rest) in
@@ -56,20 +65,16 @@ module _ (list : FormList) (t : Tokens) (text : List ℕ) (token : Token) (is : 
     end : is.end ≡ is.size
     end = candidate.1.end_is ∙ (let none = no_more is.form (is_float candidate.1.literal) text is.size past in omega (arith, none))
 
-    reads : Reads (notation_of is.form.syntax) token.literal.literal text
-    reads = subst (Reads (notation_of is.form.syntax) token.literal.literal) (take_all is.size text past) is.literal.1
-
     -- A form that reads the text has it as a candidate.
-    whole : (form : Form) (l : Literal) → Reads (notation_of form.syntax) l text
-        → IsCandidate t.gives_points_back false text form (length text) (length text)
+    whole : (form : Form) (l : Literal) → ReadsIn form l text → IsCandidate t.gives_points_back false text form (length text) (length text)
     whole form l read =
-        let read = subst (Reads (notation_of form.syntax) l) (sym (take_all (length text) text (omega arith))) read in record {
+        let all = subst (ReadsIn form l) (sym (take_all (length text) text (omega arith))) read in record {
           longest = length text;
-          front = front_of text form (length text) (omega arith) l read (λ more past inside. absurd (omega (arith, past, inside)));
-          size_is = ap (λ b. if b then length text - 1 else length text)
-              (sym (kept _ _ (ap (is_in (takes_point t.gives_points_back)) (slice_get_past text (length text) (omega arith)))));
+          front = (l, record { within = omega arith; reads = all; no_longer = λ more past inside. absurd (omega (arith, past, inside)) });
+          size_is = ap (λ b. if b then length text - 1 else length text) (sym (kept _ _ (kept_too _ _
+              (ap (is_in (takes_point t.gives_points_back)) (slice_get_past text (length text) (omega arith))))));
           literal = l;
-          reads = read;
+          reads = all;
           end_is = let none = no_more form (is_float l) text (length text) (omega arith) in omega (arith, none);
           suffixed = λ needed. absurd (false≢true needed);
         }
@@ -78,22 +83,26 @@ module _ (list : FormList) (t : Tokens) (text : List ℕ) (token : Token) (is : 
     size =
         let longest = candidate.1.front.1.within in
         let own = candidate.1.size_is in
-        let less = less_or_same (gives_back t.gives_points_back (notation_of is.form.syntax) text candidate.1.longest) candidate.1.longest in
+        let less = less_or_same (gives_back t.gives_points_back is.form text candidate.1.longest) candidate.1.longest in
         omega (arith, longest, own, less)
+
+    -- Without a suffix, it has the kind of the form.
+    kind : token.literal.kind ≡ is.form.kind
+    kind = is.kind ∙ ap (λ word. kind_with is.form.suffixes word is.form.kind) no_suffix ∙ own is.form.suffixes where
+      own : (suffixes : Option (Bor Suffixes)) → kind_with suffixes [] is.form.kind ≡ is.form.kind
+      own None = refl
+      own (Some it) = refl
 
     pub is_whole : IsFirst list.forms text token.form token.literal
     is_whole = of is.chosen where
       of : IsChosen list t text token.form is.form is.size is.end → IsFirst list.forms text token.form token.literal
-      of (inl (at, best, others)) =
-          let marks = all_at IsPlain list.forms token.form is.form at plain in record {
-            reads = subst (λ o. IsSomeAnd o (ReadsForm text token.literal)) (sym at)
-                (is.literal.0, plain_in is.form text marks.0 marks.1 token.literal.literal reads);
-            before = λ k d below l read.
-                let form = get_or (take token.form list.forms) k d in
-                let marks = All-take IsPlain token.form list.forms plain k d below in
-                let shorter = best.before k d below (length text) (length text) (whole form l (plain_of form text marks.0 marks.1 l read)) in
-                let stop = end in let own = size in let less = past in grind (arith, nat_tests);
-          }
+      of (inl (at, best, others)) = record {
+        reads = subst (λ o. IsSomeAnd o (ReadsForm text token.literal)) (sym at)
+            (is.literal.0, kind, subst (ReadsIn is.form token.literal.literal) (take_all is.size text past) is.literal.1);
+        before = λ k d below l read.
+            let shorter = best.before k d below (length text) (length text) (whole (get_or (take token.form list.forms) k d) l read) in
+            let stop = end in let own = size in let less = past in grind (arith, nat_tests);
+      }
       of (inr (behind, same, at, best, others)) =
           let own = subst (λ o. IsSomeAnd o (λ form. IsCandidate t.gives_points_back true text form is.size is.end)) at best.here in
           let longer = own.suffixed refl in absurd (omega (arith, longer, end))

@@ -1,12 +1,12 @@
 -- Several forms: what has been found in the first of them, and what one form more adds.
-use Rattle.lexical_forms.proofs.Common.{All, All-more, AreBelow, Bool, Bor, Form, FormList, Found, Furthest, HasFront, HasKind, IsCountedFront, IsErrorOfForm}
-use Rattle.lexical_forms.proofs.Common.{IsFirst, IsFormError, IsFoundForm, IsFoundFrontForm, IsFrontIn, IsFurthestForm, IsGreatest, IsLed, IsLeftOut}
-use Rattle.lexical_forms.proofs.Common.{IsLongestPast, IsLow, IsNearSign, IsReadByForms, IsRefusedAt, IsSomeAnd, IsStopped, IsValidUpTo, Leads, List, NoForm}
-use Rattle.lexical_forms.proofs.Common.{NoFrontBy, NoFrontPast, None, NonePast, Notation, Ok, Option, Reaches, Read, Reads, ReadsForm, ReadsIn, Some, Stopped}
-use Rattle.lexical_forms.proofs.Common.{Tokens, [], ap, are_marked, arith, cases_lt, common_steps, false, false≢true, get_or, get_or-take, greater, have_marks}
-use Rattle.lexical_forms.proofs.Common.{if◌then◌else◌, inl, inr, length, length-take-le, limit, nat_lt, nat_tests, not, notation_of, reach_in, refl, refusal_in}
-use Rattle.lexical_forms.proofs.Common.{slice_get, slice_get-get_or, slice_get_within, subst, sym, take, take_all, true, ℕ, ◌*◌, ◌+◌, ◌<◌, ◌==◌, ◌||◌, ◌∷◌, ◌≡◌}
-use Rattle.lexical_forms.proofs.Common.{◌≤◌}
+use Rattle.lexical_forms.proofs.Common.{All, All-more, AreBare, AreBelow, Bool, Bor, Form, FormList, Found, Furthest, GoesTo, HasFront, IsCountedFront}
+use Rattle.lexical_forms.proofs.Common.{IsErrorOfForm, IsFirst, IsFirstOf, IsFormError, IsFoundForm, IsFoundFrontForm, IsFrontIn, IsGreatest, IsLed, IsLeftOut}
+use Rattle.lexical_forms.proofs.Common.{IsLongestPast, IsLow, IsNearSign, IsReadByForms, IsRefusedAt, IsSomeAnd, Leads, List}
+use Rattle.lexical_forms.proofs.Common.{NoForm, NoFrontBy, NoFrontPast, None, NonePast, Notation, Ok, Option, Reaches, Read, ReadsForm, ReadsIn, Some}
+use Rattle.lexical_forms.proofs.Common.{Stopped, Tokens, [], ap, are_marked, arith, behind, cases_lt, common_steps, false, false≢true, get_or, get_or-take}
+use Rattle.lexical_forms.proofs.Common.{further, have_marks, if◌then◌else◌, inl, inr, length, length-take-le, limit, nat_lt, nat_tests, not}
+use Rattle.lexical_forms.proofs.Common.{reach_in, refl, refusal_in, slice_get, slice_get-get_or, slice_get_within, subst, sym, take, take_all, true, ℕ, ◌*◌}
+use Rattle.lexical_forms.proofs.Common.{◌+◌, ◌<◌, ◌==◌, ◌||◌, ◌∷◌, ◌≡◌, ◌≤◌}
 use Rattle.lexical_forms.proofs.MarkLemmas.{front_in, none_empty_in, none_in, one_reach, reach_least, reach_most}
 use Rattle.lexical_forms.proofs.OpeningLemmas.{bit_within, one_size}
 use Rattle.lexical_forms.specs.declared.list.FormError.{FormError}
@@ -50,101 +50,82 @@ is_less a b is = grind (arith, nat_tests)
 is_low : (a b : ℕ) → nat_lt a b ≡ false → b ≤ a
 is_low a b is = grind (arith, nat_tests)
 
--- `Measure X` has what is compared: values with a size. It tells which sizes and values a form has, and whether it has none.
-pub record Measure (X : Type 0) : Type 1 where
-  pub size : X → ℕ
-  pub IsSize : Form → ℕ → Type 0
-  pub IsValue : Form → X → Type 0
-  pub IsNot : Form → Type 0
-  pub one : (g : Form) (a b : ℕ) → IsSize g a → IsSize g b → a ≤ b
-  pub sized : (g : Form) (x : X) → IsValue g x → IsSize g (size x)
-  pub none : (g : Form) (a : ℕ) → IsNot g → IsSize g a → ⊥
+-- How far the first forms go.
+module _ (forms : List Form) (text : List ℕ) where
+  -- `IsFarthest i best` holds if, of the first `i` forms, `best` has the first that goes furthest, and how far, or if it is `None`, and there are none.
+  pub record IsFar (i form size : ℕ) : Type 0 where
+    pub here : IsSomeAnd (slice_get forms form) (λ g. GoesTo text g size)
+    pub before : All (λ g. (n : ℕ) → GoesTo text g n → n < size) (take form forms)
+    pub others : All (λ g. (n : ℕ) → GoesTo text g n → n ≤ size) (take i forms)
 
-module _ {X : Type 0} (M : Measure X) (forms : List Form) where
-  -- `IsBestOf i form x` holds if, of the first `i` forms, `form` is the first with the greatest value, which is `x`.
-  pub record IsBestOf (i form : ℕ) (x : X) : Type 0 where
-    pub here : IsSomeAnd (slice_get forms form) (λ g. M.IsValue g x)
-    pub before : All (λ g. (n : ℕ) → M.IsSize g n → n < M.size x) (take form forms)
-    pub others : All (λ g. (n : ℕ) → M.IsSize g n → n ≤ M.size x) (take i forms)
+  abbrev pub IsFarthest : ℕ → Option (ℕ × ℕ) → Type 0
+  IsFarthest i None = All (λ g. ⊥) (take i forms)
+  IsFarthest i (Some best) = IsFar i best.0 best.1
 
-  -- `IsBest i best` holds if `best` is the first greatest value of the first `i` forms, or `None` if they have none.
-  abbrev pub IsBest : ℕ → Option (ℕ × X) → Type 0
-  IsBest i None = All M.IsNot (take i forms)
-  IsBest i (Some best) = IsBestOf i best.0 best.1
+  module _ (i : ℕ) (d : Form) (inside : i < length forms) (size : ℕ) (is : GoesTo text (get_or forms i d) size) where
+    one : (n : ℕ) → GoesTo text (get_or forms i d) n → n ≤ size
+    one n other = one_size (ReadsIn (get_or forms i d)) text n size other is
 
-  module _ (i : ℕ) (d : Form) (inside : i < length forms) where
-    abbrev g : Form
-    g = get_or forms i d
-
-    -- It has the value `x`, which is greater than those before.
-    greatest_yet : (x : X) → M.IsValue g x → All (λ g. (n : ℕ) → M.IsSize g n → n < M.size x) (take i forms) → IsBestOf (i + 1) i x
-    greatest_yet x is less = record {
-      here = at_index (λ g. M.IsValue g x) forms forms d i refl inside is;
+    -- It goes further than those before.
+    far_yet : All (λ g. (n : ℕ) → GoesTo text g n → n < size) (take i forms) → IsFar (i + 1) i size
+    far_yet less = record {
+      here = at_index (λ g. GoesTo text g size) forms forms d i refl inside is;
       before = less;
-      others = All-more (λ g. (n : ℕ) → M.IsSize g n → n ≤ M.size x) forms i d inside
-          (λ k e below n other. let low = less k e below n other in omega (arith, low)) (λ n other. M.one g n (M.size x) other (M.sized g x is));
+      others = All-more (λ g. (n : ℕ) → GoesTo text g n → n ≤ size) forms i d inside
+          (λ k e below n other. let low = less k e below n other in omega (arith, low)) one;
     }
 
-    -- It has the value `x`.
-    pub best_more : (x : X) → M.IsValue g x → (best : Option (ℕ × X)) → IsBest i best → IsBest (i + 1) (greater M.size best i x)
-    best_more x is None old = greatest_yet x is (λ k e below n other. absurd (M.none _ n (old k e below) other))
-    best_more x is (Some best) old = by (nat_lt (M.size best.1) (M.size x)) refl where
-      by : (b : Bool) → nat_lt (M.size best.1) (M.size x) ≡ b → IsBest (i + 1) (if b then Some (i, x) else Some best)
-      by true longer = greatest_yet x is (λ k e below n other. let most = old.others k e below n other in
-          let less = is_less (M.size best.1) (M.size x) longer in omega (arith, most, less))
+    pub far_more : (best : Option (ℕ × ℕ)) → IsFarthest i best → IsFarthest (i + 1) (further best i size)
+    far_more None old = far_yet (λ k e below n other. absurd (old k e below))
+    far_more (Some best) old = by (nat_lt best.1 size) refl where
+      by : (b : Bool) → nat_lt best.1 size ≡ b → IsFarthest (i + 1) (if b then Some (i, size) else Some best)
+      by true longer = far_yet (λ k e below n other. let most = old.others k e below n other in
+          let less = is_less best.1 size longer in omega (arith, most, less))
       by false shorter = record {
         here = old.here;
         before = old.before;
-        others = All-more (λ g. (n : ℕ) → M.IsSize g n → n ≤ M.size best.1) forms i d inside old.others
-            (λ n other. let most = M.one g n (M.size x) other (M.sized g x is) in let low = is_low (M.size best.1) (M.size x) shorter in omega
-            (arith, most, low));
+        others = All-more (λ g. (n : ℕ) → GoesTo text g n → n ≤ best.1) forms i d inside old.others
+            (λ n other. let most = one n other in let low = is_low best.1 size shorter in omega (arith, most, low));
       }
 
-  -- The best of all forms.
-  greatest : (i : ℕ) → length forms ≤ i → (form : ℕ) (x : X) → IsBestOf i form x → IsGreatest M.IsSize forms form (M.size x)
-  greatest i end form x is = record {
-    here = each (λ g. M.IsValue g x) (λ g. M.IsSize g (M.size x)) (slice_get forms form) (λ g value. M.sized g x value) is.here;
-    before = is.before;
-    others = subst (All (λ g. (n : ℕ) → M.IsSize g n → n ≤ M.size x)) (take_all i forms end) is.others;
-  }
+  module _ (i : ℕ) (end : length forms ≤ i) where
+    -- All forms have been tried.
+    pub farthest_is : (index size : ℕ) → IsFar i index size → IsGreatest (GoesTo text) forms index size
+    farthest_is index size is = record {
+      here = is.here;
+      before = is.before;
+      others = subst (All (λ g. (n : ℕ) → GoesTo text g n → n ≤ size)) (take_all i forms end) is.others;
+    }
 
--- How far each form goes.
-abbrev pub goes : List ℕ → Measure Stopped
-goes text = record {
-  size = λ stop. stop.size;
-  IsSize = λ g n. IsValidUpTo (notation_of g.syntax) text n;
-  IsValue = λ g stop. IsStopped (notation_of g.syntax) text stop;
-  IsNot = λ g. ⊥;
-  one = λ g a b is other. one_size (Reads (notation_of g.syntax)) text a b is other;
-  sized = λ g stop is. is.valid;
-  none = λ g a none is. none;
-}
+    pub some_far : 0 < length forms → IsFarthest i None → ⊥
+    some_far some is = none_of forms some (subst (All (λ g. ⊥)) (take_all i forms end) is) where
+      none_of : (forms : List Form) → 0 < length forms → All (λ g. ⊥) forms → ⊥
+      none_of [] some all = omega (arith, some)
+      none_of (form ∷ forms) some all = all 0 form some
 
 -- The first form that reads the text.
 pub found_is : (forms : List Form) (text : List ℕ) (i : ℕ) (d : Form) (read : Read) → i < length forms
-    → ReadsForm text read (get_or forms i d) → NoForm (take i forms) text → IsFoundForm forms text (Ok (i, read))
+    → ReadsForm text (record read { kind = (get_or forms i d).kind }) (get_or forms i d) → NoForm (take i forms) text
+    → IsFoundForm forms text (Ok (i, read))
 found_is forms text i d read inside is before = record {
-  found = record { reads = at_index (ReadsForm text read) forms forms d i refl inside is; before = before };
+  found = at_index (λ form. IsFirst forms text i (record read { kind = form.kind })) forms forms d i refl inside (record {
+    reads = at_index (ReadsForm text (record read { kind = (get_or forms i d).kind })) forms forms d i refl inside is;
+    before = before;
+  });
   none = λ err. absurd (false≢true err);
   furthest = tt;
 }
 
--- A literal of another kind is the same literal.
-pub first_of : (forms : List Form) (text : List ℕ) (i : ℕ) (read own : Read) → own.format ≡ read.format → own.literal ≡ read.literal
-    → IsFirst forms text i read → IsFirst forms text i own
-first_of forms text i read own format same is = record {
-  reads = subst (λ l. IsSomeAnd (slice_get forms i) (λ form. (own.format ≡ form.syntax.word) × ReadsIn form l text)) (sym same)
-      (subst (λ f. IsSomeAnd (slice_get forms i) (λ form. (f ≡ form.syntax.word) × ReadsIn form read.literal text)) (sym format) is.reads);
-  before = is.before;
-}
-
 -- The number that has been found, with the kind of its form.
-pub number_is : (list : FormList) (text : List ℕ) (i : ℕ) (read own : Read) → IsFirst list.forms text i read → own.format ≡ read.format
-    → own.literal ≡ read.literal → HasKind list.forms i own → IsReadByForms list text (Ok (numbers.Literal own i))
-number_is list text i read own is format same kind = record {
-  found = (first_of list.forms text i read own format same is, kind);
-  error = tt;
-}
+pub number_is : (list : FormList) (text : List ℕ) (i : ℕ) (read own : Read) → IsFirstOf list.forms text i read → own.format ≡ read.format
+    → own.literal ≡ read.literal → IsSomeAnd (slice_get list.forms i) (λ form. own.kind ≡ form.kind)
+    → IsReadByForms list text (Ok (numbers.Literal own i))
+number_is list text i read own is format same kind = go (slice_get list.forms i) is kind where
+  go : (o : Option Form) → IsSomeAnd o (λ form. IsFirst list.forms text i (record read { kind = form.kind })) → IsSomeAnd o (λ form. own.kind ≡ form.kind)
+      → IsFirst list.forms text i own
+  go None is kind = absurd is
+  go (Some form) is kind = subst (IsFirst list.forms text i)
+      (λ j. record { format = sym format j; literal = sym same j; kind = sym kind j }) is
 
 -- A form of a list without marks has none.
 pub no_one : (a b : Bool) → (a || b) ≡ false → (a ≡ false) × (b ≡ false)
@@ -166,15 +147,11 @@ pub plain_forms : (forms : List Form) (t : Option (Bor Tokens)) → are_marked f
 plain_forms forms None is = is
 plain_forms forms (Some t) is = (no_one _ _ is).0
 
+pub bare_list : (list : FormList) (t : Bor Tokens) → are_marked list.forms list.tokens ≡ false → list.tokens ≡ Some t → AreBare list t.now
+bare_list list t none same = no_one _ _ (subst (λ o. are_marked list.forms o ≡ false) same none)
+
 -- All forms have been tried.
 module _ (forms : List Form) (text : List ℕ) (i : ℕ) (end : length forms ≤ i) where
-  pub furthest_is : 0 < length forms → (furthest : Option (ℕ × Stopped)) → IsBest (goes text) forms i furthest → IsFurthestForm forms text furthest
-  furthest_is some None is = none_of forms some (subst (All (λ g. ⊥)) (take_all i forms end) is) where
-    none_of : (forms : List Form) → 0 < length forms → All (λ g. ⊥) forms → ⊥
-    none_of [] some all = omega (arith, some)
-    none_of (form ∷ forms) some all = all 0 form some
-  furthest_is some (Some best) is = (greatest (goes text) forms i end best.0 best.1 is, is.here)
-
   pub all_tried : (P : Form → Type 0) → All P (take i forms) → All P forms
   all_tried P all = subst (All P) (take_all i forms end) all
 

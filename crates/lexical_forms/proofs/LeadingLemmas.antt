@@ -2,17 +2,19 @@
 use Rattle.lexical_forms.proofs.Common.{All, All-more, All-take, AreSums, Bool, Bor, Candidate, Cuts, Form, FormList, FrontsWithin, HasFrontOfSyntax}
 use Rattle.lexical_forms.proofs.Common.{HasLengths, HasSums, IsAhead, IsCandidate, IsLeading, IsMeasured, IsNear, IsPicked, IsSomeAnd, IsStopped, IsToken}
 use Rattle.lexical_forms.proofs.Common.{IsTrue, IsValidUpTo, IsWithin, List, Literal, NoFront, NoFrontPast, NoLiteral, None, Notation, Option, PlaysNoRole}
-use Rattle.lexical_forms.proofs.Common.{PointsBack, Reads, ReadsSyntax, Record, Some, Stopped, Token, Tokens, [], ap, append-nil, arith, before_exponent}
-use Rattle.lexical_forms.proofs.Common.{byte_before, cases_lt, cut, drop, drop-take, false, false≢true, get_or, gives_back, go_on_with, goes, has_float}
-use Rattle.lexical_forms.proofs.Common.{has_prefix, if◌then◌else◌, inl, inr, is_alone, is_digit, is_float, is_in, is_in_word, is_shorter, is_stopped}
-use Rattle.lexical_forms.proofs.Common.{is_word_byte, kind_with, length, length-append, length-take-le, list_any, longest_word, meets, more_of, nat_tests, not}
-use Rattle.lexical_forms.proofs.Common.{notation_of, option_map, refl, sign_size, slice_get, slice_get-get_or, slice_get_within, subst, suffix_size}
-use Rattle.lexical_forms.proofs.Common.{suffix_words, sym, take, take-take, takes_point, text_of, true, unwrap_or, word_size, ℕ, ◌&&◌, ◌++◌, ◌+◌, ◌-◌, ◌<◌}
-use Rattle.lexical_forms.proofs.Common.{◌==◌, ◌||◌, ◌∙◌, ◌∷◌, ◌≡◌, ◌≤◌}
+use Rattle.lexical_forms.proofs.Common.{PointsBack, Reads, ReadsIn, IsCounted, HasFront, BeginsBy, IsFront, have_marks, Record, Some, Stopped, Token, Tokens}
+use Rattle.lexical_forms.proofs.Common.{[], ap, append-nil, arith, before_exponent}
+use Rattle.lexical_forms.proofs.Common.{begins, byte_before, cases_lt, cond, cut, drop, drop-take, false, false≢true, filter, fold, get_or, gives_back}
+use Rattle.lexical_forms.proofs.Common.{go_on_with, goes, has, has_float, has_prefix, if◌then◌else◌, inl, inr, is_alone, is_ascii_digit, is_float, is_in}
+use Rattle.lexical_forms.proofs.Common.{is_in_word, is_shorter, is_stopped, is_word_byte, kind_with, length, length-append, length-take-le, list_any, map, max}
+use Rattle.lexical_forms.proofs.Common.{meets, more_of, nat_le, nat_tests, not, notation_of, option_map, refl, sign_size, slice_get, slice_get-get_or}
+use Rattle.lexical_forms.proofs.Common.{slice_get_within, subst, suffix_size, suffix_words, sym, take, take-take, take_all, takes_point, text_of, true}
+use Rattle.lexical_forms.proofs.Common.{unwrap_or, word_size, ℕ, ◌&&◌, ◌++◌, ◌+◌, ◌-◌, ◌<◌, ◌==◌, ◌||◌, ◌∙◌, ◌∷◌, ◌≡◌, ◌≤◌}
 use Rattle.lexical_forms.proofs.ExcludeLemmas.{BeginsPrefixed, front_sign, no_role_excludes, prefix_begins}
-use Rattle.lexical_forms.proofs.FormLemmas.{no_one}
+use Rattle.lexical_forms.proofs.FormLemmas.{all_at, no_one, plain_at}
+use Rattle.lexical_forms.proofs.MarkLemmas.{plain_in, plain_of}
 use Rattle.lexical_forms.proofs.OpeningLemmas.{begins_whole, both, front_byte}
-use Rattle.lexical_forms.proofs.TokenLemmas.{float_is, some_is, token_is}
+use Rattle.lexical_forms.proofs.TokenLemmas.{float_in, some_is, token_is}
 use Rattle.lexical_forms.specs.declared.suffix.Suffixes.{Suffixes}
 use Rattle.lexical_literal.specs.declared.literal.Sums.{Sums}
 use Rattle.lexical_forms.specs.declared.list.PointsBack.TheVariants as points
@@ -20,14 +22,23 @@ use Rattle.lexical_literal.specs.declared.step.Piece.TheVariants as pieces
 use Rattle.lexical_literal.specs.declared.syntax.Condition.TheVariants as conditions
 
 -- A suffix is in the word with which the text begins.
-longest_within : (either : Bool) (words : List (Bor (List ℕ))) (text : List ℕ) (most : ℕ) → longest_word either words text most ≤ most
-longest_within either [] text most = omega arith
-longest_within either (word ∷ words) text most = let rest = longest_within either words text most in grind (arith, nat_tests)
+longest_within : (fits : Bor (List ℕ) → Bool) (most : ℕ) → ((word : Bor (List ℕ)) → fits word ≡ true → length word.now ≤ most)
+    → (words : List (Bor (List ℕ))) (longest : ℕ) → longest ≤ most
+    → fold max longest (map (λ (word : Bor (List ℕ)). length word.now) (filter fits words)) ≤ most
+longest_within fits most within [] longest low = low
+longest_within fits most within (word ∷ words) longest low = go (longest_within fits most within words) (fits word) refl where
+  go : ((k : ℕ) → k ≤ most → fold max k (map (λ (word : Bor (List ℕ)). length word.now) (filter fits words)) ≤ most) → (b : Bool) → fits word ≡ b
+      → fold max longest (map (λ (word : Bor (List ℕ)). length word.now) (cond b (word ∷ filter fits words) (filter fits words))) ≤ most
+  go rest true fit = rest (max longest (length word.now)) (let own = within word fit in omega (arith, own, low))
+  go rest false fit = rest longest low
 
 pub suffix_within : (suffixes : Option (Bor Suffixes)) (float : Bool) (text : List ℕ) → suffix_size suffixes float text ≤ word_size (more_of suffixes) text
 suffix_within None float text = omega arith
 suffix_within (Some it) float text =
-    let longest = longest_within it.now.either_case (suffix_words (Some it) float) text (word_size it.now.more.now text) in grind arith
+    let whole = word_size it.now.more.now text in
+    let least = if it.now.whole_words then whole else 0 in
+    let longest = longest_within (λ word. nat_le least (length word.now) && nat_le (length word.now) whole && begins it.now.either_case word.now text) whole
+    (λ word fit. grind (arith, nat_tests)) (suffix_words (Some it) float) 0 (omega arith) in grind arith
 
 module _ (more : List ℕ) where
   -- A word ends where no byte of a word follows.
@@ -135,7 +146,7 @@ no_word_of : (a b : Bool) → (a || b) ≡ false → a ≡ false
 no_word_of a b none = grind arith
 
 -- What may follow where no word may does where any word may.
-no_digit_of : (byte : Option ℕ) → is_in is_word_byte byte ≡ false → is_in is_digit byte ≡ false
+no_digit_of : (byte : Option ℕ) → is_in is_word_byte byte ≡ false → is_in is_ascii_digit byte ≡ false
 no_digit_of None none = refl
 no_digit_of (Some byte) none = grind (arith, nat_tests)
 
@@ -146,10 +157,10 @@ digit_of digit true stops less none = absurd (false≢true (sym none))
 stopped_less : (words : Bool) (suffixes : Option (Bor Suffixes)) (text : List ℕ) (end : ℕ) → is_stopped false suffixes text end ≡ false
     → is_stopped words suffixes text end ≡ false
 stopped_less words suffixes text end none = go (words && not (is_in (λ byte. byte == 46) (byte_before text end))) where
-  go : (b : Bool) → (is_in (if b then is_digit else is_word_byte) (slice_get text end)
+  go : (b : Bool) → (is_in (if b then is_ascii_digit else is_word_byte) (slice_get text end)
       || list_any (meets text end) (unwrap_or (option_map (λ (it : Bor Suffixes). it.now.stops.now) suffixes) [])) ≡ false
   go true =
-      digit_of (is_in is_digit (slice_get text end)) (is_in is_word_byte (slice_get text end)) _ (no_digit_of (slice_get text end)) none
+      digit_of (is_in is_ascii_digit (slice_get text end)) (is_in is_word_byte (slice_get text end)) _ (no_digit_of (slice_get text end)) none
   go false = none
 
 -- No literal goes on behind more bytes.
@@ -171,11 +182,12 @@ byte_behind text size = go (size + 1 == 0) refl where
   go true is = grind (arith, nat_tests)
   go false is = ap (slice_get text) (let same : size + 1 - 1 ≡ size = omega arith in same)
 
-pub given_point : (back : PointsBack) (m : Notation) (text : List ℕ) (size : ℕ) → gives_back back m text (size + 1) ≡ true
-    → (is_alone back text size (size + 1) ≡ true) × (is_in m.point (slice_get text size) ≡ true)
-given_point back m text size gives =
-    let parts = both (is_in m.point (byte_before text (size + 1))) (is_in (takes_point back) (slice_get text (size + 1))) gives in
-    (alone back parts.1, ap (is_in m.point) (sym (byte_behind text size)) ∙ parts.0) where
+pub given_point : (back : PointsBack) (form : Form) (text : List ℕ) (size : ℕ) → gives_back back form text (size + 1) ≡ true
+    → (is_alone back text size (size + 1) ≡ true) × (is_in (notation_of form.syntax).point (slice_get text size) ≡ true)
+given_point back form text size gives =
+    let takes = is_in (takes_point back) (slice_get text (size + 1)) in
+    let parts = both (is_in (notation_of form.syntax).point (byte_before text (size + 1))) (takes && (form.closing.size == 0)) gives in
+    (alone back (both takes (form.closing.size == 0) parts.1).0, ap (is_in (notation_of form.syntax).point) (sym (byte_behind text size)) ∙ parts.0) where
       nothing : (o : Option ℕ) → is_in (takes_point points.Never) o ≡ false
       nothing None = refl
       nothing (Some byte) = refl
@@ -213,10 +225,10 @@ front_of text form size within l reads is = (
 -- The literal before a point that is given back, where reading stops, is that of a candidate.
 abbrev HasLongest : PointsBack → List ℕ → Form → ℕ → Type 0
 HasLongest back text form size =
-    (longest : ℕ) × HasFrontOfSyntax text form longest × (size ≡ (if gives_back back (notation_of form.syntax) text longest then longest - 1 else longest))
+    (longest : ℕ) × HasFrontOfSyntax text form longest × (size ≡ (if gives_back back form text longest then longest - 1 else longest))
 
 pub front_before : (back : PointsBack) (text : List ℕ) (form : Form) (stop : Stopped) (size : ℕ) → IsStopped (notation_of form.syntax) text stop
-    → stop.size ≡ size + 1 → gives_back back (notation_of form.syntax) text stop.size ≡ true → gives_back back (notation_of form.syntax) text size ≡ false
+    → stop.size ≡ size + 1 → gives_back back form text stop.size ≡ true → gives_back back form text size ≡ false
     → (l : Literal) → Reads (notation_of form.syntax) l (take size text) → HasLongest back text form size
 front_before back text form stop size is stop_is gives kept l reads = go (goes (notation_of form.syntax) stop.read is.group None) refl where
   go : (b : Bool) → goes (notation_of form.syntax) stop.read is.group None ≡ b → HasLongest back text form size
@@ -243,6 +255,50 @@ front_before back text form stop size is stop_is gives kept l reads = go (goes (
     ap (λ b. if b then size - 1 else size) (sym kept),
   )
 
+-- Without an opening and a closing, a form reads what its syntax reads.
+abbrev pub IsBare : Form → Type 0
+IsBare form = (form.opening.size ≡ 0) × (form.closing.size ≡ 0)
+
+module _ (text : List ℕ) (form : Form) (bare : IsBare form) where
+  syntax_front : (size : ℕ) → HasFront text form size → HasFrontOfSyntax text form size
+  syntax_front size (l, is) = (
+    l,
+    record {
+      within = is.within;
+      reads = plain_of form (take size text) bare.0 bare.1 l is.reads;
+      no_longer = λ n past inside l reads. is.no_longer n past inside l (plain_in form (take n text) bare.0 bare.1 l reads);
+    },
+  )
+
+  form_front : (size : ℕ) → HasFrontOfSyntax text form size → HasFront text form size
+  form_front size (l, is) = (
+    l,
+    record {
+      within = is.within;
+      reads = plain_in form (take size text) bare.0 bare.1 l is.reads;
+      no_longer = λ n past inside l reads. is.no_longer n past inside l (plain_of form (take n text) bare.0 bare.1 l reads);
+    },
+  )
+
+  begins_plain : (size : ℕ) → BeginsBy (ReadsIn form) (take size text) → IsFront (notation_of form.syntax) (take size text)
+  begins_plain size is = record {
+    more = is.more;
+    literal = is.literal;
+    reads = plain_of form (take size text ++ is.more) bare.0 bare.1 is.literal is.reads;
+  }
+
+  counted_plain : (size : ℕ) (counts : List ℕ) → IsMeasured (notation_of form.syntax) (take size text) counts → IsCounted form (take size text) counts
+  counted_plain size counts is = record {
+    literal = (is.literal.0, plain_in form (take size text) bare.0 bare.1 is.literal.0 is.literal.1);
+    room = omega (arith, bare.0, bare.1);
+    measured = subst (λ t. IsMeasured (notation_of form.syntax) t counts) (sym (
+        ap (λ n. drop n (take (length (take size text) - form.closing.size) (take size text))) bare.0
+        ∙ take_all (length (take size text) - form.closing.size) (take size text) (omega (arith, bare.1)))) is;
+  }
+
+pub are_bare : (forms : List Form) → have_marks forms ≡ false → All IsBare forms
+are_bare forms none k d below = plain_at forms k d below none
+
 -- A point alone that is given back does not go on.
 no_point : (alone is : Bool) → (alone && is) ≡ false → alone ≡ true → is ≡ true → ⊥
 no_point alone is none given point = grind arith
@@ -251,8 +307,17 @@ no_point alone is none given point = grind arith
 module _ (list : FormList) (t : Tokens) (text : List ℕ) (index : ℕ) (form : Form) (counts : List ℕ) (size : ℕ)
     (is : IsLeading list t text index form size)
     (measured : IsMeasured (notation_of form.syntax) (take size text) counts) where
+  bare : All IsBare list.forms
+  bare = are_bare list.forms is.bare.0
+
+  bare_behind : All IsBare t.forms.now
+  bare_behind = are_bare t.forms.now is.bare.1
+
+  own_bare : IsBare form
+  own_bare = all_at IsBare list.forms index form is.at bare
+
   abbrev Near : Form → Type 0
-  Near g = IsNear t.gives_points_back (notation_of g.syntax) text size
+  Near g = IsNear t.gives_points_back g text size
 
   near : (k : ℕ) (d : Form) → k < length list.forms → Near (get_or list.forms k d)
   near k d below = elim (cases_lt k index) [
@@ -269,20 +334,21 @@ module _ (list : FormList) (t : Tokens) (text : List ℕ) (index : ℕ) (form : 
   near_behind k d below = is.suffixed k d below (λ same. omega (arith, same, below))
 
   -- The literal of each candidate ends at the same byte, or before.
-  size_within : (needs : Bool) (g : Form) → Near g → (s e : ℕ) → IsCandidate t.gives_points_back needs text g s e → s ≤ size
-  size_within needs g (inl within) s e other =
-      let longest = fronts_within text size g within other.longest other.front in
-      let part = less_or_same (gives_back t.gives_points_back (notation_of g.syntax) text other.longest) other.longest in
+  size_within : (needs : Bool) (g : Form) → IsBare g → Near g → (s e : ℕ) → IsCandidate t.gives_points_back needs text g s e → s ≤ size
+  size_within needs g plain (inl within) s e other =
+      let longest = fronts_within text size g within other.longest (syntax_front text g plain other.longest other.front) in
+      let part = less_or_same (gives_back t.gives_points_back g text other.longest) other.longest in
       let size_is = other.size_is in omega (arith, longest, part, size_is)
-  size_within needs g (inr point) s e other =
-      let longest = fronts_within text (size + 1) g point.0 other.longest other.front in
-      without_point (gives_back t.gives_points_back (notation_of g.syntax) text other.longest) other.longest size s other.size_is longest
-      (λ same. ap (gives_back t.gives_points_back (notation_of g.syntax) text) same ∙ point.1)
+  size_within needs g plain (inr point) s e other =
+      let longest = fronts_within text (size + 1) g point.0 other.longest (syntax_front text g plain other.longest other.front) in
+      without_point (gives_back t.gives_points_back g text other.longest) other.longest size s other.size_is longest
+      (λ same. ap (gives_back t.gives_points_back g text) same ∙ point.1)
 
-  size_before : (needs : Bool) (g : Form) (bound : ℕ) → FrontsWithin text bound g → (s e : ℕ) → IsCandidate t.gives_points_back needs text g s e → s ≤ bound
-  size_before needs g bound fronts s e other =
-      let longest = fronts other.longest other.front in
-      let part = less_or_same (gives_back t.gives_points_back (notation_of g.syntax) text other.longest) other.longest in
+  size_before : (needs : Bool) (g : Form) (bound : ℕ) → IsBare g → FrontsWithin text bound g → (s e : ℕ)
+      → IsCandidate t.gives_points_back needs text g s e → s ≤ bound
+  size_before needs g bound plain fronts s e other =
+      let longest = fronts other.longest (syntax_front text g plain other.longest other.front) in
+      let part = less_or_same (gives_back t.gives_points_back g text other.longest) other.longest in
       let size_is = other.size_is in omega (arith, longest, part, size_is)
 
   module _ (more : ℕ) (more_is : more ≡ suffix_size form.suffixes (has_float counts) (drop size text)) (inside : size + more ≤ length text)
@@ -304,15 +370,18 @@ module _ (list : FormList) (t : Tokens) (text : List ℕ) (index : ℕ) (form : 
         let word = word_within (more_of g.suffixes) text s (size + more) (omega (arith, low)) none in
         let end = other.end_is in omega (arith, suffix, word, end)
 
+    counted : IsCounted form (take size text) counts
+    counted = counted_plain text form own_bare size counts measured
+
     candidate : IsCandidate t.gives_points_back false text form size (size + more)
     candidate = record {
       longest = is.longest;
-      front = is.front;
+      front = form_front text form own_bare is.longest is.front;
       size_is = is.size_is;
-      literal = measured.literal.0;
-      reads = measured.literal.1;
+      literal = counted.literal.0;
+      reads = counted.literal.1;
       end_is = ap (λ n. size + n) more_is ∙ ap (λ b. size + suffix_size form.suffixes b (drop size text))
-          (float_is measured.literal.0 counts (measured.counted measured.literal.0 measured.literal.1));
+          (float_in form (take size text) counts counted counted.literal.0 counted.literal.1);
       suffixed = λ needed. absurd (false≢true needed);
     }
 
@@ -327,31 +396,33 @@ module _ (list : FormList) (t : Tokens) (text : List ℕ) (index : ℕ) (form : 
           here = subst (λ o. IsSomeAnd o (λ form. IsCandidate t.gives_points_back false text form size (size + more))) (sym is.at) candidate;
           before = λ k d below s e other.
               let less = is.before.1 in
-              let low = size_before false (get_or (take index list.forms) k d) is.before.0 (is.before.2 k d below) s e other in
+              let low = size_before false (get_or (take index list.forms) k d) is.before.0 (All-take IsBare index list.forms bare k d below)
+              (is.before.2 k d below) s e other in
               shorter s e size (size + more) (omega (arith, low, less))
               (end_within false (get_or (take index list.forms) k d) (All-take HasNoWord index list.forms no_word k d below)
               s e (omega (arith, low, less)) other);
           others = λ k d below s e other.
-              let low = size_within false (get_or list.forms k d) (near k d below) s e other in
+              let low = size_within false (get_or list.forms k d) (bare k d below) (near k d below) s e other in
               no_longer s e size (size + more) low (end_within false (get_or list.forms k d) (no_word k d below) s e low other);
         },
         λ k d below s e other.
-            let low = size_within true (get_or t.forms.now k d) (near_behind k d below) s e other in
+            let low = size_within true (get_or t.forms.now k d) (bare_behind k d below) (near_behind k d below) s e other in
             no_longer s e size (size + more) low (end_within true (get_or t.forms.now k d) (no_word_behind k d below) s e low other),
       );
-      measured = measured;
+      counted = counted;
       order = omega arith;
       within = inside;
     }
 
     -- No literal goes on, but for a point that is given back.
-    not_ahead : (g : Form) → Near g → IsAhead t.gives_points_back text (size + more) g → ⊥
-    not_ahead g (inl within) ahead = within ahead.size (let further = ahead.further in omega (arith, further)) ahead.valid.within ahead.valid.front
-    not_ahead g (inr point) ahead =
+    not_ahead : (g : Form) → IsBare g → Near g → IsAhead t.gives_points_back text (size + more) g → ⊥
+    not_ahead g plain (inl within) ahead = within ahead.size (let further = ahead.further in omega (arith, further)) ahead.valid.within
+        (begins_plain text g plain ahead.size ahead.valid.front)
+    not_ahead g plain (inr point) ahead =
         let further = ahead.further in
-        let given = given_point t.gives_points_back (notation_of g.syntax) text size point.1 in
+        let given = given_point t.gives_points_back g text size point.1 in
         elim (cases_lt (size + 1) ahead.size) [
-          | inl past ↦ point.0 ahead.size past ahead.valid.within ahead.valid.front
+          | inl past ↦ point.0 ahead.size past ahead.valid.within (begins_plain text g plain ahead.size ahead.valid.front)
           | inr low ↦
               let none : more ≡ 0 = omega (arith, further, low) in
               let one : ahead.size ≡ size + more + 1 = omega (arith, further, low) in
@@ -364,12 +435,17 @@ module _ (list : FormList) (t : Tokens) (text : List ℕ) (index : ℕ) (form : 
               ahead.more alone at
         ]
 
-    pub leading_token : (token : Token) → token.form ≡ index → ReadsSyntax (take size text) token.literal form
+    pub leading_token : (token : Token) → token.form ≡ index → token.literal.format ≡ form.syntax.word
+        → Reads (notation_of form.syntax) token.literal.literal (take size text)
         → token.literal.kind ≡ kind_with form.suffixes token.suffix.now form.kind → token.suffix.now ≡ take more (drop size text)
         → token.rest.now ≡ drop (size + more) text → IsToken list t text token
-    leading_token token same literal kind suffix rest = token_is list t text index form found picked token same literal kind
+    leading_token token same format reads kind suffix rest = token_is list t text index form found picked token same
+        (format, plain_in form (take size text) own_bare.0 own_bare.1 token.literal.literal reads) kind
         (suffix ∙ ap (λ n. take n (drop size text)) (let sum : more ≡ size + more - size = omega arith in sum)) rest
-        (inr (λ k d below. not_ahead (get_or list.forms k d) (near k d below), stopped_less t.any_word_follows form.suffixes text (size + more) ended))
+        (inr (
+          λ k d below. not_ahead (get_or list.forms k d) (bare k d below) (near k d below),
+          stopped_less t.any_word_follows form.suffixes text (size + more) ended,
+        ))
 
 -- The sums of the digits of a front are those of its parts in the text.
 piece_same : (text : List ℕ) (size a k : ℕ) → a + k ≤ size → take k (drop a (take size text)) ≡ take k (drop a text)

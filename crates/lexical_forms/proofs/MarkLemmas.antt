@@ -94,7 +94,7 @@ module _ (g : Form) where
 
   -- A literal of the form begins with the opening.
   reads_opened : (l : Literal) (text : List ℕ) → ReadsIn g l text → IsOpened g.opening text
-  reads_opened l text is = begins_of text g (length text - c) (omega arith) is.opens.opened
+  reads_opened l text is = begins_of text g (length text - c) (omega arith) is.opens.0
 
   pub none_empty_in : NoneBy (ReadsIn g) []
   none_empty_in l reads = none_empty g l (subst (OpensIn g l) (take_all (0 - c) [] (omega arith)) reads.opens)
@@ -104,7 +104,7 @@ module _ (g : Form) where
   some_literal text is = record {
     more = drop n (take (length (text ++ is.more) - c) (text ++ is.more));
     literal = is.literal;
-    reads = is.reads.opens.reads;
+    reads = is.reads.opens.1;
   }
 
   -- WITHOUT A CLOSING
@@ -205,13 +205,13 @@ module _ (g : Form) where
       outer : end < more → EndsAt more is.more
       outer before = record {
         end = end;
-        least = let low = opens.opened.within in let size = length-take-le end text (omega (arith, before, inside)) in omega (arith, low, size);
+        least = let low = opens.0.within in let size = length-take-le end text (omega (arith, before, inside)) in omega (arith, low, size);
         before = before;
         inside = inside;
         exact = let room = is.reads.room in omega (arith, all_size, room);
         literal = is.literal;
         reads = subst (Reads m is.literal) (behind_take n end text
-            (let low = opens.opened.within in let size = length-take-le end text (omega (arith, before, inside)) in omega (arith, low, size))) opens.reads;
+            (let low = opens.0.within in let size = length-take-le end text (omega (arith, before, inside)) in omega (arith, low, size))) opens.1;
         closed = record {
           within = let size = length-drop end text in omega (arith, size, inside);
           each = λ index below. subst (λ b. spells g.closing index b ≡ true)
@@ -355,12 +355,12 @@ module _ (g : Form) where
         closing_size = completed_size g.closing (drop size rest) closed there.inside there.begins []
 
         literal_before : OpensIn g l before
-        literal_before = record {
-          opened = subst (λ t. Begins g.opening t n) (append-nil before)
-              (begins_front g.opening text n (n + size) [] (omega arith) (let in_text = inside in omega (arith, in_text)) opened);
-          reads = subst (Reads m l) (sym (behind_take n (n + size) text (omega arith)
-              ∙ ap (λ k. take k rest) (let same : n + size - n ≡ size = omega arith in same))) reads;
-        }
+        literal_before = (
+          subst (λ t. Begins g.opening t n) (append-nil before)
+              (begins_front g.opening text n (n + size) [] (omega arith) (let in_text = inside in omega (arith, in_text)) opened),
+          subst (Reads m l) (sym (behind_take n (n + size) text (omega arith)
+              ∙ ap (λ k. take k rest) (let same : n + size - n ≡ size = omega arith in same))) reads,
+        )
 
         whole_size : length (before ++ (take closed (drop size rest) ++ left)) - c ≡ n + size
         whole_size = let both = length-append before (take closed (drop size rest) ++ left) in omega (arith, both, before_size, closing_size)
@@ -482,7 +482,7 @@ module _ (g : Form) where
     -- A text that is refused is not a literal.
     pub none_in : (stop : Stopped) → IsRefusedAt text stop g → NoneBy (ReadsIn g) text
     none_in stop (inl is) l reads = not_opened g.opening text stop.size is.opened is.short (reads_opened l text reads)
-    none_in stop (inr (inl is)) l reads = is.none l (opens_of is.bare l text reads).reads
+    none_in stop (inr (inl is)) l reads = is.none l (opens_of is.bare l text reads).1
     none_in stop (inr (inr is)) l reads = is.none l reads
 
     -- Two errors have one reach.
@@ -548,13 +548,10 @@ module _ (g : Form) where
 
       -- It reads what its syntax reads.
       pub plain_of : (l : Literal) → ReadsIn g l text → Reads m l text
-      plain_of l reads = subst (λ i. Reads m l (drop i text)) none (opens_of bare l text reads).reads
+      plain_of l reads = subst (λ i. Reads m l (drop i text)) none (opens_of bare l text reads).1
 
       pub plain_in : (l : Literal) → Reads m l text → ReadsIn g l text
-      plain_in l reads = reads_of bare l text (record {
-        opened = no_opening g.opening text none;
-        reads = subst (λ i. Reads m l (drop i text)) (sym none) reads;
-      })
+      plain_in l reads = reads_of bare l text (no_opening g.opening text none, subst (λ i. Reads m l (drop i text)) (sym none) reads)
 
       pub none_plain : NoLiteral m text → NoneBy (ReadsIn g) text
       none_plain is l reads = is l (plain_of l reads)
@@ -693,14 +690,14 @@ module _ (g : Form) where
 
         pub between_is : (closed : ℕ) → IsOpenedTo g.closing closing closed → c ≤ closed → IsBetween g text inside
         between_is closed there all = record {
-          within = λ l reads. subst (Reads m l) (sym inside_is) reads.opens.reads;
+          within = λ l reads. subst (Reads m l) (sym inside_is) reads.opens.1;
           around = λ l reads. record {
             room = omega (arith, size_is, room);
-            opens = record {
-              opened = subst (λ t. Begins g.opening t n) (append-nil (take (length text - c) text))
-                  (begins_front g.opening text n (length text - c) [] (omega (arith, size_is, room)) (omega arith) opening_is);
-              reads = subst (Reads m l) inside_is reads;
-            };
+            opens = (
+              subst (λ t. Begins g.opening t n) (append-nil (take (length text - c) text))
+                  (begins_front g.opening text n (length text - c) [] (omega (arith, size_is, room)) (omega arith) opening_is),
+              subst (Reads m l) inside_is reads,
+            );
             closed = subst (IsOpened g.closing) end_is (subst (Begins g.closing closing)
                 (let most = there.inside in let same : closed ≡ c = omega (arith, most, all) in same) there.begins);
           };
@@ -718,8 +715,12 @@ module _ (g : Form) where
             stopped = subst (IsStopped m (behind g text)) (sym (ap (λ (s : Stopped). record s { size = s.size - n }) same
                 ∙ ap (λ k. record inner { size = k }) (let back : opened + inner.size - n ≡ inner.size = omega (arith, whole) in back)))
                 (subst (λ t. IsStopped m t inner) rest_is stopped);
-            none = λ l reads. none l (reads_of bare l text (record { opened = opening_is; reads = reads }));
+            none = λ l reads. none l (reads_of bare l text (opening_is, reads));
           }))
+
+      pub goes_behind : c ≡ 0 → (size stop : ℕ) → IsValidUpTo m rest size → stop ≡ opened + size → GoesTo text g stop
+      goes_behind bare size stop valid same = subst (GoesTo text g) (let is : n + size ≡ stop = omega (arith, whole, same) in is)
+          (goes_to text opening_is size (subst (λ t. IsValidUpTo m t size) rest_is valid) (λ some. absurd (omega (arith, bare, some))))
 
       pub past_longer : (size most : ℕ) → most ≡ size - c - opened → NoFrontPast m rest most → NonePast text size g
       past_longer size most same none = past_opened text size (past_behind text g (size - c)

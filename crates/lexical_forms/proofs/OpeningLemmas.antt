@@ -37,7 +37,7 @@ no_empty m l reads =
 
 pub none_empty : (g : Form) → NoneBy (OpensIn g) []
 none_empty g l reads = no_empty (notation_of g.syntax) l
-    (subst (Reads (notation_of g.syntax) l) (drop_all (g.opening.size) [] (omega arith)) reads.reads)
+    (subst (Reads (notation_of g.syntax) l) (drop_all (g.opening.size) [] (omega arith)) reads.1)
 
 -- Both are true if their conjunction is.
 pub both : (a b : Bool) → (a && b) ≡ true → (a ≡ true) × (b ≡ true)
@@ -167,7 +167,7 @@ module _ (text : List ℕ) (g : Form) where
   front_behind size less within is = record {
     more = is.more;
     literal = is.literal;
-    reads = subst (Reads m is.literal) (behind_more n size text is.more less within) is.reads.reads;
+    reads = subst (Reads m is.literal) (behind_more n size text is.more less within) is.reads.1;
   }
 
   pub front_before : (size : ℕ) → IsOpened g.opening text → n ≤ size → size ≤ length text → IsFront m (take (size - n) rest)
@@ -175,10 +175,10 @@ module _ (text : List ℕ) (g : Form) where
   front_before size opened less within is = record {
     more = is.more;
     literal = is.literal;
-    reads = record {
-      opened = begins_front g.opening text n size is.more less within opened;
-      reads = subst (Reads m is.literal) (sym (behind_more n size text is.more less within)) is.reads;
-    };
+    reads = (
+      begins_front g.opening text n size is.more less within opened,
+      subst (Reads m is.literal) (sym (behind_more n size text is.more less within)) is.reads,
+    );
   }
 
   pub valid_behind : (size : ℕ) → IsOpened g.opening text → IsValidUpTo m rest size → IsValidBy (OpensIn g) text (n + size)
@@ -197,12 +197,12 @@ module _ (text : List ℕ) (g : Form) where
     front_opened some = record {
       more = drop size (spelling g.opening) ++ some.more;
       literal = some.literal;
-      reads = record {
-        opened = completed g.opening text size is.inside is.begins some.more;
-        reads = subst (Reads m some.literal) (sym (ap (drop n) (sym (append_assoc (take size text) (drop size (spelling g.opening)) some.more))
+      reads = (
+        completed g.opening text size is.inside is.begins some.more,
+        subst (Reads m some.literal) (sym (ap (drop n) (sym (append_assoc (take size text) (drop size (spelling g.opening)) some.more))
             ∙ drop_at (take size text ++ drop size (spelling g.opening)) some.more n (completed_size g.opening text size is.inside is.begins some.more)))
-            some.reads;
-      };
+            some.reads,
+      );
     }
 
     -- No text with more of its bytes begins with the opening.
@@ -214,7 +214,7 @@ module _ (text : List ℕ) (g : Form) where
     -- No front is a literal.
     pub past_before : (least : ℕ) → NoneOpenedPast text least g
     past_before least more past inside l reads = not_opened g.opening text size is short
-        (begins_of more inside reads.opened)
+        (begins_of more inside reads.0)
 
   -- The longest front behind the opening.
   pub opened_front : (l : Literal) (size : ℕ) → IsOpened g.opening text → n ≤ size → ReadsFront m l rest (size - n) → ReadsFrontBy (OpensIn g) l text size
@@ -222,20 +222,20 @@ module _ (text : List ℕ) (g : Form) where
       let all = rest_size opened.within in let low = is.within in let within : size ≤ length text = omega (arith, all, low, past) in
       record {
         within = within;
-        reads = record {
-          opened = subst (λ t. Begins g.opening t n) (append-nil (take size text)) (begins_front g.opening text n size [] past within opened);
-          reads = subst (Reads m l) (sym (behind_take n size text past)) is.reads;
-        };
+        reads = (
+          subst (λ t. Begins g.opening t n) (append-nil (take size text)) (begins_front g.opening text n size [] past within opened),
+          subst (Reads m l) (sym (behind_take n size text past)) is.reads,
+        );
         no_longer = λ more longer inside l reads. is.no_longer (more - n) (omega (arith, longer, past)) (omega (arith, all, inside)) l
-            (subst (Reads m l) (behind_take n more text (omega (arith, longer, past))) reads.reads);
+            (subst (Reads m l) (behind_take n more text (omega (arith, longer, past))) reads.1);
       }
 
   -- If no longer one is behind the opening, none is a literal.
   pub past_behind : (size : ℕ) → NoFrontPast m rest (size - n) → NoneOpenedPast text size g
   past_behind size none more past inside l reads =
-      let same = length-take-le more text inside in let opened = reads.opened.within in
+      let same = length-take-le more text inside in let opened = reads.0.within in
       let less : n ≤ more = omega (arith, same, opened) in let all = rest_size (omega (arith, less, inside)) in
-      let read = subst (Reads m l) (behind_take n more text less) reads.reads in
+      let read = subst (Reads m l) (behind_take n more text less) reads.1 in
       elim (cases_lt (size - n) (more - n)) [
         | inl longer ↦ none (more - n) longer (omega (arith, all, inside)) l read
         | inr low ↦ no_empty m l (subst (λ k. Reads m l (take k rest)) (let zero : more - n ≡ 0 = omega (arith, low, past, less) in zero) read)

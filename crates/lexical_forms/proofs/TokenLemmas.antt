@@ -1,16 +1,20 @@
 -- Tokens: the best of the candidates of several forms.
-use Rattle.lexical_forms.proofs.Common.{All, All-more, AllShorter, Bool, Candidate, Form, FormList, Found, HasLengths, IsAhead, IsBestMade, IsBestOf}
-use Rattle.lexical_forms.proofs.Common.{IsCandidate, IsChosen, IsCountedFront, IsCut, IsEnd, IsFirst, IsFollowed, IsMade, IsNone, IsOver, IsOwn, IsPicked}
-use Rattle.lexical_forms.proofs.Common.{IsRefused, IsSomeAnd, IsToken, IsTokenError, IsTrue, IsValidUpTo, List, Literal, NoCandidate, NoForm, NoFront, NoLonger}
-use Rattle.lexical_forms.proofs.Common.{NoOwn, None, NoneBy, Notation, Option, PointsBack, Read, Reads, ReadsForm, ReadsIn, ReadsSyntax, Some, Token, Tokens}
-use Rattle.lexical_forms.proofs.Common.{ap, arith, better, cuts_of, drop, false, get_or, gives_back, goes_on, has_float, if◌then◌else◌, inl, inr, is_digit}
-use Rattle.lexical_forms.proofs.Common.{is_float, is_in, is_shorter, is_stopped, is_word_byte, kind_with, length, length-take-le, more_of, nat_tests}
-use Rattle.lexical_forms.proofs.Common.{notation_of, refl, slice_get, slice_get-get_or, stop_end, subst, suffix_size, suffix_words, suffixed, sym, take}
-use Rattle.lexical_forms.proofs.Common.{take_all, true, whole, ℕ, ◌&&◌, ◌+◌, ◌-◌, ◌<◌, ◌==◌, ◌||◌, ◌∙◌, ◌≡◌, ◌≤◌, ◌⊎◌}
+use Rattle.lexical_forms.proofs.Common.{All, All-more, AllShorter, Bool, Candidate, Form, FormList, Found, GoesTo, HasLengths, IfSome, IsAhead, IsBestMade}
+use Rattle.lexical_forms.proofs.Common.{IsBestOf}
+use Rattle.lexical_forms.proofs.Common.{IsCandidate, IsChosen, IsCounted, IsCut, IsEnd, IsFirst, IsFirstOf, IsFollowed, IsFrontIn, IsMade, IsMeasured, IsNone}
+use Rattle.lexical_forms.proofs.Common.{IsOver}
+use Rattle.lexical_forms.proofs.Common.{IsOwn}
+use Rattle.lexical_forms.proofs.Common.{IsPicked, IsRefused, IsSomeAnd, IsToken, IsTokenError, IsTrue, List, Literal, NoCandidate, NoForm, NoLonger, NoOwn}
+use Rattle.lexical_forms.proofs.Common.{None, NonePast, NoneBy, Option, PointsBack, Read, Reads, ReadsForm, ReadsIn, Some, [], ◌∷◌}
+use Rattle.lexical_forms.proofs.Common.{Token, Tokens, ap, arith, better, cuts_of, drop, false, get_or, gives_back, goes_on, has_float, if◌then◌else◌}
+use Rattle.lexical_forms.proofs.Common.{inl, inr, is_ascii_digit, is_float, is_in, is_shorter, is_stopped, is_word_byte, kind_with, length, length-take-le}
+use Rattle.lexical_forms.proofs.Common.{more_of, nat_tests, notation_of, refl, slice_get, slice_get-get_or, stop_end, subst, suffix_size, suffix_words}
+use Rattle.lexical_forms.proofs.Common.{suffixed, sym, take, take_all, true, whole, ℕ, ◌&&◌, ◌+◌, ◌-◌, ◌<◌, ◌==◌, ◌||◌, ◌∙◌, ◌≡◌, ◌≤◌, ◌⊎◌}
 use Rattle.lexical_forms.specs.declared.token.TokenError.{TokenError}
 use Rattle.lexical_forms.specs.declared.token.TokenError.TheVariants as errors
 use Rattle.lexical_forms.proofs.FormLemmas.{all_at}
-use Rattle.lexical_forms.proofs.OpeningLemmas.{one_front, one_size}
+use Rattle.lexical_forms.proofs.MarkLemmas.{front_in, inner_is, none_empty_in}
+use Rattle.lexical_forms.proofs.OpeningLemmas.{one_front, one_valid}
 use Rattle.lexical_literal.proofs.MadeLemmas.{present}
 
 -- The order of candidates, each with the length of its literal and its end.
@@ -30,24 +34,27 @@ above_all a b c d s e first other = grind (arith, nat_tests)
 pub float_is : (l : Literal) (counts : List ℕ) → HasLengths l (cuts_of counts) → has_float counts ≡ is_float l
 float_is l counts is = λ j. present _ _ is.point j || present _ _ is.exponent_character j
 
+pub float_in : (form : Form) (text counts : List ℕ) → IsCounted form text counts → (l : Literal) → ReadsIn form l text → has_float counts ≡ is_float l
+float_in form text counts is l reads = float_is l counts (is.measured.counted l reads.opens.1)
+
 -- A form has one candidate.
 module _ (back : PointsBack) (needs : Bool) (text : List ℕ) (form : Form) (c : Candidate) (made : IsMade back needs text form c) (s e : ℕ)
     (other : IsCandidate back needs text form s e) where
   same_longest : other.longest ≡ made.candidate.longest
   same_longest =
       let a = made.candidate.front in let b = other.front in
-      let up = one_front (Reads (notation_of form.syntax)) text a.0 b.0 made.candidate.longest other.longest a.1 b.1 in
-      let down = one_front (Reads (notation_of form.syntax)) text b.0 a.0 other.longest made.candidate.longest b.1 a.1 in omega (arith, up, down)
+      let up = one_front (ReadsIn form) text a.0 b.0 made.candidate.longest other.longest a.1 b.1 in
+      let down = one_front (ReadsIn form) text b.0 a.0 other.longest made.candidate.longest b.1 a.1 in omega (arith, up, down)
 
   pub same_size : s ≡ c.size
   same_size = other.size_is
-      ∙ ap (λ n. if gives_back back (notation_of form.syntax) text n then n - 1 else n) same_longest ∙ sym made.candidate.size_is
+      ∙ ap (λ n. if gives_back back form text n then n - 1 else n) same_longest ∙ sym made.candidate.size_is
 
   same_float : is_float other.literal ≡ is_float made.candidate.literal
   same_float =
-      let read = subst (λ n. Reads (notation_of form.syntax) other.literal (take n text)) same_size other.reads in
-      sym (float_is other.literal c.counts (made.measured.counted other.literal read))
-      ∙ float_is made.candidate.literal c.counts (made.measured.counted made.candidate.literal made.candidate.reads)
+      let read = subst (λ n. ReadsIn form other.literal (take n text)) same_size other.reads in
+      sym (float_in form (take c.size text) c.counts made.counted other.literal read)
+      ∙ float_in form (take c.size text) c.counts made.counted made.candidate.literal made.candidate.reads
 
   pub same_end : e ≡ c.end
   same_end = other.end_is
@@ -87,75 +94,110 @@ more_than_none : (b : Bool) (n s : ℕ) → (b && (n == 0)) ≡ false → IsTrue
 more_than_none true n s off on = grind (arith, nat_tests)
 more_than_none false n s off on = grind arith
 
+-- A literal has a byte.
+literal_size : (form : Form) (text : List ℕ) (l : Literal) → ReadsIn form l text → 0 < length text
+literal_size form [] l reads = absurd (none_empty_in form l reads)
+literal_size form (byte ∷ text) l reads = omega arith
+
+-- The parts of a front are counted behind the opening.
+counted_in : (form : Form) (text : List ℕ) (found : Found) → IsFrontIn text found form → IsCounted form (take found.size text) found.counts
+counted_in form text found is =
+    let past = is.past in let long = length-take-le found.size text (front_in form text found is).within in
+    let inside = inner_is form text found is (take found.size text) _ refl refl in record {
+      literal = (is.front.literal, (front_in form text found is).reads);
+      room = omega (arith, long, past);
+      measured = subst (λ t. IsMeasured (notation_of form.syntax) t found.counts) (sym inside)
+          (record { literal = (is.front.literal, is.front.reads.reads); counted = is.front.counted });
+    }
+
+-- What is between the opening and the closing of a literal can be another one.
+pub reads_between : (form : Form) (text : List ℕ) (k l : Literal) → ReadsIn form k text
+    → Reads (notation_of form.syntax) l (drop form.opening.size (take (length text - form.closing.size) text)) → ReadsIn form l text
+reads_between form text k l around reads = record { room = around.room; opens = (around.opens.0, reads); closed = around.closed }
+
+pub front_some : (form : Form) (text : List ℕ) (found : Option Found) → IfSome found (λ found. (0 < found.size) × IsFrontIn text found form)
+    → (g : Found) → found ≡ Some g → IsFrontIn text g form
+front_some form text found is g same = (subst (λ o. IfSome o (λ found. (0 < found.size) × IsFrontIn text found form)) same is).1
+
 -- The front of `text` that is left if its point is given back.
-module _ (back : PointsBack) (m : Notation) (text : List ℕ) (found : Found) (is : IsCountedFront m text found) where
-  pub kept : gives_back back m text found.size ≡ false → IsOwn back m text found.size found
-  kept off = record {
-    within = is.reads.within;
-    size = ap (λ b. if b then found.size - 1 else found.size) (sym off);
-    measured = record { literal = (is.literal, is.reads.reads); counted = is.counted };
-  }
+module _ (back : PointsBack) (form : Form) (text : List ℕ) (found : Found) (is : IsFrontIn text found form) where
+  within : found.size ≤ length text
+  within = (front_in form text found is).within
 
-  module _ (on : gives_back back m text found.size ≡ true) (shorter : List ℕ) (at : shorter ≡ take (found.size - 1) text) where
+  pub kept : gives_back back form text found.size ≡ false → IsOwn back form text found.size found
+  kept off = record { within = within; size = ap (λ b. if b then found.size - 1 else found.size) (sym off); counted = counted_in form text found is }
+
+  module _ (on : gives_back back form text found.size ≡ true) (shorter : List ℕ) (at : shorter ≡ take (found.size - 1) text) where
     size_of : length shorter ≡ found.size - 1
-    size_of = let within = is.reads.within in ap length at ∙ length-take-le (found.size - 1) text (omega (arith, within))
+    size_of = ap length at ∙ length-take-le (found.size - 1) text (omega (arith, within))
 
-    size_is : length shorter ≡ (if gives_back back m text found.size then found.size - 1 else found.size)
+    size_is : length shorter ≡ (if gives_back back form text found.size then found.size - 1 else found.size)
     size_is = size_of ∙ ap (λ b. if b then found.size - 1 else found.size) (sym on)
 
     all_of : take (length shorter) text ≡ shorter
     all_of = ap (λ n. take n text) size_of ∙ sym at
 
-    pub cut_short : (own : Option Found) → ((found : Found) → own ≡ Some found → IsCountedFront m shorter found)
-        → (f : Found) → whole own (length shorter) ≡ Some f → IsOwn back m text found.size f
+    pub cut_short : (own : Option Found) → ((found : Found) → own ≡ Some found → IsFrontIn shorter found form)
+        → (f : Found) → whole own (length shorter) ≡ Some f → IsOwn back form text found.size f
     cut_short None some f none = grind arith
     cut_short (Some g) some f same = go (g.size == length shorter) refl same where
-      go : (b : Bool) → (g.size == length shorter) ≡ b → (if b then Some g else None) ≡ Some f → IsOwn back m text found.size f
+      go : (b : Bool) → (g.size == length shorter) ≡ b → (if b then Some g else None) ≡ Some f → IsOwn back form text found.size f
       go true whole same =
           let is_g : g ≡ f = grind arith in
           let size : g.size ≡ length shorter = grind (arith, nat_tests) in
-          let front = some g refl in
-          let part : take g.size text ≡ take g.size shorter =
-          ap (λ n. take n text) size ∙ all_of ∙ sym (take_all g.size shorter (omega (arith, size))) in
-          subst (IsOwn back m text found.size) is_g (record {
-            within = let within = is.reads.within in omega (arith, size, size_of, within);
+          let part : take g.size shorter ≡ take g.size text =
+          take_all g.size shorter (omega (arith, size)) ∙ sym all_of ∙ ap (λ n. take n text) (sym size) in
+          subst (IsOwn back form text found.size) is_g (record {
+            within = omega (arith, size, size_of, within);
             size = size ∙ size_is;
-            measured = record {
-              literal = (front.literal, subst (Reads m front.literal) (sym part) front.reads.reads);
-              counted = λ l reads. front.counted l (subst (Reads m l) part reads);
-            };
+            counted = subst (λ t. IsCounted form t g.counts) part (counted_in form shorter g (some g refl));
           })
       go false whole same = grind arith
 
-    pub cut_none : (own : Option Found) → ((found : Found) → own ≡ Some found → IsCountedFront m shorter found) → (own ≡ None → NoFront m shorter)
-        → whole own (length shorter) ≡ None → NoOwn back m text found.size
+    pub cut_none : (own : Option Found) → ((found : Found) → own ≡ Some found → IsFrontIn shorter found form) → (own ≡ None → NonePast shorter 0 form)
+        → whole own (length shorter) ≡ None → NoOwn back form text found.size
     cut_none own some none is_none l reads = go own refl is_none where
-      read : Reads m l (take (length shorter) shorter)
-      read = subst (Reads m l) (ap (λ n. take n text) (sym size_is) ∙ all_of ∙ sym (take_all (length shorter) shorter (omega arith))) reads
+      all : take (length shorter) shorter ≡ shorter
+      all = take_all (length shorter) shorter (omega arith)
+
+      read : ReadsIn form l (take (length shorter) shorter)
+      read = subst (ReadsIn form l) (ap (λ n. take n text) (sym size_is) ∙ all_of ∙ sym all) reads
+
+      some_byte : 0 < length shorter
+      some_byte = literal_size form shorter l (subst (ReadsIn form l) all read)
 
       go : (o : Option Found) → own ≡ o → whole o (length shorter) ≡ None → ⊥
-      go None at_none is_none = none at_none (length shorter) (omega arith) l read
+      go None at_none is_none = none at_none (length shorter) some_byte (omega arith) l read
       go (Some g) at_some is_none =
-          let front = some g at_some in
-          let within = front.reads.within in
+          let front = front_in form shorter g (some g at_some) in
+          let inside = front.within in
           let apart : g.size < length shorter = grind (arith, nat_tests) in
-          front.reads.no_longer (length shorter) apart (omega arith) l read
+          front.no_longer (length shorter) apart (omega arith) l read
+
+-- A form without a front has no candidate.
+pub without_front : (back : PointsBack) (needs : Bool) (text : List ℕ) (form : Form) → NonePast text 0 form → NoCandidate back needs text form
+without_front back needs text form none s e other =
+    let front = other.front.1 in
+    let size = literal_size form (take other.longest text) other.front.0 front.reads in
+    let long = length-take-le other.longest text front.within in
+    none other.longest (omega (arith, size, long)) front.within other.front.0 front.reads
 
 -- A form has a candidate, or none.
-module _ (back : PointsBack) (needs : Bool) (text : List ℕ) (form : Form) (found : Found) (is : IsCountedFront (notation_of form.syntax) text found) where
+module _ (back : PointsBack) (needs : Bool) (text : List ℕ) (form : Form) (found : Found) (is : IsFrontIn text found form) where
   longest_is : (s e : ℕ) → (other : IsCandidate back needs text form s e) → other.longest ≡ found.size
   longest_is s e other =
-      let up = one_front (Reads (notation_of form.syntax)) text is.literal other.front.0 found.size other.longest is.reads other.front.1 in
-      let down = one_front (Reads (notation_of form.syntax)) text other.front.0 is.literal other.longest found.size other.front.1 is.reads in
+      let front = front_in form text found is in
+      let up = one_front (ReadsIn form) text is.front.literal other.front.0 found.size other.longest front other.front.1 in
+      let down = one_front (ReadsIn form) text other.front.0 is.front.literal other.longest found.size other.front.1 front in
       omega (arith, up, down)
 
-  pub without_own : NoOwn back (notation_of form.syntax) text found.size → NoCandidate back needs text form
+  pub without_own : NoOwn back form text found.size → NoCandidate back needs text form
   without_own none s e other =
-      let size : s ≡ (if gives_back back (notation_of form.syntax) text found.size then found.size - 1 else found.size) =
-      other.size_is ∙ ap (λ n. if gives_back back (notation_of form.syntax) text n then n - 1 else n) (longest_is s e other) in
-      none other.literal (subst (λ n. Reads (notation_of form.syntax) other.literal (take n text)) size other.reads)
+      let size : s ≡ (if gives_back back form text found.size then found.size - 1 else found.size) =
+      other.size_is ∙ ap (λ n. if gives_back back form text n then n - 1 else n) (longest_is s e other) in
+      none other.literal (subst (λ n. ReadsIn form other.literal (take n text)) size other.reads)
 
-  module _ (own : Found) (owned : IsOwn back (notation_of form.syntax) text found.size own) where
+  module _ (own : Found) (owned : IsOwn back form text found.size own) where
     abbrev more : ℕ
     more = suffix_size form.suffixes (has_float own.counts) (drop own.size text)
 
@@ -165,21 +207,21 @@ module _ (back : PointsBack) (needs : Bool) (text : List ℕ) (form : Form) (fou
     candidate_of : (IsTrue needs → own.size < own.size + more) → IsCandidate back needs text form own.size (own.size + more)
     candidate_of enough = record {
       longest = found.size;
-      front = (is.literal, is.reads);
+      front = (is.front.literal, front_in form text found is);
       size_is = owned.size;
-      literal = owned.measured.literal.0;
-      reads = owned.measured.literal.1;
+      literal = owned.counted.literal.0;
+      reads = owned.counted.literal.1;
       end_is = ap (λ b. own.size + suffix_size form.suffixes b (drop own.size text))
-          (float_is owned.measured.literal.0 own.counts (owned.measured.counted owned.measured.literal.0 owned.measured.literal.1));
+          (float_in form (take own.size text) own.counts owned.counted owned.counted.literal.0 owned.counted.literal.1);
       suffixed = enough;
     }
 
     end_of : (s e : ℕ) → IsCandidate back needs text form s e → (s ≡ own.size) × (e ≡ own.size + more)
     end_of s e other =
         let size : s ≡ own.size = other.size_is
-        ∙ ap (λ n. if gives_back back (notation_of form.syntax) text n then n - 1 else n) (longest_is s e other) ∙ sym owned.size in
-        let read = subst (λ n. Reads (notation_of form.syntax) other.literal (take n text)) size other.reads in
-        let float = sym (float_is other.literal own.counts (owned.measured.counted other.literal read)) in (
+        ∙ ap (λ n. if gives_back back form text n then n - 1 else n) (longest_is s e other) ∙ sym owned.size in
+        let read = subst (λ n. ReadsIn form other.literal (take n text)) size other.reads in
+        let float = sym (float_in form (take own.size text) own.counts owned.counted other.literal read) in (
           size,
           other.end_is ∙ ap (λ n. n + suffix_size form.suffixes (is_float other.literal) (drop n text)) size
               ∙ ap (λ b. own.size + suffix_size form.suffixes b (drop own.size text)) float,
@@ -196,7 +238,7 @@ module _ (back : PointsBack) (needs : Bool) (text : List ℕ) (form : Form) (fou
           let e = some_is (record { size = own.size; counts = own.counts; end = own.size + more }) c is_c in
           subst (IsMade back needs text form) e (record {
             candidate = candidate_of (λ needed. more_than_none needs more own.size off needed);
-            measured = owned.measured;
+            counted = owned.counted;
             within = subst (λ (c : Candidate). c.end ≤ length text) (sym e) (within c some);
           })
 
@@ -288,15 +330,13 @@ module _ (back : PointsBack) (needs : Bool) (forms : List Form) (text : List ℕ
     go (Some form) made = made.candidate
 
 -- Whether a form goes on behind `end`.
-module _ (back : PointsBack) (text : List ℕ) (end : ℕ) (form : Form) (stop : ℕ) (valid : IsValidUpTo (notation_of form.syntax) text stop) where
+module _ (back : PointsBack) (text : List ℕ) (end : ℕ) (form : Form) (stop : ℕ) (valid : GoesTo text form stop) where
   pub ahead : goes_on back (notation_of form.syntax) text end stop ≡ true → IsAhead back text end form
   ahead on = record { size = stop; valid = valid; further = grind (arith, nat_tests); more = grind (arith, nat_tests) }
 
   pub not_ahead : goes_on back (notation_of form.syntax) text end stop ≡ false → IsAhead back text end form → ⊥
   not_ahead off is =
-      let up = one_size (Reads (notation_of form.syntax)) text stop is.size valid is.valid in
-      let down = one_size (Reads (notation_of form.syntax)) text is.size stop is.valid valid in
-      let same : is.size ≡ stop = omega (arith, up, down) in
+      let same : is.size ≡ stop = one_valid (ReadsIn form) text is.size stop is.valid valid in
       let further = is.further in let more = is.more in grind (arith, nat_tests)
 
 -- A text that is a literal of a form is one of a form.
@@ -304,7 +344,13 @@ pub some_form : (forms : List Form) (text : List ℕ) (i : ℕ) (read : Read) �
 some_form forms text i read is none = go (slice_get forms i) refl is.reads where
   go : (o : Option Form) → slice_get forms i ≡ o → IsSomeAnd o (ReadsForm text read) → ⊥
   go None at reads = reads
-  go (Some form) at reads = all_at (λ form. NoneBy (ReadsIn form) text) forms i form at none read.literal reads.1
+  go (Some form) at reads = all_at (λ form. NoneBy (ReadsIn form) text) forms i form at none read.literal reads.2
+
+pub some_of_form : (forms : List Form) (text : List ℕ) (i : ℕ) (read : Read) → IsFirstOf forms text i read → NoForm forms text → ⊥
+some_of_form forms text i read is none = go (slice_get forms i) is where
+  go : (o : Option Form) → IsSomeAnd o (λ form. IsFirst forms text i (record read { kind = form.kind })) → ⊥
+  go None is = is
+  go (Some form) is = some_form forms text i (record read { kind = form.kind }) is none
 
 -- The best candidate of the list, and of the forms that need a suffix.
 module _ (list : FormList) (t : Tokens) (text : List ℕ) where
@@ -319,7 +365,7 @@ module _ (list : FormList) (t : Tokens) (text : List ℕ) where
         let end = made.candidate.end_is in
         record {
           chosen = inl (at, is.best, others);
-          measured = made.measured;
+          counted = made.counted;
           order = omega (arith, end);
           within = made.within;
         }
@@ -340,7 +386,7 @@ module _ (list : FormList) (t : Tokens) (text : List ℕ) where
         let end = made.candidate.end_is in
         record {
           chosen = inr (j, refl, at, is.best, others);
-          measured = made.measured;
+          counted = made.counted;
           order = omega (arith, end);
           within = made.within;
         }
@@ -355,7 +401,7 @@ module _ (list : FormList) (t : Tokens) (text : List ℕ) where
 
   -- The token that was picked, or why there is none.
   module _ (index : ℕ) (form : Form) (c : Candidate) (is : IsPicked list t text index form c) where
-    pub token_is : (token : Token) → token.form ≡ index → ReadsSyntax (take c.size text) token.literal form
+    pub token_is : (token : Token) → token.form ≡ index → (token.literal.format ≡ form.syntax.word) × ReadsIn form token.literal.literal (take c.size text)
         → token.literal.kind ≡ kind_with form.suffixes token.suffix.now form.kind → token.suffix.now ≡ take (c.end - c.size) (drop c.size text)
         → token.rest.now ≡ drop c.end text
         → IsFollowed list t text c.end ⊎ (IsOver list t text c.end × (is_stopped t.any_word_follows form.suffixes text c.end ≡ false))
@@ -377,17 +423,17 @@ module _ (list : FormList) (t : Tokens) (text : List ℕ) where
       gone_on ahead = inr (index, form, c.size, c.end, inr (is.chosen, apart, ahead.0, ahead.1))
 
       module _ (over : IsOver list t text c.end) (stopped : is_stopped t.any_word_follows form.suffixes text c.end ≡ true) where
-        cut : (digit : Bool) → ((c.size == c.end) && is_in is_digit (slice_get text c.size)) ≡ digit → IsCut list t text index form c.size c.end digit
+        cut : (digit : Bool) → ((c.size == c.end) && is_in is_ascii_digit (slice_get text c.size)) ≡ digit → IsCut list t text index form c.size c.end digit
         cut digit same = record { chosen = is.chosen; not_followed = apart; over = over; stopped = stopped; digit_is = same }
 
-        pub before_digit : ((c.size == c.end) && is_in is_digit (slice_get text c.size)) ≡ true → IsRefused list t text
+        pub before_digit : ((c.size == c.end) && is_in is_ascii_digit (slice_get text c.size)) ≡ true → IsRefused list t text
         before_digit digit = inr (index, form, c.size, c.end, inl (cut true digit))
 
-        module _ (other : ((c.size == c.end) && is_in is_digit (slice_get text c.size)) ≡ false) where
+        module _ (other : ((c.size == c.end) && is_in is_ascii_digit (slice_get text c.size)) ≡ false) where
           pub ended : (error : TokenError) → IsEnd form text index c error → IsTokenError list t text error
           ended (errors.UnknownSuffix i start end suffixes) e =
-              let l = is.measured.literal.0 in
-              let reads = is.measured.literal.1 in
+              let l = is.counted.literal.0 in
+              let reads = is.counted.literal.1 in
               let here = sym e.2 in (
                 form,
                 c.end,
@@ -397,8 +443,8 @@ module _ (list : FormList) (t : Tokens) (text : List ℕ) where
                 e.3,
                 (
                   l,
-                  subst (λ n. Reads (notation_of form.syntax) l (take n text)) here reads,
-                  e.4 ∙ ap (suffix_words form.suffixes) (float_is l c.counts (is.measured.counted l reads)),
+                  subst (λ n. ReadsIn form l (take n text)) here reads,
+                  e.4 ∙ ap (suffix_words form.suffixes) (float_in form (take c.size text) c.counts is.counted l reads),
                 ),
               )
           ended (errors.Stopped i start end) e =

@@ -1,5 +1,5 @@
--- Openings and closings: what stands before and behind the literals of a form.
-use Rattle.std.specs.Prelude.{ℕ, ◌≡◌, ◌==◌, ◌&&◌, ◌||◌, ◌<◌, ◌≤◌, not, Bool, true, List, get_or, length, take}
+-- The bytes of openings and closings, and which closings a form may have.
+use Rattle.std.specs.Prelude.{ℕ, ◌==◌, ◌&&◌, ◌||◌, not, Bool, List, get_or, take}
 use Rattle.lexical_util.specs.Roles.{other_case}
 use Rattle.lexical_util.specs.declared.format_flags.Part.TheVariants as parts
 use Rattle.lexical_literal.specs.Notation.{Notation}
@@ -8,16 +8,6 @@ use Rattle.lexical_forms.specs.declared.affix.Affix.{Affix}
 -- `spelling affix` is the list of the bytes of `affix`.
 abbrev pub spelling : Affix → List ℕ
 spelling affix = take affix.size affix.bytes
-
--- `spells affix index byte` is true if `byte` is the byte of `affix` with this index or, unless its case counts, the other case of this byte.
-abbrev pub spells : Affix → ℕ → ℕ → Bool
-spells affix index byte =
-    (byte == get_or affix.bytes index 0) || (not affix.case_sensitive && (byte == other_case (get_or affix.bytes index 0)))
-
--- `Begins affix text size` holds if the first `size` bytes of `text` are those of `affix`.
-pub record Begins (affix : Affix) (text : List ℕ) (size : ℕ) : Type 0 where
-  pub within : size ≤ length text
-  pub each : (index : ℕ) → index < size → spells affix index (get_or text index 0) ≡ true
 
 -- `is_free m byte` is true if `byte` plays no role in `m`, and is not the zero of a prefix.
 abbrev pub is_free : Notation → ℕ → Bool

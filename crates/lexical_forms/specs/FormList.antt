@@ -6,8 +6,7 @@ use Rattle.lexical_forms.specs.declared.form.Form.{Form}
 use Rattle.lexical_forms.specs.declared.list.Tokens.{Tokens}
 use Rattle.lexical_forms.specs.declared.specials.Specials.{Specials}
 
--- `FormList` has forms, of which the first that reads a text decides what number it is, the spellings of special values, and
--- how tokens are read.
+-- `FormList` has forms, of which the first that reads a text decides what number it is, the spellings of special values, and how tokens are read.
 pub record FormList : Type 0 where
   pub forms : List Form
   pub specials : Specials

@@ -1,9 +1,9 @@
 -- Special values: the texts that are NaN or infinity.
 use Rattle.std.specs.Prelude.{ℕ, ◌==◌, ◌&&◌, ◌||◌, not, ◌∷◌, [], ◌++◌, List, Option, Some, None, Bool, true, false, if◌then◌else◌, option_map, option_to_list}
+use Rattle.std.specs.Prelude.{drop, get_or, unwrap_or}
 use Rattle.std.specs.Borrow.{Bor}
 use Rattle.std.specs.Char.{to_ascii_lowercase}
 use Rattle.std.specs.List.{find}
-use Rattle.lexical_util.specs.Ascii.{ByteSet}
 use Rattle.lexical_util.specs.Layout as layout
 use Rattle.lexical_literal.specs.Literal.{is_absent, is_present}
 use Rattle.lexical_literal.specs.Notation.{Notation}
@@ -22,45 +22,35 @@ allows m None = not (m.flag layout.no_special) && not (m.flag layout.required_ma
 allows m (Some signs.Plus) = not (m.flag layout.no_special) && not (m.flag layout.no_positive_mantissa_sign)
 allows m (Some signs.Minus) = not (m.flag layout.no_special) && not (m.condition conditions.NegativeSign)
 
--- `special_separator m` is the digit separator if special values may have it, and the empty set otherwise.
-abbrev pub special_separator : Notation → ByteSet
-special_separator m byte = m.flag layout.special_digit_separator && m.separator byte
-
 -- `letter_of m byte` is `byte`, in lowercase unless special values are case-sensitive.
 abbrev pub letter_of : Notation → ℕ → ℕ
 letter_of m byte = if m.flag layout.case_sensitive_special then byte else to_ascii_lowercase byte
 
--- `is_spelled m word text` is true if what is left of `text` when some separators are left out is `word`, letter case aside
--- unless special values are case-sensitive.
+-- `is_spelled m word text` is true if `text` without some separators, if special values may have them, is `word`, letter case aside unless it counts.
 abbrev pub is_spelled : Notation → List ℕ → List ℕ → Bool
 is_spelled m word [] = is_absent word
-is_spelled m [] (byte ∷ text) = special_separator m byte && is_spelled m [] text
-is_spelled m (letter ∷ word) (byte ∷ text) =
-    (special_separator m byte && is_spelled m (letter ∷ word) text) || ((letter_of m letter == letter_of m byte) && is_spelled m word text)
+is_spelled m [] (byte ∷ text) = (m.flag layout.special_digit_separator && m.separator byte) && is_spelled m [] text
+is_spelled m (letter ∷ word) (byte ∷ text) = ((m.flag layout.special_digit_separator && m.separator byte) && is_spelled m (letter ∷ word) text)
+    || ((letter_of m letter == letter_of m byte) && is_spelled m word text)
 
 -- `matches m word text` is true if `word` is neither absent nor empty, and `text` is spelled as `word`.
 abbrev pub matches : Notation → Option (Bor (List ℕ)) → List ℕ → Bool
-matches m None text = false
-matches m (Some word) text = is_present word.now && is_spelled m word.now text
+matches m word text = unwrap_or (option_map (λ (it : Bor (List ℕ)). is_present it.now && is_spelled m it.now text) word) false
 
 -- `spelling_of m specials text` is the first of NaN, inf and infinity whose spelling `text` matches, or `None` if there is none.
 abbrev pub spelling_of : Notation → Specials → List ℕ → Option Spelling
-spelling_of m specials text =
-    if matches m specials.nan text then Some spellings.Nan
-    else (if matches m specials.inf text then Some spellings.Inf
-    else (if matches m specials.infinity text then Some spellings.Infinity else None))
+spelling_of m specials text = if matches m specials.nan text then Some spellings.Nan
+    else if matches m specials.inf text then Some spellings.Inf else if matches m specials.infinity text then Some spellings.Infinity else None
 
--- `special_behind m specials sign word` is the special value that `word` is behind `sign`, or `None` if it is none: the sign, if the format allows it,
--- and the spelling that `word` matches.
+-- `special_behind m specials sign word` is the special value `word` behind `sign`: the spelling that it matches, if the format allows the sign, or `None`.
 abbrev pub special_behind : Notation → Specials → Option Sign → List ℕ → Option Special
 special_behind m specials sign word =
     if allows m sign then option_map (λ spelling. record { sign = sign; spelling = spelling }) (spelling_of m specials word) else None
 
 -- `special_of m specials text` is the special value that `text` is, or `None` if it is none. A first byte `+` or `-` is its sign.
 abbrev pub special_of : Notation → Specials → List ℕ → Option Special
-special_of m specials [] = special_behind m specials None []
-special_of m specials (byte ∷ rest) = if byte == 43 then special_behind m specials (Some signs.Plus) rest
-    else (if byte == 45 then special_behind m specials (Some signs.Minus) rest else special_behind m specials None (byte ∷ rest))
+special_of m specials text = if get_or text 0 0 == 43 then special_behind m specials (Some signs.Plus) (drop 1 text)
+    else if get_or text 0 0 == 45 then special_behind m specials (Some signs.Minus) (drop 1 text) else special_behind m specials None text
 
 -- `is_negative sign` is true if `sign` is `-`.
 abbrev pub is_negative : Option Sign → Bool

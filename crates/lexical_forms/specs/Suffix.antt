@@ -1,9 +1,9 @@
 -- Words behind a number: suffixes, which belong to it, words that may follow it, and bytes that may not.
-use Rattle.std.specs.Prelude.{ℕ, ◌+◌, ◌-◌, ◌==◌, ◌&&◌, ◌||◌, not, Bool, true, false, if◌then◌else◌, nat_le, nat_lt, List, [], ◌∷◌, Option, Some, None}
-use Rattle.std.specs.Prelude.{drop, length, option_map, slice_get, unwrap_or}
+use Rattle.std.specs.Prelude.{ℕ, ◌+◌, ◌-◌, ◌==◌, ◌&&◌, ◌||◌, not, Bool, false, if◌then◌else◌, nat_le, nat_lt, List, [], Option, Some, None}
+use Rattle.std.specs.Prelude.{drop, filter, fold, length, map, max, option_map, slice_get, unwrap_or}
 use Rattle.std.specs.Borrow.{Bor}
-use Rattle.std.specs.Char.{eq_ignore_ascii_case}
-use Rattle.std.specs.List.{find, list_any}
+use Rattle.std.specs.Char.{eq_ignore_ascii_case, is_ascii_alphanumeric, is_ascii_digit}
+use Rattle.std.specs.List.{find, list_any, prefix_len, starts_with}
 use Rattle.lexical_util.specs.Ascii.{ByteSet}
 use Rattle.lexical_literal.specs.Cause.{is_in}
 use Rattle.lexical_literal.specs.declared.kind.Kind.{Kind}
@@ -12,29 +12,15 @@ use Rattle.lexical_forms.specs.declared.suffix.Suffixes.{Suffixes}
 
 -- `is_word_byte byte` is true if `byte` is a digit, a letter, `_` or at least 128.
 abbrev pub is_word_byte : ByteSet
-is_word_byte byte =
-    (nat_le 48 byte && nat_le byte 57) || (nat_le 65 byte && nat_le byte 90) || (byte == 95) || (nat_le 97 byte && nat_le byte 122) || nat_le 128 byte
-
--- `is_in_word more byte` is true if `byte` is a byte of a word, or one of `more`, the bytes that words of a form have besides.
-abbrev pub is_in_word : List ℕ → ByteSet
-is_in_word more byte = list_any (λ it. it == byte) more || is_word_byte byte
+is_word_byte byte = is_ascii_alphanumeric byte || (byte == 95) || nat_le 128 byte
 
 -- `more_of suffixes` lists the bytes that their words have besides.
 abbrev pub more_of : Option (Bor Suffixes) → List ℕ
 more_of suffixes = unwrap_or (option_map (λ (it : Bor Suffixes). it.now.more.now) suffixes) []
 
--- `is_digit byte` is true if `byte` is a decimal digit.
-abbrev pub is_digit : ByteSet
-is_digit byte = nat_le 48 byte && nat_le byte 57
-
--- `is_letter byte` is true if `byte` is a letter of ASCII.
-abbrev pub is_letter : ByteSet
-is_letter byte = (nat_le 65 byte && nat_le byte 90) || (nat_le 97 byte && nat_le byte 122)
-
--- `word_size more text` is the number of bytes of a word, which may have the bytes `more`, with which `text` begins.
+-- `word_size more text` is the number of bytes of a word, which may have the bytes `more` besides, with which `text` begins.
 abbrev pub word_size : List ℕ → List ℕ → ℕ
-word_size more [] = 0
-word_size more (byte ∷ text) = if is_in_word more byte then 1 + word_size more text else 0
+word_size more text = prefix_len (λ byte. list_any (λ it. it == byte) more || is_word_byte byte) text
 
 -- `stop_end more text index` is the index behind the byte at `index` and the word that follows it, or `index` at the end of `text`.
 abbrev pub stop_end : List ℕ → List ℕ → ℕ → ℕ
@@ -42,32 +28,22 @@ stop_end more text index = if nat_lt index (length text) then index + 1 + word_s
 
 -- `begins either word text` is true if `text` begins with `word`, letter case aside if `either` is true.
 abbrev pub begins : Bool → List ℕ → List ℕ → Bool
-begins either [] text = true
-begins either (letter ∷ word) [] = false
-begins either (letter ∷ word) (byte ∷ text) = (if either then eq_ignore_ascii_case letter byte else letter == byte) && begins either word text
-
--- `longest_word either words text most` is the length of the longest of `words`, of at most `most` bytes, with which `text` begins, or 0 if it
--- begins with none.
-abbrev pub longest_word : Bool → List (Bor (List ℕ)) → List ℕ → ℕ → ℕ
-longest_word either [] text most = 0
-longest_word either (word ∷ words) text most =
-    if nat_le (length word.now) most && begins either word.now text && nat_lt (longest_word either words text most) (length word.now) then length word.now
-    else longest_word either words text most
+begins either word text = starts_with (λ letter byte. if either then eq_ignore_ascii_case letter byte else letter == byte) text word
 
 -- `suffix_words suffixes float` lists the words that are suffixes behind a float or else an integer.
 abbrev pub suffix_words : Option (Bor Suffixes) → Bool → List (Bor (List ℕ))
-suffix_words None float = []
-suffix_words (Some it) float = if float then it.now.floats.now else it.now.integers.now
+suffix_words suffixes float = unwrap_or (option_map (λ (it : Bor Suffixes). if float then it.now.floats.now else it.now.integers.now) suffixes) []
 
--- `suffix_size suffixes float text` is the length of the longest suffix with which `text` begins, behind a float or else an
--- integer, or 0 if there is none, or if the whole word is to be one and is none.
+-- `suffix_size suffixes float text` is the length of the longest suffix with which `text` begins, behind a float or else an integer, or 0 if there is none:
+-- of the whole word if its first byte says that any is one, or else of one of the words that are in it, or that are all of it if only such ones are.
 abbrev pub suffix_size : Option (Bor Suffixes) → Bool → List ℕ → ℕ
 suffix_size None float text = 0
 suffix_size (Some it) float text =
     let whole = word_size it.now.more.now text in
+    let least = if it.now.whole_words then whole else 0 in
     if is_in (λ byte. list_any (λ it. it == byte) it.now.any.now) (slice_get text 0) then whole
-    else (let longest = longest_word it.now.either_case (suffix_words (Some it) float) text whole in
-    if it.now.whole_words && not (longest == whole) then 0 else longest)
+    else fold max 0 (map (λ word. length word.now) (filter (λ word. nat_le least (length word.now) && nat_le (length word.now) whole
+    && begins it.now.either_case word.now text) (suffix_words (Some it) float)))
 
 -- `kind_with suffixes word kind` is the kind of a number with the suffix `word`: that of the first word which is this one, letter case aside if the
 -- suffixes are read in either case, and `kind` if none is, or without a suffix.
@@ -86,18 +62,16 @@ byte_before text index = if index == 0 then None else slice_get text (index - 1)
 
 -- `admits bytes byte` is true if `byte` is one of `bytes`, or if `bytes` is empty.
 abbrev pub admits : List ℕ → Option ℕ → Bool
-admits [] byte = true
-admits (first ∷ bytes) byte = is_in (λ other. list_any (λ it. it == other) (first ∷ bytes)) byte
+admits bytes byte = (length bytes == 0) || is_in (λ other. list_any (λ it. it == other) bytes) byte
 
--- `meets text end stop` is true if the number that ends at `end` of `text` ends in a byte that `stop` names, and if the two bytes
--- behind it are such ones, too.
+-- `meets text end stop` is true if the number that ends at `end` ends in a byte that `stop` names, and if the two bytes behind it are such ones, too.
 abbrev pub meets : List ℕ → ℕ → Stop → Bool
-meets text end stop = admits stop.last.now (byte_before text end) && admits stop.next.now (slice_get text end)
-    && admits stop.second.now (slice_get text (end + 1))
+meets text end stop =
+    admits stop.last.now (byte_before text end) && admits stop.next.now (slice_get text end) && admits stop.second.now (slice_get text (end + 1))
 
 -- `is_stopped words suffixes text end` is true if what is behind the number that ends at `end` of `text` may not follow it: a byte of a
 -- word, or a digit alone if any word may follow, as `words` tells, a number that does not end in a point, or a stop of the form.
 abbrev pub is_stopped : Bool → Option (Bor Suffixes) → List ℕ → ℕ → Bool
 is_stopped words suffixes text end =
-    is_in (if words && not (is_in (λ byte. byte == 46) (byte_before text end)) then is_digit else is_word_byte) (slice_get text end)
+    is_in (if words && not (is_in (λ byte. byte == 46) (byte_before text end)) then is_ascii_digit else is_word_byte) (slice_get text end)
     || list_any (meets text end) (unwrap_or (option_map (λ (it : Bor Suffixes). it.now.stops.now) suffixes) [])

@@ -2,14 +2,15 @@
 use Rattle.std.specs.Prelude.{ℕ, ◌≡◌, ◌+◌, ◌-◌, ◌==◌, ◌&&◌, ◌||◌, ◌<◌, ◌⊎◌, Bool, true, false, if◌then◌else◌, nat_lt, IsTrue, IsSomeAnd, List, Option, Some}
 use Rattle.std.specs.Prelude.{[], None, All, Result, Ok, Err, drop, length, slice_get, take}
 use Rattle.std.specs.Borrow.{Bor}
+use Rattle.std.specs.Char.{is_ascii_alphabetic, is_ascii_digit}
 use Rattle.lexical_util.specs.Ascii.{ByteSet}
 use Rattle.lexical_literal.specs.Cause.{is_in}
 use Rattle.lexical_forms.specs.FormList.{FormList}
-use Rattle.lexical_forms.specs.Forms.{IsFormError, IsGreatest, NoForm}
-use Rattle.lexical_literal.specs.Front.{IsValidUpTo, ReadsFront}
-use Rattle.lexical_literal.specs.Literal.{Literal, Reads, is_float}
-use Rattle.lexical_literal.specs.Notation.{Notation, notation_of}
-use Rattle.lexical_forms.specs.Suffix.{byte_before, is_digit, is_followed, is_letter, is_stopped, is_word_byte, kind_with, more_of, stop_end}
+use Rattle.lexical_forms.specs.Forms.{HasFront, IsFormError, IsGreatest, NoForm, ReadsIn}
+use Rattle.lexical_literal.specs.Front.{IsValidBy}
+use Rattle.lexical_literal.specs.Literal.{Literal, is_float}
+use Rattle.lexical_literal.specs.Notation.{notation_of}
+use Rattle.lexical_forms.specs.Suffix.{byte_before, is_followed, is_stopped, is_word_byte, kind_with, more_of, stop_end}
 use Rattle.lexical_forms.specs.Suffix.{suffix_size, suffix_words, word_size}
 use Rattle.lexical_forms.specs.declared.form.Form.{Form}
 use Rattle.lexical_forms.specs.declared.list.PointsBack.{PointsBack}
@@ -19,36 +20,33 @@ use Rattle.lexical_forms.specs.declared.token.Token.{Token}
 use Rattle.lexical_forms.specs.declared.token.TokenError.{TokenError}
 use Rattle.lexical_forms.specs.declared.token.TokenError.TheVariants as errors
 
--- `takes_point back byte` is true if a point before `byte` is given back, as `back` tells: before a point or a byte of a word, or before a
--- letter.
+-- `takes_point back byte` is true if a point before `byte` is given back, as `back` tells: before a point or a byte of a word, or before a letter.
 abbrev pub takes_point : PointsBack → ByteSet
 takes_point points.Never byte = false
 takes_point points.ToWords byte = (byte == 46) || is_word_byte byte
-takes_point points.ToLetters byte = is_letter byte
+takes_point points.ToLetters byte = is_ascii_alphabetic byte
 
--- `gives_back back m text size` is true if the first `size` bytes of `text` end in a point that is given back.
-abbrev pub gives_back : PointsBack → Notation → List ℕ → ℕ → Bool
-gives_back back m text size = is_in m.point (byte_before text size) && is_in (takes_point back) (slice_get text size)
-
--- `begins_name text index` is true if a letter is at `index`, and another one or a point behind it.
-abbrev pub begins_name : List ℕ → ℕ → Bool
-begins_name text index = is_in is_letter (slice_get text index) && is_in (λ byte. (byte == 46) || is_letter byte) (slice_get text (index + 1))
+-- `gives_back back form text size` is true if the first `size` bytes of `text` end in a point that is given back. Before a closing, none is.
+abbrev pub gives_back : PointsBack → Form → List ℕ → ℕ → Bool
+gives_back back form text size =
+    is_in (notation_of form.syntax).point (byte_before text size) && (is_in (takes_point back) (slice_get text size) && (form.closing.size == 0))
 
 -- `is_alone back text end size` is true if no byte of a literal that goes up to `size` is behind the point at `end`, or, in a list that gives
--- points back to letters, one byte that begins a name, as in `1.eq.2`.
+-- points back to letters, one letter that begins a name, before another one or a point, as in `1.eq.2`.
 abbrev pub is_alone : PointsBack → List ℕ → ℕ → ℕ → Bool
 is_alone points.Never text end size = false
 is_alone points.ToWords text end size = size == end + 1
-is_alone points.ToLetters text end size = (size == end + 1) || ((size == end + 2) && begins_name text (end + 1))
+is_alone points.ToLetters text end size = (size == end + 1) || ((size == end + 2) && is_in is_ascii_alphabetic (slice_get text (end + 1))
+    && is_in (λ byte. (byte == 46) || is_ascii_alphabetic byte) (slice_get text (end + 2)))
 
--- `IsCandidate back needs text form size end` holds if the longest front of `text` that is a literal of the syntax of `form`, without its point if that is
--- given back, has `size` bytes and is such a literal, and if `end` is behind its longest suffix, which is there if `needs` is true.
+-- `IsCandidate back needs text form size end` holds if the longest front of `text` that is a literal of `form`, without its point if that is given back,
+-- has `size` bytes and is such a literal, and if `end` is behind its longest suffix, which is there if `needs` is true.
 pub record IsCandidate (back : PointsBack) (needs : Bool) (text : List ℕ) (form : Form) (size end : ℕ) : Type 0 where
   pub longest : ℕ
-  pub front : (l : Literal) × ReadsFront (notation_of form.syntax) l text longest
-  pub size_is : size ≡ (if gives_back back (notation_of form.syntax) text longest then longest - 1 else longest)
+  pub front : HasFront text form longest
+  pub size_is : size ≡ (if gives_back back form text longest then longest - 1 else longest)
   pub literal : Literal
-  pub reads : Reads (notation_of form.syntax) literal (take size text)
+  pub reads : ReadsIn form literal (take size text)
   pub end_is : end ≡ size + suffix_size form.suffixes (is_float literal) (drop size text)
   pub suffixed : IsTrue needs → size < end
 
@@ -79,7 +77,7 @@ pub record IsBest (back : PointsBack) (needs : Bool) (forms : List Form) (text :
 -- point that stands alone in a list that gives points back.
 pub record IsAhead (back : PointsBack) (text : List ℕ) (end : ℕ) (form : Form) : Type 0 where
   pub size : ℕ
-  pub valid : IsValidUpTo (notation_of form.syntax) text size
+  pub valid : IsValidBy (ReadsIn form) text size
   pub further : end < size
   pub more : (is_alone back text end size && is_in (notation_of form.syntax).point (slice_get text end)) ≡ false
 
@@ -109,7 +107,7 @@ module _ (list : FormList) (t : Tokens) (text : List ℕ) where
     pub size : ℕ
     pub end : ℕ
     pub chosen : IsChosen token.form form size end
-    pub literal : (token.literal.format ≡ form.syntax.word) × Reads (notation_of form.syntax) token.literal.literal (take size text)
+    pub literal : (token.literal.format ≡ form.syntax.word) × ReadsIn form token.literal.literal (take size text)
     pub kind : token.literal.kind ≡ kind_with form.suffixes token.suffix.now form.kind
     pub suffix : token.suffix.now ≡ take (end - size) (drop size text)
     pub rest : token.rest.now ≡ drop end text
@@ -122,7 +120,7 @@ module _ (list : FormList) (t : Tokens) (text : List ℕ) where
     pub not_followed : IsFollowed end → ⊥
     pub over : IsOver end
     pub stopped : is_stopped t.any_word_follows form.suffixes text end ≡ true
-    pub digit_is : ((size == end) && is_in is_digit (slice_get text size)) ≡ digit
+    pub digit_is : ((size == end) && is_in is_ascii_digit (slice_get text size)) ≡ digit
 
   -- `HasNone` holds if no form has a candidate, and `IsRefused` if none has one, if a literal goes on behind the longest, or if a digit is directly
   -- behind it. Then a form is to blame.
@@ -135,7 +133,7 @@ module _ (list : FormList) (t : Tokens) (text : List ℕ) where
 
   -- `IsWordUpTo size` holds if the form of the list that goes furthest in `text` stops in a word that ends at `size`.
   abbrev pub IsWordUpTo : ℕ → Type 0
-  IsWordUpTo size = (index : ℕ) × (stop : ℕ) × IsGreatest (λ form n. IsValidUpTo (notation_of form.syntax) text n) list.forms index stop
+  IsWordUpTo size = (index : ℕ) × (stop : ℕ) × IsGreatest (λ form. IsValidBy (ReadsIn form) text) list.forms index stop
       × (size ≡ stop + word_size [] (drop stop text))
 
   -- `IsTokenError error` holds if `error` says why `text` begins with no token: a form is to blame, or behind the longest candidate a word follows that
@@ -146,7 +144,7 @@ module _ (list : FormList) (t : Tokens) (text : List ℕ) where
   IsTokenError (errors.NotAToken end) = IsRefused × IsWordUpTo end × (NoForm list.forms (take end text) → ⊥)
   IsTokenError (errors.UnknownSuffix index start end suffixes) = (form : Form) × (behind : ℕ) × IsCut index form start behind false
       × (is_in is_word_byte (slice_get text behind) ≡ true) × (end ≡ stop_end (more_of form.suffixes) text behind)
-      × ((l : Literal) × Reads (notation_of form.syntax) l (take start text) × (suffixes.now ≡ suffix_words form.suffixes (is_float l)))
+      × ((l : Literal) × ReadsIn form l (take start text) × (suffixes.now ≡ suffix_words form.suffixes (is_float l)))
   IsTokenError (errors.Stopped index start end) = (form : Form) × (size : ℕ) × IsCut index form size start false
       × (is_in is_word_byte (slice_get text start) ≡ false) × (end ≡ stop_end (more_of form.suffixes) text start)
 

@@ -35,8 +35,8 @@ pub struct Affix {
 
 impl Affix {
     ghost use Rattle.std.specs.Prelude.{ℕ, ◌==◌, IfSome, IsSome, IsTrue, false, get_or};
-    ghost use Rattle.lexical_forms.specs.Affix.{spelling, spells};
-    ghost use Rattle.lexical_forms.specs.Additions.Forms.{IsOpenedTo};
+    ghost use Rattle.lexical_forms.specs.Affix.{spelling};
+    ghost use Rattle.lexical_forms.specs.Additions.Forms.{spells, IsOpenedTo};
     ghost use Rattle.lexical_util.specs.Roles.{other_case};
 
     /// No bytes.

@@ -23,11 +23,10 @@ pub(crate) const fn excludes(grammar: Grammar, text: &[u8], sign: usize) -> bool
     ensures none { IsTrue result → NoLiteral (notation_of grammar) text.now }
     ensures near { IsTrue result → (n : ℕ) → IsValidUpTo (notation_of grammar) text.now n → n ≤ sign_size text.now + 1 }
 {
-    let is_long = sign + 1 < text.len();
     if grammar.conditions.has(Condition::BasePrefix) {
-        !(is_long && text[sign] == b'0' && grammar.view().is_base_prefix(text[sign + 1]))
+        !has_prefix(grammar, text, sign)
     } else {
-        is_long && is_silent(grammar, text[sign + 1])
+        sign + 1 < text.len() && is_silent(grammar, text[sign + 1])
     }
 }
 

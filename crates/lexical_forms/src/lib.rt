@@ -2,11 +2,11 @@
 #![tactic(auto)]
 
 pub mod affix;
+mod candidate;
 mod exclude;
 pub mod form;
 pub mod laws;
 pub mod list;
-mod marked;
 mod marks;
 pub mod specials;
 pub mod suffix;

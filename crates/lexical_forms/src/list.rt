@@ -2,10 +2,10 @@
 
 ghost use Rattle.std.specs.Prelude.{ℕ, ◌≡◌, ◌<◌, ◌+◌, ◌-◌, ◌*◌, IfSome, IsSome, IsSomeAnd, IsTrue, None, Some, SomeIff, false, if◌then◌else◌, length};
 ghost use Rattle.std.specs.Prelude.{slice_get};
-ghost use Rattle.lexical_forms.specs.Additions.Forms.{IsBehind, IsFoundForm, IsFoundFrontForm, IsLed, IsLongestPast, IsRefusedAt, Leads, sign_size};
+ghost use Rattle.lexical_forms.specs.Additions.Forms.{IsBehind, IsFoundForm, IsFoundFrontForm, IsLed, IsLongestPast, IsRefusedAt, Leads, Reaches, sign_size};
 ghost use Rattle.lexical_forms.specs.Additions.Token.{IsNarrow};
 ghost use Rattle.lexical_forms.specs.FormList.{have_marks};
-ghost use Rattle.lexical_forms.specs.Forms.{HasKind, IsFormError, IsFrontByForms, IsReadByForms, NoForm, Reaches, special_by};
+ghost use Rattle.lexical_forms.specs.Forms.{IsFormError, IsFrontByForms, IsReadByForms, NoForm, special_by};
 ghost use Rattle.lexical_literal.specs.Front.{NoLiteral};
 ghost use Rattle.lexical_literal.specs.Notation.{notation_of};
 ghost use Rattle.lexical_forms.specs.declared.list.PointsBack.TheVariants as points;
@@ -336,7 +336,7 @@ impl<'a> Forms<'a> {
 
     // Returns the number of the form that has been found, or a special value, or the error of the form that goes furthest.
     #[inline(always)]
-    #[tactic(auto, using(crate::proofs::FormLemmas::inside_of, crate::proofs::FormLemmas::number_is))]
+    #[tactic(auto, using(crate::proofs::FormLemmas::inside_of))]
     fn number<'t>(
         &self,
         text: &'t [u8],
@@ -384,7 +384,7 @@ impl<'a> Forms<'a> {
         requires { form < length self.now.forms }
         ensures format { result.format ≡ literal.entry.format }
         ensures literal { result.literal ≡ literal.entry.literal }
-        ensures kind { HasKind self.now.forms form result }
+        ensures kind { IsSomeAnd (slice_get self.now.forms form) (λ form. result.kind ≡ form.kind) }
     {
         let it = &self.as_slice()[form];
         literal.with_kind(it.kind).behind(it.opening.size())

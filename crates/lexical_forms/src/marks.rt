@@ -1,8 +1,8 @@
 //! Forms with an opening and a closing: what a syntax reads between them.
 
 ghost use Rattle.std.specs.Prelude.{ℕ, ◌≡◌, ◌<◌, ◌≤◌, ◌+◌, ◌-◌, ◌*◌, IfSome, IsNone, IsSomeAnd, IsTrue, None, drop, false, get_or, if◌then◌else◌, length, take};
-ghost use Rattle.lexical_forms.specs.Additions.Forms.{IsBetween, IsEnding, IsFrontIn, IsOpened, IsRefusedAt, NonePast};
-ghost use Rattle.lexical_forms.specs.Forms.{IsErrorIn, IsErrorOfForm, IsUnmarked, Reaches, ReadsForm, ReadsIn};
+ghost use Rattle.lexical_forms.specs.Additions.Forms.{GoesTo, IsBetween, IsEnding, IsFrontIn, IsOpened, IsRefusedAt, NonePast, Reaches};
+ghost use Rattle.lexical_forms.specs.Forms.{IsErrorIn, IsErrorOfForm, ReadsForm, ReadsIn};
 ghost use Rattle.lexical_literal.specs.Additions.Stop.{IsStopped};
 ghost use Rattle.lexical_literal.specs.Cause.{IsRefusal, is_stray};
 ghost use Rattle.lexical_util.specs.Roles.{other_case};
@@ -30,7 +30,7 @@ impl Form {
         requires byte { byte ≡ get_or text.now 0 0 }
         requires other { other ≡ other_case byte }
         ensures none { IsNone result → NoneBy (ReadsIn self.now) text.now }
-        ensures some { IfSome result (λ it. ReadsForm text.now it self.now) }
+        ensures some { IfSome result (λ it. ReadsForm text.now (record it { kind = self.now.kind }) self.now) }
     {
         if self.opening.excludes(byte, other) {
             return None;
@@ -42,7 +42,7 @@ impl Form {
     #[inline(always)]
     pub(crate) fn literal<'t>(&self, text: &'t [u8]) -> Option<Literal<'t>>
         ensures none { IsNone result → NoneBy (ReadsIn self.now) text.now }
-        ensures some { IfSome result (λ it. ReadsForm text.now it self.now) }
+        ensures some { IfSome result (λ it. ReadsForm text.now (record it { kind = self.now.kind }) self.now) }
     {
         let Some(inside) = self.between(text) else {
             return None;
@@ -151,10 +151,12 @@ impl Form {
     #[cold]
     pub(crate) fn stop(&self, text: &[u8]) -> Stopped
         ensures stop { NoneBy (ReadsIn self.now) text.now → IsRefusedAt text.now result self.now }
-        ensures within { result.size ≤ length text.now }
+        ensures valid { GoesTo text.now self.now result.size }
     {
         let opened = self.opening.opened(text);
         if opened < self.opening.size() {
+            let _syntax = self.syntax();
+            literal_facts();
             return BEGIN.at(opened);
         }
         let (_, rest) = text.split_at(opened);
@@ -244,11 +246,23 @@ impl Form {
         ensures form { result.form ≡ form }
         ensures error { IsErrorOfForm text.now result self.now }
     {
+        let affix = match mark {
+            Mark::Opening => self.opening,
+            _ => self.closing,
+        };
+        let byte = byte_at(text, right);
+        let tail = tail_at(text, right, byte);
+        let unmarked = Unmarked {
+            mark,
+            affix,
+            byte,
+            tail,
+        };
         FormError {
             form,
             name: self.name,
             opened: right,
-            error: Err(self.unmarked(text, right, mark)),
+            error: Err(unmarked),
         }
     }
 
@@ -319,25 +333,6 @@ impl Form {
             Mark::Closing
         } else {
             Mark::End
-        }
-    }
-
-    // Returns that `mark` is not there behind the first `size` bytes.
-    #[inline(always)]
-    fn unmarked(&self, text: &[u8], size: usize, mark: Mark) -> Unmarked
-        requires { size ≤ length text.now }
-        ensures { IsUnmarked text.now self.now size result }
-    {
-        let byte = byte_at(text, size);
-        let affix = match mark {
-            Mark::Opening => self.opening,
-            _ => self.closing,
-        };
-        Unmarked {
-            mark,
-            affix,
-            byte,
-            tail: tail_at(text, size, byte),
         }
     }
 }

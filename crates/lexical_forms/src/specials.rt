@@ -3,7 +3,8 @@
 ghost use Rattle.std.specs.Prelude.{ℕ, ◌≡◌, ◌==◌, IsTrue, List, None};
 ghost use Rattle.lexical_literal.specs.Notation.{Notation, notation_of};
 ghost use Rattle.lexical_forms.specs.Specials.{allows, means_nan, is_negative, is_read_back, is_spelled, is_value, letter_of, matches, signed, special_behind};
-ghost use Rattle.lexical_forms.specs.Specials.{special_of, special_separator, spelling_of, text_of_special, written_sign};
+ghost use Rattle.lexical_forms.specs.Specials.{special_of, spelling_of, text_of_special, written_sign};
+ghost use Rattle.lexical_forms.specs.Additions.Forms.{special_separator};
 
 use lexical_literal::syntax::{Condition, Grammar, Syntax};
 use lexical_util::format_flags::digit_separator;

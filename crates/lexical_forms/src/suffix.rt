@@ -1,11 +1,13 @@
 //! Words that stand directly behind a number, such as `u8`, and bytes that may not follow it.
 
-ghost use Rattle.std.specs.Prelude.{◌≡◌, ◌==◌, ◌&&◌, [], ◌+◌, ◌≤◌, Some, false, if◌then◌else◌, length, option_map, slice_get, unwrap_or};
-ghost use Rattle.std.specs.Char.{eq_ignore_ascii_case};
+ghost use Rattle.std.specs.Prelude.{◌≡◌, ◌==◌, ◌&&◌, [], ◌+◌, ◌≤◌, Some, false, filter, fold, if◌then◌else◌, length, map, max, nat_le, option_map, slice_get};
+ghost use Rattle.std.specs.Prelude.{unwrap_or};
+ghost use Rattle.std.specs.Char.{eq_ignore_ascii_case, is_ascii_digit};
 ghost use Rattle.std.specs.List.{find, list_any};
 ghost use Rattle.lexical_literal.specs.Cause.{is_in};
-ghost use Rattle.lexical_forms.specs.Suffix.{admits, begins, byte_before, is_digit, is_followed, is_in_word, is_letter, is_stopped, is_word_byte, kind_with};
-ghost use Rattle.lexical_forms.specs.Suffix.{longest_word, meets, more_of, suffix_size, suffix_words, word_size};
+ghost use Rattle.lexical_forms.specs.Additions.Token.{is_in_word};
+ghost use Rattle.lexical_forms.specs.Suffix.{admits, begins, byte_before, is_followed, is_stopped, is_word_byte, kind_with, meets, more_of, suffix_size};
+ghost use Rattle.lexical_forms.specs.Suffix.{suffix_words, word_size};
 
 use lexical_literal::kind::Kind;
 use lexical_literal::stop::byte_at;
@@ -211,12 +213,8 @@ impl Suffixes {
             return whole;
         }
         let words = if float { self.floats } else { self.integers };
-        let longest = longest_word(self.either_case, words, text, whole);
-        if self.whole_words && longest != whole {
-            0
-        } else {
-            longest
-        }
+        let least = if self.whole_words { whole } else { 0 };
+        longest_word(self.either_case, words, text, least, whole)
     }
 }
 
@@ -345,7 +343,7 @@ const fn has_point(byte: Option<u8>) -> bool
 
 // Returns whether the byte at `index` is a digit.
 pub(crate) const fn has_digit_at(text: &[u8], index: usize) -> bool
-    ensures { result ≡ is_in is_digit (slice_get text.now index) }
+    ensures { result ≡ is_in is_ascii_digit (slice_get text.now index) }
 {
     match byte_at(text, index) {
         None => false,
@@ -444,13 +442,6 @@ const fn is_in_word(more: &[u8], byte: u8) -> bool
     is_word_byte(byte) || has_byte(more, byte)
 }
 
-// Returns whether `byte` is a letter.
-pub(crate) const fn is_letter(byte: u8) -> bool
-    ensures { result ≡ is_letter byte }
-{
-    byte.is_ascii_alphabetic()
-}
-
 // Returns the number of bytes of a word, which may have the bytes `more`, with which `text` begins.
 pub(crate) const fn word_size(more: &[u8], text: &[u8]) -> usize
     ensures size { result ≡ word_size more.now text.now }
@@ -490,16 +481,24 @@ const fn is_same(either: bool, letter: u8, byte: u8) -> bool
     }
 }
 
-// Returns the length of the longest of `words`, of at most `most` bytes, with which `text` begins, or 0 if it begins with none.
-const fn longest_word(either: bool, words: &[&[u8]], text: &[u8], most: usize) -> usize
-    ensures size { result ≡ longest_word either words.now text.now most }
+// Returns the length of the longest of `words`, of `least` to `most` bytes, with which `text` begins, or 0 if it begins with none.
+const fn longest_word(
+    either: bool,
+    words: &[&[u8]],
+    text: &[u8],
+    least: usize,
+    most: usize,
+) -> usize
+    ensures size { result ≡ fold max 0 (map (λ word. length word.now) (filter (λ word. nat_le least (length word.now) && nat_le (length word.now) most
+        && begins either word.now text.now) words.now)) }
     ensures within { result ≤ most }
 {
     let mut longest = 0;
     let mut rest = words;
     while let [word, more @ ..] = rest {
-        if longest < word.len() && word.len() <= most && begins(either, word, text) {
-            longest = word.len();
+        let size = word.len();
+        if longest < size && least <= size && size <= most && begins(either, word, text) {
+            longest = size;
         }
         rest = more;
     }

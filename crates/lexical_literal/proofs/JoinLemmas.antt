@@ -1,7 +1,7 @@
 -- What has been read where one part ends and the next one begins.
-use Rattle.lexical_literal.proofs.Common.{Cuts, HasRoles, IsAt, IsBegun, IsOpened, IsReadOn, List, Notation, Piece, Reading, Stage, Stopped, after_point, ap}
-use Rattle.lexical_literal.proofs.Common.{arith, at_stage, awaits_integer, counts_of, cuts_of, false, get_or, has_digit, integer_counts, is_free, is_signed}
-use Rattle.lexical_literal.proofs.Common.{length, part_of, piece_number, refl, set, subst, takes, true, with_prefix, ℕ, ◌+◌, ◌-◌, ◌<◌, ◌∙◌, ◌≡◌}
+use Rattle.lexical_literal.proofs.Common.{HasRoles, IsAt, IsBegun, IsOpened, IsReadOn, List, Notation, Piece, Reading, Stage, Stopped, after_point, ap}
+use Rattle.lexical_literal.proofs.Common.{arith, at_stage, awaits_integer, counts_of, cuts_of, false, get_or, has_digit, integer_counts, is_free}
+use Rattle.lexical_literal.proofs.Common.{length, part_of, piece_number, refl, set, subst, takes, true, ℕ, ◌+◌, ◌-◌, ◌<◌, ◌∙◌, ◌≡◌}
 use Rattle.lexical_literal.specs.Additions.Scan.{IsSign, behind_sign, has_first}
 use Rattle.lexical_util.specs.declared.feature_format.roles.Role.TheVariants as roles
 use Rattle.lexical_util.specs.declared.format_flags.Part.TheVariants as parts
@@ -9,7 +9,7 @@ use Rattle.lexical_literal.specs.declared.step.Piece.TheVariants as pieces
 use Rattle.lexical_literal.specs.declared.step.Stage.TheVariants as stages
 use Rattle.lexical_literal.specs.declared.syntax.Condition.TheVariants as conditions
 use Rattle.lexical_literal.proofs.CountLemmas.{count_more, count_prefix}
-use Rattle.lexical_literal.proofs.ScanLemmas.{read_free, read_zero}
+use Rattle.lexical_literal.proofs.ScanLemmas.{read_free, read_prefix, read_zero}
 use Rattle.lexical_literal.proofs.WalkLemmas.{is_role}
 
 -- Stages behind a sign.
@@ -36,14 +36,11 @@ module _ (m : Notation) (text : List ℕ) where
   opened sign is free first = grind arith
 
   -- Behind a base prefix.
-  pub opened_prefix : HasRoles m → (sign : ℕ) → IsSign m text parts.Integer 0 sign
-      → ((stage : Stage) (c : Cuts) → awaits_integer stage ≡ true → is_signed m parts.Integer stage ≡ true → IsAt m text (at_stage sign stage) c
-      → IsAt m text (at_stage (sign + 2) stages.Prefixed) (with_prefix c))
-      → IsOpened m text sign 2 stages.Prefixed
-  opened_prefix h sign is prefix = record {
-    at = subst (IsAt m text (at_stage (sign + 2) stages.Prefixed))
-        (λ j other. count_prefix sign other j)
-        (prefix (behind_sign parts.Integer sign) _ (begun_behind sign) is.signed (sign_at sign is));
+  pub opened_prefix : HasRoles m → (sign : ℕ) → IsSign m text parts.Integer 0 sign → sign + 1 < length text → get_or text sign 0 ≡ 48
+      → m.prefix (get_or text (sign + 1) 0) ≡ true → IsOpened m text sign 2 stages.Prefixed
+  opened_prefix h sign is inside naught prefix = record {
+    at = subst (IsAt m text (at_stage (sign + 2) stages.Prefixed)) (λ j other. count_prefix sign other j)
+        (read_prefix m text h sign (behind_sign parts.Integer sign) inside naught prefix (begun_behind sign) is.signed _ (sign_at sign is));
     signed = refl;
     first = grind arith;
     none = refl;

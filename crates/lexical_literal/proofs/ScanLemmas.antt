@@ -6,6 +6,7 @@ use Rattle.lexical_literal.proofs.Common.{if◌then◌else◌, is_free, is_negat
 use Rattle.lexical_literal.proofs.Common.{part_of, piece_of, refl, role_at, separators_in, subst, sym, take_more, takes, takes_in, true, with_prefix, ℕ, ◌&&◌}
 use Rattle.lexical_literal.proofs.Common.{◌+◌, ◌-◌, ◌<◌, ◌==◌, ◌||◌, ◌∙◌, ◌≡◌, ◌≤◌}
 use Rattle.lexical_literal.proofs.StepLemmas.{awaited_part}
+use Rattle.lexical_literal.specs.Additions.Scan.{IsSign}
 use Rattle.lexical_util.specs.declared.feature_format.roles.Role.TheVariants as roles
 use Rattle.lexical_util.specs.declared.format_flags.Part.TheVariants as parts
 use Rattle.lexical_literal.specs.declared.step.Piece.TheVariants as pieces
@@ -235,3 +236,7 @@ module _ (m : Notation) (text : List ℕ) where
 
           prefix_admitted : (b : ℕ) → admits m.condition (at_stage 0 stages.Bare).read b roles.Prefix ≡ true
           prefix_admitted b = grind arith
+
+-- No sign.
+pub no_sign : (m : Notation) (text : List ℕ) (part : Part) (size : ℕ) → size ≤ length text → is_signed m part (fresh part) ≡ true → IsSign m text part size 0
+no_sign m text part size within signed = grind arith

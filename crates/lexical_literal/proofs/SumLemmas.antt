@@ -53,9 +53,9 @@ module _ (m : Notation) (radix : ℕ) (text : List ℕ) (part : Part) where
         sum = ap (λ ds. number_from_digits_after radix run.sum.value ds % 2 ^ 64) (sym none);
       }
 
-  pub no_run : (run : Reading) → IsRunOn m radix text part run (up_to run run.size run.sum.value)
+  pub no_run : (run : Reading) → IsRunOn m radix text part run (up_to run run.size 0 run.sum.value)
   no_run run =
-      let same : run.sum.digits ≡ run.sum.digits + (run.size - run.size) = omega arith in
+      let same : run.sum.digits ≡ run.sum.digits + (run.size - run.size - 0) = omega arith in
       subst (λ (n : ℕ). IsRunOn m radix text part run (record run { sum = record { digits = n; value = run.sum.value } })) same (same_run run)
 
   -- Two runs that follow one another.
@@ -86,6 +86,13 @@ pushed radix run value bytes = record run {
   size = run.size + bytes;
   sum = record { digits = run.sum.digits + 1; value = (run.sum.value * radix % 2 ^ 64 + value) % 2 ^ 64 };
 }
+
+-- One more digit is one more byte, or two with the separator before it.
+pub one_more : (radix : ℕ) (begun : Reading) (size separators value v bytes more next : ℕ) → begun.size + separators ≤ size → bytes + separators ≡ more + 1
+    → next ≡ (value * radix % 2 ^ 64 + v) % 2 ^ 64 → pushed radix (up_to begun size separators value) v bytes ≡ up_to begun (size + bytes) more next
+one_more radix begun size separators value v bytes more next within one is =
+    let digits : begun.sum.digits + (size - begun.size - separators) + 1 ≡ begun.sum.digits + (size + bytes - begun.size - more) = omega (arith, within, one) in
+    λ j. record begun { size = size + bytes; sum = record { digits = digits j; value = sym is j } }
 
 pushed_sum : (radix s v : ℕ) → (s * radix % 2 ^ 64 + v) % 2 ^ 64 % 2 ^ 64 ≡ (s * radix + v) % 2 ^ 64
 pushed_sum radix s v = mod-mod (s * radix % 2 ^ 64 + v) (2 ^ 64) ∙ mod-add-mod (s * radix) (2 ^ 64) v

@@ -250,7 +250,7 @@ impl Syntax {
             exponent: scale,
         } = sums;
         let radix = exponent_radix(word);
-        let (has_exponent, exponent) = split(short(
+        let (has_exponent, exponent) = flagged(number_if_few(
             radix,
             text,
             counts,
@@ -263,7 +263,7 @@ impl Syntax {
             text,
             counts,
             view: NumberFormat::new(word),
-            mantissa: short(
+            mantissa: number_if_few(
                 radix,
                 text,
                 counts,
@@ -305,7 +305,7 @@ const fn given(has: bool, number: u64) -> Option<u64>
 
 // Returns whether there is a number, and the number.
 #[inline(always)]
-const fn split(number: Option<u64>) -> (bool, u64)
+const fn flagged(number: Option<u64>) -> (bool, u64)
     ensures { given result.0 result.1 ≡ number }
 {
     match number {
@@ -382,7 +382,7 @@ fn sums_of(radix: u32, exponent_radix: u32, parts: &Parts) -> Sums
 // Returns the number that the digits of the exponent, or else of the integer and the fraction together, represent, if they are few.
 // There are `digits` of them, and `sum` is the number modulo `2 ^ 64`.
 #[inline(always)]
-fn short(
+fn number_if_few(
     radix: u32,
     text: &[u8],
     counts: [usize; 9],

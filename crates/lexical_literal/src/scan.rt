@@ -8,28 +8,23 @@ ghost use Rattle.std.specs.Prelude.{◌≡◌, ◌<◌, ◌≤◌, ◌+◌, ◌-
 ghost use Rattle.lexical_util.specs.Record.{raw};
 ghost use Rattle.lexical_literal.specs.Notation.{notation_of, radix_of};
 ghost use Rattle.lexical_literal.specs.Additions.Stop.{HasBegun, HasFound, IsMeasured};
-ghost use Rattle.lexical_literal.specs.Additions.Scan.{HasSizes, IsAt, IsBegun, IsDecimal, IsDigitAt, IsOpened, IsOver, IsPassed, IsReadOn, IsReady, IsRefused};
-ghost use Rattle.lexical_literal.specs.Additions.Scan.{IsRunOn, IsSeparated, IsSign, IsUsual, behind_sign, counts_of};
-ghost use Rattle.lexical_literal.specs.Additions.Scan.{fresh, has_first, is_first, is_free, at_stage};
-ghost use Rattle.lexical_literal.specs.Additions.Scan.{may_read};
+ghost use Rattle.lexical_literal.specs.Additions.Scan.{HasSizes, IsAt, IsBegun, IsDecimal, IsDigitAt, IsOpened, IsOver, IsPassed, IsReady, IsRefused};
+ghost use Rattle.lexical_literal.specs.Additions.Scan.{IsRunOn, IsSign, IsUsual, at_stage, behind_sign, counts_of, has_first, is_first, is_free, may_read};
 ghost use Rattle.lexical_literal.specs.Additions.GroupSize.{steps_of};
 ghost use Rattle.lexical_literal.specs.Additions.Literal.{AreSums, IsMantissa, IsSummed, cut};
-ghost use Rattle.lexical_literal.specs.Additions.Step.{Cuts, after_mark, after_point, awaits_integer, cuts_of, has_digit, is_bare, is_fresh};
-ghost use Rattle.lexical_literal.specs.Additions.Step.{is_run, is_signed, part_of, piece_of, with_prefix};
-ghost use Rattle.lexical_literal.specs.declared.step.Piece.TheVariants as pieces;
+ghost use Rattle.lexical_literal.specs.Additions.Step.{after_point, awaits_integer, cuts_of, has_digit, is_bare, is_fresh, is_run, is_signed, part_of};
 ghost use Rattle.lexical_literal.specs.declared.syntax.Condition.TheVariants as conditions;
 
 use crate::group_size::{group_after, group_allows};
 use crate::literal::{NOTHING, Sum, Sums};
 use crate::step::{
-    Stage, Summary, after_point, allows_minus, allows_plus, awaits_integer, digit_value, digits_of,
-    has_digit, is_complete, is_digit, is_exponent_character, is_point, is_run, is_separator,
-    is_signed, may_follow, radix_of, takes,
+    Stage, Summary, after_point, allows_minus, allows_plus, awaits_integer, digits_of, has_digit,
+    is_complete, is_digit, is_exponent_character, is_point, is_run, is_separator, is_signed,
+    may_follow, radix_of, takes,
 };
 use crate::stop::{BEGIN, Begun, Stopped};
 use crate::syntax::{Condition, Grammar, Syntax, has_sizes, is_usual};
-use lexical_base::digit::char_to_digit_const;
-use lexical_number::small::add;
+use lexical_base::digit::{char_to_digit, char_to_digit_const};
 use lexical_util::format::{Part, Role};
 use lexical_util::format_flags::base_prefix;
 
@@ -94,67 +89,32 @@ const fn is_decimal(grammar: Grammar) -> bool
         && base_prefix(grammar.word) == 0
 }
 
-// Returns whether a sign of the mantissa, or of the exponent, follows and is read.
+// Returns the length of the sign of the mantissa, or of the exponent, and the stage behind it, or `None` if one is required that
+// does not follow.
 #[inline(always)]
-const fn reads_sign(grammar: Grammar, text: &[u8], part: Part, size: usize) -> bool
-    requires ready { IsReady (steps_of grammar) }
-    ensures inside { IsTrue result → size < length text.now }
-    ensures on { IsTrue result → IsReadOn (steps_of grammar) text.now (at_stage size (fresh part)) (piece_of part Role.Sign)
-        (at_stage (size + 1) (after_mark (fresh part))) }
-{
-    // Digits and letters are above the signs.
-    if size >= text.len() || text[size] > b'-' {
-        return false;
-    }
-    let plus = text[size] == b'+';
-    let minus = text[size] == b'-';
-    (plus & allows_plus(grammar, part)) | (minus & allows_minus(grammar, part))
-}
-
-// Returns the length of the sign of the mantissa, or of the exponent, or `None` if one is required that does not follow.
-#[inline(always)]
-const fn sign(grammar: Grammar, text: &[u8], part: Part, size: usize) -> Option<usize>
+const fn sign(grammar: Grammar, text: &[u8], part: Part, size: usize) -> Option<(usize, Stage)>
     requires ready { IsReady (steps_of grammar) }
     requires within { size ≤ length text.now }
-    ensures { IfSome result (λ sign. IsSign (steps_of grammar) text.now part size sign) }
+    ensures sign { IfSome result (λ it. IsSign (steps_of grammar) text.now part size it.0) }
+    ensures stage { IfSome result (λ it. it.1 ≡ behind_sign part it.0) }
 {
-    if reads_sign(grammar, text, part, size) {
-        Some(1)
-    } else if is_signed(grammar, part, behind_sign(part, 0)) {
-        Some(0)
+    let (before, behind) = match part {
+        Part::Exponent => (Stage::Mark, Stage::Signed),
+        _ => (Stage::Start, Stage::Empty),
+    };
+    // Digits and letters are above the signs.
+    if size < text.len() && text[size] <= b'-' {
+        let plus = text[size] == b'+';
+        let minus = text[size] == b'-';
+        if (plus & allows_plus(grammar, part)) | (minus & allows_minus(grammar, part)) {
+            return Some((1, behind));
+        }
+    }
+    if is_signed(grammar, part, before) {
+        Some((0, before))
     } else {
         None
     }
-}
-
-// Returns the stage behind a sign with this length.
-#[inline(always)]
-const fn behind_sign(part: Part, sign: usize) -> Stage
-    ensures { result ≡ behind_sign part sign }
-{
-    match part {
-        Part::Exponent if sign == 0 => Stage::Mark,
-        Part::Exponent => Stage::Signed,
-        _ if sign == 0 => Stage::Start,
-        _ => Stage::Empty,
-    }
-}
-
-// Returns whether a base prefix follows, with its zero, and is read. None is if `decimal` is true.
-#[inline(always)]
-const fn reads_prefix(grammar: Grammar, decimal: bool, text: &[u8], size: usize) -> bool
-    requires ready { IsReady (steps_of grammar) }
-    requires within { size ≤ length text.now }
-    ensures inside { IsTrue result → size + 1 < length text.now }
-    ensures on { IsTrue result → (stage : Stage) (c : Cuts) → awaits_integer stage ≡ true
-        → is_signed (steps_of grammar) Part.Integer stage ≡ true
-        → IsAt (steps_of grammar) text.now (at_stage size stage) c
-        → IsAt (steps_of grammar) text.now (at_stage (size + 2) Stage.Prefixed) (with_prefix c) }
-{
-    if decimal || size + 1 >= text.len() {
-        return false;
-    }
-    text[size] == b'0' && grammar.view().is_base_prefix(text[size + 1])
 }
 
 // Returns the value of the digit of `part` at `index`, if there is one.
@@ -175,75 +135,35 @@ const fn value_at(
     } else if decimal {
         char_to_digit_const(text[index], 10)
     } else {
-        digit_value(grammar, part, text[index])
+        char_to_digit(text[index], radix_of(grammar, part))
     }
 }
 
-// Returns the number that the digits of `sum` and one more represent, modulo `2 ^ 64`.
+// Returns the run with one more digit.
 #[inline(always)]
-const fn sum_with(grammar: Grammar, decimal: bool, part: Part, sum: u64, value: u32) -> u64
-    requires decimal { IsTrue decimal → IsDecimal (raw grammar.word) }
-    ensures { result ≡ (sum * radix_of (raw grammar.word) part % 2 ^ 64 + value) % 2 ^ 64 }
-{
-    let radix = if decimal { 10 } else { radix_of(grammar, part) };
-    add(sum, radix as u64, value)
-}
-
-// Returns the run with one more digit, whose byte is the last of `bytes` more.
-#[inline(always)]
-const fn with_digit(
-    grammar: Grammar,
-    decimal: bool,
-    part: Part,
-    run: Reading,
-    value: u32,
-    bytes: usize,
-) -> Reading
-    requires decimal { IsTrue decimal → IsDecimal (raw grammar.word) }
-    requires size { run.size + bytes < 2 ^ 64 }
+const fn with_digit(grammar: Grammar, part: Part, run: Reading, value: u32) -> Reading
+    requires size { run.size + 1 < 2 ^ 64 }
     requires digits { run.sum.digits + 1 < 2 ^ 64 }
     ensures { result ≡ record run {
-      size = run.size + bytes;
+      size = run.size + 1;
       sum = record {
         digits = run.sum.digits + 1;
         value = (run.sum.value * radix_of (raw grammar.word) part % 2 ^ 64 + value) % 2 ^ 64;
       };
     } }
 {
+    let radix = radix_of(grammar, part) as u64;
     Reading {
-        size: run.size + bytes,
+        size: run.size + 1,
         sum: Sum {
             digits: run.sum.digits + 1,
-            value: sum_with(grammar, decimal, part, run.sum.value, value),
+            value: run.sum.value.wrapping_mul(radix).wrapping_add(value as u64),
         },
         ..run
     }
 }
 
-// Returns the value of the digit behind a separator at `index`, if a separator may be there.
-#[inline(always)]
-const fn separated(
-    grammar: Grammar,
-    decimal: bool,
-    text: &[u8],
-    part: Part,
-    index: usize,
-) -> Option<u32>
-    requires decimal { IsTrue decimal → IsDecimal (raw grammar.word) }
-    requires within { index ≤ length text.now }
-    ensures { IfSome result (λ value. IsSeparated (steps_of grammar) (radix_of (raw grammar.word) part) text.now part index value) }
-{
-    if index < text.len()
-        && is_separator(grammar, text[index])
-        && grammar.view().separators(part).internal
-    {
-        value_at(grammar, decimal, text, part, index + 1)
-    } else {
-        None
-    }
-}
-
-// Reads the digits that follow others. They do not change the stage.
+// Reads the digits that follow others, and separators between them. They do not change the stage.
 #[inline(always)]
 const fn more_digits(
     grammar: Grammar,
@@ -258,51 +178,37 @@ const fn more_digits(
     requires digits { begun.sum.digits ≤ begun.size }
     requires run { is_run begun.stage ≡ true }
     requires part { part_of begun.stage ≡ part }
-    ensures within { result.size ≤ length text.now }
     ensures digits { result.sum.digits ≤ result.size }
     ensures stage { result.stage ≡ begun.stage }
     ensures run { IsRunOn (steps_of grammar) (radix_of (raw grammar.word) part) text.now part begun result }
     ensures over { IsOver (steps_of grammar) text.now part result }
 {
+    let radix = radix_of(grammar, part) as u64;
     let mut size = begun.size;
+    let mut separators = 0;
     let mut value = begun.sum.value;
-    while let Some(digit) = value_at(grammar, decimal, text, part, size) {
-        value = sum_with(grammar, decimal, part, value, digit);
-        size += 1;
+    loop {
+        if let Some(digit) = value_at(grammar, decimal, text, part, size) {
+            value = value.wrapping_mul(radix).wrapping_add(digit as u64);
+            size += 1;
+            continue;
+        }
+        if size == text.len()
+            || !is_separator(grammar, text[size])
+            || !grammar.view().separators(part).internal
+        {
+            break;
+        }
+        let Some(digit) = value_at(grammar, decimal, text, part, size + 1) else {
+            break;
+        };
+        value = value.wrapping_mul(radix).wrapping_add(digit as u64);
+        size += 2;
+        separators += 1;
     }
-    let digits = begun.sum.digits + (size - begun.size);
+    let digits = begun.sum.digits + (size - begun.size - separators);
     let sum = Sum { digits, value };
     Reading { size, sum, ..begun }
-}
-
-// Reads the digits that follow others, and separators between them. They do not change the stage.
-#[inline(always)]
-const fn more_groups(
-    grammar: Grammar,
-    decimal: bool,
-    text: &[u8],
-    part: Part,
-    begun: Reading,
-) -> Reading
-    requires decimal { IsTrue decimal → IsDecimal (raw grammar.word) }
-    requires ready { IsReady (steps_of grammar) }
-    requires within { begun.size ≤ length text.now }
-    requires digits { begun.sum.digits ≤ begun.size }
-    requires run { is_run begun.stage ≡ true }
-    requires part { part_of begun.stage ≡ part }
-    ensures digits { result.sum.digits ≤ result.size }
-    ensures stage { result.stage ≡ begun.stage }
-    ensures run { IsRunOn (steps_of grammar) (radix_of (raw grammar.word) part) text.now part begun result }
-    ensures over { IsOver (steps_of grammar) text.now part result }
-{
-    let mut run = begun;
-    loop {
-        run = more_digits(grammar, decimal, text, part, run);
-        let Some(value) = separated(grammar, decimal, text, part, run.size) else {
-            return run;
-        };
-        run = with_digit(grammar, decimal, part, run, value, 2);
-    }
 }
 
 // Reads the digits of `part` that follow, and separators between them.
@@ -325,44 +231,22 @@ const fn digits(grammar: Grammar, decimal: bool, text: &[u8], part: Part, begun:
     let Some(value) = value_at(grammar, decimal, text, part, begun.size) else {
         return begun;
     };
-    let one = with_digit(grammar, decimal, part, begun, value, 1);
-    if text[begun.size] == b'0' && awaits_integer(begun.stage) {
-        let stage = Stage::Bare;
-        behind_zero(grammar, decimal, text, Reading { stage, ..one })
-    } else {
+    let one = with_digit(grammar, part, begun, value);
+    if text[begun.size] != b'0' || !awaits_integer(begun.stage) {
         let stage = digits_of(part);
-        more_groups(grammar, decimal, text, part, Reading { stage, ..one })
+        return more_digits(grammar, decimal, text, part, Reading { stage, ..one });
     }
-}
-
-// Reads the digits behind the zero that begins the integer. None are read if `decimal` is true.
-#[inline(always)]
-const fn behind_zero(grammar: Grammar, decimal: bool, text: &[u8], zero: Reading) -> Reading
-    requires decimal { IsTrue decimal → IsDecimal (raw grammar.word) }
-    requires ready { IsReady (steps_of grammar) }
-    requires within { zero.size ≤ length text.now }
-    requires digits { zero.sum.digits ≤ zero.size }
-    requires bare { zero.stage ≡ Stage.Bare }
-    requires free { is_free (steps_of grammar) Stage.Bare ≡ true }
-    ensures digits { result.sum.digits ≤ result.size }
-    ensures free { is_free (steps_of grammar) result.stage ≡ true }
-    ensures run { IsRunOn (steps_of grammar) (radix_of (raw grammar.word) Part.Integer) text.now Part.Integer zero result }
-    ensures over { IsOver (steps_of grammar) text.now Part.Integer result }
-    ensures part { part_of result.stage ≡ Part.Integer }
-{
-    match value_at(grammar, decimal, text, Part::Integer, zero.size) {
+    // A leading zero.
+    match value_at(grammar, decimal, text, part, one.size) {
         Some(value) if !decimal && may_follow(grammar, Stage::Bare) => {
-            let one = with_digit(grammar, decimal, Part::Integer, zero, value, 1);
+            let two = with_digit(grammar, part, one, value);
             let stage = Stage::Led;
-            more_groups(
-                grammar,
-                decimal,
-                text,
-                Part::Integer,
-                Reading { stage, ..one },
-            )
+            more_digits(grammar, decimal, text, part, Reading { stage, ..two })
         }
-        _ => zero,
+        _ => Reading {
+            stage: Stage::Bare,
+            ..one
+        },
     }
 }
 
@@ -375,13 +259,43 @@ const fn scan(grammar: Grammar, decimal: bool, text: &[u8], fronts: bool) -> Beg
     ensures found { HasFound (steps_of grammar) text.now result }
     ensures summed { IsSummed (raw grammar.word) text.now result }
 {
-    let Some(sign) = sign(grammar, text, Part::Integer, 0) else {
+    let Some((sign, before)) = sign(grammar, text, Part::Integer, 0) else {
         return unfinished(grammar, text, BEGIN, false);
     };
-    let Some((prefix, stage)) = open(grammar, decimal, text, sign) else {
-        return without_prefix(grammar, text, sign);
+    let Some((prefix, stage)) = open(grammar, decimal, text, sign, before) else {
+        return without_prefix(grammar, text, sign, before);
     };
-    integer(grammar, decimal, text, fronts, sign, prefix, stage)
+    let from = sign + prefix;
+    let begun = Reading {
+        size: from,
+        stage,
+        sum: NOTHING,
+        sign,
+        prefix,
+        integer: 0,
+        point: 0,
+        fraction: 0,
+        places: 0,
+    };
+    let run = digits(grammar, decimal, text, Part::Integer, begun);
+    if decimal && !has_digit(run.stage) {
+        return unfinished(grammar, text, at_stage(run.size, run.stage), false);
+    }
+    let read = Reading {
+        size: run.size,
+        stage: run.stage,
+        sum: run.sum,
+        integer: run.size - from,
+        ..begun
+    };
+    let at = at_stage(run.size, run.stage);
+    if run.size < text.len()
+        && is_point(grammar, text[run.size])
+        && takes(grammar, at.read, false, Role::Point)
+    {
+        return fraction(grammar, decimal, text, fronts, read);
+    }
+    behind_mantissa(grammar, decimal, text, fronts, read)
 }
 
 #[doc(hidden)]
@@ -475,19 +389,30 @@ const fn is_first(grammar: Grammar, text: &[u8], size: usize) -> bool
         && (!grammar.conditions.has(Condition::DecimalFirstDigit) || text[size] <= b'9')
 }
 
-// Returns the length of the base prefix, and the stage behind it, or `None` if a base prefix or a first digit is required that does
-// not follow.
+// Returns the length of the base prefix, with its zero, and the stage behind it, or `None` if a base prefix or a first digit is
+// required that does not follow. None is read if `decimal` is true.
 #[tactic(auto, using(crate::proofs::JoinLemmas::opened))]
 #[inline(always)]
-const fn open(grammar: Grammar, decimal: bool, text: &[u8], sign: usize) -> Option<(usize, Stage)>
+const fn open(
+    grammar: Grammar,
+    decimal: bool,
+    text: &[u8],
+    sign: usize,
+    stage: Stage,
+) -> Option<(usize, Stage)>
     requires ready { IsReady (steps_of grammar) }
     requires sign { IsSign (steps_of grammar) text.now Part.Integer 0 sign }
+    requires stage { stage ≡ behind_sign Part.Integer sign }
     ensures { IfSome result (λ it. IsOpened (steps_of grammar) text.now sign it.0 it.1) }
 {
-    if reads_prefix(grammar, decimal, text, sign) {
+    if !decimal
+        && sign + 1 < text.len()
+        && text[sign] == b'0'
+        && grammar.view().is_base_prefix(text[sign + 1])
+    {
         Some((2, Stage::Prefixed))
     } else if !grammar.conditions.has(Condition::BasePrefix) && has_first(grammar, text, sign) {
-        Some((0, behind_sign(Part::Integer, sign)))
+        Some((0, stage))
     } else {
         None
     }
@@ -507,9 +432,10 @@ const fn misses_prefix(grammar: Grammar, text: &[u8], size: usize) -> bool
 // Reads the zero with which a required base prefix begins, if it follows.
 #[tactic(auto, using(crate::proofs::JoinLemmas::zero_only))]
 #[inline(always)]
-const fn without_prefix(grammar: Grammar, text: &[u8], sign: usize) -> Begun
+const fn without_prefix(grammar: Grammar, text: &[u8], sign: usize, stage: Stage) -> Begun
     requires ready { IsReady (steps_of grammar) }
     requires sign { IsSign (steps_of grammar) text.now Part.Integer 0 sign }
+    requires stage { stage ≡ behind_sign Part.Integer sign }
     ensures found { HasFound (steps_of grammar) text.now result }
     ensures summed { IsSummed (raw grammar.word) text.now result }
 {
@@ -521,63 +447,8 @@ const fn without_prefix(grammar: Grammar, text: &[u8], sign: usize) -> Begun
             misses_prefix(grammar, text, sign + 1),
         )
     } else {
-        unfinished(
-            grammar,
-            text,
-            at_stage(sign, behind_sign(Part::Integer, sign)),
-            false,
-        )
+        unfinished(grammar, text, at_stage(sign, stage), false)
     }
-}
-
-// Reads the integer, and what follows it.
-#[inline(always)]
-const fn integer(
-    grammar: Grammar,
-    decimal: bool,
-    text: &[u8],
-    fronts: bool,
-    sign: usize,
-    prefix: usize,
-    stage: Stage,
-) -> Begun
-    requires decimal { IsTrue decimal → IsDecimal (raw grammar.word) }
-    requires ready { IsReady (steps_of grammar) }
-    requires opened { IsOpened (steps_of grammar) text.now sign prefix stage }
-    ensures found { HasFound (steps_of grammar) text.now result }
-    ensures summed { IsSummed (raw grammar.word) text.now result }
-{
-    let from = sign + prefix;
-    let begun = Reading {
-        size: from,
-        stage,
-        sum: NOTHING,
-        sign,
-        prefix,
-        integer: 0,
-        point: 0,
-        fraction: 0,
-        places: 0,
-    };
-    let run = digits(grammar, decimal, text, Part::Integer, begun);
-    if decimal && !has_digit(run.stage) {
-        return unfinished(grammar, text, at_stage(run.size, run.stage), false);
-    }
-    let read = Reading {
-        size: run.size,
-        stage: run.stage,
-        sum: run.sum,
-        integer: run.size - from,
-        ..begun
-    };
-    let at = at_stage(run.size, run.stage);
-    if run.size < text.len()
-        && is_point(grammar, text[run.size])
-        && takes(grammar, at.read, false, Role::Point)
-    {
-        return fraction(grammar, decimal, text, fronts, read);
-    }
-    behind_mantissa(grammar, decimal, text, fronts, read)
 }
 
 // Reads the fraction behind its decimal point, and what follows it.
@@ -671,13 +542,13 @@ const fn exponent(
     ensures summed { IsSummed (raw grammar.word) text.now result }
 {
     let size = mantissa.size + 1;
-    let Some(sign) = sign(grammar, text, Part::Exponent, size) else {
+    let Some((sign, stage)) = sign(grammar, text, Part::Exponent, size) else {
         return unfinished(grammar, text, at_stage(size, Stage::Mark), false);
     };
     let from = size + sign;
     let begun = Reading {
         size: from,
-        stage: behind_sign(Part::Exponent, sign),
+        stage,
         sum: NOTHING,
         ..mantissa
     };
@@ -710,49 +581,6 @@ const fn is_passed(grammar: Grammar, stage: Stage, byte: u8) -> bool
     }
 }
 
-// Returns that the mantissa has been read, and parts with these lengths behind it.
-#[inline(always)]
-const fn finished(
-    grammar: Grammar,
-    _text: &[u8],
-    at: Stopped,
-    mantissa: Reading,
-    scale: [usize; 3],
-    suffix: usize,
-    exponent: Sum,
-) -> Begun
-    requires ready { IsReady (steps_of grammar) }
-    requires at { IsAt (steps_of grammar) _text.now at
-        (cuts_of (counts_of mantissa (get_or scale 0 0) (get_or scale 1 0) (get_or scale 2 0) suffix)) }
-    requires sums { AreSums (raw grammar.word)
-        (cut _text.now (cuts_of (counts_of mantissa (get_or scale 0 0) (get_or scale 1 0) (get_or scale 2 0) suffix)))
-        (record { mantissa = mantissa.sum; places = mantissa.places; exponent = exponent }) }
-    ensures found { HasFound (steps_of grammar) _text.now result }
-    ensures summed { IsSummed (raw grammar.word) _text.now result }
-{
-    Begun {
-        at,
-        counts: [
-            mantissa.sign,
-            mantissa.prefix,
-            mantissa.integer,
-            mantissa.point,
-            mantissa.fraction,
-            scale[0],
-            scale[1],
-            scale[2],
-            suffix,
-        ],
-        sums: Sums {
-            mantissa: mantissa.sum,
-            places: mantissa.places,
-            exponent,
-        },
-        complete: is_complete(grammar, at.read),
-        refused: false,
-    }
-}
-
 // Reads the suffix, if it follows.
 #[inline(always)]
 const fn suffix(
@@ -779,21 +607,43 @@ const fn suffix(
     ensures summed { IsSummed (raw grammar.word) text.now result }
 {
     let Stopped { size, read } = at;
+    let mut at = at;
+    let mut suffix = 0;
     if size < text.len()
         && grammar.view().is_base_suffix(text[size])
         && takes(grammar, read, false, Role::Suffix)
     {
-        let size = size + 1;
-        let read = Summary {
-            ended: true,
-            ..read
+        at = Stopped {
+            size: size + 1,
+            read: Summary {
+                ended: true,
+                ..read
+            },
         };
-        let at = Stopped { size, read };
-        finished(grammar, text, at, mantissa, scale, 1, exponent)
+        suffix = 1;
     } else if !fronts && size < text.len() {
         let refused = is_passed(grammar, read.stage, text[size]);
-        unfinished(grammar, text, at, refused)
-    } else {
-        finished(grammar, text, at, mantissa, scale, 0, exponent)
+        return unfinished(grammar, text, at, refused);
+    }
+    Begun {
+        at,
+        counts: [
+            mantissa.sign,
+            mantissa.prefix,
+            mantissa.integer,
+            mantissa.point,
+            mantissa.fraction,
+            scale[0],
+            scale[1],
+            scale[2],
+            suffix,
+        ],
+        sums: Sums {
+            mantissa: mantissa.sum,
+            places: mantissa.places,
+            exponent,
+        },
+        complete: is_complete(grammar, at.read),
+        refused: false,
     }
 }

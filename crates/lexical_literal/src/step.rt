@@ -1,7 +1,7 @@
 //! A step of reading: what has been read of a number, changed by one byte.
 
 ghost use Rattle.std.specs.Prelude.{◌≡◌, ◌<◌, ◌==◌, ◌&&◌, IfSome, IsNone, None, Some, false, not, nat_lt};
-ghost use Rattle.lexical_util.specs.Digits.{byte_value, digit_of};
+ghost use Rattle.lexical_util.specs.Digits.{byte_value};
 ghost use Rattle.lexical_util.specs.Record.{raw};
 ghost use Rattle.lexical_util.specs.Roles.{other_case, signs};
 ghost use Rattle.lexical_literal.specs.Notation.{has, radix_of, point_of, exponent_character_of};
@@ -10,7 +10,7 @@ ghost use Rattle.lexical_util.specs.Layout.{separators_in};
 ghost use Rattle.lexical_literal.specs.Additions.GroupSize.{steps_of};
 ghost use Rattle.lexical_literal.specs.declared.syntax.Condition.TheVariants as conditions;
 ghost use Rattle.lexical_literal.specs.Additions.Step.{after_point, digits_of, part_of, role_at, piece_number, piece_of, has_digit, may_follow, admits};
-ghost use Rattle.lexical_literal.specs.Additions.Step.{forbids_plus, gap_fits, awaits_integer, is_negative, is_signed, lacks_prefix, is_run};
+ghost use Rattle.lexical_literal.specs.Additions.Step.{forbids_plus, awaits_integer, is_negative, is_signed, lacks_prefix, is_run};
 ghost use Rattle.lexical_literal.specs.Additions.Step.{leads, leads_to_prefix, needs_exponent, continues, ends, is_complete, move_by, step, takes, after};
 
 use crate::group_size::has_size;
@@ -95,18 +95,7 @@ pub(crate) const fn digits_of(part: Part) -> Stage
 pub const fn is_digit(grammar: Grammar, part: Part, byte: u8) -> bool
     ensures { result ≡ nat_lt (byte_value byte) (radix_of (raw grammar.word) part) }
 {
-    matches!(digit_value(grammar, part, byte), Some(_))
-}
-
-// Returns the value of `byte` as a digit of `part`, or `None` if it is none.
-#[inline(always)]
-pub(crate) const fn digit_value(grammar: Grammar, part: Part, byte: u8) -> Option<u32>
-    ensures { result ≡ digit_of byte (radix_of (raw grammar.word) part) }
-{
-    match part {
-        Part::Exponent => char_to_digit(byte, exponent_radix(grammar.word)),
-        _ => char_to_digit(byte, mantissa_radix(grammar.word)),
-    }
+    matches!(char_to_digit(byte, radix_of(grammar, part)), Some(_))
 }
 
 // Returns the radix of the digits of `part`.
@@ -278,14 +267,6 @@ pub(crate) const fn may_follow(grammar: Grammar, stage: Stage) -> bool
         || (!grammar.view().no_integer_leading_zeros() && !needs_exponent(grammar))
 }
 
-// Returns whether there is no gap, or one that fits where a digit follows, or not.
-#[inline(always)]
-const fn gap_fits(grammar: Grammar, read: Summary, next: bool) -> bool
-    ensures { result ≡ gap_fits (steps_of grammar) (part_of read.stage) (has_digit read.stage) read.gap next }
-{
-    !read.gap || is_place(grammar, part_of(read.stage), has_digit(read.stage), next)
-}
-
 // Returns whether `part` has a sign, or needs none.
 #[inline(always)]
 pub(crate) const fn is_signed(grammar: Grammar, part: Part, stage: Stage) -> bool
@@ -298,49 +279,43 @@ pub(crate) const fn is_signed(grammar: Grammar, part: Part, stage: Stage) -> boo
     !matches!(stage, Stage::Start | Stage::Mark) || !needs_sign
 }
 
-// Returns whether the part that is read may end.
+// Returns whether the part that is read may end before a byte with the role `role`.
 #[inline(always)]
-const fn ends(grammar: Grammar, read: Summary) -> bool
-    ensures { result ≡ ends (steps_of grammar) (part_of read.stage) read.stage read.gap }
+const fn ends_before(grammar: Grammar, read: Summary, role: Role) -> bool
+    ensures { result ≡ (ends (steps_of grammar) (part_of read.stage) read.stage read.gap && continues (steps_of grammar) (part_of read.stage) read.stage role) }
 {
+    let Summary { stage, gap, .. } = read;
     let format = grammar.view();
-    let has_mantissa = !matches!(read.stage, Stage::Lone);
-    let part = part_of(read.stage);
-    let needs_digit = match part {
-        Part::Integer => format.required_integer_digits(),
-        Part::Fraction if format.required_mantissa_digits() && !has_mantissa => return false,
-        Part::Fraction => format.required_fraction_digits(),
-        Part::Exponent => format.required_exponent_digits(),
-    };
-    is_signed(grammar, part, read.stage)
-        && (gap_fits(grammar, read, false) && (!needs_digit || has_digit(read.stage)))
-}
-
-// Returns whether a byte with the role `role` may follow a part that may end.
-#[inline(always)]
-const fn continues(grammar: Grammar, part: Part, stage: Stage, role: Role) -> bool
-    ensures { result ≡ continues (steps_of grammar) part stage role }
-{
-    let format = grammar.view();
+    let part = part_of(stage);
     let digit = has_digit(stage);
     let led = matches!(stage, Stage::Led);
     let may_float = !format.no_float_leading_zeros() || !led;
-    match (part, role) {
-        (Part::Integer, Role::Point) => may_float,
-        (Part::Integer, Role::Exponent) => {
-            !format.no_exponent_notation()
-                && may_float
-                && (!format.required_mantissa_digits() || digit)
-                && !format.no_exponent_without_fraction()
+    let needs_digit = match part {
+        Part::Integer => format.required_integer_digits(),
+        Part::Fraction if format.required_mantissa_digits() && matches!(stage, Stage::Lone) =>
+            return false,
+        Part::Fraction => format.required_fraction_digits(),
+        Part::Exponent => format.required_exponent_digits(),
+    };
+    is_signed(grammar, part, stage)
+        && (!gap || is_place(grammar, part, digit, false))
+        && (!needs_digit || digit)
+        && match (part, role) {
+            (Part::Integer, Role::Point) => may_float,
+            (Part::Integer, Role::Exponent) => {
+                !format.no_exponent_notation()
+                    && may_float
+                    && (!format.required_mantissa_digits() || digit)
+                    && !format.no_exponent_without_fraction()
+            }
+            (Part::Integer, Role::Suffix) => {
+                !needs_exponent(grammar) && digit && (!format.no_integer_leading_zeros() || !led)
+            }
+            (Part::Fraction, Role::Exponent) => !format.no_exponent_notation(),
+            (Part::Fraction, Role::Suffix) => !needs_exponent(grammar),
+            (Part::Exponent, Role::Suffix) => true,
+            _ => false,
         }
-        (Part::Integer, Role::Suffix) => {
-            !needs_exponent(grammar) && digit && (!format.no_integer_leading_zeros() || !led)
-        }
-        (Part::Fraction, Role::Exponent) => !format.no_exponent_notation(),
-        (Part::Fraction, Role::Suffix) => !needs_exponent(grammar),
-        (Part::Exponent, Role::Suffix) => true,
-        _ => false,
-    }
 }
 
 // Returns whether what has been read is a literal.
@@ -348,8 +323,7 @@ const fn continues(grammar: Grammar, part: Part, stage: Stage, role: Role) -> bo
 pub(crate) const fn is_complete(grammar: Grammar, read: Summary) -> bool
     ensures { result ≡ is_complete (steps_of grammar) read }
 {
-    let part = part_of(read.stage);
-    (read.ended || (ends(grammar, read) && continues(grammar, part, read.stage, Role::Suffix)))
+    (read.ended || ends_before(grammar, read, Role::Suffix))
         && !(grammar.conditions.has(Condition::BasePrefix) && lacks_prefix(read.stage))
         && (!grammar.conditions.has(Condition::BaseSuffix) || read.ended)
 }
@@ -433,7 +407,7 @@ pub(crate) const fn takes(grammar: Grammar, read: Summary, plus: bool, role: Rol
     match role {
         Role::Digit => {
             is_signed(grammar, part, stage)
-                && gap_fits(grammar, read, true)
+                && (!read.gap || is_place(grammar, part, digit, true))
                 && may_follow(grammar, stage)
         }
         Role::Separator => {
@@ -446,7 +420,7 @@ pub(crate) const fn takes(grammar: Grammar, read: Summary, plus: bool, role: Rol
             matches!(stage, Stage::Start | Stage::Mark) && (!plus || allows_plus(grammar, part))
         }
         Role::Prefix => matches!(stage, Stage::Bare),
-        _ => ends(grammar, read) && continues(grammar, part, stage, role),
+        _ => ends_before(grammar, read, role),
     }
 }
 

@@ -85,7 +85,11 @@ pub fn own_numeral<'a>(literal: &Literal<'a>) -> Result<Numeral<'a>, ValueErrorK
     let Some(numeral) = integer_numeral(literal) else {
         return Err(ValueErrorKind::Float);
     };
-    match counted(literal.kind().integers(), numeral) {
+    let kind = literal.kind().integers();
+    if keeps(kind, &numeral) {
+        return Ok(numeral);
+    }
+    match fewer(kind, &numeral) {
         Some(own) => Ok(own),
         None => Err(ValueErrorKind::out_of_range(numeral.negative)),
     }
@@ -125,8 +129,7 @@ pub(crate) const fn is_exact(kind: IntegerKind) -> bool
 #[inline(always)]
 #[tactic(auto, using(crate::proofs::KindLemmas::at_most_keeps, crate::proofs::KindLemmas::modulo_keeps, crate::proofs::KindLemmas::wraps_keeps))]
 pub(crate) const fn keeps(kind: IntegerKind, numeral: &Numeral) -> bool
-    ensures worth { IsTrue result → worth kind numeral.now.negative (size_of numeral.now) ≡ Some (numeral.now.negative, size_of numeral.now) }
-    ensures exact { result ≡ false → is_exact kind ≡ false }
+    ensures { IsTrue result → worth kind numeral.now.negative (size_of numeral.now) ≡ Some (numeral.now.negative, size_of numeral.now) }
 {
     let bits = match kind {
         IntegerKind::Exact => return true,
@@ -141,30 +144,18 @@ pub(crate) const fn keeps(kind: IntegerKind, numeral: &Numeral) -> bool
 }
 
 // Returns what an integer is worth by its kind, or `None` if it is too large.
-#[inline(always)]
-pub(crate) const fn counted<'a>(kind: IntegerKind, numeral: Numeral<'a>) -> Option<Numeral<'a>>
-    ensures { option_map (λ (own : Numeral). (own.negative, size_of own)) result ≡ worth kind numeral.entry.negative (size_of numeral.entry) }
-{
-    if keeps(kind, &numeral) {
-        return Some(numeral);
-    }
-    fewer(kind, &numeral)
-}
-
-// Returns what an integer is worth by a kind that is not exact, or `None` if it is too large.
 #[cold]
 #[inline(never)]
 #[tactic(auto, using(crate::proofs::KindLemmas::lowest_bits))]
 pub(crate) const fn fewer<'a>(kind: IntegerKind, numeral: &Numeral<'a>) -> Option<Numeral<'a>>
-    ensures worth { is_exact kind ≡ false
-        → option_map (λ (own : Numeral). (own.negative, size_of own)) result ≡ worth kind numeral.now.negative (size_of numeral.now) }
+    ensures worth { option_map (λ (own : Numeral). (own.negative, size_of own)) result ≡ worth kind numeral.now.negative (size_of numeral.now) }
     // By digits, it is the number itself.
     ensures digits { IfSome result (λ own. is_word own.magnitude ≡ false
         → (own.negative ≡ numeral.now.negative) × (size_of own ≡ size_of numeral.now)) }
 {
     let negative = numeral.negative;
     match kind {
-        IntegerKind::Exact => None,
+        IntegerKind::Exact => Some(*numeral),
         IntegerKind::AtMost(bits) => {
             let most = limit(bits, negative);
             match numeral.wide_size(most, most) {

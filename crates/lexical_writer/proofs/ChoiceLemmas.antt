@@ -1,5 +1,5 @@
 -- What a list reads is the number that a form has written.
-use Rattle.lexical_writer.proofs.Common.{Bool, Form, Grammar, HasKind, HasValue, IsFirst, IsRounded, IsSomeAnd, IsWhole, Kind, List, Literal, NoForm, None, Ok}
+use Rattle.lexical_writer.proofs.Common.{Bool, Form, Grammar, HasValue, IsFirst, IsRounded, IsSomeAnd, IsWhole, Kind, List, Literal, NoForm, None, Ok}
 use Rattle.lexical_writer.proofs.Common.{Option, Read, Reads, ReadsForm, Record, SameFraction, Some, Style, ap, arith, decimals_in, exact, false, false≢true}
 use Rattle.lexical_writer.proofs.Common.{float_worth, format_by, if◌then◌else◌, inl, inr, integer_worth, is_binary, is_decimal, is_exact, is_float, is_minus}
 use Rattle.lexical_writer.proofs.Common.{is_some, length-take-le}
@@ -153,15 +153,11 @@ kept_whole negative size g read word whole kept has =
 pub first_reads : (forms : List Form) (form : Form) (text : List ℕ) (l : Literal) (index : ℕ) → slice_get forms index ≡ Some form → index ≡ 0
     → (form.opening.size ≡ 0) × (form.closing.size ≡ 0) → Reads (notation_of form.syntax) l text
     → IsFirst forms text index (record { format = form.syntax.word; literal = l; kind = form.kind })
-    × HasKind forms index (record { format = form.syntax.word; literal = l; kind = form.kind })
 first_reads forms form text l index here first none reads =
-    let read : Read = record { format = form.syntax.word; literal = l; kind = form.kind } in (
-      record {
-        reads = subst (λ o. IsSomeAnd o (ReadsForm text read)) (sym here) (refl, plain_in form text none.0 none.1 l reads);
-        before = subst (λ n. NoForm (take n forms) text) (sym first) (λ k d below. absurd (omega (arith, below, length-take-le 0 forms (omega arith))));
-      },
-      subst (λ o. IsSomeAnd o (λ (form : Form). read.kind ≡ form.kind)) (sym here) refl,
-    )
+    let read : Read = record { format = form.syntax.word; literal = l; kind = form.kind } in record {
+      reads = subst (λ o. IsSomeAnd o (ReadsForm text read)) (sym here) (refl, refl, plain_in form text none.0 none.1 l reads);
+      before = subst (λ n. NoForm (take n forms) text) (sym first) (λ k d below. absurd (omega (arith, below, length-take-le 0 forms (omega arith))));
+    }
 
 -- An integer literal is worth what its kind says.
 pub whole_is : (read : Read) (o : Option (Bool × ℕ)) → is_float read.literal ≡ false

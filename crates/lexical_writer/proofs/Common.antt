@@ -1,5 +1,5 @@
 -- The names that most proofs of this crate cite, passed on from one place. Declares nothing.
-pub use Rattle.lexical_forms.specs.Forms.{HasKind, IsFirst, IsNumber, NoForm, ReadsForm}
+pub use Rattle.lexical_forms.specs.Forms.{IsFirst, IsReadByForms, NoForm, ReadsForm}
 pub use Rattle.lexical_forms.specs.declared.form.Form.{Form}
 pub use Rattle.lexical_literal.specs.Groups.{is_grouped}
 pub use Rattle.lexical_literal.specs.Literal.{Literal, Reads, begins_with, has_leading_zero, is_absent, is_float, is_minus, is_none_or_one, is_plus, is_present}

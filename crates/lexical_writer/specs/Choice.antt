@@ -1,13 +1,13 @@
 -- Which form of a list writes a number, and how the text is read back.
-use Rattle.std.specs.Prelude.{ℕ, ◌≡◌, ◌≤◌, ◌-◌, ◌^◌, ◌+◌, ◌/◌, ◌%◌, ◌<◌, ◌==◌, ◌&&◌, ◌||◌, ◌⊎◌, not, if◌then◌else◌, Bool, true, false, is_some, List, []}
-use Rattle.std.specs.Prelude.{Err, IsSomeAnd, Ok, Option, Result, Some, None, ℤ, is_ok, length, min, slice_get}
+use Rattle.std.specs.Prelude.{ℕ, ◌≡◌, ◌≤◌, ◌-◌, ◌^◌, ◌+◌, ◌/◌, ◌%◌, ◌<◌, ◌==◌, ◌&&◌, ◌||◌, ◌⊎◌, not, if◌then◌else◌, Bool, true, false, is_some, List, [], Err}
+use Rattle.std.specs.Prelude.{IsSomeAnd, Ok, Option, Result, Some, None, ℤ, is_ok, length, min, slice_get}
 use Rattle.std.specs.Borrow.{Bor}
 use Rattle.std.specs.Float.{Float, Format, binary64, float_is_infinite}
 use lib.Ieee.Exact.{HasValue as HasFraction}
 use Rattle.lexical_util.specs.Layout as layout
 use Rattle.lexical_util.specs.Record.{Record, bytes_of, raw}
-use Rattle.lexical_forms.specs.FormList.{FormList, are_marked}
-use Rattle.lexical_forms.specs.Forms.{HasKind, IsFirst}
+use Rattle.lexical_forms.specs.FormList.{FormList}
+use Rattle.lexical_forms.specs.Forms.{IsFirst}
 use Rattle.lexical_forms.specs.Token.{IsReadByTokens}
 use Rattle.lexical_forms.specs.declared.form.Form.{Form}
 use Rattle.lexical_forms.specs.declared.token.Token.{Token}
@@ -113,7 +113,7 @@ has_worth read =
 -- `IsReadElse keeps forms index text error` holds if `forms` read `text`, which the form with this index writes for a number, as a literal that does not
 -- surely keep it. `keeps own read` says which do; `own` is true for a literal of this form. `error` is `ReadBack` or, if the literal has no worth, `TooLarge`.
 abbrev pub IsReadElse : (Bool → Read → Type 0) → List Form → ℕ → List ℕ → WriteError → Type 0
-IsReadElse keeps forms index text error = (at : ℕ) × (read : Read) × IsFirst forms text at read × HasKind forms at read
+IsReadElse keeps forms index text error = (at : ℕ) × (read : Read) × IsFirst forms text at read
     × (keeps (at == index) read → ⊥) × (error ≡ (if has_worth read then errors.ReadBack else errors.TooLarge))
 
 -- `IsUnusable keeps room forms index text error` holds if `error` is why a text is not used: it is longer than a buffer with this `room`, or it is read as
@@ -246,14 +246,12 @@ IsStyleOf integer style it = (it ≡ style) ⊎ (((integer ≡ true) × (it ≡ 
 -- `IsReadBack list text P` holds if `text` is a literal of some form of the list, and if `P` holds of the literal that it is in the
 -- first such form, with the kind of this form.
 abbrev pub IsReadBack : FormList → List ℕ → (Read → Type 0) → Type 0
-IsReadBack list text P = (read : Read) × (form : ℕ) × IsFirst list.forms text form read × HasKind list.forms form read × P read
+IsReadBack list text P = (read : Read) × (form : ℕ) × IsFirst list.forms text form read × P read
 
--- `IsTokenOf list word text P` holds if all of `text` is a token with the suffix `word`, and if `P` holds of its literal. In a list without openings
--- and closings, it is the token of the list.
+-- `IsTokenOf list word text P` holds if all of `text` is a token of the list with the suffix `word`, and if `P` holds of its literal.
 abbrev pub IsTokenOf : FormList → List ℕ → List ℕ → (Read → Type 0) → Type 0
 IsTokenOf list word text P = (token : Token)
-    × (are_marked list.forms list.tokens ≡ false → IsReadByTokens list list.tokens text (Ok token)) × (token.suffix.now ≡ word)
-    × (token.rest.now ≡ []) × P token.literal
+    × IsReadByTokens list list.tokens text (Ok token) × (token.suffix.now ≡ word) × (token.rest.now ≡ []) × P token.literal
 
 -- `IsReadWith list word text P` holds if the list reads `text` as a literal or, with a `word`, as a token that has this suffix, and if `P` holds
 -- of the literal.

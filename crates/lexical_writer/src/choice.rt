@@ -16,7 +16,7 @@ ghost use Rattle.lexical_value.specs.Float.{is_binary, is_decimal};
 ghost use Rattle.lexical_value.specs.Kind.{float_worth, integer_worth, is_exact, width, within, worth};
 ghost use Rattle.lexical_literal.specs.declared.kind.FloatKind.TheVariants as floats;
 ghost use Rattle.lexical_writer.specs.Buffer.{IsTaken};
-ghost use Rattle.lexical_forms.specs.Forms.{HasKind, IsFirst, NoForm};
+ghost use Rattle.lexical_forms.specs.Forms.{IsFirst, NoForm};
 ghost use Rattle.lexical_forms.specs.declared.form.Form.{Form as Asked};
 ghost use Rattle.lexical_writer.specs.Layout.{integer_literal, laid_out, literal_of as written, number_of_size};
 ghost use Rattle.lexical_writer.specs.Choice.{AreBefore, IsAskedAs, IsFirstAsked, IsOrder, IsPassedOver, IsReadBack, IsReadElse, IsReadWith, IsReal, IsReason};
@@ -1077,7 +1077,7 @@ fn own_literal<'a>(syntax: &Syntax, text: &'a [u8]) -> Option<Literal<'a>>
 // Returns the index of the form of a list that a text is a literal of, and the literal, or `None` if there is none.
 #[inline(always)]
 fn read_literal<'t>(forms: &Forms, text: &'t [u8]) -> Option<(usize, Literal<'t>)>
-    ensures some { IfSome result (λ it. IsFirst forms.now.forms text.now it.0 it.1 × HasKind forms.now.forms it.0 it.1) }
+    ensures some { IfSome result (λ it. IsFirst forms.now.forms text.now it.0 it.1) }
     ensures none { result ≡ None → NoForm forms.now.forms text.now }
 {
     match forms.read(text) {

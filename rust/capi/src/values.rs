@@ -114,8 +114,13 @@ unsafe fn parse_column<T: FromLiteral>(
 
 /// Defines the calls for the types of values.
 macro_rules! parsers {
-    ($($T:ty: $call:ident $column:ident,)*) => {
+    ($($T:ty: $value:ident $call:ident $column:ident,)*) => {
         $(
+            #[unsafe(no_mangle)]
+            unsafe extern "C" fn $value(literal: &Literal, out: Out<$T>) -> ValueStatus {
+                literal.value().map_or(5, |it| write::<$T, _>(it, out))
+            }
+
             #[unsafe(no_mangle)]
             unsafe extern "C" fn $call(
                 forms: *const Forms, text: *const u8, len: usize, out: Out<$T>, error: Out<ReadError>
@@ -135,30 +140,18 @@ macro_rules! parsers {
 }
 
 parsers! {
-    i64: peltzivar_parse_i64 peltzivar_parse_i64_column,
-    u64: peltzivar_parse_u64 peltzivar_parse_u64_column,
-    f64: peltzivar_parse_f64 peltzivar_parse_f64_column,
-    f32: peltzivar_parse_f32 peltzivar_parse_f32_column,
+    i64: peltzivar_to_i64 peltzivar_parse_i64 peltzivar_parse_i64_column,
+    u64: peltzivar_to_u64 peltzivar_parse_u64 peltzivar_parse_u64_column,
+    f64: peltzivar_to_f64 peltzivar_parse_f64 peltzivar_parse_f64_column,
+    f32: peltzivar_to_f32 peltzivar_parse_f32 peltzivar_parse_f32_column,
 }
 
 calls! {
-    fn peltzivar_to_i64(literal: &Literal, out: Out<i64>) -> ValueStatus {
-        literal.value().map_or(5, |it| write::<i64, _>(it, out))
-    }
-    fn peltzivar_to_u64(literal: &Literal, out: Out<u64>) -> ValueStatus {
-        literal.value().map_or(5, |it| write::<u64, _>(it, out))
-    }
     fn peltzivar_to_i128(literal: &Literal, out: Out<I128>) -> ValueStatus {
         literal.value().map_or(5, |it| write::<i128, _>(it, out))
     }
     fn peltzivar_to_scaled_i64(literal: &Literal, places: u8, out: Out<i64>) -> ValueStatus {
         literal.value().map_or(5, |it| write_value::<i64, _>(it.to_scaled(places).map_err(|error| error.kind()), out))
-    }
-    fn peltzivar_to_f64(literal: &Literal, out: Out<f64>) -> ValueStatus {
-        literal.value().map_or(5, |it| write::<f64, _>(it, out))
-    }
-    fn peltzivar_to_f32(literal: &Literal, out: Out<f32>) -> ValueStatus {
-        literal.value().map_or(5, |it| write::<f32, _>(it, out))
     }
     fn peltzivar_value_description(status: ValueStatus) -> *const u8 { at(DESCRIPTIONS, status) }
 

@@ -12,11 +12,10 @@ use crate::word::{base_prefix, base_suffix, digit_separator, Part};
 // that is required, or the second plays no role. Then no literal begins with both.
 #[cfg_attr(not(peltzivar_small), inline(always))]
 pub(crate) const fn excludes(grammar: Grammar, text: &[u8], sign: usize) -> bool {
-    let is_long = sign + 1 < text.len();
     if grammar.conditions.has(Condition::BasePrefix) {
-        !(is_long && text[sign] == b'0' && grammar.view().is_base_prefix(text[sign + 1]))
+        !has_prefix(grammar, text, sign)
     } else {
-        is_long && is_silent(grammar, text[sign + 1])
+        sign + 1 < text.len() && is_silent(grammar, text[sign + 1])
     }
 }
 

@@ -5,7 +5,7 @@ use core::{fmt, ops, ops::Range, slice, str};
 use crate::literal::exclude::has_letter_behind_zero;
 use crate::literal::list::{Furthest, Mark, Unmarked};
 use crate::literal::sentence::{first_character, unexpected};
-use crate::literal::stop::Stopped;
+use crate::literal::stop::{Begun, Stopped};
 use crate::literal::value::Decimal;
 use crate::literal::{
     Form, FormError, Forms, FromLiteral, IntegerKind, Literal, Number, ParseError, ReadError, ReadErrorKind, Special,
@@ -202,6 +202,18 @@ impl<'a> Forms<'a> {
     }
 }
 
+impl Syntax {
+    // Returns what `begin` returns for any syntax. The library for C, which sets `peltzivar_small`, has this code once.
+    #[inline(always)]
+    pub(crate) const fn begin_small(&self, text: &[u8], fronts: bool) -> Begun {
+        if cfg!(peltzivar_small) {
+            self.begin_any(text, fronts)
+        } else {
+            self.begin(false, text, fronts)
+        }
+    }
+}
+
 impl Specials<'_> {
     /// Returns the special value that `text` is in `syntax`, or `None`, as [`read_bytes`][Self::read_bytes] does.
     #[must_use]
@@ -272,20 +284,6 @@ impl fmt::Display for Number<'_> {
 impl fmt::Display for Special {
     fn fmt(&self, f: &mut fmt::Formatter<'_>) -> fmt::Result {
         self.to_f64().fmt(f)
-    }
-}
-
-impl Form {
-    // Returns the literal that `text` is, with parts of these lengths. The library for C does not read it again.
-    #[inline(always)]
-    pub(crate) const fn literal_of<'t>(&self, text: &'t [u8], counts: [usize; 9]) -> Option<Literal<'t>> {
-        if !cfg!(peltzivar_small) {
-            return self.literal(text);
-        }
-        match self.between(text) {
-            Some(inside) => Some(self.syntax.summed(inside, counts)),
-            None => None,
-        }
     }
 }
 

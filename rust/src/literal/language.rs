@@ -103,7 +103,7 @@ macro_rules! as_forms {
                 ///
                 /// Those of this call.
                 pub $($const)? fn $name<$($generics)*>(&self, text: $Text) -> $Result {
-                    self.forms().$name(text)
+                    self.0.forms.$name(text)
                 }
             )*
         }

@@ -155,13 +155,14 @@ impl Syntax {
         let word = self.format().word();
         let Sums { mantissa, places, exponent: scale } = sums;
         let radix = exponent_radix(word);
-        let (has_exponent, exponent) = split(short(radix, text, counts, Part::Exponent, scale.digits, scale.value));
+        let (has_exponent, exponent) =
+            flagged(number_if_few(radix, text, counts, Part::Exponent, scale.digits, scale.value));
         let radix = mantissa_radix(word);
         Literal {
             text,
             counts,
             view: FormatView::new(word),
-            mantissa: short(radix, text, counts, Part::Integer, mantissa.digits, mantissa.value),
+            mantissa: number_if_few(radix, text, counts, Part::Integer, mantissa.digits, mantissa.value),
             places,
             exponent,
             has_exponent,
@@ -191,7 +192,7 @@ const fn given(has: bool, number: u64) -> Option<u64> {
 
 // Returns whether there is a number, and the number.
 #[inline(always)]
-const fn split(number: Option<u64>) -> (bool, u64) {
+const fn flagged(number: Option<u64>) -> (bool, u64) {
     match number {
         Some(number) => (true, number),
         None => (false, 0),
@@ -243,7 +244,14 @@ const fn sums_of(radix: u32, exponent_radix: u32, parts: &Parts) -> Sums {
 // Returns the number that the digits of the exponent, or else of the integer and the fraction together, represent, if they are few.
 // There are `digits` of them, and `sum` is the number modulo `2 ^ 64`.
 #[inline(always)]
-const fn short(radix: u32, text: &[u8], counts: [usize; 9], part: Part, digits: usize, sum: u64) -> Option<u64> {
+const fn number_if_few(
+    radix: u32,
+    text: &[u8],
+    counts: [usize; 9],
+    part: Part,
+    digits: usize,
+    sum: u64,
+) -> Option<u64> {
     if fits(radix, digits) {
         return Some(sum);
     }

@@ -113,6 +113,7 @@ impl Form {
     pub(crate) const fn stop(&self, text: &[u8]) -> Stopped {
         let opened = self.opening.opened(text);
         if opened < self.opening.size() {
+            let _syntax = self.syntax();
             return BEGIN.at(opened);
         }
         let (_, rest) = text.split_at(opened);
@@ -174,7 +175,14 @@ impl Form {
 
     // Returns that `mark` is not there behind the first `right` bytes of `text`.
     const fn lacks(&self, text: &[u8], form: usize, right: usize, mark: Mark) -> FormError {
-        FormError { form, name: self.name, opened: right, error: Err(self.unmarked(text, right, mark)) }
+        let affix = match mark {
+            Mark::Opening => self.opening,
+            _ => self.closing,
+        };
+        let byte = byte_at(text, right);
+        let tail = tail_at(text, right, byte);
+        let unmarked = Unmarked { mark, affix, byte, tail };
+        FormError { form, name: self.name, opened: right, error: Err(unmarked) }
     }
 
     // Returns why `text` is not a literal of the syntax, which stops at `stop`.
@@ -228,17 +236,6 @@ impl Form {
         } else {
             Mark::End
         }
-    }
-
-    // Returns that `mark` is not there behind the first `size` bytes.
-    #[cfg_attr(not(peltzivar_small), inline(always))]
-    const fn unmarked(&self, text: &[u8], size: usize, mark: Mark) -> Unmarked {
-        let byte = byte_at(text, size);
-        let affix = match mark {
-            Mark::Opening => self.opening,
-            _ => self.closing,
-        };
-        Unmarked { mark, affix, byte, tail: tail_at(text, size, byte) }
     }
 }
 

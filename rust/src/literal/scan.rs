@@ -6,17 +6,16 @@
 //! decimal, which takes less time where the compiler knows it. Then reading also stops behind a leading zero, and where the digits
 //! of a part are absent, so that fewer paths join.
 
-use crate::digit::char_to_digit_const;
+use crate::digit::{char_to_digit, char_to_digit_const};
 use crate::format_flags::base_prefix;
 use crate::literal::group_size::{group_after, group_allows};
 use crate::literal::literal::{Sum, Sums, NOTHING};
 use crate::literal::step::{
-    after_point, allows_minus, allows_plus, awaits_integer, digit_value, digits_of, has_digit, is_complete, is_digit,
+    after_point, allows_minus, allows_plus, awaits_integer, digits_of, has_digit, is_complete, is_digit,
     is_exponent_character, is_point, is_run, is_separator, is_signed, may_follow, radix_of, takes, Stage, Summary,
 };
 use crate::literal::stop::{Begun, Stopped, BEGIN};
 use crate::literal::syntax::{has_sizes, is_usual, Condition, Grammar, Syntax};
-use crate::literal::value::number::small::add;
 use crate::word::{Part, Role};
 
 // What the parts are read into: the index behind the digits that have been read, their stage, and their sum, where those of the
@@ -58,48 +57,27 @@ const fn is_decimal(grammar: Grammar) -> bool {
     radix_of(grammar, Part::Integer) == 10 && radix_of(grammar, Part::Exponent) == 10 && base_prefix(grammar.word) == 0
 }
 
-// Returns whether a sign of the mantissa, or of the exponent, follows and is read.
+// Returns the length of the sign of the mantissa, or of the exponent, and the stage behind it, or `None` if one is required that
+// does not follow.
 #[inline(always)]
-const fn reads_sign(grammar: Grammar, text: &[u8], part: Part, size: usize) -> bool {
+const fn sign(grammar: Grammar, text: &[u8], part: Part, size: usize) -> Option<(usize, Stage)> {
+    let (before, behind) = match part {
+        Part::Exponent => (Stage::Mark, Stage::Signed),
+        _ => (Stage::Start, Stage::Empty),
+    };
     // Digits and letters are above the signs.
-    if size >= text.len() || text[size] > b'-' {
-        return false;
+    if size < text.len() && text[size] <= b'-' {
+        let plus = text[size] == b'+';
+        let minus = text[size] == b'-';
+        if (plus & allows_plus(grammar, part)) | (minus & allows_minus(grammar, part)) {
+            return Some((1, behind));
+        }
     }
-    let plus = text[size] == b'+';
-    let minus = text[size] == b'-';
-    (plus & allows_plus(grammar, part)) | (minus & allows_minus(grammar, part))
-}
-
-// Returns the length of the sign of the mantissa, or of the exponent, or `None` if one is required that does not follow.
-#[inline(always)]
-const fn sign(grammar: Grammar, text: &[u8], part: Part, size: usize) -> Option<usize> {
-    if reads_sign(grammar, text, part, size) {
-        Some(1)
-    } else if is_signed(grammar, part, behind_sign(part, 0)) {
-        Some(0)
+    if is_signed(grammar, part, before) {
+        Some((0, before))
     } else {
         None
     }
-}
-
-// Returns the stage behind a sign with this length.
-#[inline(always)]
-const fn behind_sign(part: Part, sign: usize) -> Stage {
-    match part {
-        Part::Exponent if sign == 0 => Stage::Mark,
-        Part::Exponent => Stage::Signed,
-        _ if sign == 0 => Stage::Start,
-        _ => Stage::Empty,
-    }
-}
-
-// Returns whether a base prefix follows, with its zero, and is read. None is if `decimal` is true.
-#[inline(always)]
-const fn reads_prefix(grammar: Grammar, decimal: bool, text: &[u8], size: usize) -> bool {
-    if decimal || size + 1 >= text.len() {
-        return false;
-    }
-    text[size] == b'0' && grammar.view().is_base_prefix(text[size + 1])
 }
 
 // Returns the value of the digit of `part` at `index`, if there is one.
@@ -110,62 +88,47 @@ const fn value_at(grammar: Grammar, decimal: bool, text: &[u8], part: Part, inde
     } else if decimal {
         char_to_digit_const(text[index], 10)
     } else {
-        digit_value(grammar, part, text[index])
+        char_to_digit(text[index], radix_of(grammar, part))
     }
 }
 
-// Returns the number that the digits of `sum` and one more represent, modulo `2 ^ 64`.
+// Returns the run with one more digit.
 #[inline(always)]
-const fn sum_with(grammar: Grammar, decimal: bool, part: Part, sum: u64, value: u32) -> u64 {
-    let radix = if decimal { 10 } else { radix_of(grammar, part) };
-    add(sum, radix as u64, value)
-}
-
-// Returns the run with one more digit, whose byte is the last of `bytes` more.
-#[inline(always)]
-const fn with_digit(grammar: Grammar, decimal: bool, part: Part, run: Reading, value: u32, bytes: usize) -> Reading {
+const fn with_digit(grammar: Grammar, part: Part, run: Reading, value: u32) -> Reading {
+    let radix = radix_of(grammar, part) as u64;
     Reading {
-        size: run.size + bytes,
-        sum: Sum { digits: run.sum.digits + 1, value: sum_with(grammar, decimal, part, run.sum.value, value) },
+        size: run.size + 1,
+        sum: Sum { digits: run.sum.digits + 1, value: run.sum.value.wrapping_mul(radix).wrapping_add(value as u64) },
         ..run
     }
 }
 
-// Returns the value of the digit behind a separator at `index`, if a separator may be there.
-#[inline(always)]
-const fn separated(grammar: Grammar, decimal: bool, text: &[u8], part: Part, index: usize) -> Option<u32> {
-    if index < text.len() && is_separator(grammar, text[index]) && grammar.view().separators(part).internal {
-        value_at(grammar, decimal, text, part, index + 1)
-    } else {
-        None
-    }
-}
-
-// Reads the digits that follow others. They do not change the stage.
-#[inline(always)]
-const fn more_digits(grammar: Grammar, decimal: bool, text: &[u8], part: Part, begun: Reading) -> Reading {
-    let mut size = begun.size;
-    let mut value = begun.sum.value;
-    while let Some(digit) = value_at(grammar, decimal, text, part, size) {
-        value = sum_with(grammar, decimal, part, value, digit);
-        size += 1;
-    }
-    let digits = begun.sum.digits + (size - begun.size);
-    let sum = Sum { digits, value };
-    Reading { size, sum, ..begun }
-}
-
 // Reads the digits that follow others, and separators between them. They do not change the stage.
 #[inline(always)]
-const fn more_groups(grammar: Grammar, decimal: bool, text: &[u8], part: Part, begun: Reading) -> Reading {
-    let mut run = begun;
+const fn more_digits(grammar: Grammar, decimal: bool, text: &[u8], part: Part, begun: Reading) -> Reading {
+    let radix = radix_of(grammar, part) as u64;
+    let mut size = begun.size;
+    let mut separators = 0;
+    let mut value = begun.sum.value;
     loop {
-        run = more_digits(grammar, decimal, text, part, run);
-        let Some(value) = separated(grammar, decimal, text, part, run.size) else {
-            return run;
+        if let Some(digit) = value_at(grammar, decimal, text, part, size) {
+            value = value.wrapping_mul(radix).wrapping_add(digit as u64);
+            size += 1;
+            continue;
+        }
+        if size == text.len() || !is_separator(grammar, text[size]) || !grammar.view().separators(part).internal {
+            break;
+        }
+        let Some(digit) = value_at(grammar, decimal, text, part, size + 1) else {
+            break;
         };
-        run = with_digit(grammar, decimal, part, run, value, 2);
+        value = value.wrapping_mul(radix).wrapping_add(digit as u64);
+        size += 2;
+        separators += 1;
     }
+    let digits = begun.sum.digits + (size - begun.size - separators);
+    let sum = Sum { digits, value };
+    Reading { size, sum, ..begun }
 }
 
 // Reads the digits of `part` that follow, and separators between them.
@@ -174,26 +137,19 @@ const fn digits(grammar: Grammar, decimal: bool, text: &[u8], part: Part, begun:
     let Some(value) = value_at(grammar, decimal, text, part, begun.size) else {
         return begun;
     };
-    let one = with_digit(grammar, decimal, part, begun, value, 1);
-    if text[begun.size] == b'0' && awaits_integer(begun.stage) {
-        let stage = Stage::Bare;
-        behind_zero(grammar, decimal, text, Reading { stage, ..one })
-    } else {
+    let one = with_digit(grammar, part, begun, value);
+    if text[begun.size] != b'0' || !awaits_integer(begun.stage) {
         let stage = digits_of(part);
-        more_groups(grammar, decimal, text, part, Reading { stage, ..one })
+        return more_digits(grammar, decimal, text, part, Reading { stage, ..one });
     }
-}
-
-// Reads the digits behind the zero that begins the integer. None are read if `decimal` is true.
-#[inline(always)]
-const fn behind_zero(grammar: Grammar, decimal: bool, text: &[u8], zero: Reading) -> Reading {
-    match value_at(grammar, decimal, text, Part::Integer, zero.size) {
+    // A leading zero.
+    match value_at(grammar, decimal, text, part, one.size) {
         Some(value) if !decimal && may_follow(grammar, Stage::Bare) => {
-            let one = with_digit(grammar, decimal, Part::Integer, zero, value, 1);
+            let two = with_digit(grammar, part, one, value);
             let stage = Stage::Led;
-            more_groups(grammar, decimal, text, Part::Integer, Reading { stage, ..one })
+            more_digits(grammar, decimal, text, part, Reading { stage, ..two })
         }
-        _ => zero,
+        _ => Reading { stage: Stage::Bare, ..one },
     }
 }
 
@@ -201,13 +157,24 @@ const fn behind_zero(grammar: Grammar, decimal: bool, text: &[u8], zero: Reading
 // `text`, can have `complete` false, which takes less time.
 #[inline(always)]
 const fn scan(grammar: Grammar, decimal: bool, text: &[u8], fronts: bool) -> Begun {
-    let Some(sign) = sign(grammar, text, Part::Integer, 0) else {
+    let Some((sign, before)) = sign(grammar, text, Part::Integer, 0) else {
         return unfinished(grammar, text, BEGIN, false);
     };
-    let Some((prefix, stage)) = open(grammar, decimal, text, sign) else {
-        return without_prefix(grammar, text, sign);
+    let Some((prefix, stage)) = open(grammar, decimal, text, sign, before) else {
+        return without_prefix(grammar, text, sign, before);
     };
-    integer(grammar, decimal, text, fronts, sign, prefix, stage)
+    let from = sign + prefix;
+    let begun = Reading { size: from, stage, sum: NOTHING, sign, prefix, integer: 0, point: 0, fraction: 0, places: 0 };
+    let run = digits(grammar, decimal, text, Part::Integer, begun);
+    if decimal && !has_digit(run.stage) {
+        return unfinished(grammar, text, at_stage(run.size, run.stage), false);
+    }
+    let read = Reading { size: run.size, stage: run.stage, sum: run.sum, integer: run.size - from, ..begun };
+    let at = at_stage(run.size, run.stage);
+    if run.size < text.len() && is_point(grammar, text[run.size]) && takes(grammar, at.read, false, Role::Point) {
+        return fraction(grammar, decimal, text, fronts, read);
+    }
+    behind_mantissa(grammar, decimal, text, fronts, read)
 }
 
 impl Begun {
@@ -270,14 +237,14 @@ const fn is_first(grammar: Grammar, text: &[u8], size: usize) -> bool {
         && (!grammar.conditions.has(Condition::DecimalFirstDigit) || text[size] <= b'9')
 }
 
-// Returns the length of the base prefix, and the stage behind it, or `None` if a base prefix or a first digit is required that does
-// not follow.
+// Returns the length of the base prefix, with its zero, and the stage behind it, or `None` if a base prefix or a first digit is
+// required that does not follow. None is read if `decimal` is true.
 #[inline(always)]
-const fn open(grammar: Grammar, decimal: bool, text: &[u8], sign: usize) -> Option<(usize, Stage)> {
-    if reads_prefix(grammar, decimal, text, sign) {
+const fn open(grammar: Grammar, decimal: bool, text: &[u8], sign: usize, stage: Stage) -> Option<(usize, Stage)> {
+    if !decimal && sign + 1 < text.len() && text[sign] == b'0' && grammar.view().is_base_prefix(text[sign + 1]) {
         Some((2, Stage::Prefixed))
     } else if !grammar.conditions.has(Condition::BasePrefix) && has_first(grammar, text, sign) {
-        Some((0, behind_sign(Part::Integer, sign)))
+        Some((0, stage))
     } else {
         None
     }
@@ -291,37 +258,12 @@ const fn misses_prefix(grammar: Grammar, text: &[u8], size: usize) -> bool {
 
 // Reads the zero with which a required base prefix begins, if it follows.
 #[inline(always)]
-const fn without_prefix(grammar: Grammar, text: &[u8], sign: usize) -> Begun {
+const fn without_prefix(grammar: Grammar, text: &[u8], sign: usize, stage: Stage) -> Begun {
     if sign < text.len() && text[sign] == b'0' {
         unfinished(grammar, text, at_stage(sign + 1, Stage::Bare), misses_prefix(grammar, text, sign + 1))
     } else {
-        unfinished(grammar, text, at_stage(sign, behind_sign(Part::Integer, sign)), false)
+        unfinished(grammar, text, at_stage(sign, stage), false)
     }
-}
-
-// Reads the integer, and what follows it.
-#[inline(always)]
-const fn integer(
-    grammar: Grammar,
-    decimal: bool,
-    text: &[u8],
-    fronts: bool,
-    sign: usize,
-    prefix: usize,
-    stage: Stage,
-) -> Begun {
-    let from = sign + prefix;
-    let begun = Reading { size: from, stage, sum: NOTHING, sign, prefix, integer: 0, point: 0, fraction: 0, places: 0 };
-    let run = digits(grammar, decimal, text, Part::Integer, begun);
-    if decimal && !has_digit(run.stage) {
-        return unfinished(grammar, text, at_stage(run.size, run.stage), false);
-    }
-    let read = Reading { size: run.size, stage: run.stage, sum: run.sum, integer: run.size - from, ..begun };
-    let at = at_stage(run.size, run.stage);
-    if run.size < text.len() && is_point(grammar, text[run.size]) && takes(grammar, at.read, false, Role::Point) {
-        return fraction(grammar, decimal, text, fronts, read);
-    }
-    behind_mantissa(grammar, decimal, text, fronts, read)
 }
 
 // Reads the fraction behind its decimal point, and what follows it.
@@ -364,11 +306,11 @@ const fn behind_mantissa(grammar: Grammar, decimal: bool, text: &[u8], fronts: b
 #[inline(always)]
 const fn exponent(grammar: Grammar, decimal: bool, text: &[u8], fronts: bool, mantissa: Reading) -> Begun {
     let size = mantissa.size + 1;
-    let Some(sign) = sign(grammar, text, Part::Exponent, size) else {
+    let Some((sign, stage)) = sign(grammar, text, Part::Exponent, size) else {
         return unfinished(grammar, text, at_stage(size, Stage::Mark), false);
     };
     let from = size + sign;
-    let begun = Reading { size: from, stage: behind_sign(Part::Exponent, sign), sum: NOTHING, ..mantissa };
+    let begun = Reading { size: from, stage, sum: NOTHING, ..mantissa };
     let run = digits(grammar, decimal, text, Part::Exponent, begun);
     if decimal && !has_digit(run.stage) {
         return unfinished(grammar, text, at_stage(run.size, run.stage), false);
@@ -390,17 +332,27 @@ const fn is_passed(grammar: Grammar, stage: Stage, byte: u8) -> bool {
     }
 }
 
-// Returns that the mantissa has been read, and parts with these lengths behind it.
+// Reads the suffix, if it follows.
 #[inline(always)]
-const fn finished(
+const fn suffix(
     grammar: Grammar,
-    _text: &[u8],
+    text: &[u8],
+    fronts: bool,
     at: Stopped,
     mantissa: Reading,
     scale: [usize; 3],
-    suffix: usize,
     exponent: Sum,
 ) -> Begun {
+    let Stopped { size, read } = at;
+    let mut at = at;
+    let mut suffix = 0;
+    if size < text.len() && grammar.view().is_base_suffix(text[size]) && takes(grammar, read, false, Role::Suffix) {
+        at = Stopped { size: size + 1, read: Summary { ended: true, ..read } };
+        suffix = 1;
+    } else if !fronts && size < text.len() {
+        let refused = is_passed(grammar, read.stage, text[size]);
+        return unfinished(grammar, text, at, refused);
+    }
     Begun {
         at,
         counts: [
@@ -417,30 +369,5 @@ const fn finished(
         sums: Sums { mantissa: mantissa.sum, places: mantissa.places, exponent },
         complete: is_complete(grammar, at.read),
         refused: false,
-    }
-}
-
-// Reads the suffix, if it follows.
-#[inline(always)]
-const fn suffix(
-    grammar: Grammar,
-    text: &[u8],
-    fronts: bool,
-    at: Stopped,
-    mantissa: Reading,
-    scale: [usize; 3],
-    exponent: Sum,
-) -> Begun {
-    let Stopped { size, read } = at;
-    if size < text.len() && grammar.view().is_base_suffix(text[size]) && takes(grammar, read, false, Role::Suffix) {
-        let size = size + 1;
-        let read = Summary { ended: true, ..read };
-        let at = Stopped { size, read };
-        finished(grammar, text, at, mantissa, scale, 1, exponent)
-    } else if !fronts && size < text.len() {
-        let refused = is_passed(grammar, read.stage, text[size]);
-        unfinished(grammar, text, at, refused)
-    } else {
-        finished(grammar, text, at, mantissa, scale, 0, exponent)
     }
 }

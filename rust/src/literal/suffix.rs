@@ -156,12 +156,8 @@ impl Suffixes {
             return whole;
         }
         let words = if float { self.floats } else { self.integers };
-        let longest = longest_word(self.either_case, words, text, whole);
-        if self.whole_words && longest != whole {
-            0
-        } else {
-            longest
-        }
+        let least = if self.whole_words { whole } else { 0 };
+        longest_word(self.either_case, words, text, least, whole)
     }
 }
 
@@ -342,11 +338,6 @@ const fn is_in_word(more: &[u8], byte: u8) -> bool {
     is_word_byte(byte) || has_byte(more, byte)
 }
 
-// Returns whether `byte` is a letter.
-pub(crate) const fn is_letter(byte: u8) -> bool {
-    byte.is_ascii_alphabetic()
-}
-
 // Returns the number of bytes of a word, which may have the bytes `more`, with which `text` begins.
 pub(crate) const fn word_size(more: &[u8], text: &[u8]) -> usize {
     let mut rest = text;
@@ -379,13 +370,14 @@ const fn is_same(either: bool, letter: u8, byte: u8) -> bool {
     }
 }
 
-// Returns the length of the longest of `words`, of at most `most` bytes, with which `text` begins, or 0 if it begins with none.
-const fn longest_word(either: bool, words: &[&[u8]], text: &[u8], most: usize) -> usize {
+// Returns the length of the longest of `words`, of `least` to `most` bytes, with which `text` begins, or 0 if it begins with none.
+const fn longest_word(either: bool, words: &[&[u8]], text: &[u8], least: usize, most: usize) -> usize {
     let mut longest = 0;
     let mut rest = words;
     while let [word, more @ ..] = rest {
-        if longest < word.len() && word.len() <= most && begins(either, word, text) {
-            longest = word.len();
+        let size = word.len();
+        if longest < size && least <= size && size <= most && begins(either, word, text) {
+            longest = size;
         }
         rest = more;
     }

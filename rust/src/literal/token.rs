@@ -7,11 +7,8 @@ use crate::literal::form::Form;
 use crate::literal::list::{FormError, Forms, PointsBack, Tokens};
 use crate::literal::literal::Literal;
 use crate::literal::step::is_point;
-use crate::literal::stop::{byte_at, Begun, Found, Stopped};
-use crate::literal::suffix::{
-    byte_after, byte_before, has_byte, has_digit_at, has_word_byte, is_followed, is_letter, is_stopped, is_word_byte,
-    kind_with, more_of, suffix_size, suffix_words, word_size,
-};
+use crate::literal::stop::{byte_at, Begun, Stopped};
+use crate::literal::suffix::{byte_before, has_byte, is_stopped, is_word_byte, kind_with, more_of, suffix_size};
 use crate::literal::syntax::Syntax;
 
 /// A number that a text begins with, and what follows it.
@@ -79,21 +76,6 @@ pub enum TokenError {
     },
 }
 
-// The candidate of a form: the length of its literal, the lengths of its parts, and the index behind its suffix.
-#[derive(Clone, Copy)]
-pub(crate) struct Candidate {
-    pub(crate) size: usize,
-    pub(crate) counts: [usize; 9],
-    pub(crate) end: usize,
-}
-
-// What one pass over forms finds: the form that goes furthest and where it stops, and the best candidate with the index of its form.
-#[derive(Clone, Copy)]
-pub(crate) struct Scanned {
-    pub(crate) furthest: Option<(usize, Stopped)>,
-    pub(crate) best: Option<(usize, Candidate)>,
-}
-
 impl<'a> Forms<'a> {
     /// Returns the number that `text` begins with as a token: the longest literal of a form with the longest of its suffixes, if
     /// nothing follows that belongs to it or may not follow it. It does not find special values.
@@ -107,44 +89,19 @@ impl<'a> Forms<'a> {
             return Err(TokenError::NoTokens);
         };
         if self.marked {
-            return self.token_marked(tokens, text);
+            return self.token_of(tokens, text);
         }
         let sign = sign_size(text);
-        let reached = if has_letter_behind_zero(text) { sign + 1 } else { sign };
-        match self.leading(tokens, text, reached) {
+        if !cfg!(peltzivar_small) && has_letter_behind_zero(text) {
+            if let Some(token) = self.leading(tokens, text, sign + 1) {
+                return Ok(token);
+            }
+        }
+        let start = if cfg!(peltzivar_small) && has_letter_behind_zero(text) { sign + 1 } else { sign };
+        match self.leading(tokens, text, start) {
             Some(token) => Ok(token),
-            None if cfg!(peltzivar_small) => self.token_marked(tokens, text),
             None => self.token_of(tokens, text),
         }
-    }
-
-    // Returns the token that `text` begins with.
-    #[cold]
-    const fn token_of<'t>(&self, tokens: &Tokens, text: &'t [u8]) -> Result<Token<'t>, TokenError> {
-        if let Some(token) = self.leading(tokens, text, sign_size(text)) {
-            return Ok(token);
-        }
-        let back = tokens.gives_points_back;
-        let plain = scan(self.forms, back, false, text);
-        let suffixed = scan(tokens.forms, back, true, text);
-        let Some((form, it, candidate)) = self.choose(tokens, text, plain.best, suffixed.best) else {
-            return Err(self.fail(tokens, text, plain.furthest));
-        };
-        let Candidate { size, end, .. } = candidate;
-        let (_, rest) = text.split_at(end);
-        if is_followed(tokens.following, rest) {
-            return Ok(made(it, text, form, candidate));
-        }
-        if is_one_ahead(self.forms, back, text, end) {
-            return Err(self.fail(tokens, text, plain.furthest));
-        }
-        if !is_stopped(tokens.any_word_follows, it.suffixes, text, end) {
-            return Ok(made(it, text, form, candidate));
-        }
-        if has_digit(text, size, end) {
-            return Err(self.fail(tokens, text, plain.furthest));
-        }
-        Err(stopped(it, text, form, candidate))
     }
 
     // Returns the token that `text` begins with, if its literal has more than `start` bytes, and reading the forms of the list once
@@ -168,7 +125,7 @@ impl<'a> Forms<'a> {
                     return self.token_at(tokens, text, it, form, begun);
                 }
                 let stop = begun.stop(&it.syntax, text);
-                if gives_back(it.syntax, back, text, stop.size) {
+                if it.gives_back(back, text, stop.size) {
                     return self.before_point(tokens, text, it, form, stop, reached);
                 }
                 reached = larger(reached, it.bound(text, stop));
@@ -199,7 +156,7 @@ impl<'a> Forms<'a> {
         if begun.complete
             && begun.at.size == size
             && reached < size
-            && !gives_back(it.syntax, back, text, size)
+            && !it.gives_back(back, text, size)
             && are_past(self.forms, 0, form, back, text, size)
             && are_past(tokens.forms, 0, tokens.forms.len(), back, text, size)
         {
@@ -243,45 +200,6 @@ impl<'a> Forms<'a> {
         let literal = it.syntax.literal(front, counts, sums).with_kind(kind);
         Some(Token { literal, form, suffix, rest })
     }
-
-    // Returns the longest of the candidates of the list and of the forms that need a suffix, with its form.
-    const fn choose<'f>(
-        &'f self,
-        tokens: &'f Tokens,
-        _text: &[u8],
-        plain: Option<(usize, Candidate)>,
-        suffixed: Option<(usize, Candidate)>,
-    ) -> Option<(usize, &'f Form, Candidate)> {
-        match suffixed {
-            None => match plain {
-                None => None,
-                Some((form, best)) => Some((form, &self.forms[form], best)),
-            },
-            Some((behind, other)) => match plain {
-                None => Some((self.forms.len() + behind, &tokens.forms[behind], other)),
-                Some((form, best)) => {
-                    if is_shorter(best, other) {
-                        Some((self.forms.len() + behind, &tokens.forms[behind], other))
-                    } else {
-                        Some((form, &self.forms[form], best))
-                    }
-                }
-            },
-        }
-    }
-
-    // Returns why `text`, in which forms go as far as `furthest`, does not begin with a token.
-    #[cold]
-    const fn fail(&self, _tokens: &Tokens, text: &[u8], furthest: Option<(usize, Stopped)>) -> TokenError {
-        let Some((_, stop)) = furthest else { unreachable!() };
-        let (_, rest) = text.split_at(stop.size);
-        let end = stop.size + word_size(&[], rest);
-        let (word, _) = text.split_at(end);
-        match self.find_marked(word) {
-            Err(furthest) => TokenError::Literal(self.error_at(word, furthest)),
-            Ok(_) => TokenError::NotAToken { end },
-        }
-    }
 }
 
 // Returns whether no literal of the forms, but for the one with the index `but`, begins with more than the first `size` bytes of
@@ -321,25 +239,13 @@ pub(crate) const fn larger(one: usize, other: usize) -> usize {
     }
 }
 
-// Returns the token with this candidate.
-#[cfg_attr(not(peltzivar_small), inline(always))]
-const fn made<'t>(it: &Form, text: &'t [u8], form: usize, candidate: Candidate) -> Token<'t> {
-    let Candidate { size, counts, end } = candidate;
-    let (front, behind) = text.split_at(size);
-    let (suffix, _) = behind.split_at(end - size);
-    let (_, rest) = text.split_at(end);
-    let kind = kind_with(it.suffixes, suffix, it.kind);
-    let literal = it.syntax.summed(front, counts).with_kind(kind);
-    Token { literal, form, suffix, rest }
-}
-
 impl Form {
     // Returns whether the front that has been read, which is a literal, is the longest, and does not end in a point that is given back.
     #[cfg_attr(not(peltzivar_small), inline(always))]
     const fn is_longest(&self, back: PointsBack, text: &[u8], begun: Begun) -> bool {
         let size = begun.at.size;
         (is_over(self.syntax.as_grammar(), text, size) || begun.stop(&self.syntax, text).size == size)
-            && !gives_back(self.syntax, back, text, size)
+            && !self.gives_back(back, text, size)
     }
 
     // Returns whether no literal begins with more than the first `size` bytes of `text`, which are more than a sign, or only with a
@@ -354,7 +260,7 @@ impl Form {
     #[inline(never)]
     const fn stops(&self, back: PointsBack, text: &[u8], size: usize) -> bool {
         let stop = self.syntax.stop(text);
-        stop.size <= size || (stop.size == size + 1 && gives_back(self.syntax, back, text, size + 1))
+        stop.size <= size || (stop.size == size + 1 && self.gives_back(back, text, size + 1))
     }
 
     // Returns a size that no front of `text` that is a literal exceeds, where reading stops at `stop`.
@@ -367,70 +273,15 @@ impl Form {
         }
     }
 
-    // Returns where reading `text` stops, and the candidate, if there is one.
+    // Returns whether the first `size` bytes of `text` end in a point that is given back.
     #[cfg_attr(not(peltzivar_small), inline(always))]
-    const fn candidate(&self, back: PointsBack, needs: bool, text: &[u8]) -> (Stopped, Option<Candidate>) {
-        let (stop, found) = self.syntax.front(text);
-        let candidate = match found {
-            None => None,
-            Some(found) => self.candidate_of(back, needs, text, found),
-        };
-        (stop, candidate)
+    pub(crate) const fn gives_back(&self, back: PointsBack, text: &[u8], size: usize) -> bool {
+        is_one(self.syntax, byte_before(text, size))
+            && match byte_at(text, size) {
+                None => false,
+                Some(byte) => takes_point(back, byte) && self.closing.is_empty(),
+            }
     }
-
-    // Returns the candidate of which `found` is the longest front, if there is one.
-    #[cfg_attr(not(peltzivar_small), inline(always))]
-    const fn candidate_of(&self, back: PointsBack, needs: bool, text: &[u8], found: Found) -> Option<Candidate> {
-        match self.own(back, text, found) {
-            None => None,
-            Some(own) => self.suffixed(needs, text, own),
-        }
-    }
-
-    // Returns the candidate with the literal `own`, if there is a suffix or none is needed.
-    #[cfg_attr(not(peltzivar_small), inline(always))]
-    pub(crate) const fn suffixed(&self, needs: bool, text: &[u8], own: Found) -> Option<Candidate> {
-        let Found { size, counts } = own;
-        let (_, rest) = text.split_at(size);
-        let more = suffix_size(self.suffixes, is_float(counts), rest);
-        if needs && more == 0 {
-            None
-        } else {
-            let end = size + more;
-            Some(Candidate { size, counts, end })
-        }
-    }
-
-    // Returns the front `found`, or without its point if that is given back, if it is a literal.
-    #[cfg_attr(not(peltzivar_small), inline(always))]
-    const fn own(&self, back: PointsBack, text: &[u8], found: Found) -> Option<Found> {
-        if gives_back(self.syntax, back, text, found.size) {
-            let (shorter, _) = text.split_at(found.size - 1);
-            let (_, own) = self.syntax.front(shorter);
-            whole(own, shorter.len())
-        } else {
-            Some(found)
-        }
-    }
-}
-
-// Returns the front `found` if it has `size` bytes.
-#[cfg_attr(not(peltzivar_small), inline(always))]
-pub(crate) const fn whole(found: Option<Found>, size: usize) -> Option<Found> {
-    match found {
-        Some(found) if found.size == size => Some(found),
-        _ => None,
-    }
-}
-
-// Returns whether the first `size` bytes of `text` end in a point that is given back.
-#[cfg_attr(not(peltzivar_small), inline(always))]
-pub(crate) const fn gives_back(syntax: Syntax, back: PointsBack, text: &[u8], size: usize) -> bool {
-    is_one(syntax, byte_before(text, size))
-        && match byte_at(text, size) {
-            None => false,
-            Some(byte) => takes_point(back, byte),
-        }
 }
 
 // Returns whether a point before `byte` is given back.
@@ -439,140 +290,21 @@ const fn takes_point(back: PointsBack, byte: u8) -> bool {
     match back {
         PointsBack::Never => false,
         PointsBack::ToWords => byte == b'.' || is_word_byte(byte),
-        PointsBack::ToLetters => is_letter(byte),
+        PointsBack::ToLetters => byte.is_ascii_alphabetic(),
     }
 }
 
 // Returns whether `byte` is the decimal point.
 #[cfg_attr(not(peltzivar_small), inline(always))]
-const fn is_one(syntax: Syntax, byte: Option<u8>) -> bool {
+pub(crate) const fn is_one(syntax: Syntax, byte: Option<u8>) -> bool {
     match byte {
         None => false,
         Some(byte) => is_point(syntax.as_grammar(), byte),
     }
 }
 
-// Returns whether a digit is behind a literal of `size` bytes that has no suffix, so that the number ends where the literal does.
-pub(crate) const fn has_digit(text: &[u8], size: usize, end: usize) -> bool {
-    size == end && has_digit_at(text, size)
-}
-
-// Returns why what is behind the number with this candidate may not follow it: a word, or otherwise a byte that a stop names.
-pub(crate) const fn stopped(it: &Form, text: &[u8], form: usize, candidate: Candidate) -> TokenError {
-    let Candidate { size, counts, end } = candidate;
-    let behind = stop_end(more_of(it.suffixes), text, end);
-    if has_word_byte(text, end) {
-        TokenError::UnknownSuffix {
-            form,
-            start: size,
-            end: behind,
-            suffixes: suffix_words(it.suffixes, is_float(counts)),
-        }
-    } else {
-        TokenError::Stopped { form, start: end, end: behind }
-    }
-}
-
-// Returns the index behind the byte at `index` and the word that follows it, or `index` at the end of `text`.
-const fn stop_end(more: &[u8], text: &[u8], index: usize) -> usize {
-    if index < text.len() {
-        let (_, rest) = text.split_at(index + 1);
-        index + 1 + word_size(more, rest)
-    } else {
-        index
-    }
-}
-
 // Returns whether a literal with these parts is a float.
 #[cfg_attr(not(peltzivar_small), inline(always))]
-const fn is_float(counts: [usize; 9]) -> bool {
+pub(crate) const fn is_float(counts: [usize; 9]) -> bool {
     counts[3] != 0 || counts[5] != 0
-}
-
-// Returns whether a candidate is shorter than another.
-#[cfg_attr(not(peltzivar_small), inline(always))]
-const fn is_shorter(one: Candidate, other: Candidate) -> bool {
-    one.end < other.end || (one.end == other.end && one.size < other.size)
-}
-
-// Returns what the forms find in `text`.
-const fn scan(forms: &[Form], back: PointsBack, needs: bool, text: &[u8]) -> Scanned {
-    let mut furthest = None;
-    let mut best = None;
-    let mut form = 0;
-    while form < forms.len() {
-        let (stop, candidate) = forms[form].candidate(back, needs, text);
-        furthest = further(furthest, form, stop);
-        best = better(best, form, candidate);
-        form += 1;
-    }
-    Scanned { furthest, best }
-}
-
-// Returns which of two forms goes further, the first of equals.
-#[cfg_attr(not(peltzivar_small), inline(always))]
-const fn further(furthest: Option<(usize, Stopped)>, form: usize, stop: Stopped) -> Option<(usize, Stopped)> {
-    match furthest {
-        Some((_, best)) if best.size >= stop.size => furthest,
-        _ => Some((form, stop)),
-    }
-}
-
-// Returns the longer of two candidates, the first of equals.
-#[cfg_attr(not(peltzivar_small), inline(always))]
-pub(crate) const fn better(
-    best: Option<(usize, Candidate)>,
-    form: usize,
-    candidate: Option<Candidate>,
-) -> Option<(usize, Candidate)> {
-    match candidate {
-        None => best,
-        Some(candidate) => match best {
-            Some((_, other)) if !is_shorter(other, candidate) => best,
-            _ => Some((form, candidate)),
-        },
-    }
-}
-
-// Returns whether a literal of one of the forms goes on behind `end`.
-#[cold]
-const fn is_one_ahead(forms: &[Form], back: PointsBack, text: &[u8], end: usize) -> bool {
-    let mut form = 0;
-    while form < forms.len() {
-        let it = &forms[form];
-        let stop = it.syntax.stop(text);
-        if goes_on(it.syntax, back, text, end, stop.size) {
-            return true;
-        }
-        form += 1;
-    }
-    false
-}
-
-// Returns whether a literal that goes up to `stop` goes on behind `end`.
-pub(crate) const fn goes_on(syntax: Syntax, back: PointsBack, text: &[u8], end: usize, stop: usize) -> bool {
-    end < stop && !(is_alone(back, text, end, stop) && is_one(syntax, byte_at(text, end)))
-}
-
-// Returns whether no byte of a literal that goes up to `stop` is behind the point at `end`, or only one that begins a name.
-const fn is_alone(back: PointsBack, text: &[u8], end: usize, stop: usize) -> bool {
-    match back {
-        PointsBack::Never => false,
-        PointsBack::ToWords => stop == end + 1,
-        PointsBack::ToLetters => stop == end + 1 || (stop - 1 == end + 1 && begins_name(text, end + 1)),
-    }
-}
-
-// Returns whether a letter is at `index`, and another one or a point behind it.
-const fn begins_name(text: &[u8], index: usize) -> bool {
-    match byte_at(text, index) {
-        None => false,
-        Some(letter) => {
-            is_letter(letter)
-                && match byte_after(text, index) {
-                    None => false,
-                    Some(byte) => byte == b'.' || is_letter(byte),
-                }
-        }
-    }
 }

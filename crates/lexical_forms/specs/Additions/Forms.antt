@@ -1,15 +1,14 @@
 -- What one pass over several forms finds.
-use Rattle.std.specs.Prelude.{ℕ, ◌≡◌, ◌+◌, ◌-◌, ◌*◌, ◌<◌, ◌≤◌, ◌⊎◌, [], ◌∷◌, false, if◌then◌else◌, nat_lt, IfErr, IfOk}
-use Rattle.std.specs.Prelude.{IsErr, IsSomeAnd, IsTrue, List, Option, get_or}
-use Rattle.std.specs.Prelude.{Some, None, Result, Ok, Err, All, drop, length, slice_get, take}
+use Rattle.std.specs.Prelude.{ℕ, ◌≡◌, ◌+◌, ◌-◌, ◌*◌, ◌<◌, ◌≤◌, ◌⊎◌, [], ◌∷◌, false, if◌then◌else◌, nat_lt, IfErr, IfOk, IsErr, IsSomeAnd, IsTrue, List, Option}
+use Rattle.std.specs.Prelude.{◌==◌, ◌&&◌, ◌||◌, not, Bool, get_or, Some, None, Result, Ok, Err, All, drop, length, slice_get, take}
 use Rattle.lexical_util.specs.Ascii.{ByteSet}
+use Rattle.lexical_util.specs.Layout as layout
 use Rattle.lexical_util.specs.Roles.{other_case, signs}
 use Rattle.lexical_util.specs.declared.feature_format.roles.Role.{Role}
 use Rattle.lexical_util.specs.declared.feature_format.roles.Role.TheVariants as roles
 use Rattle.lexical_literal.specs.Additions.Stop.{IsCountedFront, IsStopped}
 use Rattle.lexical_literal.specs.Cause.{Explained, IsRefusal, is_stray}
-use Rattle.lexical_forms.specs.Affix.{Begins, spells}
-use Rattle.lexical_forms.specs.Forms.{HasFront, IsErrorIn, IsFirst, IsFormError, IsGreatest, NoForm, OpensIn, Reaches, ReadsIn}
+use Rattle.lexical_forms.specs.Forms.{Begins, HasFront, IsErrorIn, IsFirst, IsFormError, IsGreatest, NoForm, ReadsIn, reach_in}
 use Rattle.lexical_literal.specs.Front.{IsValidBy, IsValidUpTo, NoFrontBy, NoLiteral, NoneBy}
 use Rattle.lexical_literal.specs.Literal.{Literal, Reads}
 use Rattle.lexical_literal.specs.Read.{Read}
@@ -28,6 +27,10 @@ use Rattle.lexical_forms.specs.declared.marks.Unclosed.{Unclosed}
 abbrev pub reach : Refusal → ℕ
 reach error = 2 * error.valid_up_to + (if is_stray error then 0 else 1)
 
+-- `special_separator m` is the digit separator if special values may have it, and the empty set otherwise.
+abbrev pub special_separator : Notation → ByteSet
+special_separator m byte = m.flag layout.special_digit_separator && m.separator byte
+
 -- `sign_size text` is the length of the sign with which `text` begins.
 abbrev pub sign_size : List ℕ → ℕ
 sign_size [] = 0
@@ -36,6 +39,11 @@ sign_size (byte ∷ text) = if signs byte then 1 else 0
 -- `behind form text` is what follows as many bytes of `text` as the opening of `form` has.
 abbrev pub behind : Form → List ℕ → List ℕ
 behind form text = drop form.opening.size text
+
+-- `spells affix index byte` is true if `byte` is the byte of `affix` with this index or, unless its case counts, the other case of this byte.
+abbrev pub spells : Affix → ℕ → ℕ → Bool
+spells affix index byte =
+    (byte == get_or affix.bytes index 0) || (not affix.case_sensitive && (byte == other_case (get_or affix.bytes index 0)))
 
 -- `IsOpened affix text` holds if `text` begins with `affix`.
 abbrev pub IsOpened : Affix → List ℕ → Type 0
@@ -47,6 +55,10 @@ pub record IsOpenedTo (affix : Affix) (text : List ℕ) (size : ℕ) : Type 0 wh
   pub begins : Begins affix text size
   pub differs : size < affix.size → size < length text → spells affix size (get_or text size 0) ≡ false
 
+-- `Reaches text form n` holds if an error of `text` in `form` has the reach `n`.
+abbrev pub Reaches : List ℕ → Form → ℕ → Type 0
+Reaches text form n = (opened : ℕ) × (error : Option Refusal) × IsErrorIn form text opened error × (reach_in opened error ≡ n)
+
 -- `right_in opened error` is the number of bytes that are right.
 abbrev pub right_in : ℕ → Option Refusal → ℕ
 right_in opened None = opened
@@ -56,14 +68,10 @@ right_in opened (Some error) = opened + error.valid_up_to
 abbrev pub GoesTo : List ℕ → Form → ℕ → Type 0
 GoesTo text form = IsValidBy (ReadsIn form) text
 
--- `greater size best form found` is `best`, or `found` of the form with the index `form` if its `size` is greater.
-abbrev pub greater : {X : Type 0} → (X → ℕ) → Option (ℕ × X) → ℕ → X → Option (ℕ × X)
-greater size None form found = Some (form, found)
-greater size (Some best) form found = if nat_lt (size best.1) (size found) then Some (form, found) else Some best
-
--- `further furthest form stop` is `furthest`, or the form with the index `form` if it goes further, to `stop`.
-abbrev pub further : Option (ℕ × Stopped) → ℕ → Stopped → Option (ℕ × Stopped)
-further furthest form stop = greater (λ (stop : Stopped). stop.size) furthest form stop
+-- `further furthest form size` is `furthest`, or the form with the index `form` if it goes further, up to `size`.
+abbrev pub further : Option (ℕ × ℕ) → ℕ → ℕ → Option (ℕ × ℕ)
+further None form size = Some (form, size)
+further (Some best) form size = if nat_lt best.1 size then Some (form, size) else Some best
 
 -- `PlaysNoRole m byte` holds if `byte` plays no role, and is not the zero of a prefix.
 pub record PlaysNoRole (m : Notation) (byte : ℕ) : Type 0 where
@@ -165,10 +173,18 @@ abbrev pub IsLed : List Form → List ℕ → ℕ → Option Furthest → Type 0
 IsLed forms text asked None = (k : ℕ) (d : Form) → k < asked → IsNearSign text (get_or forms k d)
 IsLed forms text asked (Some best) = Leads forms text asked best
 
+-- `OpensIn form l text` holds if `text` is the opening of `form`, and then a literal of its syntax with the parts of `l`.
+abbrev pub OpensIn : Form → Literal → List ℕ → Type 0
+OpensIn form l text = Begins form.opening text form.opening.size × Reads (notation_of form.syntax) l (drop form.opening.size text)
+
+-- `IsFirstOf forms text index read` holds if `read`, with the kind of the form with this index, is the literal `text` of this form, and of none before.
+abbrev pub IsFirstOf : List Form → List ℕ → ℕ → Read → Type 0
+IsFirstOf forms text index read = IsSomeAnd (slice_get forms index) (λ form. IsFirst forms text index (record read { kind = form.kind }))
+
 -- `IsFoundForm forms text result` holds if `result` has the first form of which `text` is a literal and the literal, or if `text` is a literal
 -- of no form, and `result` leads them.
 pub record IsFoundForm (forms : List Form) (text : List ℕ) (result : Result (ℕ × Read) Furthest) : Type 0 where
-  pub found : IfOk result (λ found. IsFirst forms text found.0 found.1)
+  pub found : IfOk result (λ found. IsFirstOf forms text found.0 found.1)
   pub none : IsErr result → NoForm forms text
   pub furthest : IfErr result (Leads forms text (length forms))
 
@@ -209,10 +225,3 @@ pub record IsFoundFrontForm (forms : List Form) (text : List ℕ) (result : Resu
   pub longest : IfOk result (λ found. IsGreatest (HasFront text) forms found.0 found.1.size)
   pub found : IfOk result (λ found. IsSomeAnd (slice_get forms found.0) (IsFrontIn text found.1))
   pub error : IfErr result (λ error. All (λ g. NoFrontBy (ReadsIn g) text) forms × IsFormError forms text error)
-
--- `IsFurthestForm forms text furthest` holds if `furthest` has the index of the form whose syntax goes furthest in `text`, the first of
--- equals, and where it stops.
-abbrev pub IsFurthestForm : List Form → List ℕ → Option (ℕ × Stopped) → Type 0
-IsFurthestForm forms text furthest = IsSomeAnd furthest (λ best.
-    IsGreatest (λ g n. IsValidUpTo (notation_of g.syntax) text n) forms best.0 best.1.size
-    × IsSomeAnd (slice_get forms best.0) (λ g. IsStopped (notation_of g.syntax) text best.1))

@@ -4,43 +4,47 @@ use Rattle.std.specs.Prelude.{◌≤◌, ◌<◌, ◌⊎◌, true, false, drop, 
 use Rattle.std.specs.Borrow.{Bor}
 use Rattle.std.specs.List.{list_any}
 use Rattle.lexical_util.specs.Ascii.{ByteSet}
-use Rattle.lexical_literal.specs.Additions.Stop.{IsMeasured}
 use Rattle.lexical_literal.specs.Cause.{is_in}
-use Rattle.lexical_forms.specs.FormList.{FormList}
-use Rattle.lexical_literal.specs.Front.{IsFront, NoLiteral, ReadsFront}
+use Rattle.lexical_forms.specs.FormList.{FormList, have_marks}
+use Rattle.lexical_forms.specs.Forms.{ReadsIn}
+use Rattle.lexical_literal.specs.Front.{IsFront, NoneBy, ReadsFront}
 use Rattle.lexical_forms.specs.Suffix.{is_word_byte, more_of, stop_end, suffix_size, suffix_words}
 use Rattle.lexical_forms.specs.declared.suffix.Suffixes.{Suffixes}
 use Rattle.lexical_forms.specs.Token.{IsBest, IsCandidate, IsChosen, NoCandidate, gives_back, is_alone, is_shorter}
 use Rattle.lexical_forms.specs.declared.list.PointsBack.{PointsBack}
 use Rattle.lexical_forms.specs.declared.list.Tokens.{Tokens}
-use Rattle.lexical_literal.specs.Literal.{Literal, Reads}
-use Rattle.lexical_literal.specs.Read.{Read}
+use Rattle.lexical_literal.specs.Additions.Stop.{IsMeasured}
+use Rattle.lexical_literal.specs.Literal.{Literal}
 use Rattle.lexical_literal.specs.declared.stop.Found.{Found}
 use Rattle.lexical_literal.specs.Notation.{Notation, notation_of}
 use Rattle.lexical_forms.specs.declared.form.Form.{Form}
-use Rattle.lexical_forms.specs.declared.token.Candidate.{Candidate}
+use Rattle.lexical_forms.specs.declared.candidate.Candidate.{Candidate}
 use Rattle.lexical_forms.specs.declared.token.TokenError.{TokenError}
 use Rattle.lexical_forms.specs.declared.token.TokenError.TheVariants as errors
 
--- `HasFrontOfSyntax text form size` holds if the longest front of `text` that is a literal of the syntax of `form` has `size` bytes,
--- and `ReadsSyntax text read form` if `text` is the literal `read` of it.
+-- `HasFrontOfSyntax text form size` holds if the longest front of `text` that is a literal of the syntax of `form` has `size` bytes.
 abbrev pub HasFrontOfSyntax : List ℕ → Form → ℕ → Type 0
 HasFrontOfSyntax text form size = (l : Literal) × ReadsFront (notation_of form.syntax) l text size
 
-abbrev pub ReadsSyntax : List ℕ → Read → Form → Type 0
-ReadsSyntax text read form = (read.format ≡ form.syntax.word) × Reads (notation_of form.syntax) read.literal text
+-- `has_float counts` is true if a literal with these lengths of its parts is a float.
+abbrev pub has_float : List ℕ → Bool
+has_float counts = not (get_or counts 3 0 == 0) || not (get_or counts 5 0 == 0)
+
+-- `IsCounted form text counts` holds if `text` is a literal of `form`, and if `counts` has the lengths of its parts between the opening and the closing.
+pub record IsCounted (form : Form) (text counts : List ℕ) : Type 0 where
+  pub literal : (l : Literal) × ReadsIn form l text
+  pub room : form.opening.size + form.closing.size ≤ length text
+  pub measured : IsMeasured (notation_of form.syntax) (drop form.opening.size (take (length text - form.closing.size) text)) counts
+
+-- `is_in_word more byte` is true if `byte` is a byte of a word, or one of `more`, the bytes that words of a form have besides.
+abbrev pub is_in_word : List ℕ → ByteSet
+is_in_word more byte = list_any (λ it. it == byte) more || is_word_byte byte
 
 -- `IsMade back needs text form c` holds if `c` is the candidate of `form` in `text`, and has the lengths of the parts of its literal.
 pub record IsMade (back : PointsBack) (needs : Bool) (text : List ℕ) (form : Form) (c : Candidate) : Type 0 where
   pub candidate : IsCandidate back needs text form c.size c.end
-  pub measured : IsMeasured (notation_of form.syntax) (take c.size text) c.counts
+  pub counted : IsCounted form (take c.size text) c.counts
   pub within : c.end ≤ length text
-
--- `IsInside count text best` holds if `best` is the index of one of `count` forms, and a candidate that ends in `text`.
-pub record IsInside (count : ℕ) (text : List ℕ) (best : ℕ × Candidate) : Type 0 where
-  pub form : best.0 < count
-  pub order : best.1.size ≤ best.1.end
-  pub within : best.1.end ≤ length text
 
 -- `IsBestOf back needs forms text best` holds if `best` is the index of the first of `forms` with the longest candidate, and this
 -- candidate, or `None` if there is none.
@@ -52,19 +56,15 @@ abbrev pub IsBestOf : PointsBack → Bool → List Form → List ℕ → Option 
 IsBestOf back needs forms text None = All (NoCandidate back needs text) forms
 IsBestOf back needs forms text (Some best) = IsBestMade back needs forms text best.0 best.1
 
--- `IsOwn back m text longest own` holds if `own` has the lengths of the longest front, of `longest` bytes, or of this without its point if
+-- `IsOwn back form text longest own` holds if `own` has the lengths of the longest front, of `longest` bytes, or of this without its point if
 -- that is given back. `NoOwn` holds if there is no such literal.
-pub record IsOwn (back : PointsBack) (m : Notation) (text : List ℕ) (longest : ℕ) (own : Found) : Type 0 where
+pub record IsOwn (back : PointsBack) (form : Form) (text : List ℕ) (longest : ℕ) (own : Found) : Type 0 where
   pub within : own.size ≤ length text
-  pub size : own.size ≡ (if gives_back back m text longest then longest - 1 else longest)
-  pub measured : IsMeasured m (take own.size text) own.counts
+  pub size : own.size ≡ (if gives_back back form text longest then longest - 1 else longest)
+  pub counted : IsCounted form (take own.size text) own.counts
 
-abbrev pub NoOwn : PointsBack → Notation → List ℕ → ℕ → Type 0
-NoOwn back m text longest = NoLiteral m (take (if gives_back back m text longest then longest - 1 else longest) text)
-
--- `has_float counts` is true if a literal with these lengths of its parts is a float.
-abbrev pub has_float : List ℕ → Bool
-has_float counts = not (get_or counts 3 0 == 0) || not (get_or counts 5 0 == 0)
+abbrev pub NoOwn : PointsBack → Form → List ℕ → ℕ → Type 0
+NoOwn back form text longest = NoneBy (ReadsIn form) (take (if gives_back back form text longest then longest - 1 else longest) text)
 
 -- `better best form candidate` is `best`, or the candidate of the form with the index `form` if that is longer.
 abbrev pub better : Option (ℕ × Candidate) → ℕ → Option Candidate → Option (ℕ × Candidate)
@@ -79,7 +79,7 @@ goes_on back m text end stop = nat_lt end stop && not (is_alone back text end st
 -- `IsPicked list t text index form c` holds if `form`, with this index, has the longest candidate, which is `c`.
 pub record IsPicked (list : FormList) (t : Tokens) (text : List ℕ) (index : ℕ) (form : Form) (c : Candidate) : Type 0 where
   pub chosen : IsChosen list t text index form c.size c.end
-  pub measured : IsMeasured (notation_of form.syntax) (take c.size text) c.counts
+  pub counted : IsCounted form (take c.size text) c.counts
   pub order : c.size ≤ c.end
   pub within : c.end ≤ length text
 
@@ -114,21 +114,26 @@ suffixed suffixes needs text own =
     if needs && (suffix_size suffixes (has_float own.counts) (drop own.size text) == 0) then None
     else Some (record { size = own.size; counts = own.counts; end = own.size + suffix_size suffixes (has_float own.counts) (drop own.size text) })
 
--- `IsWithin m text size` holds if no literal begins with more than the first `size` bytes of `text`. `IsNear back m text size` holds if none does,
+-- `IsWithin m text size` holds if no literal begins with more than the first `size` bytes of `text`. `IsNear back form text size` holds if none of `form` does,
 -- or only with a point more that is given back. `AreNear back forms but text size` holds if this holds of each of `forms`, but for the one with the
 -- index `but`. `FrontsWithin text size form` holds if each front of `text` that is a literal has at most `size` bytes.
 abbrev pub IsWithin : Notation → List ℕ → ℕ → Type 0
 IsWithin m text size = (more : ℕ) → size < more → more ≤ length text → IsFront m (take more text) → ⊥
 
-abbrev pub IsNear : PointsBack → Notation → List ℕ → ℕ → Type 0
-IsNear back m text size = IsWithin m text size ⊎ (IsWithin m text (size + 1) × (gives_back back m text (size + 1) ≡ true))
+abbrev pub IsNear : PointsBack → Form → List ℕ → ℕ → Type 0
+IsNear back form text size = IsWithin (notation_of form.syntax) text size
+    ⊎ (IsWithin (notation_of form.syntax) text (size + 1) × (gives_back back form text (size + 1) ≡ true))
 
 abbrev pub AreNear : PointsBack → List Form → ℕ → List ℕ → ℕ → Type 0
 AreNear back forms but text size =
-    (i : ℕ) (form : Form) → i < length forms → (i ≡ but → ⊥) → IsNear back (notation_of (get_or forms i form).syntax) text size
+    (i : ℕ) (form : Form) → i < length forms → (i ≡ but → ⊥) → IsNear back (get_or forms i form) text size
 
 abbrev pub FrontsWithin : List ℕ → ℕ → Form → Type 0
 FrontsWithin text size form = (longest : ℕ) → HasFrontOfSyntax text form longest → longest ≤ size
+
+-- `AreBare list t` holds if no form of the list, and none that needs a suffix, has an opening or a closing.
+abbrev pub AreBare : FormList → Tokens → Type 0
+AreBare list t = (have_marks list.forms ≡ false) × (have_marks t.forms.now ≡ false)
 
 -- `IsLeading list t text index form size` holds if `form`, with this index, is the first of the list whose longest front of `text`, without its point
 -- if that is given back, has `size` bytes, and if no literal of a form goes on behind them, or only with a point that is given back.
@@ -136,11 +141,12 @@ pub record IsLeading (list : FormList) (t : Tokens) (text : List ℕ) (index : �
   pub at : slice_get list.forms index ≡ Some form
   pub longest : ℕ
   pub front : HasFrontOfSyntax text form longest
-  pub size_is : size ≡ (if gives_back t.gives_points_back (notation_of form.syntax) text longest then longest - 1 else longest)
-  pub own : IsNear t.gives_points_back (notation_of form.syntax) text size
+  pub size_is : size ≡ (if gives_back t.gives_points_back form text longest then longest - 1 else longest)
+  pub own : IsNear t.gives_points_back form text size
   pub plain : AreNear t.gives_points_back list.forms index text size
   pub suffixed : AreNear t.gives_points_back t.forms.now (length t.forms.now) text size
   pub before : (reached : ℕ) × (reached < size) × All (FrontsWithin text reached) (take index list.forms)
+  pub bare : AreBare list t
 
 -- `has_prefix m text index` is true if a zero and a base prefix are at `index`.
 abbrev pub has_prefix : Notation → List ℕ → ℕ → Bool

@@ -145,9 +145,13 @@ pub record IsRunOn (m : Notation) (radix : ℕ) (text : List ℕ) (part : Part) 
   pub digits : run.sum.digits ≡ begun.sum.digits + length (digits_in radix (between text begun.size run.size))
   pub sum : run.sum.value % 2 ^ 64 ≡ number_from_digits_after radix begun.sum.value (digits_in radix (between text begun.size run.size)) % 2 ^ 64
 
--- `up_to run size value` is `run` with as many digits more as bytes, up to the index `size`, which then represent `value`.
-abbrev pub up_to : Reading → ℕ → ℕ → Reading
-up_to run size value = record run { size = size; sum = record { digits = run.sum.digits + (size - run.size); value = value } }
+-- `up_to run size separators value` is `run` up to the index `size`, where so many of the bytes that it has more are separators, the
+-- others are digits, and all its digits represent `value`.
+abbrev pub up_to : Reading → ℕ → ℕ → ℕ → Reading
+up_to run size separators value = record run {
+  size = size;
+  sum = record { digits = run.sum.digits + (size - run.size - separators); value = value };
+}
 
 -- `IsOver m text part run` holds if no digit of `part` follows the digits of `run`, if it has any but a zero.
 abbrev pub IsOver : Notation → List ℕ → Part → Reading → Type 0

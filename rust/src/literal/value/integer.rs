@@ -68,7 +68,11 @@ pub(crate) const fn own_numeral<'a>(literal: &Literal<'a>) -> Result<Numeral<'a>
     let Some(numeral) = integer_numeral(literal) else {
         return Err(ValueErrorKind::Float);
     };
-    match counted(literal.kind().integers(), numeral) {
+    let kind = literal.kind().integers();
+    if keeps(kind, &numeral) {
+        return Ok(numeral);
+    }
+    match fewer(kind, &{ numeral }) {
         Some(own) => Ok(own),
         None => Err(ValueErrorKind::out_of_range(numeral.negative)),
     }
@@ -109,21 +113,12 @@ pub(crate) const fn keeps(kind: IntegerKind, numeral: &Numeral) -> bool {
 }
 
 // Returns what an integer is worth by its kind, or `None` if it is too large.
-#[inline(always)]
-pub(crate) const fn counted<'a>(kind: IntegerKind, numeral: Numeral<'a>) -> Option<Numeral<'a>> {
-    if keeps(kind, &numeral) {
-        return Some(numeral);
-    }
-    fewer(kind, &{ numeral })
-}
-
-// Returns what an integer is worth by a kind that is not exact, or `None` if it is too large.
 #[cold]
 #[inline(never)]
 pub(crate) const fn fewer<'a>(kind: IntegerKind, numeral: &Numeral<'a>) -> Option<Numeral<'a>> {
     let negative = numeral.negative;
     match kind {
-        IntegerKind::Exact => None,
+        IntegerKind::Exact => Some(*numeral),
         IntegerKind::AtMost(bits) => {
             let most = limit(bits, negative);
             match numeral.wide_size(most, most) {

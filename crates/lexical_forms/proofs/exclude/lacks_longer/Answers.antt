@@ -1,6 +1,6 @@
 -- A form without the prefix that is required has no front, and no literal goes on behind a byte that plays no role.
-use Rattle.lexical_forms.proofs.Common.{arith, notation_of, sign_size, ◌+◌}
-use Rattle.lexical_forms.proofs.LeadingLemmas.{no_front_past, within_more}
+use Rattle.lexical_forms.proofs.Common.{notation_of}
+use Rattle.lexical_forms.proofs.LeadingLemmas.{no_front_past}
 use Rattle.lexical_forms.proofs.exclude.lacks_longer.Goals as goal
 
 pub returns-else-lacks_prefix-clause-front : goal.returns-else-lacks_prefix-clause-front

@@ -12,8 +12,8 @@ suffix-requires-clause-at c =
     let sign = c.in-Some.sign in
     let from = c.args.mantissa.size + 1 + sign in
     subst (λ (at : Stopped). IsAt m text at (cuts_of (counts_of c.args.mantissa 1 sign (run.size - from) 0))) (sym c.at_stage-at.ensures)
-    (exponent_at m text c.args.mantissa (c.args.mantissa.size + 1) sign run.size run.stage c.requires.at c.in-Some.ensures
-    (subst (λ stage. IsReadOn m text (at_stage from stage) pieces.Exponent (at_stage run.size run.stage)) c.behind_sign.ensures
+    (exponent_at m text c.args.mantissa (c.args.mantissa.size + 1) sign run.size run.stage c.requires.at c.in-Some.ensures.sign
+    (subst (λ stage. IsReadOn m text (at_stage from stage) pieces.Exponent (at_stage run.size run.stage)) c.in-Some.ensures.stage
     c.digits-run.ensures.run.on))
 
 pub unfinished-requires-then-not-has_digit-clause-begun : goal.unfinished-requires-then-not-has_digit-clause-begun
@@ -24,6 +24,6 @@ unfinished-requires-then-not-has_digit-clause-begun c =
     let sign = c.in-Some.sign in
     let from = c.args.mantissa.size + 1 + sign in
     subst (IsBegun m text) (sym c.at_stage-then-not-has_digit.ensures)
-    (exponent_at m text c.args.mantissa (c.args.mantissa.size + 1) sign run.size run.stage c.requires.at c.in-Some.ensures
-    (subst (λ stage. IsReadOn m text (at_stage from stage) pieces.Exponent (at_stage run.size run.stage)) c.behind_sign.ensures
+    (exponent_at m text c.args.mantissa (c.args.mantissa.size + 1) sign run.size run.stage c.requires.at c.in-Some.ensures.sign
+    (subst (λ stage. IsReadOn m text (at_stage from stage) pieces.Exponent (at_stage run.size run.stage)) c.in-Some.ensures.stage
     c.digits-run.ensures.run.on)).begun

@@ -1,18 +1,33 @@
 -- The suffix is read, or the byte that follows is refused.
-use Rattle.lexical_literal.proofs.Common.{arith, false, false≢true, get_or, raw, steps_of, subst, suffix, sym, takes, true, ◌∙◌, ◌≡◌}
+use Rattle.lexical_literal.proofs.Common.{IsAt, List, Notation, Reading, Stopped, arith, counts_of, cuts_of, false, false≢true, get_or, raw, refl, steps_of}
+use Rattle.lexical_literal.proofs.Common.{subst, suffix, sym, takes}
+use Rattle.lexical_literal.proofs.Common.{true, ℕ, ◌∙◌, ◌≡◌}
 use Rattle.lexical_util.specs.declared.feature_format.roles.Role.TheVariants as roles
 use Rattle.lexical_literal.proofs.JoinLemmas.{suffix_at}
 use Rattle.lexical_literal.proofs.PassedLemmas.{passed}
+use Rattle.lexical_literal.proofs.StoppedLemmas.{complete_at}
 use Rattle.lexical_literal.proofs.scan.suffix.Goals as goal
+use Rattle.lexical_literal.proofs.scan.suffix.Goals.{then-size-text+then-is_base_suffix+then-takes, else-size-text+else-not-fronts}
 use Rattle.lexical_literal.proofs.scan.suffix.Goals.{else-size-text-via-then-size-text+then-is_base_suffix+else-takes}
 use Rattle.lexical_literal.proofs.scan.suffix.Goals.{else-size-text-via-then-size-text+else-is_base_suffix, else-size-text-via-else-size-text}
 
-pub finished-requires-clause-at : goal.finished-requires-clause-at
-finished-requires-clause-at c =
+placed : (m : Notation) (text : List ℕ) (s : Reading) (a b c : ℕ) (at next : Stopped) (n suffix : ℕ) → next ≡ at → suffix ≡ n
+    → IsAt m text at (cuts_of (counts_of s a b c n)) → IsAt m text next (cuts_of (counts_of s a b c suffix))
+placed m text s a b c at next n suffix same ends is = subst (λ (at : Stopped). IsAt m text at (cuts_of (counts_of s a b c suffix))) (sym same)
+    (subst (λ n. IsAt m text at (cuts_of (counts_of s a b c n))) (sym ends) is)
+
+pub returns-clause-found : goal.returns-clause-found
+returns-clause-found c =
+    let m = steps_of c.args.grammar in
+    let text = c.args.text.now in
     let at = c.args.at in
-    suffix_at (steps_of c.args.grammar) c.args.text.now c.requires.ready.roles c.args.mantissa _ _ _ at c.if-size-text.true
-    (subst (λ w. suffix (raw w) (get_or c.args.text.now at.size 0) ≡ true) c.view.ensures (sym c.is_base_suffix.ensures ∙ c.if-is_base_suffix.true))
-    c.requires.going (sym c.takes.ensures ∙ c.if-takes.true) c.requires.free c.requires.at
+    complete_at _ c.requires.ready _ _ (elim c.if-size-text.branch [
+      | then-size-text+then-is_base_suffix+then-takes w ↦ placed m text c.args.mantissa _ _ _ _ _ _ _ w.at-is w.suffix-is
+          (suffix_at m text c.requires.ready.roles c.args.mantissa _ _ _ at w.if-size-text.true
+          (subst (λ w. suffix (raw w) (get_or text at.size 0) ≡ true) w.view.ensures (sym w.is_base_suffix.ensures ∙ w.if-is_base_suffix.true))
+          c.requires.going (sym w.takes.ensures ∙ w.if-takes.true) c.requires.free c.requires.at)
+      | else-size-text+else-not-fronts w ↦ placed m text c.args.mantissa _ _ _ _ _ _ _ w.at-is w.suffix-is c.requires.at
+    ]) c.is_complete.ensures refl
 
 pub unfinished-requires-clause-refused : goal.unfinished-requires-clause-refused
 unfinished-requires-clause-refused c holds =

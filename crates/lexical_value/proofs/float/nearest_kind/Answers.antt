@@ -8,7 +8,7 @@ pub returns-in-Some-clause-some : goal.returns-in-Some-clause-some
 returns-in-Some-clause-some c = λ f.
     let r = raw c.args.literal.now.format in let l = c.args.literal.now.literal in
     let by = sym (c.integers-integers.ensures ∙ ap (λ (k : Kind). k.integers) c.kind-kind.ensures) in
-    let kept = (λ i. worth (by i) (sym c.in-Some.ensures.negative i) (sym c.in-Some.ensures.size i)) ∙ c.keeps.ensures.worth c.if-keeps.true
+    let kept = (λ i. worth (by i) (sym c.in-Some.ensures.negative i) (sym c.in-Some.ensures.size i)) ∙ c.keeps.ensures c.if-keeps.true
     ∙ (λ i. Some (c.in-Some.ensures.negative i, c.in-Some.ensures.size i)) in
     kept_worth f c.args.literal.now.kind r l (ap is_exact by ∙ sym c.is_exact.ensures ∙ c.if-is_exact.false)
     (untrue (is_float l) (λ is. true≢false (c.in-Some.ensures.float.0 is))) kept c.in-Some.ensures.fraction c.in-Some.ensures.exponent

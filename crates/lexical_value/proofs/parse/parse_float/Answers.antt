@@ -1,6 +1,6 @@
 -- The format is that of the syntax, and the kind is exact.
-use Rattle.lexical_value.proofs.Common.{Err, Ok, false, float_worth, format_of, is_binary, is_decimal, nearest, raw, subst, ◌||◌, ◌≡◌}
-use Rattle.lexical_value.proofs.KindLemmas.{exact_float, exact_radix}
+use Rattle.lexical_value.proofs.Common.{Err, false, float_worth, format_of, is_binary, is_decimal, raw, subst, ◌||◌, ◌≡◌}
+use Rattle.lexical_value.proofs.KindLemmas.{exact_radix}
 use Rattle.lexical_value.proofs.parse.parse_float.Goals as goal
 
 pub returns-in-Err-to_float-clause-value : goal.returns-in-Err-to_float-clause-value

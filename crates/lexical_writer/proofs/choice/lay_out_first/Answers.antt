@@ -22,8 +22,7 @@ returns-clause-back c =
     (subst (λ (g : Grammar). Reads (notation_of g) l (text_of l)) c.syntax-syntax.ensures written.0) in (
       record { format = form.syntax.word; literal = l; kind = form.kind },
       0,
-      read.0,
-      read.1,
+      read,
       c.is_plain.ensures.plain c.if-not-is_plain.false _ (sym c.kind.ensures) (ap (λ (g : Grammar). g.word) (sym c.syntax-syntax.ensures))
           (sym c.is_float.ensures ∙ c.if-is_float.false) (
             has_value syntax c.args.number.now.negative c.args.number.now.size _ refl c.in-Ok.ensures.lawful l written.1,

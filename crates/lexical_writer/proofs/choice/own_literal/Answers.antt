@@ -1,6 +1,6 @@
 -- The only form of the list reads the text.
-use Rattle.lexical_writer.proofs.Common.{Form, Grammar, IsSomeAnd, List, Reads, ReadsForm, [], ap, notation_of, refl, slice_get, subst, suc, sym, zero, ℕ}
-use Rattle.lexical_writer.proofs.Common.{◌∙◌, ◌∷◌, ◌≡◌}
+use Rattle.lexical_writer.proofs.Common.{Form, Grammar, IsSomeAnd, List, Reads, ReadsForm, [], ap, notation_of, refl, slice_get, subst, suc, sym, zero, ℕ, ◌∙◌}
+use Rattle.lexical_writer.proofs.Common.{◌∷◌, ◌≡◌}
 use Rattle.lexical_forms.specs.FormList.{FormList}
 use Rattle.lexical_forms.proofs.MarkLemmas.{plain_of}
 use Rattle.lexical_writer.proofs.ChoiceLemmas.{none_at}
@@ -14,16 +14,13 @@ pub returns-in-Some-clause-some : goal.returns-in-Some-clause-some
 returns-in-Some-clause-some c =
     let index = c.in-Some.field-0-0 in
     let read = c.in-Some.literal in
-    let both = c.in-Some.ensures.some in
     let one : c.in_ok-list.list.forms ≡ c.new.result ∷ [] = ap (λ (list : FormList). list.forms) c.in_ok-list.ensures.1 in
     let by = only (ReadsForm c.args.text.now read) c.new.result index
-    (subst (λ (forms : List Form). IsSomeAnd (slice_get forms index) (ReadsForm c.args.text.now read)) one both.0.reads) in
-    let kind = only (λ (form : Form). read.kind ≡ form.kind) c.new.result index
-    (subst (λ (forms : List Form). IsSomeAnd (slice_get forms index) (λ (form : Form). read.kind ≡ form.kind)) one both.1) in (
-      kind ∙ c.new.ensures.kind,
+    (subst (λ (forms : List Form). IsSomeAnd (slice_get forms index) (ReadsForm c.args.text.now read)) one c.in-Some.ensures.some.reads) in (
+      by.1 ∙ c.new.ensures.kind,
       by.0 ∙ ap (λ (g : Grammar). g.word) c.new.ensures.syntax,
       subst (λ (g : Grammar). Reads (notation_of g) read.literal c.args.text.now) c.new.ensures.syntax
-          (plain_of c.new.result c.args.text.now c.new.ensures.opening c.new.ensures.closing read.literal by.1),
+          (plain_of c.new.result c.args.text.now c.new.ensures.opening c.new.ensures.closing read.literal by.2),
     )
 
 pub returns-in-None-clause-none : goal.returns-in-None-clause-none

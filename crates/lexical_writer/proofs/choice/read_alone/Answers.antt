@@ -2,6 +2,4 @@
 use Rattle.lexical_writer.proofs.choice.read_alone.Goals as goal
 
 pub returns-then-is_worth : goal.returns-then-is_worth
-returns-then-is_worth g c =
-    let both = c.in-Some.ensures.some in
-    (c.in-Some.literal, c.in-Some.field-0-0, both.0, both.1, c.is_worth.ensures.worth c.if-is_worth.true)
+returns-then-is_worth g c = (c.in-Some.literal, c.in-Some.field-0-0, c.in-Some.ensures.some, c.is_worth.ensures.worth c.if-is_worth.true)

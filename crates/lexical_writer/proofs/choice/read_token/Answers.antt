@@ -11,7 +11,7 @@ pub returns-then-is_worth : goal.returns-then-is_worth
 returns-then-is_worth g c =
     let token = c.in-Ok.token in (
       token,
-      λ unmarked. subst (IsReadByTokens c.args.forms.now c.args.forms.now.tokens c.args.text.now) c.in-Ok.is (c.token.ensures unmarked),
+      subst (IsReadByTokens c.args.forms.now c.args.forms.now.tokens c.args.text.now) c.in-Ok.is c.token.ensures,
       (bytes_decides token.suffix.now c.args.word.now).0 (sym c.eq.ensures ∙ c.if-eq.true),
       nil_from_length token.rest.now (is_none (length token.rest.now) c.is_empty.result c.is_empty.ensures c.if-is_empty.true),
       c.is_worth.ensures.worth c.if-is_worth.true,

@@ -23,8 +23,7 @@ returns-then-index-eq0-clause-value g c =
     let first = first_reads c.args.forms.now.forms form c.args.text.now l c.args.index c.requires.form c.if-index-eq0.true c.requires.unmarked reads in (
       record { format = form.syntax.word; literal = l; kind = form.kind },
       c.args.index,
-      first.0,
-      first.1,
+      first,
       c.is_plain-plain.ensures.plain c.if-plain.true _ (sym c.kind.ensures) (ap (λ (g : Grammar). g.word) (sym c.syntax-syntax.ensures)) (sym float)
           (subst (λ s. g.N.Writable.writes c.args.number.now c.args.style s (Ok l)) (sym c.syntax-syntax.ensures) has),
     )
@@ -35,18 +34,17 @@ returns-then-plain-form-clause-value g c =
     let text = c.args.text.now in
     let form = c.args.form.now in
     let literal = c.in-Some.literal in
-    let both = c.in-Some.ensures.some in
+    let first = c.in-Some.ensures.some in
     let here = ap (slice_get c.args.forms.now.forms) (eqb-true c.in-Some.form c.args.index (and_right _ _ c.if-plain-form.true)) ∙ c.requires.form in
-    let by : ReadsForm text literal form = subst (λ o. IsSomeAnd o (ReadsForm text literal)) here both.0.reads in
+    let by : ReadsForm text literal form = subst (λ o. IsSomeAnd o (ReadsForm text literal)) here first.reads in
     let lawful : IsSyntax form.syntax = search rules in
     let same : l ≡ literal.literal = c.literal_facts.ensures.one_reading form.syntax lawful l literal.literal text reads
-    (plain_of form text c.requires.unmarked.0 c.requires.unmarked.1 literal.literal by.1) in (
+    (plain_of form text c.requires.unmarked.0 c.requires.unmarked.1 literal.literal by.2) in (
       literal,
       c.in-Some.form,
-      both.0,
-      both.1,
+      first,
       c.is_plain-plain.ensures.plain (and_first _ _ c.if-plain-form.true) literal
-          (subst (λ o. IsSomeAnd o (λ (form : Form). literal.kind ≡ form.kind)) here both.1 ∙ sym c.kind.ensures)
+          (by.1 ∙ sym c.kind.ensures)
           (by.0 ∙ sym (ap (λ (g : Grammar). g.word) c.syntax-syntax.ensures)) (ap is_float (sym same) ∙ sym float)
           (subst (λ l. g.N.Writable.writes c.args.number.now c.args.style c.syntax-syntax.result (Ok l)) same
           (subst (λ s. g.N.Writable.writes c.args.number.now c.args.style s (Ok l)) (sym c.syntax-syntax.ensures) has)),
@@ -57,14 +55,13 @@ returns-then-is_read_as-clause-value g c =
     let (l, reads, has, float) = c.requires.written in
     let text = c.args.text.now in
     let own = c.in-Some-own_literal.own in
-    let both = c.in-Some.ensures.some in
+    let first = c.in-Some.ensures.some in
     let lawful : IsSyntax c.syntax-syntax.result = search rules in
     let same : l ≡ own.literal = c.literal_facts.ensures.one_reading c.syntax-syntax.result lawful l own.literal text
     (subst (λ (g : Grammar). Reads (notation_of g) l text) (sym c.syntax-syntax.ensures) reads) c.in-Some-own_literal.ensures.some.2 in (
       c.in-Some.literal,
       c.in-Some.form,
-      both.0,
-      both.1,
+      first,
       c.is_read_as.ensures.same c.if-is_read_as.true c.in-Some-own_literal.ensures.some.0 c.syntax-syntax.result c.in-Some-own_literal.ensures.some.1
           (subst (λ l. g.N.Writable.writes c.args.number.now c.args.style c.syntax-syntax.result (Ok l)) same
           (subst (λ s. g.N.Writable.writes c.args.number.now c.args.style s (Ok l)) (sym c.syntax-syntax.ensures) has)),
@@ -86,21 +83,20 @@ returns-clause-error g c =
     let form = c.args.form.now in
     let literal = c.in-Some.literal in
     let keeps = g.N.Writable.keeps c.args.number.now c.args.style in
-    let both = c.in-Some.ensures.some in
+    let first = c.in-Some.ensures.some in
     let other : keeps false literal → ⊥ = c.is_read_as.ensures.kept c.if-is_read_as.false in (
       c.in-Some.form,
       literal,
-      both.0,
-      both.1,
+      first,
       by_own (λ own. keeps own literal → ⊥) other (c.in-Some.form == c.args.index) (λ same kept.
           let here : slice_get c.args.forms.now.forms c.in-Some.form ≡ Some form =
           ap (slice_get c.args.forms.now.forms) (eqb-true c.in-Some.form c.args.index same) ∙ c.requires.form in
-          let by : ReadsForm text literal form = subst (λ o. IsSomeAnd o (ReadsForm text literal)) here both.0.reads in
+          let by : ReadsForm text literal form = subst (λ o. IsSomeAnd o (ReadsForm text literal)) here first.reads in
           let lawful : IsSyntax form.syntax = search rules in
           let one : l ≡ literal.literal = c.literal_facts.ensures.one_reading form.syntax lawful l literal.literal text reads
-          (plain_of form text c.requires.unmarked.0 c.requires.unmarked.1 literal.literal by.1) in
+          (plain_of form text c.requires.unmarked.0 c.requires.unmarked.1 literal.literal by.2) in
           other (c.is_plain-plain.ensures.kept (and_left _ _ c.if-plain-form.false same) literal
-          (subst (λ o. IsSomeAnd o (λ (form : Form). literal.kind ≡ form.kind)) here both.1 ∙ sym c.kind.ensures)
+          (by.1 ∙ sym c.kind.ensures)
           (by.0 ∙ sym (ap (λ (g : Grammar). g.word) c.syntax-syntax.ensures)) (ap is_float (sym one) ∙ sym float) kept)),
       c.mismatch.ensures,
     )

@@ -74,7 +74,7 @@ impl Integer for u32 {
 impl Integer for u64 {
     #[inline(always)]
     fn from_numeral(numeral: &Numeral) -> Option<u64> {
-        numeral.as_u64()
+        numeral.size(0, u64::MAX)
     }
 
     fn sign_and_size(self) -> (bool, u128) {

@@ -35,13 +35,6 @@ pub const fn fits(radix: u32, digits: usize) -> bool {
     digits <= if radix <= 36 { MOST[radix as usize] as usize } else { 0 }
 }
 
-/// Returns the number that the digits of `sum` and one more represent, modulo `2 ^ 64`.
-#[must_use]
-#[inline(always)]
-pub const fn add(sum: u64, radix: u64, digit: u32) -> u64 {
-    sum.wrapping_mul(radix).wrapping_add(digit as u64)
-}
-
 /// Returns the number that the digits of `bytes` represent after those of `before`, modulo `2 ^ 64`. Other bytes are skipped.
 #[must_use]
 pub const fn add_all(before: u64, bytes: &[u8], radix: u32) -> u64 {
@@ -49,7 +42,7 @@ pub const fn add_all(before: u64, bytes: &[u8], radix: u32) -> u64 {
     let mut index = 0;
     while index < bytes.len() {
         if let Some(digit) = char_to_digit(bytes[index], radix) {
-            sum = add(sum, radix as u64, digit);
+            sum = sum.wrapping_mul(radix as u64).wrapping_add(digit as u64);
         }
         index += 1;
     }

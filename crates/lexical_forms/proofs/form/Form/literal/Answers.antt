@@ -14,7 +14,7 @@ pub returns-then-is_whole-clause-some : goal.returns-then-is_whole-clause-some
 returns-then-is_whole-clause-some c =
     let is = whole_read _ c.in-Some.inside.now c.begin-begun.result.counts (c.is_whole.ensures.measured c.if-is_whole.true) c.literal.result
     c.literal.ensures in
-    (is.0, c.in-Some.ensures.some.around c.literal.result.literal is.1)
+    (is.0, refl, c.in-Some.ensures.some.around c.literal.result.literal is.1)
 
 pub summed-requires : goal.summed-requires
 summed-requires c = measured_cut _ c.in-Some.inside.now c.in-Ok.counts c.in-Ok.ensures.some
@@ -22,7 +22,7 @@ summed-requires c = measured_cut _ c.in-Some.inside.now c.in-Ok.counts c.in-Ok.e
 pub returns-in-Ok-clause-some : goal.returns-in-Ok-clause-some
 returns-in-Ok-clause-some c =
     let is = whole_read _ c.in-Some.inside.now c.in-Ok.counts c.in-Ok.ensures.some c.summed.result c.summed.ensures in
-    (is.0, c.in-Some.ensures.some.around c.summed.result.literal is.1)
+    (is.0, refl, c.in-Some.ensures.some.around c.summed.result.literal is.1)
 
 pub returns-in-Err-clause-none : goal.returns-in-Err-clause-none
 returns-in-Err-clause-none c _ = λ l reads. c.in-Err.ensures.none refl l (c.in-Some.ensures.some.within l reads)

@@ -38,10 +38,11 @@ token_at-requires-clause-leading c =
       size_is = longest.2;
       own = inr (
         subst (IsWithin (notation_of it.syntax) text) one c.requires.stopped.valid.no_longer,
-        subst (λ n. gives_back back (notation_of it.syntax) text n ≡ true) one c.requires.gives,
+        subst (λ n. gives_back back it text n ≡ true) one c.requires.gives,
       );
       plain = subst (λ (l : FormList). AreNear back l.forms c.args.form text (stop.size - 1)) c.self.view_is
           (c.are_past.ensures c.if-are_past.true (omega (arith, sign, reached)));
       suffixed = c.are_past-then-are_past.ensures c.if-are_past-2.true (omega (arith, sign, reached));
       before = (c.args.reached, reached, c.requires.before);
+      bare = c.requires.plain;
     })

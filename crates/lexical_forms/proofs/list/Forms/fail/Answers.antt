@@ -1,26 +1,26 @@
 -- The word where the form that goes furthest stops is a literal.
-use Rattle.lexical_forms.proofs.Common.{IsFormError, IsFurthestForm, NoForm, [], ap, subst, sym, word_size, ◌+◌, ◌∙◌}
-use Rattle.lexical_forms.proofs.TokenLemmas.{some_form}
+use Rattle.lexical_forms.proofs.Common.{FormList, GoesTo, IsFormError, IsGreatest, NoForm, [], ap, subst, sym, word_size, ℕ, ◌+◌, ◌∙◌}
+use Rattle.lexical_forms.proofs.TokenLemmas.{some_of_form}
 use Rattle.lexical_forms.proofs.list.Forms.fail.Goals as goal
 
 pub returns-in-Err : goal.returns-in-Err
 returns-in-Err c =
-    let furthest = subst (IsFurthestForm c.args.self.now.forms c.args.text.now) c.in-Some.is c.requires.furthest in
-    let stop = c.in-Some.stop.size in (
-      c.requires.refused,
+    let stop = c.furthest_stop-size.result in
+    let furthest = subst (λ (l : FormList). (i : ℕ) × IsGreatest (GoesTo c.args.text.now) l.forms i stop) c.self.view_is c.furthest_stop-size.ensures in (
+      c.requires,
       (
         stop + c.word_size.result,
-        (c.in-Some.field-0-0, stop, furthest.0, ap (λ n. stop + n) (c.word_size.ensures.size ∙ ap (word_size []) c.split_at.ensures.back)),
+        (furthest.0, stop, furthest.1, ap (λ n. stop + n) (c.word_size.ensures.size ∙ ap (word_size []) c.split_at.ensures.back)),
         subst (λ t. IsFormError c.args.self.now.forms t c.error_at.result) c.split_at-2.ensures.front c.error_at.ensures,
       ),
     )
 
 pub returns-in-Ok : goal.returns-in-Ok
 returns-in-Ok c =
-    let furthest = subst (IsFurthestForm c.args.self.now.forms c.args.text.now) c.in-Some.is c.requires.furthest in
-    let stop = c.in-Some.stop.size in (
-      c.requires.refused,
-      (c.in-Some.field-0-0, stop, furthest.0, ap (λ n. stop + n) (c.word_size.ensures.size ∙ ap (word_size []) c.split_at.ensures.back)),
-      λ none. some_form c.args.self.now.forms c.split_at-2.result.0.now c.in-Ok.field-0.0 c.in-Ok.field-0.1 c.in-Ok.ensures.found
+    let stop = c.furthest_stop-size.result in
+    let furthest = subst (λ (l : FormList). (i : ℕ) × IsGreatest (GoesTo c.args.text.now) l.forms i stop) c.self.view_is c.furthest_stop-size.ensures in (
+      c.requires,
+      (furthest.0, stop, furthest.1, ap (λ n. stop + n) (c.word_size.ensures.size ∙ ap (word_size []) c.split_at.ensures.back)),
+      λ none. some_of_form c.args.self.now.forms c.split_at-2.result.0.now c.in-Ok.field-0.0 c.in-Ok.field-0.1 c.in-Ok.ensures.found
           (subst (NoForm c.args.self.now.forms) (sym c.split_at-2.ensures.front) none),
     )

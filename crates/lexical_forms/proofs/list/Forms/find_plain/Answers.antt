@@ -43,7 +43,7 @@ returns-then-is_whole c =
     (subst (λ (l : FormList). have_marks l.forms ≡ false) (sym c.self.view_is) c.requires.plain) in
     let is = whole_read _ text c.begin-begun.result.counts (c.is_whole.ensures.measured c.if-is_whole.true) c.literal.result c.literal.ensures in
     rw (← c.self.view_is) (found_is c.self.inside.forms.now text c.loop-form.form c.index-self-form.result c.literal.result
-    c.loop-form-test.true (is.0, plain_in g text plain.0 plain.1 c.literal.result.literal is.1) c.loop-form.invariant.0)
+    c.loop-form-test.true (is.0, refl, plain_in g text plain.0 plain.1 c.literal.result.literal is.1) c.loop-form.invariant.0)
 
 pub returns-in-Ok : goal.returns-in-Ok
 returns-in-Ok c =
@@ -52,7 +52,7 @@ returns-in-Ok c =
     (subst (λ (l : FormList). have_marks l.forms ≡ false) (sym c.self.view_is) c.requires.plain) in
     let is = whole_read _ text c.in-Ok.counts c.in-Ok.ensures.some c.summed.result c.summed.ensures in
     rw (← c.self.view_is) (found_is c.self.inside.forms.now text c.loop-form.form c.index-self-form.result c.summed.result
-    c.loop-form-test.true (is.0, plain_in g text plain.0 plain.1 c.summed.result.literal is.1) c.loop-form.invariant.0)
+    c.loop-form-test.true (is.0, refl, plain_in g text plain.0 plain.1 c.summed.result.literal is.1) c.loop-form.invariant.0)
 
 pub further_on-furthest-requires-clause-refused : goal.further_on-furthest-requires-clause-refused
 further_on-furthest-requires-clause-refused c =

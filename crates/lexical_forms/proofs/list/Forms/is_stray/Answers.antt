@@ -1,6 +1,6 @@
 -- The reach of a form at the index.
-use Rattle.lexical_forms.proofs.Common.{Bool, Form, IsRefusedAt, List, Reaches, if◌then◌else◌, subst, sym, ℕ, ◌*◌, ◌+◌, ◌≡◌}
-use Rattle.lexical_forms.proofs.FormLemmas.{at_index, form_at, inside_of}
+use Rattle.lexical_forms.proofs.Common.{Bool, Form, List, Reaches, if◌then◌else◌, subst, ℕ, ◌*◌, ◌+◌, ◌≡◌}
+use Rattle.lexical_forms.proofs.FormLemmas.{at_index, inside_of}
 use Rattle.lexical_forms.proofs.list.Forms.is_stray.Goals as goal
 
 abbrev Has : List ℕ → ℕ → Bool → Form → Type 0

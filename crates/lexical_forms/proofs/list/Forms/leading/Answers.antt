@@ -1,5 +1,6 @@
 -- The first form with a literal behind which no literal goes on.
-use Rattle.lexical_forms.proofs.Common.{All, FormList, FrontsWithin, Grammar, IsTrue, IsWithin, NoFrontPast, Some, ap, arith, cuts_of, get_or, if◌then◌else◌}
+use Rattle.lexical_forms.proofs.Common.{All, AreBare, FormList, FrontsWithin, Grammar, IsTrue, IsWithin, NoFrontPast, Some, ap, arith, cuts_of, get_or}
+use Rattle.lexical_forms.proofs.Common.{if◌then◌else◌}
 use Rattle.lexical_forms.proofs.Common.{inl, length, nat_tests, notation_of, raw, slice_get, slice_get-get_or, subst, sym, take, ◌+◌, ◌-◌, ◌≡◌}
 use Rattle.lexical_forms.proofs.LeadingLemmas.{front_of, fronts_more, fronts_past, near_more, sums_of_front, within_more}
 use Rattle.lexical_forms.proofs.list.Forms.leading.Goals as goal
@@ -27,6 +28,7 @@ token_at-requires-clause-leading c =
       plain = c.are_past.ensures c.if-are_past.true (omega (arith, low, reached));
       suffixed = c.are_past-then-are_past.ensures c.if-are_past-2.true (omega (arith, low, reached));
       before = (c.loop-form.reached, reached, c.loop-form.invariant.fronts);
+      bare = subst (λ (l : FormList). AreBare l c.args.tokens.now) (sym c.self.view_is) c.requires.plain;
     })
 
 pub before_point-requires-clause-at : goal.before_point-requires-clause-at

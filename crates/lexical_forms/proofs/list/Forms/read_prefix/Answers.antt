@@ -1,6 +1,6 @@
 -- The front has the parts that were counted.
-use Rattle.lexical_forms.proofs.Common.{Form, IsFrontIn, IsSomeAnd, ReadsFrontBy, ReadsIn, Some, ap, arith, behind, front_cut, front_read, length}
-use Rattle.lexical_forms.proofs.Common.{length-take-le, slice_get, subst, sym, ◌+◌, ◌-◌, ◌∙◌, ◌≡◌}
+use Rattle.lexical_forms.proofs.Common.{Form, IsFrontIn, IsSomeAnd, ReadsForm, ReadsIn, Some, ap, arith, behind, front_cut, front_read, length, length-take-le}
+use Rattle.lexical_forms.proofs.Common.{slice_get, subst, sym, take, ◌+◌, ◌-◌, ◌∙◌, ◌≡◌}
 use Rattle.lexical_forms.proofs.FormLemmas.{form_at, inside_of}
 use Rattle.lexical_forms.proofs.MarkLemmas.{front_in, inner_is, read_in}
 use Rattle.lexical_forms.proofs.list.Forms.read_prefix.Goals as goal
@@ -33,20 +33,13 @@ returns-in-Ok c =
     let is = front_read g.syntax (behind g text) c.inner.result.now (found.size - (g.opening.size + g.closing.size)) found.counts
     (inner_is g text found form.1 c.split_at.result.0.now c.inner.result.now c.split_at.ensures.front c.inner.ensures) form.1.front read
     c.summed.ensures in
-    let own = c.of_form-literal.result in
-    record {
-      found = (
-        found.size,
-        (
-          c.in-Ok.ensures.longest,
-          c.of_form-literal.ensures.kind,
-          subst (λ o. IsSomeAnd o (λ (g : Form). (own.format ≡ g.syntax.word) × ReadsFrontBy (ReadsIn g) own.literal text found.size)) (sym form.0) (
-            c.of_form-literal.ensures.format ∙ is.0,
-            subst (λ l. ReadsFrontBy (ReadsIn g) l text found.size) (sym c.of_form-literal.ensures.literal)
-                (read_in g text found read.literal form.1 is.1),
-          ),
-        ),
-        c.split_at.ensures.back,
-      );
-      error = tt;
-    }
+    let own = c.of_form-literal.result in (
+      found.size,
+      c.in-Ok.ensures.longest,
+      subst (λ o. IsSomeAnd o (ReadsForm (take found.size text) own)) (sym form.0) (
+        c.of_form-literal.ensures.format ∙ is.0,
+        subst (λ o. IsSomeAnd o (λ (g : Form). own.kind ≡ g.kind)) form.0 c.of_form-literal.ensures.kind,
+        subst (λ l. ReadsIn g l (take found.size text)) (sym c.of_form-literal.ensures.literal) (read_in g text found read.literal form.1 is.1).reads,
+      ),
+      c.split_at.ensures.back,
+    )

@@ -1,5 +1,5 @@
 -- The invariant has the number.
-use Rattle.lexical_literal.proofs.Common.{IfSome, IsShort, IsSome, Read, cut, cuts_of, effective_exponent_radix, exponent, raw, subst, sym, ◌≡◌}
+use Rattle.lexical_literal.proofs.Common.{IfSome, Read, cut, cuts_of, exponent, raw, subst, sym, ◌≡◌}
 use Rattle.lexical_literal.proofs.literal.Literal.scale.Goals as goal
 
 pub returns-clause-value : goal.returns-clause-value

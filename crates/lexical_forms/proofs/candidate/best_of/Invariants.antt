@@ -1,13 +1,9 @@
 use Rattle.lexical_forms.proofs.Common.{length, ◌-◌}
-use Rattle.lexical_forms.proofs.FormLemmas.{IsBest, goes}
 use Rattle.lexical_forms.proofs.TokenLemmas.{IsBestYet}
-use Rattle.lexical_forms.proofs.token.scan.Given as goal
+use Rattle.lexical_forms.proofs.candidate.best_of.Given as goal
 
 abbrev pub invariant-loop-form : goal.invariant-loop-form
-invariant-loop-form l = record {
-  furthest : IsBest (goes l.text) l.forms l.form l.furthest;
-  best : IsBestYet l.back l.needs l.forms l.text l.form l.best;
-}
+invariant-loop-form l = IsBestYet l.back l.needs l.forms l.text l.form l.best
 
 abbrev pub decreases-loop-form : goal.decreases-loop-form
 decreases-loop-form l = length l.forms - l.form

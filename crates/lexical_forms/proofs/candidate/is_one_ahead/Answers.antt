@@ -1,8 +1,7 @@
 -- The forms before have no literal that goes on.
-use Rattle.lexical_forms.proofs.Common.{All, All-more, IsAhead, refl, subst, sym, take_all}
-use Rattle.lexical_forms.proofs.FormLemmas.{at_index}
-use Rattle.lexical_forms.proofs.TokenLemmas.{ahead, not_ahead}
-use Rattle.lexical_forms.proofs.token.is_one_ahead.Goals as goal
+use Rattle.lexical_forms.proofs.Common.{All, All-more, IsAhead, subst, sym, take_all}
+use Rattle.lexical_forms.proofs.TokenLemmas.{not_ahead}
+use Rattle.lexical_forms.proofs.candidate.is_one_ahead.Goals as goal
 
 pub loop-form-preserved : goal.loop-form-preserved
 loop-form-preserved c =

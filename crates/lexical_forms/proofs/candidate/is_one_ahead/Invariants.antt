@@ -1,5 +1,5 @@
 use Rattle.lexical_forms.proofs.Common.{All, IsAhead, length, take, ◌-◌}
-use Rattle.lexical_forms.proofs.token.is_one_ahead.Given as goal
+use Rattle.lexical_forms.proofs.candidate.is_one_ahead.Given as goal
 
 abbrev pub invariant-loop-form : goal.invariant-loop-form
 invariant-loop-form l = All (λ form. IsAhead l.back l.text l.end form → ⊥) (take l.form l.forms)
