@@ -607,8 +607,7 @@ const fn suffix(
     ensures summed { IsSummed (raw grammar.word) text.now result }
 {
     let Stopped { size, read } = at;
-    let mut at = at;
-    let mut suffix = 0;
+    let (mut at, mut suffix) = (at, 0);
     if size < text.len()
         && grammar.view().is_base_suffix(text[size])
         && takes(grammar, read, false, Role::Suffix)

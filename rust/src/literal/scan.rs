@@ -344,8 +344,7 @@ const fn suffix(
     exponent: Sum,
 ) -> Begun {
     let Stopped { size, read } = at;
-    let mut at = at;
-    let mut suffix = 0;
+    let (mut at, mut suffix) = (at, 0);
     if size < text.len() && grammar.view().is_base_suffix(text[size]) && takes(grammar, read, false, Role::Suffix) {
         at = Stopped { size: size + 1, read: Summary { ended: true, ..read } };
         suffix = 1;
