@@ -1042,6 +1042,8 @@ class _Reader(_peltzivar.Reader):
         fill = fill if fill is not None else 0 if is_left else Decimal("NaN") if type is Decimal else math.nan
         try:
             filling: Any = array(kind, [cast(Any, fill)])
+            if type is not Decimal and math.isinf(filling[0]) and filling[0] != fill:
+                raise OverflowError
         except OverflowError:
             raise ValueError(f"fill is not a value of the column: {fill!r}") from None
         values = array(kind, bytes(size * len(status))) if out is None else out

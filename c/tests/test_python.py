@@ -540,6 +540,8 @@ WRONG = [
     ("Special('x', Spelling.NAN)", ValueError, "sign must be '+', '-' or empty, not 'x'"),
     ("Special('', 'nan')", TypeError, "spelling must be a Spelling, not str"),
     ("Language.JSON.column(['1'], int, fill=2**63)", ValueError, "fill is not a value of the column: 9223372036854775808"),
+    ("Language.JSON.column(['1'], 'f', fill=1e300)", ValueError, "fill is not a value of the column: 1e+300"),
+    ("Language.JSON.column(['1'], fill=Decimal('-1e400'))", ValueError, "fill is not a value of the column: Decimal('-1E+400')"),
     ("Language.C.token('1', -1)", ValueError, "start must be an index of the text"),
     ("Language.JSON.token('1')", ValueError, "these forms have no tokens"),
     ("Language.CSV_DE.format_column([1], colour=7)", TypeError, "format_column() got an unexpected keyword argument 'colour'"),
