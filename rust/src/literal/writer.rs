@@ -370,12 +370,12 @@ impl<'a> Forms<'a> {
             None => {
                 let Chosen { form, word, style, .. } = self.choose_long(literal, style, |chosen, _| chosen)?;
                 let form = &self[form];
-                Ok(Written {
-                    opening: form.opening(),
-                    closing: form.closing(),
-                    word,
-                    ..form.syntax().format_literal(literal, style)?
-                })
+                let mut written = form.syntax().format_literal(literal, style)?;
+                if let Text::Value(value) = &mut written.text {
+                    // Its short text lacks the opening and the closing.
+                    value.length = usize::MAX;
+                }
+                Ok(Written { opening: form.opening(), closing: form.closing(), word, ..written })
             }
             Some(Other::Integer(value)) => self.format_integer(value, style),
             Some(Other::Single(value)) => self.format_value(&Real { value }, Value::of_float(value), style),

@@ -1,0 +1,100 @@
+//! What lists write: the text that they read back as the number, with its opening, its closing and its word.
+
+#[path = "../../compare/rust/src/random.rs"]
+mod random;
+
+use peltzivar::literal::{ExponentStyle, Kind, Language, Literal, Number, Style, ValueErrorKind, WriteError, Written};
+use peltzivar::Part;
+use random::Random;
+use std::collections::BTreeSet;
+
+/// Styles that do not round. Each is also tried with the wish `nearest`.
+const STYLES: [Style; 5] = [
+    Style::PLAIN,
+    Style::PLAIN.group(3).fraction_group(2).lowercase(),
+    Style::PLAIN.without_base().min_digits(5),
+    Style::PLAIN.exponent(ExponentStyle::Never),
+    Style::PLAIN.exponent(ExponentStyle::Always).point(),
+];
+
+/// A literal and its exact number: the sign, and the size of a whole number of up to 128 bits, or else the radix, the digits
+/// without zeros at both ends, and the exponent of the last one. Digits of a radix that is a power of two are bits.
+type Given<'a> = (Literal<'a>, (bool, Result<u128, (u32, Vec<u32>, i128)>));
+
+/// Returns the literal of a language that a text is.
+fn read(language: Language, text: &str) -> Option<Given<'_>> {
+    let Ok(Number::Literal { literal, form }) = language.read(text) else { return None };
+    let (own, base) = (literal.radix(Part::Integer), language.forms()[form].syntax().format().exponent_base());
+    let (radix, width) = if own.is_power_of_two() { (2, own.ilog2()) } else { (own, 1) };
+    let split = |digit: u8| (0..width).rev().map(move |it| u32::from(digit) / radix.pow(it) % radix);
+    let digits = literal.digits(Part::Integer).chain(literal.digits(Part::Fraction)).flat_map(split);
+    let mut digits = Vec::from_iter(digits.skip_while(|digit| *digit == 0));
+    let zeros = digits.iter().rev().take_while(|digit| **digit == 0).count();
+    digits.truncate(digits.len() - zeros);
+    let (places, ten) = (literal.digits(Part::Fraction).count() as i128, i128::from(literal.radix(Part::Exponent)));
+    let power = literal.digits(Part::Exponent).fold(0, |power, digit| power * ten + i128::from(digit));
+    assert!(power == 0 || radix.pow(base.ilog(radix)) == base, "{text} of {language}");
+    let power = if literal.exponent_sign() == b"-" { -power } else { power } * i128::from(base.ilog(radix));
+    let last = if digits.is_empty() { 0 } else { power + zeros as i128 - places * i128::from(width) };
+    let unit = u32::try_from(last).ok().and_then(|last| u128::from(radix).checked_pow(last));
+    let add = |size: u128, digit: &u32| size.checked_mul(radix.into())?.checked_add((*digit).into());
+    let whole = digits.iter().try_fold(0, add).and_then(|size| size.checked_mul(unit?));
+    Some((literal, (literal.is_negative(), whole.ok_or((radix, digits, last)))))
+}
+
+/// Returns whether a literal that is written for another one is the same number: exactly, or as its nearest `f64` with the wish
+/// `nearest`, and if its kind makes it another number. The kinds of both count.
+fn is_same((own, number): &Given, (back, other): &Given, nearest: bool) -> bool {
+    let float = |literal: Literal| literal.to_f64().map(f64::to_bits).map_err(|error| error.kind());
+    let floats = [float(*own), float(*back)];
+    if floats[0].is_ok() && floats[0] == floats[1] {
+        number == other || nearest || float(own.with_kind(Kind::EXACT)) != floats[0]
+    } else {
+        number == other && floats.contains(&Err(ValueErrorKind::UnsupportedRadix))
+    }
+}
+
+/// Returns whether a text fits a buffer of its size, and is refused with its size by a buffer of one byte less.
+fn fits(written: &Written, text: &[u8]) -> bool {
+    let buffer = &mut vec![0; text.len()];
+    written.write_into(&mut buffer[1..]) == Err(WriteError::Buffer(text.len()))
+        && written.write_into(buffer).map(str::as_bytes) == Ok(text)
+}
+
+/// Returns how a language writes a literal, where it does not read this back as the number, or where calls differ.
+fn faults(given: &Given, language: Language) -> Vec<String> {
+    let fault = |style: Style| {
+        let written = language.forms().format_literal(&given.0, style).ok()?;
+        let text = written.to_string();
+        let is_same = read(language, &text).is_some_and(|back| is_same(given, &back, style.nearest));
+        let is_right = is_same && format!("{written:>40}") == format!("{text:>40}") && fits(&written, text.as_bytes());
+        (!is_right).then(|| format!("{:?} is {text} in {language}, by {style:?}", given.0))
+    };
+    STYLES.into_iter().chain(STYLES.map(Style::nearest)).filter_map(fault).collect()
+}
+
+/// Returns the recorded texts.
+fn texts() -> impl Iterator<Item = &'static str> {
+    include_str!("known/languages.txt").lines().filter_map(|row| row.split(' ').nth(2))
+}
+
+#[test]
+fn some_texts_are_read_back_as_the_number() {
+    let (random, texts) = (&mut Random::new(20_261_203), Vec::from_iter(texts()));
+    for _ in 0..80_000 {
+        let given = read(random.pick(Language::ALL), random.pick(&texts)).filter(|given| given.0.is_float());
+        assert_eq!(given.map_or(vec![], |given| faults(&given, random.pick(Language::ALL))), [""; 0]);
+    }
+}
+
+#[test]
+#[ignore = "compare/languages/run --back runs it in two minutes"]
+fn all_texts_are_read_back_as_the_number() {
+    let mut all = Vec::new();
+    for text in BTreeSet::from_iter(texts()) {
+        for given in Language::ALL.iter().filter_map(|it| read(*it, text)).filter(|given| given.0.is_float()) {
+            all.extend(Language::ALL.iter().flat_map(|language| faults(&given, *language)));
+        }
+    }
+    assert!(all.is_empty(), "{} texts: {all:#?}", all.len());
+}
