@@ -3,7 +3,10 @@
 #[path = "../../compare/rust/src/random.rs"]
 mod random;
 
-use peltzivar::literal::{ExponentStyle, Kind, Language, Literal, Number, Style, ValueErrorKind, WriteError, Written};
+use peltzivar::literal::{
+    ExponentStyle, FloatKind, Form, Forms, IntegerKind, Kind, Language, Literal, Number, Style, Suffixes, Syntax,
+    Tokens, ValueErrorKind, WriteError, Written,
+};
 use peltzivar::Part;
 use random::Random;
 use std::collections::BTreeSet;
@@ -97,4 +100,39 @@ fn all_texts_are_read_back_as_the_number() {
         }
     }
     assert!(all.is_empty(), "{} texts: {all:#?}", all.len());
+}
+
+/// Lists write to buffers of 40 bytes and of 4,096.
+#[test]
+fn a_text_with_an_opening_or_a_closing_may_fill_a_buffer() {
+    for form in Language::ALL.iter().flat_map(Language::forms).filter(|it| it.is_marked()) {
+        let forms = [form.only_read(false).with_kind(Kind::EXACT)];
+        let list = Forms::new_or_panic(&forms);
+        let [opening, closing] = [form.opening(), form.closing()].map(|it| it.as_bytes().to_vec());
+        for size in [40, 41, 4096] {
+            let text = [&opening, &*b"1".repeat(size - opening.len() - closing.len()), &closing].concat();
+            let literal = list.read(&text).unwrap().literal().unwrap();
+            assert!(fits(&list.format_literal(&literal, Style::PLAIN).unwrap(), &text));
+            assert_eq!(list.written(&literal, Style::PLAIN, |text| text.to_vec()), Ok(text.clone()));
+        }
+    }
+}
+
+/// Returns the kind of integers that wrap at so many bits.
+const fn wraps(bits: u8) -> Kind {
+    Kind::new(IntegerKind::Wraps(bits), FloatKind::Nearest).unwrap()
+}
+
+#[test]
+fn an_integer_has_the_first_word_with_which_it_is_the_number() {
+    const WORDS: Suffixes = Suffixes::new(&[b"s", b"l"], &[], &[]).with_kinds(&[(b"s", wraps(16)), (b"l", wraps(32))]);
+    static ORDERS: [Suffixes; 2] = [WORDS.with_written(&[b"s", b"l"]), WORDS.with_written(&[b"l", b"s"])];
+    let tokens = Tokens::new(&[], &[]);
+    for (suffixes, first) in ORDERS.iter().zip(["s", "l"]) {
+        let form = [Form::new("", Syntax::default()).with_kind(wraps(8)).with_suffixes(suffixes)];
+        let list = Forms::new_or_panic(&form).with_tokens(&tokens);
+        for (value, word) in [(127, ""), (128, first), (32_768, "l")] {
+            assert_eq!(list.format_integer(value, Style::PLAIN).unwrap().to_string(), format!("{value}{word}"));
+        }
+    }
 }
