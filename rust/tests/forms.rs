@@ -211,7 +211,7 @@ fn a_long_text_is_used_or_leaves_a_short_one() {
     let hexadecimal = Syntax::integers(NumberFormatBuilder::new().mantissa_radix(16).build_format_or_panic());
     let decimal = Syntax::new_or_panic(Format::default(), b'e', b'.');
     let [long, decimal, hexadecimal] = [long, decimal, hexadecimal].map(|it| Form::new("", it));
-    let few = [long.with_kind(Kind::new(IntegerKind::AtMost(32), FloatKind::Single).unwrap()), decimal, hexadecimal];
+    let few = [long.with_kind(Kind::new(IntegerKind::Unsigned(32), FloatKind::Single).unwrap()), decimal, hexadecimal];
     let grouped = |digits: String| {
         let groups = digits.as_bytes().rchunks(2).rev().map(|it| std::str::from_utf8(it).unwrap());
         Vec::from_iter(groups).join("_")

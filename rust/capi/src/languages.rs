@@ -67,9 +67,10 @@ pub struct KindNumbers {
 /// Returns the numbers of a kind.
 pub const fn numbers_of(kind: Kind) -> KindNumbers {
     let (integers, bits) = match kind.integers() {
-        IntegerKind::AtMost(bits) => (1, bits),
+        IntegerKind::Signed(bits) => (1, bits),
         IntegerKind::Wraps(bits) => (2, bits),
         IntegerKind::WrapsModulo(bits) => (3, bits),
+        IntegerKind::Unsigned(bits) => (4, bits),
         _ => (0, 0),
     };
     let limits = match kind.limits() {
@@ -87,9 +88,10 @@ impl KindNumbers {
     pub fn kind(self) -> Option<Kind> {
         let integers = match (self.integers, self.bits) {
             (0, 0) => IntegerKind::Exact,
-            (1, bits) => IntegerKind::AtMost(bits),
+            (1, bits) => IntegerKind::Signed(bits),
             (2, bits) => IntegerKind::Wraps(bits),
             (3, bits) => IntegerKind::WrapsModulo(bits),
+            (4, bits) => IntegerKind::Unsigned(bits),
             _ => return None,
         };
         let floats = [FloatKind::Nearest, FloatKind::Single].get(usize::from(self.floats))?;
