@@ -126,7 +126,7 @@ pub(crate) const fn is_exact(kind: IntegerKind) -> bool
     matches!(kind, IntegerKind::Exact)
 }
 
-// Returns whether an integer is known to be worth the number that its digits represent. Of each kind, one of 63 bits is.
+// Returns whether an integer is known to be worth the number that its digits represent: one of fewer bits, and with a sign that its kind has.
 #[inline(always)]
 #[tactic(auto, using(crate::proofs::KindLemmas::modulo_keeps, crate::proofs::KindLemmas::signed_keeps, crate::proofs::KindLemmas::unsigned_keeps, crate::proofs::KindLemmas::wraps_keeps))]
 pub(crate) const fn keeps(kind: IntegerKind, numeral: &Numeral) -> bool

@@ -97,7 +97,7 @@ pub(crate) const fn is_exact(kind: IntegerKind) -> bool {
     matches!(kind, IntegerKind::Exact)
 }
 
-// Returns whether an integer is known to be worth the number that its digits represent. Of each kind, one of 63 bits is.
+// Returns whether an integer is known to be worth the number that its digits represent: one of fewer bits, and with a sign that its kind has.
 #[cfg_attr(not(peltzivar_small), inline(always))]
 pub(crate) const fn keeps(kind: IntegerKind, numeral: &Numeral) -> bool {
     let bits = match kind {
