@@ -94,7 +94,8 @@ fn amounts_are_rounded_as_std_rounds_them() {
     }
 }
 
-/// Returns whether a literal can have a number: an integer by the bits of its kind, and a float if it is exactly this number.
+/// Returns whether a literal can be a number: an integer by the bits of its kind, and a float if it is exactly this
+/// number.
 fn has(limits: &Limits, is_float: bool, number: i128) -> bool {
     let size = number.unsigned_abs();
     let above = |bits: u32, size: u128| size.checked_shr(bits).is_some_and(|it| it > 0);
@@ -106,8 +107,8 @@ fn has(limits: &Limits, is_float: bool, number: i128) -> bool {
     }
 }
 
-/// Returns the whole number that a text is, with a suffix or none, by its digits, their radix and its exponent, or none if no literal with
-/// this suffix has the number.
+/// Returns the whole number that a text with a suffix is by its digits, their radix and its exponent, if a literal with
+/// this suffix can be this number.
 fn number_of(language: Language, text: &str, suffix: &str) -> Option<i128> {
     let (literal, form) = whole(language, text, suffix)?;
     let digits =
@@ -125,8 +126,8 @@ fn number_of(language: Language, text: &str, suffix: &str) -> Option<i128> {
     (is_whole && has(&Limits::of(language, form, suffix), literal.is_float(), number)).then_some(number)
 }
 
-/// Returns what a list writes for a decimal integer by decimal forms, or else by others: an integer or, with a wish, a float, else an
-/// integer with a word, and else a float. A wish that makes it another number is dropped.
+/// Returns what a list writes for a decimal integer by decimal forms, or else by others: an integer or, with a wish, a
+/// float, else an integer with a word, and else a float. A wish that makes it another number is dropped.
 fn integer_in(language: Language, literal: &Literal, value: i128, style: Style) -> Option<String> {
     let forms = language.forms();
     let text_of = |form: &Form, style| form.syntax().format_literal(literal, style).ok().map(|text| text.to_string());

@@ -236,8 +236,8 @@ fn ones(form: &Form) -> Vec<String> {
     [integer, float].into_iter().chain(others).flatten().collect()
 }
 
-/// Compares the values of numbers that are written in the place of the `1` of a text in a form, up to the last one and of the next one.
-/// Returns the row of the limits, if the text has a number of a form with the suffix, and if there is a row.
+/// Compares the values of numbers, in the place of the `1` of a text of a form: of the last one that is not too large,
+/// and of the next one. Returns the row of the limits, if a form reads such a text, and if there is a row.
 fn has_limits(language: Language, form: &Form, one: &str, suffix: &str, known: &mut Digits) -> Option<usize> {
     let (before, behind) = one.split_once('1').unwrap();
     let [opening, closing] =

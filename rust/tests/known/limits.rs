@@ -2,9 +2,10 @@
 
 use peltzivar::literal::{Form, Language, Literal};
 
-/// Languages, how the names of forms begin, or do not begin behind `!`, the suffixes there, where `-` is none, and the kind. Of
-/// integers, `i8` has 8 bits, one of which is the sign, `u8` has no sign, `w8` wraps at 8 bits, and `m8` wraps modulo 2^8. Of floats,
-/// `f32` is a single, and behind `!` none is infinite. `=` is the suffix itself. All others are integers of any size, and `f64`.
+/// Languages, what the names of forms begin with or, behind `!`, do not begin with, the suffixes there, where `-` is
+/// none, and the kind. Integers are `i8` with 8 bits, one of which is the sign, `u8` without a sign, `w8` if they wrap
+/// at 8 bits, and `m8` if the last 8 bits count. Floats are `f64`, or `f32`, and before `!` they are finite. `=` is the
+/// suffix itself. Where nothing is stated, integers have any size, and floats are `f64`.
 #[rustfmt::skip]
 pub const KINDS: &[[&str; 4]] = &[
     ["BASH NASM", "", "-", "m64"],
@@ -86,8 +87,8 @@ pub fn whole<'a>(language: Language, text: &'a str, suffix: &str) -> Option<(Lit
     Some((token.literal, &language.forms()[token.form]))
 }
 
-/// What literals of a form with a suffix are worth: the row, if there is one, the kind of integers with its bits, unless they are
-/// exact, whether floats are singles, and whether they are finite.
+/// What literals of a form with a suffix are worth: the row, if there is one, the kind of integers with its bits,
+/// unless they have any size, whether floats are singles, and whether they are finite.
 #[derive(Default)]
 pub struct Limits {
     pub row: Option<usize>,
