@@ -126,7 +126,7 @@ impl Form {
 
     /// Returns the form in Rust, without its name and its suffixes, or `None` if it is refused.
     unsafe fn given(&self) -> Option<literal::Form> {
-        let kind = if self.kind == KindNumbers::EXACT { Kind::EXACT } else { self.kind.kind()? };
+        let kind = self.kind.kind()?;
         let form = literal::Form::new("", Syntax::given_at_once(Some(&self.syntax))?).with_kind(kind);
         let ([opening, closing], [of_opening, of_closing]) = (self.affixes, self.cases);
         let form = form.with_opening(affix(opening, of_opening)?).with_closing(affix(closing, of_closing)?)?;
