@@ -607,9 +607,10 @@ size_t peltzivar_regex(const peltzivar_syntax *syntax, char *text, size_t len);
 /* The kinds of integers, and those of floats. */
 enum {
     PELTZIVAR_INTEGERS_EXACT = 0,
-    PELTZIVAR_INTEGERS_AT_MOST = 1,
+    PELTZIVAR_INTEGERS_SIGNED = 1,
     PELTZIVAR_INTEGERS_WRAP = 2, /* From 2^integer_bits on, a number is too large. */
-    PELTZIVAR_INTEGERS_WRAP_MODULO = 3 /* The lowest bits of any number count. */
+    PELTZIVAR_INTEGERS_WRAP_MODULO = 3, /* The lowest bits of any number count. */
+    PELTZIVAR_INTEGERS_UNSIGNED = 4
 };
 enum { PELTZIVAR_FLOATS_NEAREST = 0, PELTZIVAR_FLOATS_SINGLE = 1 };
 /* Which floats are errors: none, those that are too large and would be infinite, or these and those that vanish. */
@@ -650,10 +651,10 @@ typedef struct {
 } peltzivar_suffixes;
 
 /* A form of numbers, such as `0x1F`: its name, which may be null, its syntax, its kind, by which the values of its
- * literals are found, and its suffixes, or null. FORMS.md describes kinds: integers have at most integer_bits bits, or
- * wrap at them, and so may be negative, and floats are the nearest single, or else the nearest value of the type,
- * with float_limits or without. integer_bits is from 1 to 64, or to 128 for integers that have at most so many bits, or
- * 0 for exact integers. Zeros are exact integers and nearest floats without limits.
+ * literals are found, and its suffixes, or null. FORMS.md describes kinds: integers have integer_bits bits, signed or
+ * unsigned, or wrap at them, and so may be negative, and floats are the nearest single, or else the nearest value of the
+ * type, with float_limits or without. integer_bits is from 1 to 64, or to 128 for integers that do not wrap, or 0 for
+ * exact integers. Zeros are exact integers and nearest floats without limits.
  *
  * A text is a literal of the form if it is the string `opening`, a literal of the syntax, and the string `closing`, as
  * in `16#FF#`. A string that is null is empty. Each has at most 8 bytes, all ASCII, whose letters are in either case

@@ -12,7 +12,8 @@ const READERS = {
 
 /* Kinds in Rust, C and Python, where % stands for the bits. */
 const KIND_CODE = {
-    at_most: ["IntegerKind::AtMost(%)", ".integer_kind = PELTZIVAR_INTEGERS_AT_MOST, .integer_bits = %", "at_most=%"],
+    signed: ["IntegerKind::Signed(%)", ".integer_kind = PELTZIVAR_INTEGERS_SIGNED, .integer_bits = %", "signed=%"],
+    unsigned: ["IntegerKind::Unsigned(%)", ".integer_kind = PELTZIVAR_INTEGERS_UNSIGNED, .integer_bits = %", "unsigned=%"],
     wraps: ["IntegerKind::Wraps(%)", ".integer_kind = PELTZIVAR_INTEGERS_WRAP, .integer_bits = %", "wraps=%"],
     wraps_modulo: ["IntegerKind::WrapsModulo(%)", ".integer_kind = PELTZIVAR_INTEGERS_WRAP_MODULO, .integer_bits = %", "modulo=True, wraps=%"],
     single: ["FloatKind::Single", ".float_kind = PELTZIVAR_FLOATS_SINGLE", "single=True"],

@@ -85,7 +85,8 @@ fn try_texts(forms: &List, others: &List, each: &mut dyn FnMut(Vec<u8>)) {
 /// Calls `each` with an integer that has another value by its kind: in the radix, also with the prefix, suffix or a zero.
 fn try_integers(state: State, kind: IntegerKind, each: &mut dyn FnMut(Vec<u8>)) {
     let mut number: u128 = match kind {
-        IntegerKind::AtMost(bits) => 1_u128.checked_shl(bits.into()).unwrap_or(u128::MAX),
+        IntegerKind::Signed(bits) => 1 << (bits - 1),
+        IntegerKind::Unsigned(bits) => 1_u128.checked_shl(bits.into()).unwrap_or(u128::MAX),
         IntegerKind::Wraps(bits) | IntegerKind::WrapsModulo(bits) => (1 << bits) - 1,
         _ => return,
     };

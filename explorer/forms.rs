@@ -84,19 +84,20 @@ pub fn state_of(form: &Form) -> State {
 }
 
 /// The kinds of integers, each with its bits.
-const KINDS: [fn(u8) -> IntegerKind; 3] = [IntegerKind::AtMost, IntegerKind::Wraps, IntegerKind::WrapsModulo];
+const KINDS: [fn(u8) -> IntegerKind; 4] =
+    [IntegerKind::Signed, IntegerKind::Unsigned, IntegerKind::Wraps, IntegerKind::WrapsModulo];
 
 /// Returns what a form has beside its syntax as numbers: the bits of each kind of integers, of which one is not 0, and the
 /// bits that are set if floats are single, too large ones are errors, vanishing ones are, the opening and the closing are
 /// case-sensitive, and the form is only read.
 pub fn numbers_of(State { kind, opening, closing, only_read, .. }: State) -> [u8; KINDS.len() + 1] {
     let bits = |make: fn(u8) -> IntegerKind| (1..=128).find(|&bits| make(bits) == kind.integers()).unwrap_or(0);
-    let [at_most, wraps, modulo] = KINDS.map(bits);
+    let [signed, unsigned, wraps, modulo] = KINDS.map(bits);
     let (single, limits) = (kind.floats() == FloatKind::Single, kind.limits());
     let cases = [opening, closing].map(|it| it.is_case_sensitive());
     let limits = [limits != FloatLimits::None, limits == FloatLimits::Both];
     let flags = [single, limits[0], limits[1], cases[0], cases[1], only_read];
-    [at_most, wraps, modulo, flags.iter().rev().fold(0, |all, &it| all << 1 | u8::from(it))]
+    [signed, unsigned, wraps, modulo, flags.iter().rev().fold(0, |all, &it| all << 1 | u8::from(it))]
 }
 
 /// The value of a number: an integer by its sign and size, and a float by its bits. A number that is too large for its kind

@@ -18,9 +18,10 @@ const AFFIXES = [["opening", "before", "`16#`"], ["closing", "behind", "last `#`
     return { name, title: name, part: "base", isText: true, isOfForm: true, meaning };
 });
 const AFFIX = /^[ -~]{0,8}$/;
-/* What else a form has beside its syntax, as numbers and then bits behind those of the conditions. Of the first three, one is set. */
+/* What else a form has beside its syntax, as numbers and then bits behind those of the conditions. Of the first four, one is set. */
 const OF_FORM = [
-    { name: "at_most", meaning: "Bits that an integer has at most", limits: [1, 128] },
+    { name: "signed", meaning: "Bits of an integer, one of which is its sign", limits: [1, 128] },
+    { name: "unsigned", meaning: "Bits of an integer that is not below 0", limits: [1, 128] },
     { name: "wraps", meaning: "Bits that an integer has at most, the highest of which makes it negative", limits: [1, 64] },
     { name: "wraps_modulo", meaning: "Lowest bits of an integer, which count, the highest of which makes it negative", limits: [1, 64] },
     { name: "single", meaning: "Floats have 32 bits" },

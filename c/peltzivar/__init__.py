@@ -725,11 +725,11 @@ class Literal(_Keyed, _peltzivar.Found, Generic[AnyStr]):
             return found if isinstance(found, int) else cast(int, found[0] << 64 | found[1])
         if self.is_float:
             raise ValueError(f"{reprlib.repr(self.text)} is a float")
-        bits, (sign, integer, *_) = self.kind.at_most, self._written()
-        most = min(2 ** (bits or 0) - (sign != "-"), 2**128 - 1)
-        if bits and int(integer, self.syntax.format.mantissa_radix) > most or self.kind.wraps:
+        sign, integer, *_ = self._written()
+        value, of = int(sign + integer, self.syntax.format.mantissa_radix), self.kind
+        if of.signed or of.wraps or of.unsigned and not 0 <= value < 2**of.unsigned:
             raise ValueError(f"{reprlib.repr(self.text)} is too large for its kind")
-        return int(sign + integer, self.syntax.format.mantissa_radix)
+        return value
 
     def decimal(self) -> Decimal:
         """Returns the exact value, with the digits and exponent of the text if all radixes are 10. Raises OverflowError
@@ -1526,35 +1526,39 @@ _LIMITS = None, "largest", "both"
 class Kind(metaclass=_Class):
     """How the values of literals of a form are computed. Without arguments, they are the numbers as they are written.
 
-    From 2^at_most on, an integer is too large, and -2^at_most is taken, unless it has more than 128 bits. From
+    An integer is too large if `signed` bits, one of which is its sign, or `unsigned` bits are too few for it. From
     2^(wraps - 1) on, it is 2^wraps less, and too large from 2^wraps on or, if `modulo` is true, its lowest bits count. A
     float is the nearest one of 32 bits if `single` is true. With the limits "largest", a float that would be infinite
-    is an error, and with "both", also one that would be 0 and is not. Raises ValueError if both numbers are given, or if
-    one is not from 1 to 64, or to 128 for `at_most`.
+    is an error, and with "both", also one that would be 0 and is not. Raises ValueError if two numbers are given, or if
+    one is not from 1 to 64, or to 128 for `signed` and `unsigned`.
     """
 
-    at_most: Optional[int] = None
+    signed: Optional[int] = None
+    unsigned: Optional[int] = None
     wraps: Optional[int] = None
     modulo: bool = False
     single: bool = False
     limits: Optional[str] = None
 
     def __post_init__(self) -> None:
-        bits = [_number("a number of bits", it, 256) for it in (self.at_most, self.wraps) if it is not None]
+        numbers = self.signed, self.unsigned, self.wraps
+        bits = [_number("a number of bits", it, 256) for it in numbers if it is not None]
         flags = [_typed(name, getattr(self, name), bool) for name in ("modulo", "single")]
-        most = 64 if self.at_most is None else 128
+        most = 128 if self.wraps is None else 64
         if len(bits) > 1 or not all(1 <= it <= most for it in bits) or flags[0] and self.wraps is None:
             raise ValueError(f"a kind has one number of bits, from 1 to {most}, and `modulo` only with `wraps`: {self}")
         if self.limits not in _LIMITS:
             raise ValueError(f"limits are None, 'largest' or 'both': {self.limits!r}")
 
     def _numbers(self) -> Tuple[int, int, int, int]:
-        number = 1 if self.at_most else 0 if not self.wraps else 3 if self.modulo else 2
-        return number, int(self.at_most or self.wraps or 0), int(self.single), _LIMITS.index(self.limits)
+        number = 1 if self.signed else 4 if self.unsigned else 0 if not self.wraps else 3 if self.modulo else 2
+        bits = int(self.signed or self.unsigned or self.wraps or 0)
+        return number, bits, int(self.single), _LIMITS.index(self.limits)
 
     @classmethod
     def _of(cls, number: int, bits: int, single: int, limits: int) -> Kind:
-        return cls(bits if number == 1 else None, bits if number > 1 else None, number == 3, bool(single), _LIMITS[limits])
+        signed, unsigned, wraps = (bits if number in own else None for own in ((1,), (4,), (2, 3)))
+        return cls(signed, unsigned, wraps, number == 3, bool(single), _LIMITS[limits])
 
 
 @dataclass(frozen=True)

@@ -473,10 +473,10 @@ static void test_room(void) {
 #define BYTES(member) offsetof(struct filled, member), offsetof(struct filled, member) + sizeof((struct filled *)NULL)->member
     static const struct { size_t start, end; const char *known; int calls; } places[] = {
         {BYTES(form.syntax.reserved), "", ALL}, {BYTES(forms.specials.reserved), "", LIST | SPELL | SHOW}, {BYTES(forms.reserved), "", LIST},
-        {BYTES(form.reserved), "", LIST}, {BYTES(form.integer_kind), "\1\2\3", LIST}, {BYTES(form.float_kind), "\1", LIST}, {BYTES(form.float_limits), "\1\2", LIST},
-        {BYTES(behind.syntax.reserved), "", TOKEN}, {BYTES(behind.reserved), "", TOKEN}, {BYTES(behind.integer_kind), "\1\2\3", TOKEN}, {BYTES(behind.float_limits), "\1\2", TOKEN},
+        {BYTES(form.reserved), "", LIST}, {BYTES(form.integer_kind), "\1\2\3\4", LIST}, {BYTES(form.float_kind), "\1", LIST}, {BYTES(form.float_limits), "\1\2", LIST},
+        {BYTES(behind.syntax.reserved), "", TOKEN}, {BYTES(behind.reserved), "", TOKEN}, {BYTES(behind.integer_kind), "\1\2\3\4", TOKEN}, {BYTES(behind.float_limits), "\1\2", TOKEN},
         {BYTES(suffixes.reserved), "", TOKEN}, {BYTES(stop.reserved), "", TOKEN}, {BYTES(tokens.reserved), "", TOKEN},
-        {BYTES(kind.reserved), "", TOKEN}, {BYTES(kind.integer_kind), "\1\2\3", TOKEN}, {BYTES(kind.float_kind), "\1", TOKEN}, {BYTES(kind.float_limits), "\1\2", TOKEN},
+        {BYTES(kind.reserved), "", TOKEN}, {BYTES(kind.integer_kind), "\1\2\3\4", TOKEN}, {BYTES(kind.float_kind), "\1", TOKEN}, {BYTES(kind.float_limits), "\1\2", TOKEN},
         {BYTES(style.reserved), "", WRITE | FORMAT}, {BYTES(style.exponent), "\1\2\3", WRITE | FORMAT},
         {BYTES(special.spelling), "\1\2\3", SHOW}, {BYTES(special.sign), "+-", SHOW},
     };

@@ -457,7 +457,7 @@ class Literals(unittest.TestCase):
         for text, sentence in (("1e400", "above"), ("1e-400", "too near to 0")):
             self.assertRaisesRegex(ValueError, sentence, float, java.read(text))
             self.assertRaisesRegex(ValueError, sentence, java.parse, text)
-        for wrong in ({"at_most": 0}, {"at_most": 129}, {"wraps": 65}, {"at_most": 8, "wraps": 8}, {"modulo": True}, {"limits": "least"}):
+        for wrong in ({"signed": 0}, {"unsigned": 129}, {"wraps": 65}, {"signed": 8, "wraps": 8}, {"modulo": True}, {"limits": "least"}):
             self.assertRaises(ValueError, Kind, **wrong)
         self.assertRaises(ValueError, Forms, {"": syntax}, kinds={"x": Kind(8)})
 
@@ -596,7 +596,7 @@ languages.JSON.parse("1", complex)
 languages.JSN.read("1")
 languages.C.read("1").txt
 languages.C.token("1").literal.size
-Kind(at_most="8")
+Kind(signed="8")
 Special("", "nan")
 Suffixes(either_case="no")
 Tokens(forms=5)
@@ -640,7 +640,11 @@ Syntax(Format()).read("1").parts.whole
 
 
 BITS = 1, 8, 32, 64
-KINDS = [Kind(), *(Kind(at_most=it) for it in (*BITS, 65, 127, 128)), *(Kind(wraps=it, modulo=by) for it in BITS for by in (False, True))]
+KINDS = [
+    Kind(),
+    *(Kind(**{of: it}) for of in ("signed", "unsigned") for it in (*BITS, 65, 127, 128)),
+    *(Kind(wraps=it, modulo=by) for it in BITS for by in (False, True)),
+]
 LIMITS = {sign * (2**it + more) for it in (*BITS, 7, 31, 63, 127, 128) for more in (-1, 0, 1) for sign in (1, -1)}
 # These are values of each argument of format_number.
 WISHES = {"group": (3, 0, 254), "fraction_group": (2, 0), "min_digits": (8, 255), "decimals": (0, 1, 255)}
@@ -653,7 +657,7 @@ NEEDS = {"modulo": {"wraps": 8}, "higher_group_size": {"integer_group_size": 4}}
 SPELLED = dict.fromkeys(("nan", "inf", "infinity"), "x")
 WORDS = dict.fromkeys(("integers", "floats", "any", "written", "word_bytes"), "x")
 CHANGES = {
-    Kind: {"at_most": 8, "wraps": 8, "modulo": True, "single": True, "limits": "both"},
+    Kind: {"signed": 8, "unsigned": 8, "wraps": 8, "modulo": True, "single": True, "limits": "both"},
     Specials: SPELLED,
     Suffixes: {**WORDS, "kinds": {"x": Kind(8)}, "stops": [("", "x", "")], "either_case": True, "whole_words": True},
     Tokens: {"forms": Forms({"": SYNTAX}), "following": "x", "gives_points_back": True, "gives_points_to_letters": True, "any_word_follows": True},
@@ -676,10 +680,14 @@ def digits(number, radix):
 
 def valued(kind, number):
     """Returns the value of an integer of a kind, or None if it is too large."""
-    bits = kind.at_most or kind.wraps or 10**6
-    if abs(number) >> bits and not kind.modulo and (not kind.at_most or number != -(2**bits) or bits == 128):
+    if not kind.wraps:
+        least = -(2 ** (kind.signed - 1)) if kind.signed else 0
+        bits = kind.signed or kind.unsigned
+        return number if not bits or least <= number < least + 2**bits else None
+    if abs(number) >> kind.wraps and not kind.modulo:
         return None
-    return (number + (1 << bits - 1)) % (1 << bits) - (1 << bits - 1) if kind.wraps else number
+    half = 2 ** (kind.wraps - 1)
+    return (number + half) % (2 * half) - half
 
 
 def outcome(call, *arguments):
@@ -807,7 +815,7 @@ class Lists(unittest.TestCase):
 
     def test_suffixes_spans_and_kinds_of_texts_beyond_ascii(self):
         words = ["\u00e9", "\u00e9\u00e9", "k", "k\u00e9", "\u00e9k", "\u65e5\u672c", "_\U0001F600", "u8", "U8", "Qq"]
-        kinds = {it: Kind(at_most=at, single=at % 2 == 0) for at, it in enumerate(words, 1)}
+        kinds = {it: Kind(signed=at, single=at % 2 == 0) for at, it in enumerate(words, 1)}
         suffixes = [Suffixes(" ".join(words), " ".join(words), kinds=kinds, either_case=it) for it in (False, True)]
         rests = ("", ";", " \u00e9", "-\U0001F600;")
         for own, number, rest, encode in itertools.product(suffixes, ("7", "12.5"), rests, (str, str.encode)):

@@ -52,8 +52,8 @@ specials: Tuple[Optional[str], Optional[str], Optional[str]] = languages.TOML.sp
 if special:
     of_special: Tuple[str, Spelling, float, Decimal] = special.sign, special.spelling, special.value, special.decimal()
 forms: Forms = Forms([("", syntax)], nan="NaN", inf=None, infinity="Infinity", kinds={"": Kind(wraps=8, modulo=True)})
-kind: Kind = Kind(at_most=7, single=True, limits="both")
-of_kind: Tuple[Optional[int], Optional[int], bool, bool, Optional[str]] = kind.at_most, literal.kind.wraps, kind.modulo, kind.single, kind.limits
+kind: Kind = Kind(signed=8, single=True, limits="both")
+of_kind: Tuple[Optional[int], Optional[int], Optional[int], bool, bool, Optional[str]] = kind.signed, kind.unsigned, literal.kind.wraps, kind.modulo, kind.single, kind.limits
 kinds: Dict[str, Kind] = forms.kinds
 suffixes: Suffixes = Suffixes(integers="u8", floats="f", any="_", kinds={"f": kind}, stops=[("", ".", "0")], either_case=True, written="u8", whole_words=True, word_bytes="-")
 affixes: Affixes = Affixes(opening="16#", closing="#", case_sensitive_opening=True, case_sensitive_closing=True)

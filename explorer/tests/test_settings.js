@@ -44,7 +44,8 @@ function test_each_choice_lands_in_the_state_the_link_and_the_code() {
     const { library } = page;
     const whole = ["digit_separator_flags=true", "digit_separator='_'", "base_prefix='x'", "base_suffix='h'", "opening=x'", "closing='"];
     const kinds = {
-        at_most: ["::AtMost(%)", "_AT_MOST, .integer_bits = %}", "(at_most=%)"],
+        signed: ["::Signed(%)", "_SIGNED, .integer_bits = %}", "(signed=%)"],
+        unsigned: ["::Unsigned(%)", "_UNSIGNED, .integer_bits = %}", "(unsigned=%)"],
         wraps: ["::Wraps(%)", "_WRAP, .integer_bits = %}", "(wraps=%)"],
         wraps_modulo: ["::WrapsModulo(%)", "_WRAP_MODULO, .integer_bits = %}", "(modulo=True, wraps=%)"],
         single: ["::Single", "_FLOATS_SINGLE", "(single=True)"],

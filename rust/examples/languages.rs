@@ -22,7 +22,8 @@ fn answer(language: Language, text: &[u8]) -> String {
 /// Returns what the values of a kind are, if they are not the numbers that digits represent.
 fn words(kind: Kind) -> String {
     let integers = match kind.integers() {
-        IntegerKind::AtMost(bits) => format!("integers of at most {bits} bits"),
+        IntegerKind::Signed(bits) => format!("signed integers of {bits} bits"),
+        IntegerKind::Unsigned(bits) => format!("unsigned integers of {bits} bits"),
         IntegerKind::Wraps(bits) => format!("integers of {bits} bits, with a sign"),
         IntegerKind::WrapsModulo(bits) => format!("the last {bits} bits of integers, with a sign"),
         _ => String::new(),

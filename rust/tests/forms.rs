@@ -1,13 +1,17 @@
 //! Numbers of several forms: which form has a text, which has its error, and which writes a number.
 
+#[path = "known/limits.rs"]
+#[allow(dead_code, reason = "`kinds.rs` uses the rest")]
+mod limits;
 #[path = "../../compare/rust/src/random.rs"]
 mod random;
 
+use limits::{whole, Limits};
 use peltzivar::literal::{
     Condition, Conditions, ExponentStyle, FloatKind, Form, Forms, IntegerKind, Kind, Language, Literal, Number,
     ParseError, Real, Specials, Style, Syntax, Whole, Writable, WriteError,
 };
-use peltzivar::{Format, NumberFormatBuilder};
+use peltzivar::{Format, NumberFormatBuilder, Part};
 use random::Random;
 
 /// What a lexer gets of the text that begins with a number: its value and the rest, or the bytes to blame.
@@ -90,37 +94,55 @@ fn amounts_are_rounded_as_std_rounds_them() {
     }
 }
 
-/// Returns the whole number that a list reads, in decimal digits: of a float, those of its exact value.
-fn whole(forms: &Forms, text: &str) -> Option<String> {
-    let literal = forms.read(text).ok()?.literal()?;
-    match literal.to_f64() {
-        Ok(value) if literal.is_float() && value.fract() == 0.0 => Some(format!("{value:.0}")),
-        _ => literal.to_i128().ok().map(|value| value.to_string()),
+/// Returns whether a literal can be a number: an integer by the bits of its kind, and a float if it is exactly this
+/// number.
+fn has(limits: &Limits, is_float: bool, number: i128) -> bool {
+    let size = number.unsigned_abs();
+    let above = |bits: u32, size: u128| size.checked_shr(bits).is_some_and(|it| it > 0);
+    match limits.integers {
+        _ if is_float => size == if limits.single { size as f32 as u128 } else { size as f64 as u128 },
+        None => true,
+        Some(('u', bits)) => number >= 0 && !above(bits, size),
+        Some((_, bits)) => !above(bits - 1, if number < 0 { size - 1 } else { size }),
     }
 }
 
-/// Returns what a list writes for a decimal integer by decimal forms, or else by others: an integer or, with a wish, a float, else an
-/// integer with a word, and else a float. A wish that makes it another number is dropped.
-fn integer_in(forms: &Forms, literal: &Literal, style: Style) -> Option<String> {
+/// Returns the whole number that a text with a suffix is by its digits, their radix and its exponent, if a literal with
+/// this suffix can be this number.
+fn number_of(language: Language, text: &str, suffix: &str) -> Option<i128> {
+    let (literal, form) = whole(language, text, suffix)?;
+    let digits =
+        |part: &[u8]| part.iter().map(|it| char::from(*it)).filter(|it| it.is_alphanumeric()).collect::<String>();
+    let [integer, fraction, exponent] = [literal.integer(), literal.fraction(), literal.exponent()].map(digits);
+    let fraction = fraction.trim_end_matches('0');
+    let exponent: u32 = format!("0{exponent}").parse().ok()?;
+    let (up, down) = if literal.exponent_sign() == b"-" { (0, exponent) } else { (exponent, 0) };
+    let (radix, base) = (literal.radix(Part::Integer), form.syntax().format().exponent_base());
+    let power = |base: u32, exponent| i128::from(base).checked_pow(exponent);
+    let size = i128::from_str_radix(&(integer + fraction), radix).ok()?.checked_mul(power(base, up)?)?;
+    let divisor = power(radix, fraction.len() as u32)?.checked_mul(power(base, down)?)?;
+    let number = size / divisor * if literal.is_negative() { -1 } else { 1 };
+    let is_whole = size % divisor == 0;
+    (is_whole && has(&Limits::of(language, form, suffix), literal.is_float(), number)).then_some(number)
+}
+
+/// Returns what a list writes for a decimal integer by decimal forms, or else by others: an integer or, with a wish, a
+/// float, else an integer with a word, and else a float. A wish that makes it another number is dropped.
+fn integer_in(language: Language, literal: &Literal, value: i128, style: Style) -> Option<String> {
+    let forms = language.forms();
     let text_of = |form: &Form, style| form.syntax().format_literal(literal, style).ok().map(|text| text.to_string());
     let plain = style.exponent(ExponentStyle::AsNumber);
     let is_float = |text: &str| forms.read(text).is_ok_and(|it| it.literal().is_some_and(|it| it.is_float()));
     let is_late = |text: &str| style.exponent != ExponentStyle::Always && is_float(text);
-    let is_token =
-        |text: &str| forms.token(text).is_ok_and(|it| it.rest.is_empty() && it.literal.to_i128() == literal.to_i128());
+    let is_value = |text: &str, suffix| number_of(language, text, suffix) == Some(value);
     [true, false].into_iter().find_map(|decimal| {
         let asked = || forms.into_iter().filter(move |it| (it.syntax().format().mantissa_radix() == 10) == decimal);
         let texts = || asked().flat_map(|form| [style, plain].map(|style| text_of(form, style))).flatten();
-        let without = |late| {
-            texts().find(|text| is_late(text) == late && whole(forms, text).as_deref() == Some(literal.as_str()))
-        };
+        let without = |late| texts().find(|text| is_late(text) == late && is_value(text, ""));
         let with = |form: &Form| {
-            let mut texts = form
-                .suffixes()?
-                .written()
-                .iter()
-                .filter_map(|word| Some(text_of(form, plain)? + std::str::from_utf8(word).ok()?));
-            texts.find(|text| is_token(text))
+            let words = form.suffixes()?.written().iter().filter_map(|word| std::str::from_utf8(word).ok());
+            let mut texts = words.filter_map(|word| Some((text_of(form, plain)? + word, word)));
+            texts.find(|(text, word)| is_value(text, word)).map(|it| it.0)
         };
         without(false).or_else(|| asked().find_map(with)).or_else(|| without(true))
     })
@@ -138,7 +160,7 @@ fn an_integer_never_becomes_another_number() {
         let literal = Language::YAML.read(&digits).unwrap().literal().unwrap();
         for wish in [ExponentStyle::AsNumber, ExponentStyle::Always, ExponentStyle::Never, ExponentStyle::From(0)] {
             let style = Style::PLAIN.exponent(wish);
-            let wanted = integer_in(forms, &literal, style).ok_or_else(|| match forms.read(&digits) {
+            let wanted = integer_in(*language, &literal, value, style).ok_or_else(|| match forms.read(&digits) {
                 Ok(Number::Literal { literal, .. }) if literal.to_i128().is_err() => WriteError::TooLarge,
                 Ok(_) => WriteError::ReadBack,
                 Err(_) => WriteError::Negative,
@@ -211,7 +233,7 @@ fn a_long_text_is_used_or_leaves_a_short_one() {
     let hexadecimal = Syntax::integers(NumberFormatBuilder::new().mantissa_radix(16).build_format_or_panic());
     let decimal = Syntax::new_or_panic(Format::default(), b'e', b'.');
     let [long, decimal, hexadecimal] = [long, decimal, hexadecimal].map(|it| Form::new("", it));
-    let few = [long.with_kind(Kind::new(IntegerKind::AtMost(32), FloatKind::Single).unwrap()), decimal, hexadecimal];
+    let few = [long.with_kind(Kind::new(IntegerKind::Unsigned(32), FloatKind::Single).unwrap()), decimal, hexadecimal];
     let grouped = |digits: String| {
         let groups = digits.as_bytes().rchunks(2).rev().map(|it| std::str::from_utf8(it).unwrap());
         Vec::from_iter(groups).join("_")

@@ -174,22 +174,30 @@ impl FromLiteral for Unlimited {
 #[test]
 #[allow(clippy::unnecessary_cast, reason = "it is for each type")]
 fn sentences_name_the_nearer_limit() {
-    for (bits, of) in (1..=64).flat_map(|it| [IntegerKind::AtMost(it), IntegerKind::Wraps(it)].map(|of| (it, of))) {
+    let kinds = [IntegerKind::Signed, IntegerKind::Unsigned, IntegerKind::Wraps];
+    for (bits, of) in (1..=64).flat_map(|bits| kinds.map(|of| (bits, of(bits)))) {
         let forms = [Form::new("", integers(10)).with_kind(Kind::new(of, FloatKind::Nearest).unwrap())];
-        let (forms, most) = (Forms::new_or_panic(&forms), (1_u128 << bits) - 1);
-        let size = most + u128::from(of == IntegerKind::AtMost(bits));
-        for (sign, limit) in [("", format!("above {most}, the largest")), ("-", format!("below -{size}, the least"))] {
-            let error = forms.parse::<Unlimited>(format!("{sign}{}", size + 1)).unwrap_err();
+        let (forms, power) = (Forms::new_or_panic(&forms), 1_i128 << bits);
+        let (least, most) = match of {
+            IntegerKind::Signed(_) => (-power / 2, power / 2 - 1),
+            IntegerKind::Unsigned(_) => (0, power - 1),
+            _ => (1 - power, power - 1),
+        };
+        let limits = [format!("above {most}, the largest"), format!("below {least}, the least")];
+        for (number, limit) in [most + 1, least - 1].into_iter().zip(limits) {
+            let error = forms.parse::<Unlimited>(number.to_string()).unwrap_err();
             assert_eq!(error.to_string(), limit + " number of its form");
         }
         each_type!(Type => {
-            let (name, largest, least) = (std::any::type_name::<Type>(), Type::MAX as u128, Type::MIN as i128);
-            let above = if most < largest { (most, "number of its form") } else { (largest, name) };
-            let is_nearer = least < -(size as i128);
-            let below = if is_nearer { (-(size as i128), "number of its form") } else { (least, name) };
+            let name = std::any::type_name::<Type>();
+            let is_nearer = (most as u128) < Type::MAX as u128;
+            let above = if is_nearer { (most as u128, "number of its form") } else { (Type::MAX as u128, name) };
+            let is_nearer = least > Type::MIN as i128;
+            let below = if is_nearer { (least, "number of its form") } else { (Type::MIN as i128, name) };
             let above = format!("above {}, the largest {}", above.0, above.1);
-            for (sign, wanted) in [("", above), ("-", format!("below {}, the least {}", below.0, below.1))] {
-                for number in [size + 1, 1 << 100, u128::MAX] {
+            let below = format!("below {}, the least {}", below.0, below.1);
+            for (sign, next, wanted) in [("", most + 1, above), ("-", least - 1, below)] {
+                for number in [next.unsigned_abs(), 1 << 100, u128::MAX] {
                     let text = format!("{sign}{number}");
                     let error = forms.parse::<Type>(&text).unwrap_err();
                     assert_eq!((error.to_string(), error.span()), (wanted.clone(), 0..text.len()), "{text}");

@@ -3,13 +3,12 @@ use Rattle.lexical_value.proofs.Common.{Bool, Err, IsNoInteger, IsNotWorth, Kind
 use Rattle.lexical_value.proofs.Common.{float_worth, format_by, if◌then◌else◌, inl, inr, integer_size, integer_worth, is_binary, is_decimal, is_exact, is_float}
 use Rattle.lexical_value.proofs.Common.{is_minus, mantissa, mod-add-div', mod-eq_of_lt, mod-lt, nat_tests, nearest, not, pow-le-pow_right, refl, round, subst}
 use Rattle.lexical_value.proofs.Common.{sym, true, width, within, worth, wrapped, ℕ, ◌%◌, ◌*◌, ◌+◌, ◌-◌, ◌/◌, ◌<◌, ◌^◌, ◌||◌, ◌∙◌, ◌≡◌, ◌≤◌, ◌⊎◌}
-use Rattle.lexical_value.specs.Private.{limit}
 use Rattle.std.proofs.Math.Pow.{mod-mod-pow}
 use Rattle.std.proofs.lemmas.Bool.{false≢true}
 use Rattle.std.proofs.lemmas.Nat.{pow-add, pow_pos}
 use Rattle.std.specs.Float.{Float, Format}
-use Rattle.std.specs.Option.{ok_or}
-use Rattle.std.specs.Prelude.{[], nat_le, option_map}
+use Rattle.std.specs.Option.{IsSome, ok_or}
+use Rattle.std.specs.Prelude.{[], None, Option, min, nat_le, nat_lt, option_map}
 use Rattle.lexical_value.proofs.ValueLemmas.{whole_denominator, whole_numerator}
 use Rattle.lexical_literal.specs.declared.kind.IntegerKind.TheVariants as integers
 use Rattle.lexical_value.specs.declared.integer.ValueErrorKind.TheVariants as kinds
@@ -22,24 +21,24 @@ low n w most = let all : 64 - w + w ≡ 64 = omega (arith, most) in
 pub lowest_bits : (n bits : ℕ) → n % 2 ^ 64 % 2 ^ width bits ≡ n % 2 ^ width bits
 lowest_bits n bits = low n (width bits) (omega arith)
 
--- A number within the limit is worth itself.
-pub kept : (negative : Bool) (n bits : ℕ) → n ≤ limit bits negative → worth (integers.AtMost bits) negative n ≡ Some (negative, n)
-kept negative n bits fits = grind (arith, nat_tests)
+-- A number that wraps and is not too large is worth what its lowest bits are.
+pub lowest_worth : (negative : Bool) (n bits : ℕ) → IsSome (worth (integers.Wraps bits) negative n)
+    → worth (integers.Wraps bits) negative n ≡ Some (wrapped (width bits) negative (n % 2 ^ width bits))
+lowest_worth negative n bits = go (nat_lt n (2 ^ width bits)) refl where
+  less : nat_lt n (2 ^ width bits) ≡ true → n < 2 ^ width bits
+  less low = grind (arith, nat_tests)
+
+  own : Bool → Option (Bool × ℕ)
+  own b = if b then Some (wrapped (width bits) negative n) else None
+
+  go : (b : Bool) → nat_lt n (2 ^ width bits) ≡ b → IsSome (own b) → own b ≡ Some (wrapped (width bits) negative (n % 2 ^ width bits))
+  go true low some = ap (λ k. Some (wrapped (width bits) negative k)) (sym (mod-eq_of_lt (less low)))
+  go false high none = absurd (false≢true none)
 
 powers : (i j : ℕ) → i ≤ j → 2 ^ i ≤ 2 ^ j
 powers i j within = pow-le-pow_right two within where
   two : 0 < 2
   two = omega arith
-
--- A kind of 128 bits or more has all numbers of 128 bits.
-pub large_limit : (bits : ℕ) (negative : Bool) → 128 ≤ bits → 2 ^ 128 - 1 ≡ limit bits negative
-large_limit bits negative large = go negative where
-  above : 2 ^ 128 ≤ 2 ^ bits
-  above = powers 128 bits large
-
-  go : (b : Bool) → 2 ^ 128 - 1 ≡ limit bits b
-  go true = omega (arith, above)
-  go false = omega (arith, above)
 
 -- A number of fewer bits than a kind has is worth itself.
 module _ (negative : Bool) (n bits : ℕ) (low : n < 2 ^ (width bits - 1)) where
@@ -52,17 +51,22 @@ module _ (negative : Bool) (n bits : ℕ) (low : n < 2 ^ (width bits - 1)) where
     go true = grind (arith, nat_tests)
     go false = grind (arith, nat_tests)
 
-  pub at_most_keeps : worth (integers.AtMost bits) negative n ≡ Some (negative, n)
-  at_most_keeps = kept negative n bits (go negative) where
-    under : 2 ^ (width bits - 1) ≤ 2 ^ bits
-    under = powers (width bits - 1) bits (omega arith)
+  under : 2 ^ (width bits - 1) ≤ 2 ^ (min bits 128 - 1)
+  under = powers (width bits - 1) (min bits 128 - 1) (omega arith)
 
-    short : 2 ^ (width bits - 1) ≤ 2 ^ 63
-    short = powers (width bits - 1) 63 (omega arith)
+  pub signed_keeps : worth (integers.Signed bits) negative n ≡ Some (negative, n)
+  signed_keeps = go negative where
+    go : (b : Bool) → worth (integers.Signed bits) b n ≡ Some (b, n)
+    go true = let more = under in grind (arith, nat_tests)
+    go false = let more = under in grind (arith, nat_tests)
 
-    go : (b : Bool) → n ≤ limit bits b
-    go true = omega (arith, low, under, short)
-    go false = omega (arith, low, under, short)
+  pub unsigned_keeps : negative ≡ false → worth (integers.Unsigned bits) negative n ≡ Some (negative, n)
+  unsigned_keeps above = subst (λ b. worth (integers.Unsigned bits) b n ≡ Some (b, n)) (sym above) go where
+    over : 2 ^ (width bits - 1) ≤ 2 ^ min bits 128
+    over = powers (width bits - 1) (min bits 128) (omega arith)
+
+    go : worth (integers.Unsigned bits) false n ≡ Some (false, n)
+    go = let more = over in grind (arith, nat_tests)
 
   pub wraps_keeps : worth (integers.Wraps bits) negative n ≡ Some (negative, n)
   wraps_keeps = let below = fits in let same = wraps in grind (arith, nat_tests)

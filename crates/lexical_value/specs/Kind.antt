@@ -16,7 +16,7 @@ use Rattle.lexical_literal.specs.declared.kind.IntegerKind.TheVariants as intege
 use Rattle.lexical_literal.specs.declared.kind.Kind.{Kind}
 use Rattle.lexical_literal.specs.Read.{mantissa}
 use Rattle.lexical_number.specs.Float.{is_zero}
-use Rattle.lexical_number.specs.Numeral.{with_sign}
+use Rattle.lexical_number.specs.Numeral.{Range, signed, unsigned, with_sign}
 use Rattle.lexical_value.specs.Float.{is_binary, is_decimal, nearest}
 use Rattle.lexical_number.specs.Number.{number}
 use Rattle.lexical_value.specs.declared.integer.ValueErrorKind.{ValueErrorKind}
@@ -31,11 +31,16 @@ width bits = min bits 64
 abbrev pub wrapped : ℕ → Bool → ℕ → Bool × ℕ
 wrapped bits negative n = if nat_le n (if negative then 2 ^ (bits - 1) else 2 ^ (bits - 1) - 1) then (negative, n) else (not negative, 2 ^ bits - n)
 
--- `worth kind negative n` is what `n`, or `-n` if `negative` is true, is worth: a sign and a size, or `None` if it is too large.
+-- `ranged range negative n` is the sign and the size of `n`, or of `-n` if `negative` is true, or `None` if that is not in the range.
+abbrev pub ranged : {T : Type 0} → Range T → Bool → ℕ → Option (Bool × ℕ)
+ranged range negative n = if nat_le n (if negative then range.least else range.largest) then Some (negative, n) else None
+
+-- `worth kind negative n` is what `n`, or `-n` if `negative` is true, is worth: a sign and a size, or `None` if it is too large. No kind has more
+-- than 128 bits.
 abbrev pub worth : IntegerKind → Bool → ℕ → Option (Bool × ℕ)
 worth integers.Exact negative n = Some (negative, n)
-worth (integers.AtMost bits) negative n =
-    if nat_le n (min (if negative then 2 ^ bits else 2 ^ bits - 1) (2 ^ 128 - 1)) then Some (negative, n) else None
+worth (integers.Signed bits) negative n = ranged (signed (min bits 128)) negative n
+worth (integers.Unsigned bits) negative n = ranged (unsigned (min bits 128)) negative n
 worth (integers.Wraps bits) negative n = if nat_lt n (2 ^ min bits 64) then Some (wrapped (min bits 64) negative n) else None
 worth (integers.WrapsModulo bits) negative n = Some (wrapped (min bits 64) negative (n % 2 ^ min bits 64))
 

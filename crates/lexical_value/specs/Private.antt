@@ -1,5 +1,5 @@
 -- Quotients of whole numbers, and numbers that are known.
-use Rattle.std.specs.Prelude.{ℕ, Bool, true, false, ◌≡◌, ◌<◌, ◌≤◌, ◌+◌, ◌-◌, ◌*◌, ◌^◌, if◌then◌else◌, min}
+use Rattle.std.specs.Prelude.{ℕ, Bool, true, false, ◌≡◌, ◌<◌, ◌≤◌, ◌+◌, ◌*◌, ◌^◌}
 use Rattle.lexical_number.specs.declared.numeral.Magnitude.{Magnitude}
 use Rattle.lexical_number.specs.declared.numeral.Magnitude.TheVariants as magnitudes
 use Rattle.lexical_value.specs.declared.scaled.Quotient.{Quotient}
@@ -10,10 +10,6 @@ abbrev pub IsQuotient : ℕ → ℕ → Quotient → Type 0
 IsQuotient num den (quotients.Whole size) = size * den ≡ num
 IsQuotient num den (quotients.Above least) = (least * den < num) × (2 ^ 90 ≤ least + 1)
 IsQuotient num den quotients.Broken = (size : ℕ) → size * den ≡ num → ⊥
-
--- `limit bits negative` is the largest number of so many bits or, if `negative` is true, one more. It has at most 128 bits.
-abbrev pub limit : ℕ → Bool → ℕ
-limit bits negative = min (if negative then 2 ^ bits else 2 ^ bits - 1) (2 ^ 128 - 1)
 
 -- `is_word magnitude` is true if `magnitude` is the number itself, and not its digits.
 abbrev pub is_word : Magnitude → Bool

@@ -1,14 +1,15 @@
 //! The value of a literal as a value of an integer type.
 
 ghost use Rattle.std.specs.Prelude.{◌≡◌, ◌↔◌, ◌-◌, ◌%◌, ◌^◌, ◌<◌, ◌≤◌, ℕ, if◌then◌else◌, [], IfSome, IsFalse, IsNone, IsTrue, MatchResult, Some};
-ghost use Rattle.std.specs.Prelude.{false, option_map, true};
+ghost use Rattle.std.specs.Prelude.{MatchOption, false, option_map, true};
+ghost use Rattle.std.specs.Option.{IsSome};
 ghost use Rattle.lexical_util.specs.Record.{bytes_of};
 ghost use Rattle.lexical_literal.specs.Literal.{is_float, is_minus};
 ghost use Rattle.lexical_number.specs.Numeral.{size_of};
 ghost use Rattle.lexical_number.specs.declared.numeral.Numeral.{Numeral};
 ghost use Rattle.lexical_value.specs.Integer.{integer_size};
 ghost use Rattle.lexical_value.specs.Kind.{IsNotWorth, IsWorth, integer_worth, is_exact, width, worth, wrapped};
-ghost use Rattle.lexical_value.specs.Private.{is_word, limit};
+ghost use Rattle.lexical_value.specs.Private.{is_word};
 ghost use Rattle.lexical_value.specs.declared.integer.ValueErrorKind.TheVariants as kinds;
 
 use lexical_literal::kind::IntegerKind;
@@ -125,15 +126,17 @@ pub(crate) const fn is_exact(kind: IntegerKind) -> bool
     matches!(kind, IntegerKind::Exact)
 }
 
-// Returns whether an integer is known to be worth the number that its digits represent. Of each kind, one of 63 bits is.
+// Returns whether an integer is known to be worth the number that its digits represent: one of fewer bits, and with a sign that its kind has.
 #[inline(always)]
-#[tactic(auto, using(crate::proofs::KindLemmas::at_most_keeps, crate::proofs::KindLemmas::modulo_keeps, crate::proofs::KindLemmas::wraps_keeps))]
+#[tactic(auto, using(crate::proofs::KindLemmas::modulo_keeps, crate::proofs::KindLemmas::signed_keeps, crate::proofs::KindLemmas::unsigned_keeps, crate::proofs::KindLemmas::wraps_keeps))]
 pub(crate) const fn keeps(kind: IntegerKind, numeral: &Numeral) -> bool
     ensures { IsTrue result → worth kind numeral.now.negative (size_of numeral.now) ≡ Some (numeral.now.negative, size_of numeral.now) }
 {
     let bits = match kind {
         IntegerKind::Exact => return true,
-        IntegerKind::AtMost(bits) => bits,
+        IntegerKind::Signed(bits) => bits,
+        IntegerKind::Unsigned(_) if numeral.negative => return false,
+        IntegerKind::Unsigned(bits) => bits,
         IntegerKind::Wraps(bits) => bits,
         IntegerKind::WrapsModulo(bits) => bits,
     };
@@ -146,43 +149,42 @@ pub(crate) const fn keeps(kind: IntegerKind, numeral: &Numeral) -> bool
 // Returns what an integer is worth by its kind, or `None` if it is too large.
 #[cold]
 #[inline(never)]
-#[tactic(auto, using(crate::proofs::KindLemmas::lowest_bits))]
+#[tactic(auto, using(crate::proofs::KindLemmas::lowest_bits, crate::proofs::KindLemmas::lowest_worth))]
 pub(crate) const fn fewer<'a>(kind: IntegerKind, numeral: &Numeral<'a>) -> Option<Numeral<'a>>
     ensures worth { option_map (λ (own : Numeral). (own.negative, size_of own)) result ≡ worth kind numeral.now.negative (size_of numeral.now) }
     // By digits, it is the number itself.
     ensures digits { IfSome result (λ own. is_word own.magnitude ≡ false
         → (own.negative ≡ numeral.now.negative) × (size_of own ≡ size_of numeral.now)) }
 {
-    let negative = numeral.negative;
+    if let Some(most) = limit(kind, numeral.negative) {
+        let Some(_) = numeral.wide_size(most, most) else {
+            return None;
+        };
+    }
     match kind {
-        IntegerKind::Exact => Some(*numeral),
-        IntegerKind::AtMost(bits) => {
-            let most = limit(bits, negative);
-            match numeral.wide_size(most, most) {
-                Some(_) => Some(*numeral),
-                None => None,
-            }
-        }
-        IntegerKind::Wraps(bits) => match numeral.size(most(bits), most(bits)) {
-            Some(size) => Some(wrapped(bits, negative, size)),
-            None => None,
-        },
-        IntegerKind::WrapsModulo(bits) => {
-            Some(wrapped(bits, negative, lowest(bits, numeral.low_bits())))
+        IntegerKind::Exact | IntegerKind::Signed(_) | IntegerKind::Unsigned(_) => Some(*numeral),
+        IntegerKind::Wraps(bits) | IntegerKind::WrapsModulo(bits) => {
+            Some(wrapped(bits, numeral.negative, lowest(bits, numeral.low_bits())))
         }
     }
 }
 
-// Returns the largest number of so many bits or, with the sign `-`, one more. It has at most 128 bits.
-#[tactic(auto, using(crate::proofs::KindLemmas::large_limit))]
-pub(crate) const fn limit(bits: u8, negative: bool) -> u128
-    ensures { result ≡ limit bits negative }
+// Returns the largest number that is worth something by a kind, with the sign `-` or without, or `None` if each number is.
+pub(crate) const fn limit(kind: IntegerKind, negative: bool) -> Option<u128>
+    ensures { (n : ℕ) → MatchOption result (IsSome (worth kind negative n)) (λ most. IsSome (worth kind negative n) ↔ (n ≤ most)) }
 {
-    if bits >= 128 {
-        return u128::MAX;
+    match kind {
+        IntegerKind::Exact | IntegerKind::WrapsModulo(_) => None,
+        IntegerKind::Signed(bits) => {
+            let width = if bits < 128 { bits } else { 128 };
+            let least = 1 << width.saturating_sub(1);
+            Some(if negative { least } else { least - 1 })
+        }
+        IntegerKind::Unsigned(_) if negative => Some(0),
+        IntegerKind::Unsigned(bits) if bits < 128 => Some((1 << bits) - 1),
+        IntegerKind::Unsigned(_) => Some(u128::MAX),
+        IntegerKind::Wraps(bits) => Some(power(bits) - 1),
     }
-    let power = 1 << bits;
-    if negative { power } else { power - 1 }
 }
 
 // Returns `2 ^ bits`. No kind by which numbers wrap has more than 64 bits.
@@ -201,13 +203,6 @@ const fn half(bits: u8) -> u64
 {
     let width = if bits < 64 { bits } else { 64 };
     1 << width.saturating_sub(1)
-}
-
-// Returns the greatest number of so many bits.
-const fn most(bits: u8) -> u64
-    ensures { result ≡ 2 ^ width bits - 1 }
-{
-    (power(bits) - 1) as u64
 }
 
 // Returns the number of the lowest `bits` bits of `number`.

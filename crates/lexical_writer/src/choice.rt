@@ -180,7 +180,7 @@ impl Writable for Whole {
         if float {
             is_exact(kind) && !has_floats(syntax)
         } else {
-            is_kept(kind.integers(), self.size)
+            is_kept(kind.integers(), self.negative, self.size)
         }
     }
 
@@ -465,13 +465,16 @@ fn is_within<F: Float>(value: F, decimals: Option<u8>, limits: FloatLimits) -> b
     }
 }
 
-// Returns whether an integer of this size, also below 0, is known to be worth itself by a kind: one that has fewer bits than the kind is.
-const fn is_kept(kind: IntegerKind, size: u128) -> bool
-    ensures { result ≡ true → (negative : Bool) → worth kind negative size ≡ Some (negative, size) }
+// Returns whether an integer of this sign and size is known to be worth itself by a kind: one that has fewer bits than the kind is.
+#[tactic(auto, using(lexical_value::proofs::KindLemmas::unsigned_keeps))]
+const fn is_kept(kind: IntegerKind, negative: bool, size: u128) -> bool
+    ensures { result ≡ true → worth kind negative size ≡ Some (negative, size) }
 {
     match kind {
         IntegerKind::Exact => true,
-        IntegerKind::AtMost(bits) => is_low(bits, size),
+        IntegerKind::Signed(bits) => is_low(bits, size),
+        IntegerKind::Unsigned(_) if negative => false,
+        IntegerKind::Unsigned(bits) => is_low(bits, size),
         IntegerKind::Wraps(_) | IntegerKind::WrapsModulo(_) => false,
     }
 }

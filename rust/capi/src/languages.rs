@@ -67,9 +67,10 @@ pub struct KindNumbers {
 /// Returns the numbers of a kind.
 pub const fn numbers_of(kind: Kind) -> KindNumbers {
     let (integers, bits) = match kind.integers() {
-        IntegerKind::AtMost(bits) => (1, bits),
+        IntegerKind::Signed(bits) => (1, bits),
         IntegerKind::Wraps(bits) => (2, bits),
         IntegerKind::WrapsModulo(bits) => (3, bits),
+        IntegerKind::Unsigned(bits) => (4, bits),
         _ => (0, 0),
     };
     let limits = match kind.limits() {
@@ -87,9 +88,10 @@ impl KindNumbers {
     pub fn kind(self) -> Option<Kind> {
         let integers = match (self.integers, self.bits) {
             (0, 0) => IntegerKind::Exact,
-            (1, bits) => IntegerKind::AtMost(bits),
+            (1, bits) => IntegerKind::Signed(bits),
             (2, bits) => IntegerKind::Wraps(bits),
             (3, bits) => IntegerKind::WrapsModulo(bits),
+            (4, bits) => IntegerKind::Unsigned(bits),
             _ => return None,
         };
         let floats = [FloatKind::Nearest, FloatKind::Single].get(usize::from(self.floats))?;
@@ -124,7 +126,7 @@ impl Form {
 
     /// Returns the form in Rust, without its name and its suffixes, or `None` if it is refused.
     unsafe fn given(&self) -> Option<literal::Form> {
-        let kind = if self.kind == KindNumbers::EXACT { Kind::EXACT } else { self.kind.kind()? };
+        let kind = self.kind.kind()?;
         let form = literal::Form::new("", Syntax::given_at_once(Some(&self.syntax))?).with_kind(kind);
         let ([opening, closing], [of_opening, of_closing]) = (self.affixes, self.cases);
         let form = form.with_opening(affix(opening, of_opening)?).with_closing(affix(closing, of_closing)?)?;

@@ -3,15 +3,17 @@
 //! Kinds of numbers: what the digits of a literal are worth in a language whose integers have few bits, or whose floats are
 //! single or have limits.
 
-/// What integers are worth, by the number that their digits represent. Numbers of bits are from 1 to 64, and to 128 of [`AtMost`][IntegerKind::AtMost].
+/// What integers are worth, by the number that their digits represent. Numbers of bits are from 1 to 64, and to 128 of
+/// [`Signed`][IntegerKind::Signed] and [`Unsigned`][IntegerKind::Unsigned].
 #[derive(Debug, Clone, Copy, PartialEq, Eq, Hash)]
 #[non_exhaustive]
 pub enum IntegerKind {
     /// The number itself.
     Exact,
-    /// The number itself, which has at most so many bits. From `2 ^ bits` on, it is too large, but `-2 ^ bits` is taken, unless it has
-    /// more than 128 bits.
-    AtMost(u8),
+    /// The number itself, if it is an integer of so many bits, one of which is its sign: from `-2 ^ (bits - 1)` to `2 ^ (bits - 1) - 1`.
+    Signed(u8),
+    /// The number itself, if it is an integer of so many bits without a sign: from 0 to `2 ^ bits - 1`.
+    Unsigned(u8),
     /// An integer of so many bits, one of which is its sign: from `2 ^ (bits - 1)` on, `2 ^ bits` less than the number. From
     /// `2 ^ bits` on, the number is too large.
     Wraps(u8),
@@ -77,7 +79,8 @@ impl Kind {
     pub const fn new(integers: IntegerKind, floats: FloatKind) -> Option<Kind> {
         match integers {
             IntegerKind::Exact
-            | IntegerKind::AtMost(1..=128)
+            | IntegerKind::Signed(1..=128)
+            | IntegerKind::Unsigned(1..=128)
             | IntegerKind::Wraps(1..=64)
             | IntegerKind::WrapsModulo(1..=64) => Some(Kind { integers, floats, ..Kind::EXACT }),
             _ => None,

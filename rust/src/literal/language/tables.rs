@@ -207,29 +207,29 @@ const fn within(kind: Kind) -> Kind {
 const SINGLE: Kind = Kind::new(IntegerKind::Exact, FloatKind::Single).unwrap();
 
 /// Integers of Java with a sign, which are at most `2147483647`, or `0x7FFFFFFF` and then negative; those with `L` have 64 bits.
-const AT_MOST_31: Kind = whole(IntegerKind::AtMost(31));
-const AT_MOST_63: Kind = whole(IntegerKind::AtMost(63));
+const SIGNED_32: Kind = whole(IntegerKind::Signed(32));
+const SIGNED_64: Kind = whole(IntegerKind::Signed(64));
 const WRAPS_32: Kind = whole(IntegerKind::Wraps(32));
 const WRAPS_64: Kind = whole(IntegerKind::Wraps(64));
 
 /// Integers of OCaml, which have 63 bits.
-const AT_MOST_62: Kind = whole(IntegerKind::AtMost(62));
+const SIGNED_63: Kind = whole(IntegerKind::Signed(63));
 const WRAPS_63: Kind = whole(IntegerKind::Wraps(63));
 
 /// Integers of 64 bits without a sign.
-const AT_MOST_64: Kind = whole(IntegerKind::AtMost(64));
+const UNSIGNED_64: Kind = whole(IntegerKind::Unsigned(64));
 
 /// Integers of Rust of any type.
-const AT_MOST_128: Kind = whole(IntegerKind::AtMost(128));
+const UNSIGNED_128: Kind = whole(IntegerKind::Unsigned(128));
 
 /// Integers of Lua, NASM and Nim, of which the last 64 bits count.
 const LAST_64: Kind = whole(IntegerKind::WrapsModulo(64));
 
 /// Numbers of PostScript.
-const SHORT_REALS: Kind = finite(Kind::new(IntegerKind::AtMost(63), FloatKind::Single).unwrap());
+const SHORT_REALS: Kind = finite(Kind::new(IntegerKind::Signed(64), FloatKind::Single).unwrap());
 
 /// Integers and reals of Fortran.
-const DEFAULT: Kind = finite(Kind::new(IntegerKind::AtMost(31), FloatKind::Single).unwrap());
+const DEFAULT: Kind = finite(Kind::new(IntegerKind::Signed(32), FloatKind::Single).unwrap());
 
 /// The suffix of a float of 32 bits, of C and of Kotlin.
 const FLOAT: &[(&[u8], Kind)] = kinds! { SINGLE => f F; };
@@ -248,8 +248,8 @@ const ADA_STOPS: &[Stop] = &[
 const FORTRAN_WORDS: Suffixes = Suffixes::new(&[], &[], &[Stop::new(b"", b".", b"_0123456789")])
     .any_word(b"_")
     .with_kinds(kinds! {
-        whole(IntegerKind::AtMost(7)) => _1; whole(IntegerKind::AtMost(15)) => _2; finite(AT_MOST_63) => _8;
-        Kind::EXACT => _10; whole(IntegerKind::AtMost(127)) => _16;
+        whole(IntegerKind::Signed(8)) => _1; whole(IntegerKind::Signed(16)) => _2; finite(SIGNED_64) => _8;
+        Kind::EXACT => _10; whole(IntegerKind::Signed(128)) => _16;
     })
     .with_written(&[b"_8"]);
 
@@ -290,7 +290,7 @@ const C_DECIMALS: Suffixes =
     Suffixes::new(C_INTEGERS, C_DECIMAL_FLOATS, C_STOPS).with_kinds(C_KINDS).with_written(&[b"ULL"]);
 const C_KINDS: &[(&[u8], Kind)] = kinds! {
     SINGLE => f F; Kind::EXACT => wb WB uwb uWB Uwb UWB wbu wbU WBu WBU;
-    AT_MOST_64 => u U ul uL ull uLL Ul UL Ull ULL lu lU llu llU Lu LU LLu LLU;
+    UNSIGNED_64 => u U ul uL ull uLL Ul UL Ull ULL lu lU llu llU Lu LU LLu LLU;
 };
 
 /// Suffixes of C++, of its library, such as `1ms` and `1.5if`, and of its users: `1_km`.
@@ -302,8 +302,8 @@ const C_PLUS_PLUS_WORDS: Suffixes = Suffixes::new(C_PLUS_PLUS_INTEGERS, C_PLUS_P
     .with_kinds(C_PLUS_PLUS_KINDS)
     .with_written(&[b"ULL"]);
 const C_PLUS_PLUS_KINDS: &[(&[u8], Kind)] = kinds! {
-    SINGLE => f F; AT_MOST_64 => u U ul uL ull uLL Ul UL Ull ULL lu lU llu llU Lu LU LLu LLU d y i il;
-    AT_MOST_63 => h min s ms us ns; Kind::new(IntegerKind::AtMost(64), FloatKind::Single).unwrap() => if;
+    SINGLE => f F; UNSIGNED_64 => u U ul uL ull uLL Ul UL Ull ULL lu lU llu llU Lu LU LLu LLU d y i il;
+    SIGNED_64 => h min s ms us ns; Kind::new(IntegerKind::Unsigned(64), FloatKind::Single).unwrap() => if;
 };
 
 /// Units of CSS: any word, such as `px` and the `n-1` of `2n-1`. A name may also begin with `-` and have escapes: `1-x`, `1--x` and
@@ -336,7 +336,7 @@ const D_INTEGERS: Suffixes = words(list![L u U Lu LU uL UL], &[]);
 const D_WORDS: Suffixes =
     words(list![L u U Lu LU uL UL f F i fi Fi Li], list![f F L i fi Fi Li]).with_kinds(D_KINDS).with_written(&[b"u"]);
 const D_KINDS: &[(&[u8], Kind)] = kinds! {
-    AT_MOST_64 => u U Lu LU uL UL; finite(SINGLE) => f F fi Fi; finite(Kind::EXACT) => i; AT_MOST_63 => L;
+    UNSIGNED_64 => u U Lu LU uL UL; finite(SINGLE) => f F fi Fi; finite(Kind::EXACT) => i; SIGNED_64 => L;
     Kind::EXACT => Li;
 };
 
@@ -347,10 +347,10 @@ const GO_POINTLESS: Suffixes = Suffixes::new(&[b"i"], &[], &[Stop::new(b"", b"."
 /// Suffixes of Java and Scala, in either case.
 const JAVA_DECIMALS: Suffixes = words(&[b"l", b"f", b"d"], &[b"f", b"d"])
     .either_case(true)
-    .with_kinds(kinds! { AT_MOST_63 => l; within(SINGLE) => f; within(Kind::EXACT) => d; })
+    .with_kinds(kinds! { SIGNED_64 => l; within(SINGLE) => f; within(Kind::EXACT) => d; })
     .with_written(&[b"L"]);
 const SCALA_DECIMALS: Suffixes =
-    JAVA_DECIMALS.with_kinds(kinds! { AT_MOST_63 => l; finite(SINGLE) => f; finite(Kind::EXACT) => d; });
+    JAVA_DECIMALS.with_kinds(kinds! { SIGNED_64 => l; finite(SINGLE) => f; finite(Kind::EXACT) => d; });
 const JAVA_INTEGERS: Suffixes =
     words(&[b"l"], &[]).either_case(true).with_kinds(kinds! { WRAPS_64 => l; }).with_written(&[b"L"]);
 const JAVA_FLOATS: Suffixes = words(&[b"f", b"d"], &[b"f", b"d"])
@@ -371,7 +371,7 @@ const KOTLIN_INTEGERS: &[&[u8]] = list![u U L uL UL];
 const KOTLIN_DECIMALS: Suffixes =
     words(list![u U L uL UL f F], &[b"f", b"F"]).with_kinds(KOTLIN_KINDS).with_written(&[b"u"]);
 const KOTLIN_WORDS: Suffixes = words(KOTLIN_INTEGERS, &[]).with_kinds(KOTLIN_KINDS).with_written(&[b"u"]);
-const KOTLIN_KINDS: &[(&[u8], Kind)] = kinds! { AT_MOST_64 => u U uL UL; SINGLE => f F; };
+const KOTLIN_KINDS: &[(&[u8], Kind)] = kinds! { UNSIGNED_64 => u U uL UL; SINGLE => f F; };
 const KOTLIN_FLOATS: Suffixes = words(&[b"f", b"F"], &[]).with_kinds(FLOAT);
 
 /// Suffixes of Nim, in either case. A word behind `'`, as in `1'i8`, is refused, and so is a second point.
@@ -387,19 +387,19 @@ const NIM_DECIMALS: Suffixes =
         .with_written(&[b"u64"]);
 const NIM_KINDS: &[(&[u8], Kind)] = kinds! {
     whole(IntegerKind::Wraps(8)) => i8; whole(IntegerKind::Wraps(16)) => i16; WRAPS_32 => i32;
-    whole(IntegerKind::AtMost(8)) => u8; whole(IntegerKind::AtMost(16)) => u16;
-    whole(IntegerKind::AtMost(32)) => u32; AT_MOST_64 => u u64;
+    whole(IntegerKind::Unsigned(8)) => u8; whole(IntegerKind::Unsigned(16)) => u16;
+    whole(IntegerKind::Unsigned(32)) => u32; UNSIGNED_64 => u u64;
 };
 const NIM_DECIMAL_KINDS: &[(&[u8], Kind)] = kinds! {
-    whole(IntegerKind::AtMost(7)) => i8; whole(IntegerKind::AtMost(15)) => i16; AT_MOST_31 => i32;
-    whole(IntegerKind::AtMost(8)) => u8; whole(IntegerKind::AtMost(16)) => u16;
-    whole(IntegerKind::AtMost(32)) => u32; AT_MOST_64 => u u64; SINGLE => f f32; Kind::EXACT => f64 d;
+    whole(IntegerKind::Signed(8)) => i8; whole(IntegerKind::Signed(16)) => i16; SIGNED_32 => i32;
+    whole(IntegerKind::Unsigned(8)) => u8; whole(IntegerKind::Unsigned(16)) => u16;
+    whole(IntegerKind::Unsigned(32)) => u32; UNSIGNED_64 => u u64; SINGLE => f f32; Kind::EXACT => f64 d;
 };
 
 /// Suffixes of OCaml, whose names may have `'`.
 const OCAML_WORDS: Suffixes = Suffixes::new(list![l L n], &[], &[Stop::new(b"", b"'", b"")])
     .with_kinds(kinds! { WRAPS_32 => l; WRAPS_64 => L n; });
-const OCAML_DECIMALS: Suffixes = OCAML_WORDS.with_kinds(kinds! { AT_MOST_31 => l; AT_MOST_63 => L n; });
+const OCAML_DECIMALS: Suffixes = OCAML_WORDS.with_kinds(kinds! { SIGNED_32 => l; SIGNED_64 => L n; });
 
 /// What may not follow a decimal number of Perl, of which `1.2.3` is a string, and the point of `1.x` may be of the number or not,
 /// and of SQL, which has neither.
@@ -441,10 +441,10 @@ const RUST_DECIMALS: &[&[u8]] = list![u8 u16 u32 u64 u128 usize i8 i16 i32 i64 i
 const RUST_WORDS: Suffixes = words(RUST_DECIMALS, &[b"f32", b"f64"]).with_kinds(RUST_KINDS);
 const RUST_PREFIXED_WORDS: Suffixes = Suffixes::new(RUST_INTEGERS, &[], POINT_AND_NO_NAME).with_kinds(RUST_KINDS);
 const RUST_KINDS: &[(&[u8], Kind)] = kinds! {
-    whole(IntegerKind::AtMost(8)) => u8; whole(IntegerKind::AtMost(16)) => u16;
-    whole(IntegerKind::AtMost(32)) => u32; AT_MOST_64 => u64 usize; whole(IntegerKind::AtMost(7)) => i8;
-    whole(IntegerKind::AtMost(15)) => i16; AT_MOST_31 => i32; AT_MOST_63 => i64 isize;
-    whole(IntegerKind::AtMost(127)) => i128; finite(SINGLE) => f32; finite(Kind::EXACT) => f64;
+    whole(IntegerKind::Unsigned(8)) => u8; whole(IntegerKind::Unsigned(16)) => u16;
+    whole(IntegerKind::Unsigned(32)) => u32; UNSIGNED_64 => u64 usize; whole(IntegerKind::Signed(8)) => i8;
+    whole(IntegerKind::Signed(16)) => i16; SIGNED_32 => i32; SIGNED_64 => i64 isize;
+    whole(IntegerKind::Signed(128)) => i128; finite(SINGLE) => f32; finite(Kind::EXACT) => f64;
 };
 
 /// What goes on a number of Verilog: `8'hFF`, `1.x` and `1$`.
@@ -498,10 +498,10 @@ languages! {
     /// and a sign, unless its suffix has a `u`. The value of a decimal float has all
     /// its digits: that of `16777217.0df` is not rounded to seven.
     C: "C" = {
-        "decimal": decimal(C.no_integer_leading_zeros(true)) => C_DECIMALS; AT_MOST_63, // rejects `08`, not `08.5`
-        "octal": octal(C) => C_WORDS; AT_MOST_64,
-        "hexadecimal": prefixed(b'x', 16, C) => C_WORDS; AT_MOST_64,
-        "binary": prefixed(b'b', 2, C) => C_WORDS; AT_MOST_64,
+        "decimal": decimal(C.no_integer_leading_zeros(true)) => C_DECIMALS; SIGNED_64, // rejects `08`, not `08.5`
+        "octal": octal(C) => C_WORDS; UNSIGNED_64,
+        "hexadecimal": prefixed(b'x', 16, C) => C_WORDS; UNSIGNED_64,
+        "binary": prefixed(b'b', 2, C) => C_WORDS; UNSIGNED_64,
         "hexadecimal float": binary_floats(b'x', 16, C.required_exponent_notation(true)) => C_WORDS, // rejects `0x1.8`
     } => Tokens::new(&[], &[]);
 
@@ -555,18 +555,18 @@ languages! {
     /// C++'s integer and floating literals (C++20, 5.13.2 and 5.13.4). The standard library has the suffixes of durations and
     /// dates, and `i`, `il` and `if` of imaginary numbers.
     C_PLUS_PLUS: "C++" = {
-        "decimal": decimal(C.no_integer_leading_zeros(true)) => C_PLUS_PLUS_WORDS; AT_MOST_63, // rejects `08`, not `08.5`
-        "octal": octal(C) => C_PLUS_PLUS_WORDS; AT_MOST_64,
-        "hexadecimal": prefixed(b'x', 16, C) => C_PLUS_PLUS_WORDS; AT_MOST_64,
-        "binary": prefixed(b'b', 2, C) => C_PLUS_PLUS_WORDS; AT_MOST_64,
+        "decimal": decimal(C.no_integer_leading_zeros(true)) => C_PLUS_PLUS_WORDS; SIGNED_64, // rejects `08`, not `08.5`
+        "octal": octal(C) => C_PLUS_PLUS_WORDS; UNSIGNED_64,
+        "hexadecimal": prefixed(b'x', 16, C) => C_PLUS_PLUS_WORDS; UNSIGNED_64,
+        "binary": prefixed(b'b', 2, C) => C_PLUS_PLUS_WORDS; UNSIGNED_64,
         "hexadecimal float": binary_floats(b'x', 16, C.required_exponent_notation(true)) => C_PLUS_PLUS_WORDS, // rejects `0x1.8`
     } => Tokens::new(&[], &[]);
 
     /// C#'s integer and real literals (C# standard, 6.4.5.3 and 6.4.5.4).
     C_SHARP: "C#" = {
-        "decimal": decimal(JAVA.required_fraction_digits(true)) => C_SHARP_DECIMALS; finite(AT_MOST_64), // rejects `1.`, not `.5`
-        "hexadecimal": prefixed(b'x', 16, JAVA.integer_leading_digit_separator(true)) => words(C_SHARP_INTEGERS, &[]).either_case(true); AT_MOST_64, // accepts `0x_1F`
-        "binary": prefixed(b'b', 2, JAVA.integer_leading_digit_separator(true)) => words(C_SHARP_INTEGERS, &[]).either_case(true); AT_MOST_64, // accepts `0b_1`
+        "decimal": decimal(JAVA.required_fraction_digits(true)) => C_SHARP_DECIMALS; finite(UNSIGNED_64), // rejects `1.`, not `.5`
+        "hexadecimal": prefixed(b'x', 16, JAVA.integer_leading_digit_separator(true)) => words(C_SHARP_INTEGERS, &[]).either_case(true); UNSIGNED_64, // accepts `0x_1F`
+        "binary": prefixed(b'b', 2, JAVA.integer_leading_digit_separator(true)) => words(C_SHARP_INTEGERS, &[]).either_case(true); UNSIGNED_64, // accepts `0b_1`
     } => POINTS_BACK;
 
     /// D's integers and floats (D Language Specification, Lexical, Integer Literals and Floating Point Literals). Compilers
@@ -576,14 +576,14 @@ languages! {
             .required_fraction_digits(true) // rejects `1.` and `1.e5`, not `.5`
             .no_integer_leading_zeros(true) // rejects `08`, not `08.5`
             .exponent_leading_digit_separator(true) // accepts `1e_5`
-        ) => D_WORDS; finite(AT_MOST_63),
+        ) => D_WORDS; finite(SIGNED_64),
         "with a point at the end": decimal(RUST
             .exponent_digit_separator_flags(false)
             .no_integer_leading_zeros(true) // rejects `08`, not `08.`
             .no_exponent_notation(true) // rejects `1.e5`
-        ); finite(AT_MOST_63),
-        "hexadecimal": prefixed(b'x', 16, D_PREFIXED) => D_INTEGERS; AT_MOST_64,
-        "binary": prefixed(b'b', 2, D_PREFIXED) => D_INTEGERS; AT_MOST_64,
+        ); finite(SIGNED_64),
+        "hexadecimal": prefixed(b'x', 16, D_PREFIXED) => D_INTEGERS; UNSIGNED_64,
+        "binary": prefixed(b'b', 2, D_PREFIXED) => D_INTEGERS; UNSIGNED_64,
         "hexadecimal float": binary_floats(b'x', 16, D_PREFIXED
             .required_fraction_digits(true) // rejects `0x1.p3`, not `0x.8p3`
             .exponent_leading_digit_separator(true) // accepts `0x1p_3`
@@ -613,7 +613,7 @@ languages! {
 
     /// Fortran's signed integers and reals (ISO/IEC 1539-1:2018, 7.4.3). Binary, octal and hexadecimal
     /// constants, such as `Z'FF'`, have no type of their own: here, they have at most 128 bits, and are not written.
-    /// Integers have at most 31 bits, and `0.1`, but not `0.1d0`, is an `f32`. The suffix of a token is its
+    /// Integers have 32 bits, one of which is the sign, and `0.1`, but not `0.1d0`, is an `f32`. The suffix of a token is its
     /// kind: `0.1_8` is no `f32`. Of a named kind, such as `_dp`, neither the name nor the value is known, nor is that of
     /// `_08`. Compilers refuse `1_` and `1_8x`, which are tokens here. gfortran also accepts `1q5`, and reads `1.q5` as one
     /// number. `-2147483648`, which compilers refuse, is read, and written.
@@ -623,12 +623,12 @@ languages! {
             .no_special(true)
             .required_exponent_notation(true) // rejects `1.0`, which the first form reads
         ); finite(Kind::EXACT),
-        "hexadecimal, '" behind "z'" before "'" only_read true: integers(16, TOKENS, UNSIGNED); AT_MOST_128,
-        "octal, '" behind "o'" before "'" only_read true: integers(8, TOKENS, UNSIGNED); AT_MOST_128,
-        "binary, '" behind "b'" before "'" only_read true: integers(2, TOKENS, UNSIGNED); AT_MOST_128,
-        "hexadecimal, \"" behind "z\"" before "\"" only_read true: integers(16, TOKENS, UNSIGNED); AT_MOST_128,
-        "octal, \"" behind "o\"" before "\"" only_read true: integers(8, TOKENS, UNSIGNED); AT_MOST_128,
-        "binary, \"" behind "b\"" before "\"" only_read true: integers(2, TOKENS, UNSIGNED); AT_MOST_128,
+        "hexadecimal, '" behind "z'" before "'" only_read true: integers(16, TOKENS, UNSIGNED); UNSIGNED_128,
+        "octal, '" behind "o'" before "'" only_read true: integers(8, TOKENS, UNSIGNED); UNSIGNED_128,
+        "binary, '" behind "b'" before "'" only_read true: integers(2, TOKENS, UNSIGNED); UNSIGNED_128,
+        "hexadecimal, \"" behind "z\"" before "\"" only_read true: integers(16, TOKENS, UNSIGNED); UNSIGNED_128,
+        "octal, \"" behind "o\"" before "\"" only_read true: integers(8, TOKENS, UNSIGNED); UNSIGNED_128,
+        "binary, \"" behind "b\"" before "\"" only_read true: integers(2, TOKENS, UNSIGNED); UNSIGNED_128,
     } => Tokens::new(&[], &[]).gives_points_to_letters();
 
     /// Go's integer and floating-point literals (Language Specification).
@@ -668,7 +668,7 @@ languages! {
     /// with `L`, of `long`: a hexadecimal, octal or binary integer from 2^31 on is negative, as `0xffffffff`, which is -1.
     /// `2147483648`, which is lawful only after the operator `-`, is too large.
     JAVA: "Java" = {
-        "decimal": decimal(JAVA.no_integer_leading_zeros(true)) => JAVA_DECIMALS; within(AT_MOST_31), // rejects `08`, not `08.5`
+        "decimal": decimal(JAVA.no_integer_leading_zeros(true)) => JAVA_DECIMALS; within(SIGNED_32), // rejects `08`, not `08.5`
         "octal": octal(JAVA) => JAVA_INTEGERS; WRAPS_32,
         "hexadecimal": prefixed(b'x', 16, JAVA) => JAVA_INTEGERS; WRAPS_32,
         "binary": prefixed(b'b', 2, JAVA) => JAVA_INTEGERS; WRAPS_32,
@@ -721,9 +721,9 @@ languages! {
         "decimal": decimal(JAVA
             .required_fraction_digits(true) // rejects `1.`, not `.5`
             .no_integer_leading_zeros(true) // rejects `01`, not `01.0`
-        ) => KOTLIN_DECIMALS; AT_MOST_63,
-        "hexadecimal": prefixed(b'x', 16, JAVA) => KOTLIN_WORDS; AT_MOST_63,
-        "binary": prefixed(b'b', 2, JAVA) => KOTLIN_WORDS; AT_MOST_63,
+        ) => KOTLIN_DECIMALS; SIGNED_64,
+        "hexadecimal": prefixed(b'x', 16, JAVA) => KOTLIN_WORDS; SIGNED_64,
+        "binary": prefixed(b'b', 2, JAVA) => KOTLIN_WORDS; SIGNED_64,
     } => Tokens::new(
         &[Form::new("float, leading zeros", integers(10, JAVA, UNSIGNED)).with_suffixes(&KOTLIN_FLOATS)],
         &[],
@@ -764,10 +764,10 @@ languages! {
     } => Tokens::new(&[], &[]);
 
     /// Nim's integers and floats, with the sign `-` (Nim Manual 1.6, Numeric literals). A hexadecimal, octal or binary integer
-    /// keeps its last 64 bits: `0xffffffffffffffff` is -1. Nim also accepts `0c17`, which the manual does not, but refuses `-1u8`.
+    /// keeps its last 64 bits: `0xffffffffffffffff` is -1. Nim also accepts `0c17`, which the manual does not.
     /// Tokens with `'` are refused here, and so is `0b1f32`, whose digits are the bits of a float.
     NIM: "Nim" = {
-        "decimal": numbers(b'e', b'.', separated(b'_').required_digits(true)) => NIM_DECIMALS; AT_MOST_63, // rejects `.5`, `1.`, `1e` and `.`
+        "decimal": numbers(b'e', b'.', separated(b'_').required_digits(true)) => NIM_DECIMALS; SIGNED_64, // rejects `.5`, `1.`, `1e` and `.`
         "hexadecimal": signed(prefixed(b'x', 16, separated(b'_'))) => NIM_INTEGERS; LAST_64,
         "octal": signed(prefixed(b'o', 8, separated(b'_').case_sensitive_base_prefix(true))) => NIM_INTEGERS; LAST_64, // rejects `0O17`
         "binary": signed(prefixed(b'b', 2, separated(b'_'))) => NIM_INTEGERS; LAST_64,
@@ -780,7 +780,7 @@ languages! {
         "decimal": decimal(RUST
             .required_integer_digits(true) // rejects `.5`, not `1.`
             .fraction_leading_digit_separator(true) // accepts `1._5`, not `_1` or `1e_5`
-        ) => OCAML_DECIMALS; AT_MOST_62,
+        ) => OCAML_DECIMALS; SIGNED_63,
         "hexadecimal": binary_floats(b'x', 16, RUST
             .required_integer_digits(true) // rejects `0x.8`, not `0x1.`
             .fraction_leading_digit_separator(true) // accepts `0x1._8`, not `0x_1`
@@ -899,15 +899,15 @@ languages! {
             .required_integer_digits(true) // rejects `.5`
             .required_fraction_digits(true) // rejects `1.` and `1.e5`
             .exponent_leading_digit_separator(true) // accepts `1e_5`
-        ) => RUST_WORDS; finite(AT_MOST_128),
+        ) => RUST_WORDS; finite(UNSIGNED_128),
         "with a point at the end": decimal(RUST
             .exponent_digit_separator_flags(false)
             .required_integer_digits(true) // rejects `.5`, not `1.`
             .no_exponent_notation(true) // rejects `1.e5`
-        ) => RUST_WORDS; finite(AT_MOST_128),
-        "hexadecimal": prefixed(b'x', 16, RUST_PREFIXED) => RUST_PREFIXED_WORDS; AT_MOST_128,
-        "octal": prefixed(b'o', 8, RUST_PREFIXED) => RUST_PREFIXED_WORDS; AT_MOST_128,
-        "binary": prefixed(b'b', 2, RUST_PREFIXED) => RUST_PREFIXED_WORDS; AT_MOST_128,
+        ) => RUST_WORDS; finite(UNSIGNED_128),
+        "hexadecimal": prefixed(b'x', 16, RUST_PREFIXED) => RUST_PREFIXED_WORDS; UNSIGNED_128,
+        "octal": prefixed(b'o', 8, RUST_PREFIXED) => RUST_PREFIXED_WORDS; UNSIGNED_128,
+        "binary": prefixed(b'b', 2, RUST_PREFIXED) => RUST_PREFIXED_WORDS; UNSIGNED_128,
     } => POINTS_BACK;
 
     /// Scala's integers and floats (Scala 3.3 Reference, Syntax). Values are those of `Int` or, with `L`, of `Long`:
@@ -916,7 +916,7 @@ languages! {
         "decimal": decimal(JAVA
             .required_fraction_digits(true) // rejects `1.`, not `.5`
             .no_integer_leading_zeros(true) // rejects `01`, not `01.0`
-        ) => SCALA_DECIMALS; finite(AT_MOST_31),
+        ) => SCALA_DECIMALS; finite(SIGNED_32),
         "hexadecimal": prefixed(b'x', 16, JAVA) => JAVA_INTEGERS; WRAPS_32,
     } => Tokens::new(
         &[Form::new("float, leading zeros", integers(10, JAVA, UNSIGNED)).with_suffixes(&SCALA_FLOATS)],
@@ -986,14 +986,14 @@ languages! {
 
     /// VHDL's abstract literals (IEEE 1076-2008, 15.5). Digits of another base from 2 to 16 are as in `16#FF#` and `16#F.8#`, but a fraction
     /// in a base such as 3 has no `f64`. A format cannot accept `16#FF#E2`, `016#FF#` and `16:FF:`, or accept `1.0E-3` and `1E3` but reject
-    /// `1E-3`, which the first form never writes. Integers have at most 63 bits, as in GHDL.
+    /// `1E-3`, which the first form never writes. Integers have 64 bits, one of which is the sign, as in GHDL.
     VHDL: "VHDL" = {
         "decimal": decimal(separated(b'_')
             .required_digits(true) // rejects `.5`, `1.`, `1e` and `.`
             .no_exponent_without_fraction(true) // rejects `1e3`, not `1.0e3`
-        ) => ADA_WORDS; finite(AT_MOST_63),
-        "integer with an exponent": decimal(separated(b'_').required_digits(true)) => ADA_WORDS; finite(AT_MOST_63),
-    } radixes "" "#" before "#" to 16 { based(separated(b'_')) => ADA_WORDS; finite(AT_MOST_63) } => Tokens::new(&[], &[]);
+        ) => ADA_WORDS; finite(SIGNED_64),
+        "integer with an exponent": decimal(separated(b'_').required_digits(true)) => ADA_WORDS; finite(SIGNED_64),
+    } radixes "" "#" before "#" to 16 { based(separated(b'_')) => ADA_WORDS; finite(SIGNED_64) } => Tokens::new(&[], &[]);
 
     /// The decimals of XML Schema, with signs (XML Schema 1.1, Part 2, 3.3.3).
     XML_SCHEMA: "XML Schema" = { "decimal": numbers(b'e', b'.', NumberFormatBuilder::new()

@@ -68,11 +68,7 @@ impl ValueError {
     /// Returns the size of the largest or least number of its kind, if a number is out of range for it: the type has more values.
     fn limit_of_kind(&self) -> Option<u128> {
         let negative = matches!(self.kind, ValueErrorKind::TooSmall);
-        let most = match self.of {
-            IntegerKind::AtMost(bits) => limit(bits, negative),
-            IntegerKind::Wraps(bits) => limit(bits, false),
-            _ => return None,
-        };
+        let most = limit(self.of, negative)?;
         let has_more = |(least, largest): (i128, u128)| if negative { least.unsigned_abs() } else { largest } > most;
         self.target.limits.is_none_or(has_more).then_some(most)
     }
@@ -117,6 +113,7 @@ impl fmt::Display for ValueError {
                 _ => write!(f, "above the largest {target}"),
             },
             ValueErrorKind::TooSmall => match (of_kind, limits) {
+                (Some(0), _) => write!(f, "below 0, the least number of its form"),
                 (Some(most), _) => write!(f, "below -{most}, the least number of its form"),
                 (_, Some((least, _))) => write!(f, "below {least}, the least {target}"),
                 _ => write!(f, "below the least {target}"),

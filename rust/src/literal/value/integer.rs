@@ -97,12 +97,14 @@ pub(crate) const fn is_exact(kind: IntegerKind) -> bool {
     matches!(kind, IntegerKind::Exact)
 }
 
-// Returns whether an integer is known to be worth the number that its digits represent. Of each kind, one of 63 bits is.
+// Returns whether an integer is known to be worth the number that its digits represent: one of fewer bits, and with a sign that its kind has.
 #[cfg_attr(not(peltzivar_small), inline(always))]
 pub(crate) const fn keeps(kind: IntegerKind, numeral: &Numeral) -> bool {
     let bits = match kind {
         IntegerKind::Exact => return true,
-        IntegerKind::AtMost(bits) => bits,
+        IntegerKind::Signed(bits) => bits,
+        IntegerKind::Unsigned(_) if numeral.negative => return false,
+        IntegerKind::Unsigned(bits) => bits,
         IntegerKind::Wraps(bits) => bits,
         IntegerKind::WrapsModulo(bits) => bits,
     };
@@ -116,34 +118,32 @@ pub(crate) const fn keeps(kind: IntegerKind, numeral: &Numeral) -> bool {
 #[cold]
 #[inline(never)]
 pub(crate) const fn fewer<'a>(kind: IntegerKind, numeral: &Numeral<'a>) -> Option<Numeral<'a>> {
-    let negative = numeral.negative;
+    if let Some(most) = limit(kind, numeral.negative) {
+        let Some(_) = numeral.wide_size(most, most) else {
+            return None;
+        };
+    }
     match kind {
-        IntegerKind::Exact => Some(*numeral),
-        IntegerKind::AtMost(bits) => {
-            let most = limit(bits, negative);
-            match numeral.wide_size(most, most) {
-                Some(_) => Some(*numeral),
-                None => None,
-            }
+        IntegerKind::Exact | IntegerKind::Signed(_) | IntegerKind::Unsigned(_) => Some(*numeral),
+        IntegerKind::Wraps(bits) | IntegerKind::WrapsModulo(bits) => {
+            Some(wrapped(bits, numeral.negative, lowest(bits, numeral.low_bits())))
         }
-        IntegerKind::Wraps(bits) => match numeral.size(most(bits), most(bits)) {
-            Some(size) => Some(wrapped(bits, negative, size)),
-            None => None,
-        },
-        IntegerKind::WrapsModulo(bits) => Some(wrapped(bits, negative, lowest(bits, numeral.low_bits()))),
     }
 }
 
-// Returns the largest number of so many bits or, with the sign `-`, one more. It has at most 128 bits.
-pub(crate) const fn limit(bits: u8, negative: bool) -> u128 {
-    if bits >= 128 {
-        return u128::MAX;
-    }
-    let power = 1 << bits;
-    if negative {
-        power
-    } else {
-        power - 1
+// Returns the largest number that is worth something by a kind, with the sign `-` or without, or `None` if each number is.
+pub(crate) const fn limit(kind: IntegerKind, negative: bool) -> Option<u128> {
+    match kind {
+        IntegerKind::Exact | IntegerKind::WrapsModulo(_) => None,
+        IntegerKind::Signed(bits) => {
+            let width = if bits < 128 { bits } else { 128 };
+            let least = 1 << width.saturating_sub(1);
+            Some(if negative { least } else { least - 1 })
+        }
+        IntegerKind::Unsigned(_) if negative => Some(0),
+        IntegerKind::Unsigned(bits) if bits < 128 => Some((1 << bits) - 1),
+        IntegerKind::Unsigned(_) => Some(u128::MAX),
+        IntegerKind::Wraps(bits) => Some(power(bits) - 1),
     }
 }
 
@@ -157,11 +157,6 @@ const fn power(bits: u8) -> u128 {
 const fn half(bits: u8) -> u64 {
     let width = if bits < 64 { bits } else { 64 };
     1 << width.saturating_sub(1)
-}
-
-// Returns the greatest number of so many bits.
-const fn most(bits: u8) -> u64 {
-    (power(bits) - 1) as u64
 }
 
 // Returns the number of the lowest `bits` bits of `number`.
