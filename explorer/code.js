@@ -244,8 +244,7 @@ ${tests.length ? test : ""}`;
 
     /* Returns what a form has beside its syntax, each with its code in a language of `KIND_CODE`, or by `codeOf`. */
     beside(form, language, codeOf) {
-        const isLeft = ({ name }) => name === "largest" && this.library.value(form, "vanishing");
-        return this.library.differences(form).filter((it) => it.isOfForm && !isLeft(it))
+        return this.library.differences(form).filter(({ isOfForm }) => isOfForm)
             .map((it) => ({ ...it, code: KIND_CODE[it.name]?.[language].replace("%", it.value) ?? codeOf(it) }));
     }
 

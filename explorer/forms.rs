@@ -94,7 +94,7 @@ pub fn numbers_of(State { kind, opening, closing, only_read, .. }: State) -> [u8
     let [at_most, wraps, modulo] = KINDS.map(bits);
     let (single, limits) = (kind.floats() == FloatKind::Single, kind.limits());
     let cases = [opening, closing].map(|it| it.is_case_sensitive());
-    let limits = [limits != FloatLimits::None, limits == FloatLimits::Both];
+    let limits = [limits == FloatLimits::Largest, limits == FloatLimits::Both];
     let flags = [single, limits[0], limits[1], cases[0], cases[1], only_read];
     [at_most, wraps, modulo, flags.iter().rev().fold(0, |all, &it| all << 1 | u8::from(it))]
 }

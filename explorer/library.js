@@ -25,7 +25,7 @@ const OF_FORM = [
     { name: "wraps_modulo", meaning: "Lowest bits of an integer, which count, the highest of which makes it negative", limits: [1, 64] },
     { name: "single", meaning: "Floats have 32 bits" },
     { name: "largest", meaning: "Floats that are too large are errors" },
-    { name: "vanishing", meaning: "So are those, and floats that are not 0 and vanish" },
+    { name: "vanishing", meaning: "Floats that are too large are errors, and so are those that are not 0 and vanish" },
     { name: "case_sensitive_opening", part: "base", meaning: "Letters of the opening have only this case" },
     { name: "case_sensitive_closing", part: "base", meaning: "Letters of the closing have only this case" },
     { name: "only_read", meaning: "Numbers are written in other forms" },
@@ -42,17 +42,19 @@ class Library {
         }));
         const byteAt = (bit) => ({ mask: 255n << BigInt(bit), shift: BigInt(bit) });
         this.bytes = bytes.map((it) => ({ ...it, holder: "word", isByte: true, isNumber: /_(base|radix)$/.test(it.name), ...byteAt(it.bits[0]) }));
-        /* The conditions are the bytes of a number. Those of integers of a kind exclude each other. */
+        /* The conditions are the bytes of a number. Kinds of integers exclude each other, and so do limits. */
         const limited = conditions.map((it, index) => ({ ...it, limits: facts.limits[index] }));
-        const ofIntegers = 0xffffffn << BigInt(8 * conditions.length);
+        const rivals = [({ isOfForm, isNumber }) => isOfForm && isNumber, ({ name }) => name === "largest" || name === "vanishing"];
         let end = 0;
         this.conditions = [...limited, ...OF_FORM.map((it) => ({ ...it, isOfForm: true }))].map((it, index) => {
             const isNumber = it.limits?.[1] > 1;
             const place = isNumber ? byteAt(end) : { mask: 1n << BigInt(end) };
             end += it.limits ? 8 : 1;
-            const clears = place.mask & ofIntegers ? ofIntegers : place.mask;
-            return { ...it, part: it.part || "option", holder: "conditions", isNumber, clears, ...place };
+            return { ...it, part: it.part || "option", holder: "conditions", isNumber, ...place };
         });
+        for (const all of rivals.map((isOne) => this.conditions.filter(isOne))) {
+            for (const it of all) it.clears = all.reduce((mask, other) => mask | other.mask, 0n);
+        }
         /* The fields in the order of their bits, all that differs in states, and all that can be set by its name. */
         this.fields = [...this.flags, ...this.bytes];
         this.differing = [...this.fields, ...AFFIXES, ...OPTIONS, ...this.conditions];

@@ -37,6 +37,14 @@ class Trial {
         return { count: [count, unread].filter(Boolean).join("; "), isGood: !unexpected.length && !left };
     }
 
+    /* Shows why there is no answer. */
+    fail(message) {
+        [this.answers, this.rows] = [[], new Map()];
+        find("read").replaceChildren();
+        find("summary").replaceChildren(element("p", { class: "bad" }, message));
+        setText(find("count"), "");
+    }
+
     /* Returns what the library returns for lines, with what each line expects, and of each part the runs of digits and between
      * them of separators. A number whose value is refused is so, too. */
     read(lines = this.lines, list = this.list) {

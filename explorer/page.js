@@ -276,8 +276,20 @@ class Page {
         history.replaceState({ past: this.past.slice(-MOST_UNDONE), future: this.future }, "", this.fragment());
     }
 
-    /* Reads the state from the fragment. A part that is missing has its default. If one is invalid, the page says so. */
+    /* Reads the state from the fragment. If that fails, the page says so, and shows the standard format. */
     read() {
+        try {
+            this.follow();
+        } catch (error) {
+            reportError(error);
+            history.replaceState(null, "", "#");
+            this.follow();
+            setText(find("told"), `This link fails: ${error.message}. The page shows ${STANDARD[1]} in its place.`);
+        }
+    }
+
+    /* Shows the state of the fragment. A part that is missing has its default. If one is invalid, the page says so. */
+    follow() {
         const { library, data: { languages } } = this;
         const parts = Object.fromEntries(new URLSearchParams(location.hash.slice(1).replaceAll("&amp;", "&")));
         const lost = Object.keys(parts).filter((name) => !LINK.includes(name));
@@ -327,7 +339,15 @@ class Page {
         (isSticky ? document.scrollingElement : focused.closest("#trial, #pane"))?.scrollBy(0, top() - before);
     }
 
+    /* Shows the state. What fails is told in place of an old answer: a list without an explanation has none in any box. */
     showAll() {
+        this.list = undefined;
+        const failed = failure(() => this.showAnswers());
+        if (failed) this.trial.fail(failed);
+        this.draw();
+    }
+
+    showAnswers() {
         this.list = this.listOf(this.state);
         this.shown = this.list.forms[this.state.at];
         this.showLanguage();
@@ -340,17 +360,20 @@ class Page {
         const { count, isGood } = this.trial.show(this.state, this.list);
         Object.assign(find("count"), { textContent: count, className: isGood ? "good" : "bad" });
         [find("clear").hidden, find("example").hidden] = [!this.state.numbers, Boolean(this.state.numbers)];
-        this.draw();
     }
 
     /* Shows the pane that is chosen, and then writes the fragment, not too often for browsers. */
     draw() {
         clearTimeout(this.timer);
         this.timer = setTimeout(() => this.save(), Math.max(0, this.saved + PAUSE - Date.now()));
-        if (this.pane in INNER) this.showText(this.pane);
-        if (this.pane === "languages") this.trial.showReaders();
-        if (this.pane === "compare") compare(this.library, this.list);
-        if (this.pane === "edit") this.showSettings();
+        const failed = failure(() => {
+            if (this.pane in INNER) this.showText(this.pane);
+            if (this.pane === "languages") this.trial.showReaders();
+            if (this.pane === "compare") compare(this.library, this.list);
+            if (this.pane === "edit") this.showSettings();
+        });
+        setText(find("failed"), failed);
+        find(`pane-${this.pane}`).hidden = Boolean(failed);
     }
 
     showSettings() {

@@ -120,7 +120,13 @@ impl State {
     /// Returns why what is between the opening and the closing of a text is not a literal, which shows the flags to blame.
     fn read_inside(self, text: &[u8]) -> Option<FormError> {
         let inside = text.strip_prefix(self.opening.as_bytes())?.strip_suffix(self.closing.as_bytes())?;
-        Self { opening: Affix::NONE, closing: Affix::NONE, ..self }.read(inside).err()?
+        self.with_affixes(b"", b"")?.read(inside).err()?
+    }
+
+    /// Returns the state with another opening and closing, whose letters have one case if they had before.
+    fn with_affixes(self, opening: &[u8], closing: &[u8]) -> Option<Self> {
+        let of = |text, before: Affix| Some(Affix::new(text)?.case_sensitive(before.is_case_sensitive()));
+        Some(Self { opening: of(opening, self.opening)?, closing: of(closing, self.closing)?, ..self })
     }
 
     fn refuses(self, text: &[u8]) -> bool {
@@ -323,7 +329,7 @@ fn candidates(state: State, text: &[u8], at: usize) -> [Option<State>; 13] {
     let usual = State { word: STANDARD, exponent: b'e', point: b'.', conditions: Conditions::NONE, ..state };
     [
         opened(state, text),
-        (!state.opening.is_empty()).then_some(State { opening: Affix::NONE, closing: Affix::NONE, ..usual }),
+        usual.with_affixes(b"", b"").filter(|_| !state.opening.is_empty()),
         prefix(state, before, byte, rest),
         exponent(state, before, byte, rest),
         mark.filter(|_| byte == b',' && is_group && !matches!(unsigned(before), b"" | b"0")),
@@ -378,7 +384,7 @@ fn opened(state: State, text: &[u8]) -> Option<State> {
         let radix = opened_radix(opening)?;
         let has_letter = digits.iter().any(u8::is_ascii_alphabetic) || !matches!(opening, [b'$' | b'#']);
         let is_digit = |&byte: &u8| !byte.is_ascii_alphanumeric() || value(byte) < Some(radix);
-        let found = State { opening: Affix::new(opening)?, closing: Affix::new(closing)?, ..state.with_radix(radix) };
+        let found = state.with_radix(radix).with_affixes(opening, closing)?;
         (has_letter && digits.iter().all(is_digit)).then_some(found)
     })
 }

@@ -50,3 +50,53 @@ function test_large_inputs_are_read_at_once() {
         return Math.min(...took) <= most ? "" : `${forms.length} forms: ${took} of ${most} ms`;
     }).filter(Boolean);
 }
+
+/* Returns what differs between the numbers of the state and the box, the answer, the link and the code. */
+function untold() {
+    const { library, state: { forms, numbers }, list, trial } = page;
+    const lines = numbers.split("\n").filter(Boolean);
+    const linked = new URLSearchParams(page.fragment().slice(1));
+    const ofLink = linked.has("forms") ? linked.get("forms").split("\n").map((it) => library.form(it)) : library.listOf(linked.get("language")).forms;
+    const read = library.call("numbers", list, lines.map((it) => it.replace(/^!/, "")).join("\n"));
+    const isBad = lines.map((it, index) => (it[0] === "!") !== Boolean(read[index]?.error ?? read[index]?.refused));
+    const rows = [...find("read").children];
+    const { text } = INNER[page.pane] ?? {};
+    const shown = text && page.code.text(page.chosen[page.pane], list, trial.answers, page.languageOf(page.state)?.name).replaceAll(page.pane === "words" ? "`" : "", "");
+    return Object.entries({
+        failure: find("failed").textContent === "" && !find("summary").textContent.startsWith("This cannot"),
+        box: find("literal").value === numbers,
+        rows: json(textsOf("#read .written").map((it) => it.replace("\u00a0", ""))) === json(lines.map((it) => it.replace(/^!/, ""))) || find("summary").textContent.startsWith("Nothing is read"),
+        answers: !read.length || json(rows.map((it) => it.classList.contains("unexpected"))) === json(isBad),
+        link: isSame(ofLink, forms) && linked.get("numbers") === numbers,
+        code: !text || find(text).textContent === shown,
+    }).filter(([, isRight]) => !isRight).map(([name]) => name);
+}
+
+/* Each field in which forms can differ is set, alone and with each other one. No answer is that of another form or number. */
+function test_each_pair_of_fields_has_an_answer() {
+    const { library, library: { usual, differing } } = page;
+    const values = { digit_separator: 95, base_prefix: 120, base_suffix: 104, exponent: 112, point: 44, opening: "$", closing: "#" };
+    const set = (form, { name, isNumber, limits }) => library.with(form, name, values[name] ?? (isNumber ? (limits ? 3 : 16) : 1 - library.value(usual, name)));
+    return differing.flatMap((first, index) => differing.slice(index).filter((second) => {
+        show([set(set(usual, first), second)], "1_0\n$FF\n0x1F\n!1");
+        return untold().length;
+    }).map(({ name }) => `${first.name} ${name}: ${untold()}`));
+}
+
+/* So it is after clicks, choices and texts, by a seed. */
+function test_random_steps_leave_no_old_answer() {
+    let seed = 1;
+    const below = (most) => (seed = (seed * 48271) % 2147483647) % most;
+    const one = (all) => all[below(all.length)];
+    const texts = ["1_0", "0x1F\n!1", "$FF", "1,5\n2.5\n", "5\n!1.5", "10px", "Z", "", "1__0\n!x\n5%"];
+    const steps = range(1, 500).map((step) => {
+        const shown = [...document.querySelectorAll("button:enabled:not([id^=copy]), input, select, textarea")].filter((it) => it.checkVisibility());
+        const control = one(shown);
+        const before = page.fragment();
+        if (control.matches("button, [type=checkbox]")) control.click();
+        else if (control.matches("select")) choose(control.id, one([...control.options]).value);
+        else type(control.id, one(texts).split(control.id === "literal" ? "\t" : "\n")[0]);
+        return [step, control.id || control.textContent, before, ...untold()];
+    });
+    return steps.filter(([, , , ...wrong]) => wrong.length).slice(0, 3);
+}
