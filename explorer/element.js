@@ -33,7 +33,7 @@ function failure(call) {
         call();
     } catch (error) {
         reportError(error);
-        return `This cannot be shown: ${error.message}.`;
+        return `This cannot be shown: ${error.message}`;
     }
     return "";
 }

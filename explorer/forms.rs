@@ -1,13 +1,14 @@
 //! The forms of the numbers that are read, such as decimal and hexadecimal, and the values of numbers.
 
-use alloc::vec::Vec;
+use alloc::{format, string::String, vec, vec::Vec};
 use core::array;
 use core::str::FromStr;
 
 use peltzivar::literal::{
-    Affix, Condition, Conditions, FloatKind, FloatLimits, Form, Forms, IntegerKind, Kind, Number, Specials, ValueError,
-    ValueErrorKind,
+    Affix, Condition, Conditions, FloatKind, FloatLimits, Form, Forms, IntegerKind, Kind, Literal, Number, Specials,
+    ValueError, ValueErrorKind,
 };
+use peltzivar::Part;
 
 use crate::suggest::{lines_of, Line, State};
 
@@ -124,12 +125,41 @@ impl Value {
     }
 }
 
+/// The most digits of an integer beyond 128 bits that is shown.
+const MOST_DIGITS: usize = 1000;
+
+/// Returns the decimal digits of an integer that is not of 128 bits, unless its kind refuses it.
+pub fn decimal_of(literal: Literal<'_>) -> Option<String> {
+    let Value::Unknown(error) = value_of_literal(literal) else { return None };
+    let size = literal.integer().len();
+    if error.kind() == ValueErrorKind::UnsupportedRadix || size > MOST_DIGITS {
+        return None;
+    }
+    // A digit of radix 36 has fewer than two decimal ones.
+    let mut digits: Vec<u32> = vec![0; 2 * size];
+    for digit in literal.digits(Part::Integer) {
+        digits.iter_mut().rev().fold(u32::from(digit), |more, it| {
+            let sum = *it * literal.radix(Part::Integer) + more;
+            *it = sum % 10;
+            sum / 10
+        });
+    }
+    let all: String = digits.iter().filter_map(|&it| char::from_digit(it, 10)).collect();
+    Some(format!("{}{}", if literal.is_negative() { "-" } else { "" }, all.trim_start_matches('0')))
+}
+
 pub fn value_of(number: Number<'_>) -> Value {
-    let literal = match number {
-        Number::Special(special) => return Value::Float(special.to_f64().to_bits()),
-        Number::Literal { literal, .. } => literal,
-    };
+    match number {
+        Number::Special(special) => Value::Float(special.to_f64().to_bits()),
+        Number::Literal { literal, .. } => value_of_literal(literal),
+    }
+}
+
+pub fn value_of_literal(literal: Literal<'_>) -> Value {
+    let is_single = literal.kind().floats() == FloatKind::Single;
     let value = match literal.is_float() {
+        // The reason names the type.
+        true if is_single && literal.to_f64().is_err() => literal.to_f32().map(|it| Value::Float(f64::from(it).to_bits())),
         true => literal.to_f64().map(|it| Value::Float(it.to_bits())),
         false => match literal.to_i128() {
             Ok(value) => Ok(Value::Integer(value < 0, value.unsigned_abs())),

@@ -19,16 +19,18 @@ const CHOICES = {
 const [PAUSE, MOST_UNDONE] = [150, 30];
 const LINK = ["language", "forms", "at", "numbers", "compare", "tab"];
 const EXAMPLE = "1_000.5\n0x1F\n-2e-3\n!1__0";
-/* A link that is pasted, what is told of one from a file, which others cannot open, and how many characters of numbers it has. */
-const PASTED = /^\s*[^\s#]*#((?:language|forms|compare|tab|numbers)=\S*)\s*$/;
-const OF_FILE = "Copied: pasted into the numbers of any copy of this page, it opens there.";
+/* What is told of a link of a file, which others do not have, and how many characters of numbers a link has. */
+const OF_FILE = "Copied. Send this file with this link, which stands behind its address.";
 const MOST_LINKED = 4000;
+/* How many forms the library for C and the package for Python take. */
+const MOST_FORMS = 64;
+const TOO_MANY = `A list has up to ${MOST_FORMS} forms, and this would be more: remove a form first.`;
 /* The names of forms without one, by their radix. */
 const RADIXES = { 2: "binary", 8: "octal", 10: "decimal", 16: "hexadecimal" };
 
 class Page {
     constructor(library, data) {
-        Object.assign(this, { library, data: { ...data, languages: library.languages }, saved: 0 });
+        Object.assign(this, { library, data: { languages: library.languages }, saved: 0 });
         this.chosen = { code: "rust", words: "sentence" };
         this.controls = new Controls(library, this);
         this.trial = new Trial(library, this);
@@ -79,9 +81,14 @@ class Page {
             const beside = find(it.dataset.copies);
             it.addEventListener("click", () => copy(it, beside.value ?? beside.textContent, beside));
         }
-        find("literal").addEventListener("input", ({ target }) => this.type(target.value));
+        find("literal").addEventListener("input", ({ target }) => this.change({ numbers: target.value }, "literal"));
         find("language").addEventListener("change", ({ target }) => this.start(target.value));
         find("compare").addEventListener("change", () => this.open("compare"));
+        find("sought").addEventListener("input", () => this.draw());
+        find("sought").addEventListener("keydown", ({ key, target }) => {
+            const [first] = this.trial.named(target.value.trim());
+            if (key === "Enter" && first) this.start(first.name);
+        });
         find("add").addEventListener("change", ({ target }) => {
             const added = target.value === "copy" ? [{ ...this.form, name: "" }] : this.library.listOf(target.value).forms;
             this.change({ forms: [...this.state.forms, ...added], at: this.state.forms.length });
@@ -103,19 +110,11 @@ class Page {
     async copyLink() {
         this.save();
         const isFile = location.protocol === "file:";
-        const link = isFile ? location.hash : location.href;
+        const link = isFile ? location.pathname.split("/").pop() + location.hash : location.href;
         const isCut = this.linked() !== this.state.numbers;
         const cut = isCut ? `The link has the first ${this.linked().split("\n").length} lines alone. ` : "";
         setText(find("told"), link);
         if (await copy(find("copy-link"), link, find("told"))) setText(find("told"), cut + (isFile ? OF_FILE : ""));
-    }
-
-    /* Takes typed numbers, or a link in their place. */
-    type(numbers) {
-        const [, link] = PASTED.exec(numbers) ?? [];
-        if (!link) return this.change({ numbers }, "literal");
-        history.pushState(null, "", `#${link}`);
-        this.read();
     }
 
     /* Takes Ctrl+Z, Ctrl+Y and Ctrl+Shift+Z, except in the field for numbers, which has steps of its own. */
@@ -213,22 +212,22 @@ class Page {
         this.wordTold = this.form.word;
     }
 
-    /* Changes a field or an option of the shown form, or of all. If another form reads a number in its place then, tells so. */
+    /* Changes a field or an option of the shown form. If another form reads a number in its place then, tells so. */
     edit(name, value, key) {
-        const [{ at }, { answers }] = [this.state, this.trial];
-        const isChanged = (it) => it === at || find("all").checked;
-        this.change({ forms: this.state.forms.map((form, it) => (isChanged(it) ? this.edited(form, it, name, value) : form)) }, key);
+        const [{ forms, at }, { answers }] = [this.state, this.trial];
+        this.change({ forms: forms.with(at, this.edited(name, value)) }, key);
         const wasRead = (it) => it?.form === at && !it.error;
         const other = this.trial.answers.find((it, index) => wasRead(answers[index]) && !it.error && it.form !== at);
         if (other) find("told").append(` ${visible(other.text.slice(0, 40))} is still read, by the form ${this.list.forms[other.form].name}.`);
     }
 
-    /* Returns a form with another value of a field or an option. Numbers are integers alone without both options, or floats with both. */
-    edited(form, at, name, value) {
-        const changed = this.library.with(form, name, value);
+    /* Returns the shown form with another value of a field or an option. Numbers are integers alone without both options, or floats with
+     * both. */
+    edited(name, value) {
+        const changed = this.library.with(this.form, name, value);
         const other = { point: "exponent", exponent: "point" }[name];
-        const before = this.past.at(-1)?.forms[at]?.[other] || STANDARD_OPTIONS[other];
-        return other && (value === 0) !== (form[other] === 0) ? { ...changed, [other]: value && before } : changed;
+        const before = this.past.at(-1)?.forms[this.state.at]?.[other] || STANDARD_OPTIONS[other];
+        return other && (value === 0) !== (this.form[other] === 0) ? { ...changed, [other]: value && before } : changed;
     }
 
     get form() {
@@ -238,6 +237,7 @@ class Page {
     /* Changes the state. What is typed into one control, the key, is undone at once, and keeps refused texts. */
     change(part, key = "") {
         const state = { ...this.state, ...part };
+        if (state.forms.length > MOST_FORMS) return setText(find("told"), TOO_MANY);
         if (isSame(state.forms, this.state.forms)) state.forms = this.state.forms;
         if (Object.keys(state).some((name) => state[name] !== this.state[name])) {
             const lost = this.languageOf(state) ? undefined : this.languageOf(this.state)?.title;
@@ -284,7 +284,7 @@ class Page {
             reportError(error);
             history.replaceState(null, "", "#");
             this.follow();
-            setText(find("told"), `This link fails: ${error.message}. The page shows ${STANDARD[1]} in its place.`);
+            setText(find("told"), `This link fails, and the page shows ${STANDARD[1]} in its place: ${error.message}`);
         }
     }
 
@@ -300,7 +300,8 @@ class Page {
         const language = languages.find(({ name }) => name === parts.language);
         const lines = (parts.forms ?? "").split("\n").filter(Boolean);
         const own = lines.flatMap((line) => library.form(line) ?? (lost.push(`forms=${line.slice(0, 40)}`), []));
-        const forms = own.length ? own : language?.forms ?? [library.usual];
+        if (own.length > MOST_FORMS) lost.push(`forms, of which there are up to ${MOST_FORMS}`);
+        const forms = own.length ? own.slice(0, MOST_FORMS) : language?.forms ?? [library.usual];
         const numbers = parts.numbers ?? (parts.forms ? "" : language?.numbers) ?? "";
         find("compare").value = parts.compare ?? "";
         part("compare", find("compare").value);
@@ -393,8 +394,7 @@ class Page {
             node.classList.toggle("blamed", names.some((name) => blamed.has(name)));
             node.classList.toggle("changed", names.some((name) => changed.has(name)));
         }
-        const { flags, groups } = this.library;
-        for (const { name } of [...flags, ...groups]) find(name).setAttribute("aria-invalid", String(blamed.has(name)));
+        for (const { name } of this.controls.boxes) find(name).setAttribute("aria-invalid", String(blamed.has(name)));
     }
 
     /* Shows the text of a tab on all forms, in code with the numbers as a test. */

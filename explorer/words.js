@@ -53,10 +53,9 @@ function changeWords(library, form, changes) {
         if (words[it.name]) return words[it.name](it);
         if (it.isOfForm) return it.part === "base" && !form[it.name.slice("case_sensitive_".length)] ? "" : wordsBeside(it);
         if (it.name in SIZES) return `groups of ${it.value || "any number of"} digits${SIZES[it.name]}`;
-        const required = it.holder === "conditions" && it.name.startsWith("required_") && it.name.slice(9).replaceAll("_", " ");
-        if (required) return it.value ? `require the ${required}` : `the ${required} is optional`;
-        const [refused, accepted] = [it.refuses, it.accepts ?? []].map((texts) => texts.slice(0, 1).map((text) => `\`${text}\``).join());
-        return it.value ? `refuse ${refused}${accepted && `, keep ${accepted}`}` : `allow ${refused}`;
+        const [verb, name] = it.name.startsWith("required_") ? ["require", it.name.slice(9)] : ["", it.name];
+        const [text] = library.examples(it.name);
+        return it.value ? `refuse \`${text}\`: ${verb || ""} ${name.replaceAll("_", " ")}`.replace("  ", " ") : `allow \`${text}\``;
     });
     return [...separators, ...others].filter(Boolean).join(", ");
 }

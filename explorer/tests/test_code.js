@@ -64,6 +64,10 @@ function test_settings_are_those_of_the_forms(_, shown) {
     }));
 }
 
+function test_code_is_used_by_three_commands() {
+    return ["cargo add --path rust", "make -C c install", "pip install ./c"].filter((it) => !textsOf("#pane-code code").includes(it));
+}
+
 function test_code_whose_test_fails_is_marked() {
     return [["1\n!1", true], ["1\n!x", false]].flatMap(([numbers, fails]) => Object.keys(COMMENTS).filter((tab) => {
         show([page.library.usual], numbers);

@@ -72,11 +72,11 @@ function test_each_language_is_below_what_it_reads() {
         const wanted = [...languages.filter(hasAll).map(({ title }) => `All 2, as expected: ${title}`), ...numbers.flatMap((text) => {
             const told = languages.map((list) => [list, reads(list, text)]);
             const readers = told.filter(([, it]) => !it.error && !it.refused).length;
-            const tokens = page.library.call("readers", text)[0].map(({ suffix }) => suffix);
+            const tokens = page.library.call("readers", text)[0].map((it) => it.suffix && `${valueText(it)} with the suffix ${it.suffix}, as a token`);
             const refused = told.filter(([, it], index) => it.error && !tokens[index]).length;
             const counts = [`${text} Read by formats of ${readers || "none"} of ${languages.length} languages`, ...(refused ? [`Refused by ${refused}`] : [])];
             return [...counts, ...told.map(([list, it], index) => {
-                if (tokens[index]) return `with the suffix ${tokens[index]}, as a token: ${list.title}`;
+                if (tokens[index]) return `${tokens[index]}: ${list.title}`;
                 const form = it.parts.some(({ kind }) => kind === "special") ? "special value" : list.forms[it.form].name;
                 return it.error ? `${it.error}: ${list.title}` : `${it.refused ? "refused, " : ""}${valueText(it)}, ${form}: ${list.title}`;
             })];
@@ -91,4 +91,36 @@ function test_numbers_that_are_left_out_are_told() {
         page.chooseTab("languages");
         return find("readers").textContent.startsWith(`The first 20 of ${count} numbers`) !== count > 20;
     });
+}
+
+/* A token with a suffix is told with both, also one of any word, and one of a form of tokens alone. */
+function test_tokens_have_their_suffixes() {
+    const rows = ["10px 10 px CSS", "1.5em 1.5 em CSS", "10_km 10 _km C++", "1.5_dp 1.5 _dp Fortran", "1_8 1 _8 Fortran", "01F 1 F Java", "1_000_f64 1000 f64 Rust"];
+    page.chooseTab("languages");
+    return rows.map((it) => it.split(" ")).filter(([text, value, suffix, title]) => {
+        show([page.library.usual], text);
+        return ![...find("readers").querySelectorAll("p")].some((it) => {
+            return it.textContent.startsWith(`${value} with the suffix ${suffix}, as a token:`) && textsOf("button", it).includes(title);
+        });
+    });
+}
+
+/* A language is found by a part of its name, its title or an alias, whatever the case is, and Enter starts from it. */
+function test_languages_are_found_by_their_names() {
+    const { trial, trial: { languages } } = page;
+    page.chooseTab("languages");
+    const alias = languages.findIndex(({ name }) => name === "JAVASCRIPT");
+    languages[alias].aliases = ["ecmascript"];
+    const rows = [["c++", "C++"], ["C_SHARP", "C#"], ["ECMA", languages[alias].title], ...languages.map(({ title }) => [title, title])];
+    const wrong = rows.filter(([text, title]) => ["1_000.5e3", ""].some((numbers) => {
+        show([page.library.usual], numbers);
+        choose("sought", text);
+        const shown = textsOf("#readers button");
+        return !shown.includes(title) || (text.length > 2 && shown.length > 9) || trial.named(text)[0].title !== title;
+    }));
+    find("sought").dispatchEvent(new KeyboardEvent("keydown", { key: "Enter" }));
+    const isStarted = page.state.language === languages.at(-1).name && page.pane === "code";
+    page.open("languages");
+    choose("sought", "no such");
+    return [...wrong, ...(isStarted ? [] : ["Enter"]), ...(find("readers").textContent === "No language has this name." ? [] : ["none"])];
 }

@@ -22,6 +22,30 @@ class Look(Walk):
                     controls, whole, wrong = self.call("looks")
                     self.assertEqual((wrong, controls, whole), ([], shown.setdefault(link, controls), width), (mode, link))
 
+    def test_a_phone_has_the_texts_of_a_laptop(self):
+        """In both colours, in which the parts of numbers differ, and what screen readers announce has its role."""
+        shown = {}
+        for mode in ("light", "dark"):
+            self.media(prefers_color_scheme=mode)
+            for width in self.screens((1280, 720), (390, 844)):
+                for link in self.links():
+                    self.assertEqual(self.call("shownTexts"), shown.setdefault(link, self.call("shownTexts")), (width, mode, link))
+            self.load(f"#forms={MIXED_FORM}&numbers=-0x1_0%2C8p%2B1h%0ANaN".replace("441F", "401F"))
+            self.assertEqual(self.call("alikeParts"), [])
+        nodes = self.driver.execute_cdp_cmd("Accessibility.getFullAXTree", {})["nodes"]
+        live = {it["role"]["value"] for it in nodes for one in it.get("properties", []) if one["name"] == "live" and one["value"]["value"] != "off"}
+        roles = {it: self.find(f"#{it}").get_attribute("role") for it in ("told", "summary", "same", "failed", "word-problem", "base_prefix-problem")}
+        self.assertEqual((live >= {"status"}, roles), (True, {"told": "status", "summary": "status", "same": "status", "failed": "alert",
+                         "word-problem": "alert", "base_prefix-problem": "status"}))
+
+    def test_numbers_have_room_at_400_percent(self):
+        for _ in self.screens((320, 180), (320, 256)):
+            self.load("#numbers=1_000%0A0x1F")
+            self.run_script("find('read').scrollIntoView()")
+            room = """const shown = [...Array(innerHeight).keys()].filter((y) => find("trial").contains(document.elementFromPoint(160, y)));
+                return shown.length"""
+            self.assertGreaterEqual(self.run_script(room), 120)
+
     def test_what_has_the_focus_has_an_outline(self):
         self.find("body").send_keys(Keys.TAB)
         self.assertEqual(self.call("bare"), [])
@@ -38,8 +62,8 @@ class Look(Walk):
         place = "return document.querySelector('#base_prefix').getBoundingClientRect().top"
         for _ in self.screens():
             self.load("#language=RUST&tab=edit")
-            self.run_script("find('kinds').scrollIntoView()")
-            self.find("#single").click()
+            self.run_script("find('decimal_first_digit').scrollIntoView()")
+            self.find("#decimal_first_digit").click()
             self.assertEqual(self.run_script(told), "The format is not that of Rust any more. Undo brings it back.")
             self.load(f"#forms={MIXED_FORM}&tab=edit")
             for text in ("5", "xyz"):
@@ -94,6 +118,7 @@ class Look(Walk):
             self.assertEqual(set(self.run_script(f"return {shown}")), {"pane-code", f"pane-{pane}"})
             text = self.find("body").text
             self.assertEqual(("button" in text, "GHC2021" in text, "1'1" in text), (False, pane == "languages", True))
+            self.assertTrue(text.startswith("Peltzivar number formats"))
 
     def test_nothing_is_requested_and_the_policy_allows_the_page_alone(self):
         self.assertEqual(self.run_script("return performance.getEntriesByType('resource').map((it) => it.name)"), [])

@@ -46,17 +46,97 @@ function test_sizes_of_groups_are_offered() {
     });
 }
 
-/* The words of a change tell whether it refuses or allows texts, for each flag and condition, and of no two that are set they are the same. */
-function test_words_of_a_change_tell_its_direction() {
-    const { library, library: { usual, flags, conditions } } = page;
-    const seen = new Set();
-    return [...flags, ...conditions].filter(({ isOfForm }) => !isOfForm).filter(({ name, part, isNumber }) => {
-        const states = [0, isNumber ? 3 : 1].map((it) => library.with(usual, name, it));
-        const words = states.map((it, index) => changeWords(library, it, library.differences(it, states[1 - index])));
-        const [without, set] = part === "separator" ? words.toReversed() : words;
-        const isSeen = seen.size === seen.add(set).size;
-        return isSeen || (!isNumber && (!/^allow |is optional$/.test(without) || !/^(refuse|require) /.test(set)));
-    }).map(({ name }) => name);
+/* The words of setting each flag, condition and what else a form has, in a form with `_`, `x`, `h` and an opening; and of clearing it. */
+const WORDS = {
+    required_integer_digits: "refuse `.5`: require integer digits / allow `.5`",
+    required_fraction_digits: "refuse `5.`: require fraction digits / allow `5.`",
+    required_exponent_digits: "refuse `1e`: require exponent digits / allow `1e`",
+    required_mantissa_digits: "refuse `.`: require mantissa digits / allow `.`",
+    no_positive_mantissa_sign: "refuse `+1`: no positive mantissa sign / allow `+1`",
+    required_mantissa_sign: "refuse `1`: require mantissa sign / allow `1`",
+    no_exponent_notation: "refuse `1e5`: no exponent notation / allow `1e5`",
+    no_positive_exponent_sign: "refuse `1e+5`: no positive exponent sign / allow `1e+5`",
+    required_exponent_sign: "refuse `1e5`: require exponent sign / allow `1e5`",
+    no_exponent_without_fraction: "refuse `1e5`: no exponent without fraction / allow `1e5`",
+    no_special: "refuse `NaN`: no special / allow `NaN`",
+    case_sensitive_special: "refuse `nan`: case sensitive special / allow `nan`",
+    no_integer_leading_zeros: "refuse `01`: no integer leading zeros / allow `01`",
+    no_float_leading_zeros: "refuse `01.5`: no float leading zeros / allow `01.5`",
+    required_exponent_notation: "refuse `1`: require exponent notation / allow `1`",
+    case_sensitive_exponent: "refuse `1E5`: case sensitive exponent / allow `1E5`",
+    case_sensitive_base_prefix: "refuse `0X1`: case sensitive base prefix / allow `0X1`",
+    case_sensitive_base_suffix: "refuse `1H`: case sensitive base suffix / allow `1H`",
+    special_digit_separator: "allow `_` in special values / refuse `_` in special values",
+    required_base_prefix: "refuse `1`: require base prefix / allow `1`",
+    required_base_suffix: "refuse `1`: require base suffix / allow `1`",
+    no_negative_mantissa_sign: "refuse `-1`: no negative mantissa sign / allow `-1`",
+    integer_group_size: "groups of 3 digits / groups of any number of digits",
+    higher_group_size: "groups of 3 digits before the last one / groups of any number of digits before the last one",
+    fraction_group_size: "groups of 3 digits in the fraction / groups of any number of digits in the fraction",
+    required_leading_zero: "refuse `1`: require leading zero / allow `1`",
+    decimal_first_digit: "refuse `.5`: decimal first digit / allow `.5`",
+    single: "floats have 32 bits / not: floats have 32 bits",
+    only_read: "numbers are written in other forms / not: numbers are written in other forms",
+    opening: "read `$` .. `#` as decimal / no opening", closing: "`#` at the end / no closing",
+    exponent: "an exponent behind `p` / an exponent behind `e`", point: "`,` is the decimal point / `.` is the decimal point",
+    ...Object.fromEntries(["between digits", "before digits", "behind digits", "several in a row"].flatMap((place, index) => {
+        const name = ["internal", "leading", "trailing", "consecutive"][index];
+        return ["integer", "fraction", "exponent"].map((part) => {
+            const where = part === "integer" ? place : `${place} of the ${part}`;
+            return [`${part}_${name}_digit_separator`, `allow \`_\` ${where} / refuse \`_\` ${where}`];
+        });
+    })),
+};
+
+function test_words_of_a_change_tell_what_it_does() {
+    const { library } = page;
+    const base = library.with(formOf("base_prefix='x'", "base_suffix='h'", "closing='#'"), "digit_separator", 95);
+    const values = { opening: "$", closing: "", exponent: 112, point: 44 };
+    return Object.entries(WORDS).filter(([name, words]) => {
+        const usual = library.value(library.usual, name);
+        const other = values[name] ?? (library.named.get(name).isNumber ? 3 : 1 - usual);
+        const states = [usual, other].map((it) => library.with(base, name, name === "closing" && !it ? "" : it));
+        if (name === "closing") states[0] = base;
+        const told = states.map((it, index) => changeWords(library, it, library.differences(it, states[1 - index])));
+        return (usual === 1 || name === "closing" ? told : told.toReversed()).join(" / ") !== words;
+    }).map(([name]) => name).concat(library.differing.filter(({ name, meaning }) => !(name in WORDS) && !meaning).map(({ name }) => name));
+}
+
+/* A language, numbers, what is told first of the first one that is not as expected, and what is told of none. */
+const FIRST = [
+    ["", "5%", "`%` is a percent sign: divide the value by 100", /allow|try/], ["", "12 %", "`%` is a percent sign", /allow|try/],
+    ["", "3k", "`k` is a factor", /allow|try|radix.36/], ["", "1.5M", "`M` is a factor", /allow|try|radix.36/], ["", "7K", "`K` is a factor", /allow|try/],
+    ["", "2G", "`G` is a factor", /allow|try|radix.36/], ["", "true", "`true` is a word, and not a number", /radix.36/],
+    ["", "False", "`False` is a word", /radix.36/], ["", "null", "`null` is a word", /radix.36/], ["", "n/a", "`n/a` is a word", /radix.36/],
+    ["", "EUR5", "`EUR` is a currency: remove it", /radix.36/], ["", "CHF 12.50", "`CHF` is a currency", /radix.36|separator/],
+    ["", "12 USD", "`USD` is a currency", /radix.36|allow/], ["", "ZZ", "No change of a few fields", /radix.36/],
+    ["RUST", "1_000_f64", "`f64` is a suffix in Rust", /hexadecimal/], ["", "1_000_f64", "`f64` is a suffix in Rust", /hexadecimal/],
+    ["RUST", "1.5f32", "`f32` is a suffix in Rust", /hexadecimal/], ["RUST", "1f64", "`f64` is a suffix in Rust", /hexadecimal/],
+    ["C_SHARP", "1d", "`d` is a suffix in C#", /hexadecimal/], ["", "1d", "`d` can be a suffix", /hexadecimal/],
+    ["", "90deg", "`deg` is a suffix in CSS", /hexadecimal|allow/], ["CSS", "10px", "`px` is a suffix in CSS", /radix.36|hexadecimal/],
+    ["", "1.5em", "`em` is a suffix in CSS", /radix.36/], ["C_PLUS_PLUS", "10_km", "`_km` is a suffix in C++", /radix.36/],
+    ["FORTRAN", "1.5_dp", "`_dp` is a suffix in Fortran", /radix.36/], ["JAVA", "01F", "`F` is a suffix in Java", /radix.36/],
+    ["", "5\n!1.5", "integers alone", /integer digits|mantissa sign/], ["", "0x1F\n5\n!1.5", "read `0x` as hexadecimal", /radix.36/],
+    ["", "0.5\n!.5\n!5.", "refuse `.5`: require integer digits", /leading zero/], ["", "!5.", "refuse `5.`: require fraction digits", /leading zero/],
+    ["", "17\n!017", "refuse `01`: no integer leading zeros", /mantissa sign/], ["", "!1e5", "refuse `1e5`: no exponent notation", /radix.36/],
+    ["", " 1,5", "It has a space at an end: remove it", /separator|allow/], ["", "2,5 ", "It has a space at an end", /separator|allow/],
+    ["", "1\t2", "`1U+00092` has several numbers", /separator/], ["", "1,2,3", "`1,2,3` has several numbers", /allow/],
+    ["", "--1", "`--1` has two signs", /allow/], ["", "1\u00b2", "`1\u00b2` has a power", /try/], ["", "\u221e", "`U+221E` is an infinity", /allow/],
+    ["", "1_000", "allow `_` between digits", /suffix/], ["", "0x1F", "read `0x` as hexadecimal", /suffix/], ["", "1,5", "`,` is the decimal point", /suffix/],
+];
+
+/* After a click on what is offered first, nothing that is offered takes it back. */
+function test_what_is_offered_first_is_meant() {
+    return FIRST.flatMap(([language, numbers, first, never]) => {
+        page.change({ forms: page.library.listOf(language).forms, at: 0, language, numbers });
+        const shown = textsOf("#read li li");
+        const before = page.state.forms;
+        const isWrong = !shown[0]?.startsWith(first.replaceAll("`", "")) || shown.some((it) => never.test(it.replace("1_000_", "")));
+        find("read").querySelector(".use:has(~ .then)")?.click();
+        const isChanged = page.state.forms !== before;
+        const ways = page.trial.answers.filter((it) => isChanged && !it.isExpected).flatMap((it) => page.trial.withOffers(it).offers.flatMap((offer) => offer.ways));
+        return isWrong || ways.some(([, { forms }]) => isSame(forms, before)) ? [[language, numbers, shown]] : [];
+    });
 }
 
 /* Returns what is offered for a number of the usual form, what is advised, each with the text of its button, and the sentence. */
@@ -68,14 +148,17 @@ function offeredFor(text) {
 }
 
 /* What no format has, in words of the advice, and what its button makes of texts. */
+const each = (codes, of, other) => Object.fromEntries(codes.map((it) => [of(String.fromCharCode(it)), other]));
 const REPLACED = {
-    "is an apostrophe that no format has: replace it by '": { "1\u2019000": "1'000", "1\u02bc000": "1'000" },
-    "is a space that no format has: replace it by the space of ASCII": { "1\u00a0000": "1 000", "1\u202f000": "1 000" },
-    "is a minus sign that no format has: replace it by -": { "\u22125": "-5", "\u20135": "-5" },
-    "is a percent sign: divide the value by 100, and remove it": { "12 %": "12" },
+    "is an apostrophe that no format has: replace it by '": each([0x2018, 0x2019, 0x2bc], (it) => `1${it}000`, "1'000"),
+    "is a space that no format has: replace it by the space of ASCII": each([0xa0, 0x2007, 0x2009, 0x202f], (it) => `1${it}000`, "1 000"),
+    "is a minus sign that no format has: replace it by -": each([...range(0x2010, 0x2015), 0x2212], (it) => `${it}5`, "-5"),
     "is a currency sign: remove it": { "\u20ac5": "5", "$12": "12", "5 \u00a3": "5" },
-    "can be a suffix: the library's call token reads the number before it, with your suffixes. Remove it": { "3kg": "3" },
-    " is a suffix in ": { "1u8": "1", "0x1Fu8": "0x1F", "10L": "10", "1.5f": "1.5" },
+    "is a currency: remove it": { EUR5: "5", "CHF 12.50": "12.50", "12 USD": "12" },
+    "It has a space at an end: remove it": each([9, 32], (it) => `${it}1,5${it}`, "1,5"),
+    "is an infinity that no format has: replace it by inf": { "\u221e": "inf", "-\u221e": "-inf" },
+    "can be a suffix: the library's call token reads the number before it, with your suffixes. Remove it": { "3 kg": "3" },
+    " is a suffix in ": { "1u8": "1", "0x1Fu8": "0x1F", "10L": "10", "1.5f": "1.5", "3kg": "3", "10px": "10" },
     "is a negative number in a way that no format has: replace it by one with -": { "(5)": "-5", "5-": "-5" },
     "is a digit that no format has: replace it by one of ASCII": { "\u0661\u0662": "12", "\uff11\uff12": "12" },
 };
@@ -98,17 +181,6 @@ function test_what_no_format_has_is_replaced() {
         [...find("read").querySelectorAll(".use")].find((it) => it.textContent === `try ${other}`)?.click();
         return !advice.some(([told]) => told.includes(words)) || find("literal").value !== other;
     }));
-}
-
-/* Returns what is told of each text and, after a click on its button, the numbers, what has the focus, and whether the limits are open. */
-function prefixesShown(texts) {
-    return texts.map((text) => {
-        offeredFor(text);
-        find("limits").open = false;
-        const told = textsOf("#read li li");
-        find("read").querySelector("li li button").click();
-        return [told, find("literal").value, document.activeElement.textContent, find("limits").open];
-    });
 }
 
 /* No two offers for a number have the same words, none helps fewer numbers, and each is in vain without any of its flags. */
