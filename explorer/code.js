@@ -42,8 +42,7 @@ class Code {
         this.library = library;
     }
 
-    /* Returns the text of a tab for a list, which can be that of a language, and the answers for its numbers. A test has none whose
-     * value alone is refused. */
+    /* Returns the text of a tab for a list, also of a language, and answers. A test has none of which the value alone is refused. */
     text(tab, { forms, specials = SPECIALS }, answers, language) {
         const bad = forms.find(({ problems }) => problems.length);
         const quoted = this.hasSpecials(forms) ? specials.map((it) => JSON.stringify(it)) : [];

@@ -1,6 +1,6 @@
 //! The forms of the numbers that are read, such as decimal and hexadecimal, and the values of numbers.
 
-use alloc::{format, string::String, vec, vec::Vec};
+use alloc::vec::Vec;
 use core::array;
 use core::str::FromStr;
 
@@ -8,7 +8,6 @@ use peltzivar::literal::{
     Affix, Condition, Conditions, FloatKind, FloatLimits, Form, Forms, IntegerKind, Kind, Literal, Number, Specials,
     ValueError, ValueErrorKind,
 };
-use peltzivar::Part;
 
 use crate::suggest::{lines_of, Line, State};
 
@@ -102,50 +101,11 @@ pub fn numbers_of(State { kind, opening, closing, only_read, .. }: State) -> [u8
 
 /// The value of a number: an integer by its sign and size, and a float by its bits. A number that is too large for its kind
 /// is refused, and that of others without a value is unknown.
-#[derive(Clone, Copy, PartialEq)]
 pub enum Value {
     Integer(bool, u128),
     Float(u64),
     Unknown(ValueError),
     Refused(ValueError),
-}
-
-impl Value {
-    /// Returns whether both are the same number, also as an integer and a float.
-    pub fn is_same(self, other: Self) -> bool {
-        match (self, other) {
-            (Value::Integer(is_negative, size), Value::Float(bits))
-            | (Value::Float(bits), Value::Integer(is_negative, size)) => {
-                let float = f64::from_bits(bits);
-                let is_integer = float.abs() == size as f64 && float.abs() as u128 == size;
-                is_integer && float.is_sign_negative() == is_negative
-            }
-            _ => self == other,
-        }
-    }
-}
-
-/// The most digits of an integer beyond 128 bits that is shown.
-const MOST_DIGITS: usize = 1000;
-
-/// Returns the decimal digits of an integer that is not of 128 bits, unless its kind refuses it.
-pub fn decimal_of(literal: Literal<'_>) -> Option<String> {
-    let Value::Unknown(error) = value_of_literal(literal) else { return None };
-    let size = literal.integer().len();
-    if error.kind() == ValueErrorKind::UnsupportedRadix || size > MOST_DIGITS {
-        return None;
-    }
-    // A digit of radix 36 has fewer than two decimal ones.
-    let mut digits: Vec<u32> = vec![0; 2 * size];
-    for digit in literal.digits(Part::Integer) {
-        digits.iter_mut().rev().fold(u32::from(digit), |more, it| {
-            let sum = *it * literal.radix(Part::Integer) + more;
-            *it = sum % 10;
-            sum / 10
-        });
-    }
-    let all: String = digits.iter().filter_map(|&it| char::from_digit(it, 10)).collect();
-    Some(format!("{}{}", if literal.is_negative() { "-" } else { "" }, all.trim_start_matches('0')))
 }
 
 pub fn value_of(number: Number<'_>) -> Value {

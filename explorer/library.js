@@ -247,8 +247,9 @@ function isSame(forms, others) {
     return forms.length === others.length && forms.every((form, index) => isEqual(form, others[index]));
 }
 
-/* Returns the value of a number, which the library computed, as text, or why it has none. */
-function valueText({ integer, float, unknown, refused }) {
+/* Returns the value of a number, which the library computed, as text, or why it has none. A long integer has up to 1000 digits. */
+function valueText({ long: [sign, digits, radix] = [], integer, float, unknown, refused }) {
+    if (digits?.length <= 1000) return sign + [...digits].reduce((all, it) => all * BigInt(radix) + BigInt(parseInt(it, 36)), 0n);
     if (float === undefined) return integer ?? unknown ?? refused;
     const [value] = new Float64Array(BigUint64Array.of(BigInt(float)).buffer);
     return Object.is(value, -0) ? "-0" : String(value);

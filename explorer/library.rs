@@ -9,20 +9,20 @@ use core::alloc::{GlobalAlloc, Layout};
 use core::fmt::Display;
 use core::ops::Range;
 
-use examples::{examples, Example};
-use forms::{decimal_of, numbers_of, state_of, states_of, value_of, value_of_literal, List, Value};
+use forms::{numbers_of, state_of, states_of, value_of, value_of_literal, List, Value};
 use peltzivar::edits::{apply, is_built, normal_form};
 use peltzivar::literal::{
-    Condition, Conditions, ConditionsError, ConditionsErrorKind, Form, FormError, Forms, Language, Number, Special,
-    Specials, Syntax, Token,
+    Condition, Conditions, ConditionsError, ConditionsErrorKind, Form, FormError, Forms, Language, Literal, Number,
+    Special, Specials, Syntax, Token,
 };
-use peltzivar::{Byte, Cause, Edit, Format, FormatView, NamedByte, NumberFormatBuilder, Reason, Setter};
+use peltzivar::{Byte, Cause, Edit, Format, FormatView, NamedByte, NumberFormatBuilder, Part, Reason, Setter};
 use suggest::{lines_of, offers, Line, State};
 
-mod examples;
 mod forms;
 mod suggest;
 
+/// How many digits of an integer of more than 128 bits are passed.
+const MOST_DIGITS: usize = 1001;
 const INPUT_SIZE: usize = 1 << 18;
 const HEAP_SIZE: usize = 1 << 26;
 
@@ -75,8 +75,7 @@ pub extern "C" fn call(length: usize) -> u64 {
         "explain" => explain(first),
         "readers" => readers(lines),
         "numbers" => numbers(first, others),
-        "offered" => offered(first, others),
-        _ => differ(first, utf8(others)),
+        _ => offered(first, others),
     };
     let text = answer.leak();
     (text.len() as u64) << 32 | text.as_ptr() as u64
@@ -254,9 +253,13 @@ fn told(read: Result<Number<'_>, FormError>, text: &[u8]) -> String {
         Ok(number) => {
             let is_float = number.literal().map(|it| it.is_float());
             let is = is_float.map_or("special value", |is_float| if is_float { "float" } else { "integer" });
-            let long = number.literal().and_then(|it| decimal_of(it)).map(|it| format!(r#""integer":"{it}""#));
-            let value = long.unwrap_or_else(|| value(value_of(number)));
-            format!(r#""is":"{is}",{value},"form":{}"#, number.form().unwrap_or(0))
+            let is_long = |it: &Literal| !it.is_float() && matches!(value_of_literal(*it), Value::Unknown(_));
+            let long = number.literal().filter(is_long).map_or(String::new(), |it| {
+                let (sign, radix) = (if it.is_negative() { "-" } else { "" }, it.radix(Part::Integer));
+                let digits = it.digits(Part::Integer).filter_map(|it| char::from_digit(it.into(), 36));
+                format!(r#""long":["{sign}","{}",{radix}],"#, digits.take(MOST_DIGITS).collect::<String>())
+            });
+            format!(r#""is":"{is}",{long}{},"form":{}"#, value(value_of(number)), number.form().unwrap_or(0))
         }
         Err(it) => {
             let (form, mask, Range { start, end }) = (it.form, word(it.mask()), it.span());
@@ -264,22 +267,6 @@ fn told(read: Result<Number<'_>, FormError>, text: &[u8]) -> String {
             format!(r#""form":{form},"error":{error},"mask":{mask},"start":{start},"end":{end}"#)
         }
     }
-}
-
-/// Returns texts that tell the forms of two lines apart: those that the second ones refuse, those that the first ones refuse,
-/// and those to which they give different values. If a word is not lawful, returns an empty array.
-fn differ(first: &'static str, second: &'static str) -> String {
-    let [Some(first), Some(second)] = [first, second].map(|it| List::of(states_of(it))) else { return "[]".into() };
-    let line = |Example { text, told, .. }: &Example| {
-        let text = quoted(utf8(text));
-        match told.map(|values| values.map(value)) {
-            Err(error) => format!(r#"{{"text":{text},"error":{}}}"#, reason_of(error)),
-            Ok([here, there]) => format!(r#"{{"text":{text},"here":{{{here}}},"there":{{{there}}}}}"#),
-        }
-    };
-    let part = |all: &[Example], is_refused| list(all.iter().filter(|it| it.told.is_err() == is_refused).map(line));
-    let [here, there] = [examples(&first, &second), examples(&second, &first)];
-    list([part(&here, true), part(&there, true), part(&here, false)].into_iter())
 }
 
 /// Returns an integer as digits, a float as the number of its bits, or why a number has no value, as a part of an object.

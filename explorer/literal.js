@@ -66,8 +66,7 @@ class Trial {
 
     /* Returns the answer with what is offered in words: up to three states, those last that change other numbers, and advice. */
     withOffers(answer) {
-        const isRead = answer.isExpected && !answer.isRefused;
-        if (answer.isExpected || answer.refused) return { ...answer, offers: [], advice: isRead ? this.starts(answer, true) : [] };
+        if (answer.isExpected || answer.refused) return { ...answer, offers: [], advice: [] };
         const lines = [answer, ...this.answers].map(({ line }) => line).join("\n");
         const offered = this.library.call("offered", this.list, lines).map((it) => this.worded(answer, it));
         const all = offered.toSorted((a, b) => Boolean(a.lost) - Boolean(b.lost));
@@ -83,8 +82,7 @@ class Trial {
     worded(answer, offer) {
         const [{ forms }, { library, answers }, at] = [this.state, this, answer.form];
         const isFlag = ({ isByte, isText }) => Number(!isByte && !isText);
-        const differences = (it) => library.differences(it, forms[at]).sort((a, b) => isFlag(a) - isFlag(b));
-        const changes = differences(offer);
+        const changes = library.differences(offer, forms[at]).sort((a, b) => isFlag(a) - isFlag(b));
         const affixes = changes.filter(({ name, value }) => value && name.startsWith("base_"));
         const own = affixes.reduce((all, { name }) => library.with(all, `required_${name}`, 1), offer);
         const changed = (form) => changes.reduce((all, { name, value }) => library.with(all, name, value), form);
@@ -108,9 +106,8 @@ class Trial {
         const count = expected(then);
         const counted = answers.length > 1 && `${count} of ${answers.length} as expected`;
         const told = [this.told(reading(then)), counted, !isOwn && lost].filter(Boolean).join("; ");
-        const label = differences(isOwn ? own : offer).map((it) => it.text).join(", ");
         const rank = reading(then).isExpected * MOST_LINES + count;
-        return { ways, lost, changes, label, then: told, rank, isBetter: count > this.expected };
+        return { ways, lost, changes, then: told, rank, isBetter: count > this.expected };
     }
 
     /* Returns what else can be done for a text, each with words and, at most, the label of a button and what it does. */
@@ -124,28 +121,14 @@ class Trial {
         const [first] = tokens.toSorted((a, b) => isOwn(b) - isOwn(a) || a.suffix.length - b.suffix.length);
         const { suffix } = first ?? {};
         const same = isOwn(first) ? [first] : tokens.filter((it) => it.suffix === suffix);
-        const words = `\`${suffix}\` is a suffix in ${titlesOf(same)}: ${TOKEN}.`;
+        const words = `\`${visible(suffix ?? "")}\` is a suffix in ${titlesOf(same)}: ${TOKEN}.`;
         const ofToken = suffix && (isOwn(first) || !readers.length) ? [{ words, text: text.slice(0, -suffix.length) }] : undefined;
         const numbers = this.state.numbers.split("\n");
         const replace = (other) => this.page.change({ numbers: numbers.with(place, other).join("\n") });
-        const all = adviceFor(text, offers.length > 0, ofToken).map((it) => {
-            return it.text === undefined ? it : { ...it, label: `try ${it.text}`, act: () => replace(it.text) };
-        });
         const isOperator = language && this.hasOperator(text, language);
-        if (isOperator) all.push({ words: `In ${language.title}, \`-\` is an operator, so that numbers have no sign.` });
-        return [...all, ...this.starts(answer, offers.length > 0)];
-    }
-
-    /* Returns advice to start from other languages that read a number: as octal with another value, and else if nothing is offered. */
-    starts({ text, integer = text }, isOffered) {
-        if (text.length > MOST_CHARACTERS) return [];
-        const own = this.page.languageOf(this.state)?.name;
-        const readers = this.withReaders([{ text }])[0].readers.filter(({ name }) => name !== own);
-        const isOctal = (it) => /^[+-]?0\d/.test(text) && Number(it.integer) === parseInt(text, 8) && Number(integer) !== Number(it.integer);
-        const groups = [...Map.groupBy(readers, isOctal)].filter(([is]) => is || !isOffered);
-        return groups.map(([is, [first, ...others]]) => {
-            const words = `${titlesOf([first, ...others])} read${others.length ? "" : "s"} it${is ? ` as octal, ${first.integer}` : ""}.`;
-            return { words, label: `start from ${first.title}`, act: () => this.page.start(first.name, 0) };
+        const ofSign = isOperator ? [{ words: `In ${language.title}, \`-\` is an operator, so that numbers have no sign.` }] : [];
+        return [...adviceFor(text, offers.length > 0, ofToken), ...ofSign].map((it) => {
+            return it.text === undefined ? it : { ...it, label: `try ${it.text}`, act: () => replace(it.text) };
         });
     }
 
@@ -163,7 +146,7 @@ class Trial {
         const nodes = this.answers.map((answer) => {
             const whole = open.has(answer) ? this.withOffers(answer) : answer;
             const form = this.forms[answer.form];
-            const texts = [whole, this.expected, form.name, this.forms.length, this.state.language];
+            const texts = [whole, this.expected, this.isChosen, form.name, this.forms.length, this.state.language];
             const key = JSON.stringify(texts, (_, it) => (typeof it === "bigint" ? String(it) : it));
             this.rows.set(key, old.get(key) ?? (open.has(answer) ? this.row(whole) : this.line(whole)));
             return this.rows.get(key);
@@ -348,7 +331,7 @@ class Trial {
         const { unknown, refused } = answer;
         const where = start < text.length ? `at index ${start}` : "at the end";
         const name = this.forms.length > 1 ? `, ${this.forms[form]?.name ?? "the new form"}` : "";
-        const value = unknown ? `: ${unknown}` : refused ? `, but its value is refused: ${refused}` : ` = ${valueText(answer)}`;
+        const value = unknown && valueText(answer) === unknown ? `: ${unknown}` : refused ? `, but its value is refused: ${refused}` : ` = ${valueText(answer)}`;
         if (refused && isRefused) return `refused: its value is ${refused}${name}`;
         const who = this.isChosen ? "" : "the standard format refuses it ";
         if (error) return `${isRefused ? "refused: " : who}${where}: ${error}`;
@@ -370,14 +353,15 @@ class Trial {
         return [...cut(0, start), marked, ...cut(end, text.length)];
     }
 
-    /* Returns a form that is offered, as buttons in words, with what the number is then and the settings. */
-    offer({ label, ways, then }) {
+    /* Returns a form that is offered, as buttons in words, with what the number is then. The settings are told behind the words. */
+    offer({ ways, then, changes }) {
         const take = (part) => () => {
             this.before = this.state;
             this.page.enter(part);
             (find("read").querySelector(".use") ?? find("literal")).focus();
         };
-        const buttons = ways.map(([words, part]) => button("use", withCode(words), take(part)));
-        return element("li", {}, buttons, element("span", { class: "then" }, withCode(visible(then))), element("span", { class: "name" }, label));
+        const title = changes.map(({ text }) => text).join(", ");
+        const buttons = ways.map(([words, part]) => button("use", withCode(words), take(part), { title }));
+        return element("li", {}, buttons, element("span", { class: "then" }, withCode(visible(then))));
     }
 }

@@ -14,16 +14,14 @@ const CHOICES = {
     compare: [["", "nothing"], STANDARD],
     add: [["", "Add a form"], ["copy", "a copy of this one"], STANDARD],
 };
-/* The milliseconds between two fragments that are written, the changes that can be undone after a reload, the parts of a
- * fragment, and the example. */
+/* The milliseconds between two fragments, the changes that can be undone after a reload, the parts of a fragment, an example. */
 const [PAUSE, MOST_UNDONE] = [150, 30];
 const LINK = ["language", "forms", "at", "numbers", "compare", "tab"];
 const EXAMPLE = "1_000.5\n0x1F\n-2e-3\n!1__0";
 /* What is told of a link of a file, which others do not have, and how many characters of numbers a link has. */
 const OF_FILE = "Copied. Send this file with this link, which stands behind its address.";
 const MOST_LINKED = 4000;
-/* How many forms the library for C and the package for Python take. */
-const MOST_FORMS = 64;
+const MOST_FORMS = 64; // As in C and Python.
 const TOO_MANY = `A list has up to ${MOST_FORMS} forms, and this would be more: remove a form first.`;
 /* The names of forms without one, by their radix. */
 const RADIXES = { 2: "binary", 8: "octal", 10: "decimal", 16: "hexadecimal" };
@@ -47,10 +45,6 @@ class Page {
                 return button("", title, () => this.open(name), attributes);
             }));
         }
-        find("parts").append(...[...document.querySelectorAll("#controls h3, #word-title")].map((it) => {
-            return button("link rover", it.textContent, () => (it.scrollIntoView(), it.focus({ preventScroll: true })));
-        }));
-        oneStop(find("parts"));
         this.listen();
         this.read();
     }
@@ -212,22 +206,14 @@ class Page {
         this.wordTold = this.form.word;
     }
 
-    /* Changes a field or an option of the shown form. If another form reads a number in its place then, tells so. */
+    /* Changes a field or an option of the shown form. Numbers are integers alone without both options, or floats with both. */
     edit(name, value, key) {
-        const [{ forms, at }, { answers }] = [this.state, this.trial];
-        this.change({ forms: forms.with(at, this.edited(name, value)) }, key);
-        const wasRead = (it) => it?.form === at && !it.error;
-        const other = this.trial.answers.find((it, index) => wasRead(answers[index]) && !it.error && it.form !== at);
-        if (other) find("told").append(` ${visible(other.text.slice(0, 40))} is still read, by the form ${this.list.forms[other.form].name}.`);
-    }
-
-    /* Returns the shown form with another value of a field or an option. Numbers are integers alone without both options, or floats with
-     * both. */
-    edited(name, value) {
+        const { forms, at } = this.state;
         const changed = this.library.with(this.form, name, value);
         const other = { point: "exponent", exponent: "point" }[name];
-        const before = this.past.at(-1)?.forms[this.state.at]?.[other] || STANDARD_OPTIONS[other];
-        return other && (value === 0) !== (this.form[other] === 0) ? { ...changed, [other]: value && before } : changed;
+        const before = this.past.at(-1)?.forms[at]?.[other] || STANDARD_OPTIONS[other];
+        const isOther = other && (value === 0) !== (this.form[other] === 0);
+        this.change({ forms: forms.with(at, isOther ? { ...changed, [other]: value && before } : changed) }, key);
     }
 
     get form() {
@@ -394,7 +380,9 @@ class Page {
             node.classList.toggle("blamed", names.some((name) => blamed.has(name)));
             node.classList.toggle("changed", names.some((name) => changed.has(name)));
         }
-        for (const { name } of this.controls.boxes) find(name).setAttribute("aria-invalid", String(blamed.has(name)));
+        for (const { name, isNumber } of this.controls.boxes) {
+            if (!isNumber) find(name).setAttribute("aria-invalid", String(blamed.has(name)));
+        }
     }
 
     /* Shows the text of a tab on all forms, in code with the numbers as a test. */

@@ -338,7 +338,7 @@ fn candidates(state: State, line: Line<'_>, at: usize) -> [Option<State>; 12] {
     [
         opened(state, text),
         usual.with_affixes(b"", b"").filter(|_| !state.opening.is_empty()),
-        prefix(state, before, byte, rest),
+        prefix(state, before, byte),
         exponent(state, before, byte, rest),
         mark.filter(|_| byte == b',' && is_group && !matches!(unsigned(before), b"" | b"0")),
         point(state, before, byte, rest),
@@ -396,14 +396,9 @@ fn opened(state: State, text: &[u8]) -> Option<State> {
     })
 }
 
-/// A letter behind the first zero is the base prefix, and shows the radix. A digit of this radix is never before a sign,
-/// so the radix is kept if the exponent character is such a digit and is before a sign.
-fn prefix(state: State, before: &[u8], byte: u8, rest: &[u8]) -> Option<State> {
-    let radix = shown_radix(byte)?;
-    let is_digit = value(state.exponent).is_some_and(|digit| digit < radix);
-    let is_exponent = |it: &[u8]| it[0].eq_ignore_ascii_case(&state.exponent) && matches!(it[1], b'+' | b'-');
-    let is_kept = is_digit && rest.windows(2).any(is_exponent);
-    let shown = if is_kept { state } else { state.with_radix(radix) };
+/// A letter behind the first zero is the base prefix, and shows the radix.
+fn prefix(state: State, before: &[u8], byte: u8) -> Option<State> {
+    let shown = state.with_radix(shown_radix(byte)?);
     (unsigned(before) == b"0").then(|| shown.with(BASE_PREFIX, byte))
 }
 

@@ -53,9 +53,9 @@ function changeWords(library, form, changes) {
         if (words[it.name]) return words[it.name](it);
         if (it.isOfForm) return it.part === "base" && !form[it.name.slice("case_sensitive_".length)] ? "" : wordsBeside(it);
         if (it.name in SIZES) return `groups of ${it.value || "any number of"} digits${SIZES[it.name]}`;
-        const [verb, name] = it.name.startsWith("required_") ? ["require", it.name.slice(9)] : ["", it.name];
         const [text] = library.examples(it.name);
-        return it.value ? `refuse \`${text}\`: ${verb || ""} ${name.replaceAll("_", " ")}`.replace("  ", " ") : `allow \`${text}\``;
+        const words = it.name.replace("required", "require").replaceAll("_", " ");
+        return it.value ? `refuse \`${text}\`: ${words}` : `allow \`${text}\``;
     });
     return [...separators, ...others].filter(Boolean).join(", ");
 }

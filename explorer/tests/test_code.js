@@ -26,22 +26,6 @@ function test_the_sentence_the_grammar_and_the_expression_are_those_of_all_forms
     });
 }
 
-/* A case-sensitive opening or closing is read in its own case alone, as the grammar and the expression tell. */
-function test_openings_have_their_case() {
-    const texts = ["x'1h", "X'1h", "x'1H", "X'1H"];
-    const rows = {
-        "": ['[Xx] "\'" Literal [Hh]', "1111"],
-        case_sensitive_opening: ['"x\'" Literal [Hh]', "1010"],
-        case_sensitive_closing: ['[Xx] "\'" Literal "h"', "1100"],
-    };
-    return Object.entries(rows).filter(([name, [rule, wanted]]) => {
-        show([formOf("opening=x'", "closing=h", name && `${name}=true`)], texts.join("\n"));
-        const expression = new RegExp(`^(?:${codeOf("regex")})$`);
-        const read = [page.trial.answers.map(({ error }) => !error), texts.map((it) => expression.test(it))].map((all) => all.map(Number).join(""));
-        return read.some((it) => it !== wanted) || !codeOf("grammar").startsWith(`Number   ::= ${rule}\n`);
-    });
-}
-
 /* What the tab of settings shows makes the same forms, in place of the usual one and, with the line ends of Windows, of another. */
 function test_settings_are_those_of_the_forms(_, shown) {
     const { library, data: { languages } } = page;

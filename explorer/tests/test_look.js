@@ -25,17 +25,6 @@ function outOfView() {
     });
 }
 
-/* Returns the buttons for parts of the settings whose heading has no focus or is not in view after a click. */
-function partsOutOfView() {
-    page.open("edit");
-    return textsOf("button", find("parts")).filter((title, index) => {
-        find("parts").children[index].click();
-        const { left, top } = document.activeElement.getBoundingClientRect();
-        const isSeen = document.activeElement.contains(document.elementFromPoint(left + 9, top + 9));
-        return document.activeElement.textContent !== title || !isSeen;
-    });
-}
-
 /* Returns the controls that are shown, the width of the page, and what looks wrong, by the name of a check. */
 function looks() {
     const controls = [...document.querySelectorAll("button, input, select")].filter((it) => it.id && it.checkVisibility());
@@ -46,7 +35,7 @@ function looks() {
 
 /* Returns the texts that are shown, and whether each is a control that is refused. */
 function shownTexts() {
-    const own = (it) => [...it.childNodes].filter((node) => node.nodeType === 3).map(({ data }) => data.trim()).join(" ");
+    const own = (it) => [...it.childNodes].filter((node) => node.nodeType === 3).map(({ data }) => data.trim()).join(" ").trim();
     const all = [...document.querySelectorAll("body *")].filter((it) => it.checkVisibility({ visibilityProperty: true }) && (own(it) || it.ariaInvalid));
     return all.map((it) => `${own(it)} ${it.ariaInvalid ?? ""}`);
 }
@@ -164,7 +153,7 @@ async function idle(link) {
         button.click();
         await new Promise((resolve) => setTimeout(resolve));
         const [beside, hasMoved] = [find(COPIED[button.ariaLabel]), ![document.body, button].includes(document.activeElement)];
-        const isCopied = window.copied === (beside ? beside.value ?? beside.textContent : before);
+        const isCopied = window.copied === (beside ? beside.value ?? beside.textContent : `index.html${before}`);
         if (!(button.id.startsWith("copy") ? isCopied : page.fragment() !== before || hasMoved)) idle.push(button.outerHTML);
     }
     return idle;

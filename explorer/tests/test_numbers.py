@@ -21,7 +21,7 @@ class Numbers(Walk):
         self.assertEqual(self.text("#count"), "2 of 5 as expected")
         self.load("#forms=0x00000A0000000000000000000000101E&numbers=001%0A%2BInfinity%0A1.%0A1\U0001f6002")
         self.assertEqual((self.texts("#read mark"), self.texts("#read mark span")), (["001", "+", " ", "\U0001f600"], ["0"]))
-        self.assertEqual(self.texts("#read .use"), ["allow 01", "allow +1", "allow 1."])
+        self.assertEqual(self.texts("#read .use"), ["allow 01", "allow +1", "allow 5.", "try 1"])
 
     def test_numbers_are_shown_as_they_are_typed_and_with_their_values(self):
         shown = """page.change({ forms: [page.library.usual], at: 0, language: "", numbers: arguments[0] });

@@ -1,18 +1,6 @@
 /* Functions of test_offers.py, which run in the page. */
 "use strict";
 
-/* No number of a language that refuses `-5` has a sign. */
-function test_a_minus_that_is_an_operator_is_told() {
-    const readers = readersOf("-5");
-    return page.data.languages.filter(({ name, title, forms }, index) => ["-5", "5"].some((number) => {
-        show(forms, number, name);
-        const isShown = textsOf("#readers .meaning").some((it) => it.endsWith(", - is an operator before the number."));
-        const told = textsOf("#read li li").filter((it) => it.includes("operator"));
-        const isRead = number === "5" || readers.some((it) => it.language === index);
-        return isShown !== (number === "-5") || told.join() !== (isRead ? "" : `In ${title}, - is an operator, so that numbers have no sign.`);
-    })).map(({ name }) => name);
-}
-
 /* The sentence promises no button if the same number must be accepted, too, and else one that refuses it. */
 function test_the_sentence_promises_what_a_button_does() {
     const promises = () => find("summary").textContent.includes(BUTTON);
@@ -26,64 +14,30 @@ function test_the_sentence_promises_what_a_button_does() {
     }).map(({ name }) => name);
 }
 
-/* Numbers show each size of each kind of groups. If any would do, the usual size is offered. */
-function test_sizes_of_groups_are_offered() {
-    const { library } = page;
-    const form = (settings) => formOf("internal_digit_separator=true", "digit_separator=','", settings);
-    const zeros = (size) => "0".repeat(size);
-    const texts = { integer: (it) => `1,${zeros(it)}`, higher: (it) => `1,${zeros(it)},000`, fraction: (it) => `0.${zeros(it)},0` };
-    const offered = (settings, ...numbers) => {
-        show([form(settings)], numbers.join("\n"));
-        return textsOf("#read .name");
-    };
-    return library.conditions.filter((it) => it.isNumber && !it.isOfForm).flatMap(({ name, limits: [least, most] }) => {
-        const [kind, text] = Object.entries(texts).find(([it]) => name.startsWith(it));
-        const [others, last] = kind === "higher" ? ["integer_group_size=3", 3] : ["", 0];
-        const sizes = range(least, most).filter((it) => it !== last);
-        const lost = sizes.filter((it) => offered(others, `!${text(it + 1)}`, `!${text(it - 1)}`, text(it))[0] !== `${name}=${it}`);
-        const usual = offered("", `!${text(20)}`, "1", "-1", "1e5").join(" ");
-        return [...lost, ...(usual.includes(`${name}=3`) && !/group_size=[^3]/.test(usual) ? [] : [usual])].map((it) => [name, it]);
-    });
-}
-
-/* The words of setting each flag, condition and what else a form has, in a form with `_`, `x`, `h` and an opening; and of clearing it. */
+/* Texts that flags and conditions refuse; and in a form with `_`, `x`, `h` and a closing, the words of setting what else there is, and
+ * of clearing it. */
+const REFUSED = { required_integer_digits: ".5", required_fraction_digits: "5.", required_exponent_digits: "1e", required_mantissa_digits: ".",
+    no_positive_mantissa_sign: "+1", required_mantissa_sign: "1", no_exponent_notation: "1e5", no_positive_exponent_sign: "1e+5",
+    required_exponent_sign: "1e5", no_exponent_without_fraction: "1e5", no_special: "NaN", case_sensitive_special: "nan",
+    no_integer_leading_zeros: "01", no_float_leading_zeros: "01.5", required_exponent_notation: "1", case_sensitive_exponent: "1E5",
+    case_sensitive_base_prefix: "0X1", case_sensitive_base_suffix: "1H", required_base_prefix: "1", required_base_suffix: "1",
+    no_negative_mantissa_sign: "-1", required_leading_zero: "1", decimal_first_digit: ".5" };
 const WORDS = {
-    required_integer_digits: "refuse `.5`: require integer digits / allow `.5`",
-    required_fraction_digits: "refuse `5.`: require fraction digits / allow `5.`",
-    required_exponent_digits: "refuse `1e`: require exponent digits / allow `1e`",
-    required_mantissa_digits: "refuse `.`: require mantissa digits / allow `.`",
-    no_positive_mantissa_sign: "refuse `+1`: no positive mantissa sign / allow `+1`",
-    required_mantissa_sign: "refuse `1`: require mantissa sign / allow `1`",
-    no_exponent_notation: "refuse `1e5`: no exponent notation / allow `1e5`",
-    no_positive_exponent_sign: "refuse `1e+5`: no positive exponent sign / allow `1e+5`",
-    required_exponent_sign: "refuse `1e5`: require exponent sign / allow `1e5`",
-    no_exponent_without_fraction: "refuse `1e5`: no exponent without fraction / allow `1e5`",
-    no_special: "refuse `NaN`: no special / allow `NaN`",
-    case_sensitive_special: "refuse `nan`: case sensitive special / allow `nan`",
-    no_integer_leading_zeros: "refuse `01`: no integer leading zeros / allow `01`",
-    no_float_leading_zeros: "refuse `01.5`: no float leading zeros / allow `01.5`",
-    required_exponent_notation: "refuse `1`: require exponent notation / allow `1`",
-    case_sensitive_exponent: "refuse `1E5`: case sensitive exponent / allow `1E5`",
-    case_sensitive_base_prefix: "refuse `0X1`: case sensitive base prefix / allow `0X1`",
-    case_sensitive_base_suffix: "refuse `1H`: case sensitive base suffix / allow `1H`",
     special_digit_separator: "allow `_` in special values / refuse `_` in special values",
-    required_base_prefix: "refuse `1`: require base prefix / allow `1`",
-    required_base_suffix: "refuse `1`: require base suffix / allow `1`",
-    no_negative_mantissa_sign: "refuse `-1`: no negative mantissa sign / allow `-1`",
     integer_group_size: "groups of 3 digits / groups of any number of digits",
     higher_group_size: "groups of 3 digits before the last one / groups of any number of digits before the last one",
     fraction_group_size: "groups of 3 digits in the fraction / groups of any number of digits in the fraction",
-    required_leading_zero: "refuse `1`: require leading zero / allow `1`",
-    decimal_first_digit: "refuse `.5`: decimal first digit / allow `.5`",
     single: "floats have 32 bits / not: floats have 32 bits",
     only_read: "numbers are written in other forms / not: numbers are written in other forms",
     opening: "read `$` .. `#` as decimal / no opening", closing: "`#` at the end / no closing",
     exponent: "an exponent behind `p` / an exponent behind `e`", point: "`,` is the decimal point / `.` is the decimal point",
+    ...Object.fromEntries(Object.entries(REFUSED).map(([name, text]) => {
+        return [name, `refuse \`${text}\`: ${name.replace("required", "require").replaceAll("_", " ")} / allow \`${text}\``];
+    })),
     ...Object.fromEntries(["between digits", "before digits", "behind digits", "several in a row"].flatMap((place, index) => {
         const name = ["internal", "leading", "trailing", "consecutive"][index];
-        return ["integer", "fraction", "exponent"].map((part) => {
-            const where = part === "integer" ? place : `${place} of the ${part}`;
-            return [`${part}_${name}_digit_separator`, `allow \`_\` ${where} / refuse \`_\` ${where}`];
+        return ["", " of the fraction", " of the exponent"].map((part) => {
+            return [`${part.slice(8) || "integer"}_${name}_digit_separator`, `allow \`_\` ${place}${part} / refuse \`_\` ${place}${part}`];
         });
     })),
 };
@@ -139,12 +93,10 @@ function test_what_is_offered_first_is_meant() {
     });
 }
 
-/* Returns what is offered for a number of the usual form, what is advised, each with the text of its button, and the sentence. */
+/* Returns what is offered first for a number of the usual form, and what is advised and told. */
 function offeredFor(text) {
     show([page.library.usual], text);
-    const items = [...find("read").querySelectorAll("li li")].filter((it) => !it.querySelector(".then"));
-    const advice = items.map((it) => [it.firstChild.textContent, textsOf("button", it).join()]);
-    return [textsOf("#read .then")[0], advice, find("summary").textContent];
+    return [textsOf("#read .then")[0], textsOf("#read li li, #summary").join(" ")];
 }
 
 /* What no format has, in words of the advice, and what its button makes of texts. */
@@ -163,23 +115,11 @@ const REPLACED = {
     "is a digit that no format has: replace it by one of ASCII": { "\u0661\u0662": "12", "\uff11\uff12": "12" },
 };
 
-/* A number that some read as octal leads to one of these; letters that are no digits, and prefixes of other digits, to no radix. */
-function test_radixes_are_offered_where_they_are_meant() {
-    const texts = ["0755", "-0755", "NaN", "Infinity", "inf", "0b12", "0o8"];
-    return page.data.languages.flatMap(({ name, forms }) => texts.filter((text) => {
-        show(forms, text, name);
-        const [[answer], octal] = [page.trial.answers, parseInt(text, 8)];
-        const isTold = textsOf("#read li li").some((it) => it.includes(`as octal, ${octal}.start from `));
-        const changed = page.trial.withOffers(answer).offers.flatMap(({ changes }) => changes.map((it) => it.name));
-        return /^-?07/.test(text) ? isTold === (Number(answer.integer) === octal) : changed.includes("mantissa_radix");
-    }).map((text) => [name, text]));
-}
-
 function test_what_no_format_has_is_replaced() {
     return Object.entries(REPLACED).flatMap(([words, rows]) => Object.entries(rows).filter(([text, other]) => {
-        const [, advice] = offeredFor(text);
+        const [, told] = offeredFor(text);
         [...find("read").querySelectorAll(".use")].find((it) => it.textContent === `try ${other}`)?.click();
-        return !advice.some(([told]) => told.includes(words)) || find("literal").value !== other;
+        return !told.includes(words) || find("literal").value !== other;
     }));
 }
 
@@ -201,45 +141,6 @@ function test_offers_are_needed_and_named_apart() {
     }));
 }
 
-/* Returns the pairs of samples, behind numbers that are read, of which the first offers change what is read of another one. */
-function lostByOffers(samples) {
-    const { trial, library: { usual } } = page;
-    const read = (forms, numbers) => {
-        const state = { forms, numbers: numbers.join("\n"), language: "" };
-        const list = page.listOf(state);
-        const lines = numbers.map((text, place) => ({ text, place }));
-        const answers = trial.read(lines, list);
-        Object.assign(trial, { state, list, forms: list.forms, lines, answers, expected: answers.filter((it) => it.isExpected).length });
-        return answers;
-    };
-    /* Returns the forms behind the first offer for the last number, and whether it changes what was read. */
-    const offered = (forms, ...numbers) => {
-        const before = read(forms, numbers);
-        const [offer] = trial.withOffers(before.at(-1)).offers;
-        const taken = offer?.ways[0][1].forms ?? forms;
-        const after = read(taken, numbers);
-        return [taken, before.some((it, index) => it.isExpected && (!after[index].isExpected || valueText(it) !== valueText(after[index])))];
-    };
-    return samples.flatMap((first) => {
-        const [forms, isLost] = offered([usual], "1", "2.5", first);
-        return samples.filter((second) => isLost || offered(forms, "1", "2.5", first, second)[1]).map((second) => [first, second]);
-    });
-}
-
-/* From the usual form, the first offers lead to a form that reads all numbers of a language that has one form. */
-function test_the_first_offers_lead_to_the_form_of_a_language() {
-    return page.data.languages.filter(({ forms, numbers }) => {
-        const texts = numbers.split("\n").filter((it) => it[0] !== "!");
-        show([page.library.usual], texts.join("\n"));
-        texts.forEach((_, place) => {
-            const answer = page.trial.answers[place];
-            const [offer] = answer.isExpected ? [] : page.trial.withOffers(answer).offers;
-            if (offer) page.change({ forms: offer.ways[0][1].forms, at: 0 });
-        });
-        return forms.length === 1 && page.trial.expected !== texts.length;
-    }).map(({ name }) => name);
-}
-
 /* Each offer for a text that a language refuses changes one form, and what it tells of the text is so then. */
 function test_offers_lead_to_what_they_tell() {
     const told = (it) => it.textContent.replace(/^(accepted|refused): /, "");
@@ -252,7 +153,7 @@ function test_offers_lead_to_what_they_tell() {
             const item = button.closest("li");
             if (!item.querySelector(".then")) return [];
             const [then, counted] = item.querySelector(".then").textContent.split("; ");
-            const [label, words] = [item.querySelector(".name"), button].map((it) => it.textContent);
+            const [label, words] = [button.title, button.textContent];
             const isAdded = words.endsWith(" a form of its own");
             const isSecond = button.previousSibling;
             const [from, own] = [forms, page.trial.forms].map((all) => all[page.trial.answers[0].form]);
@@ -260,7 +161,7 @@ function test_offers_lead_to_what_they_tell() {
             const changes = page.library.differences(page.form, from).map((it) => it.text);
             const inOrder = changes.toSorted((a, b) => label.indexOf(a) - label.indexOf(b)).join(", ");
             const isPlaced = isAdded || words.endsWith(forms.length > 1 ? ` in ${own.name}` : "");
-            const isNamed = isSecond || (label === inOrder && words.length > 3 && isPlaced);
+            const isNamed = isSecond || ((label === inOrder || isAdded) && words.length > 3 && isPlaced);
             const kept = forms.filter((form, at) => isSame([form], [page.state.forms[at]])).length;
             const isTold = find("read").querySelector("p").textContent.startsWith(then.replace(", the new form", ""));
             const rest = page.trial.answers[0].parts.filter(({ kind }) => !/fix$/.test(kind)).map((it) => it.text).join("");

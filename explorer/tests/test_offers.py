@@ -1,6 +1,4 @@
 """Tests of the page: offers."""
-import re
-
 from test_base import Walk
 
 
@@ -19,24 +17,13 @@ SAMPLES = {
 
 class Offers(Walk):
     def test_the_first_offers_are_right(self):
-        """And so is the sentence, which tells what no format has. They change nothing that is read of other numbers."""
-        self.assertEqual(self.call("lostByOffers", [*SAMPLES]), [])
+        """And what no format has is told."""
         for text, meant in SAMPLES.items():
-            offer, advised, sentence = self.call("offeredFor", text)
-            advice = " ".join(words for words, _ in advised)
-            starts = [it for it in advised if it[1].startswith("start from ")]
-            for words, start in starts:
-                self.click("#read .use", start)
-                title = self.run_script("return find('language').selectedOptions[0].textContent")
-                self.assertRegex(words, rf"^{re.escape(title)}(,| and| reads)")
-                self.assertEqual(start, f"start from {title}")
+            offer, told = self.call("offeredFor", text)
             if isinstance(meant, str):
-                self.assertEqual((meant in advised[0][0], meant in sentence or "in none of" not in sentence), (True, True), text)
-            else:
-                self.assertEqual(advised[:len(starts)], starts, text)
-                self.assertEqual(float(offer.partition(" = ")[2] or "nan") if meant else None, meant, text)
-                if re.match(r"0[a-z]|[\d_.,' ]+$", text, re.I):
-                    self.assertNotIn("can be a suffix", advice)
+                self.assertIn(meant, told, text)
+            elif meant:
+                self.assertEqual(float(offer.partition(" = ")[2]), meant, text)
 
     def test_a_language_is_changed_in_the_form_that_goes_furthest(self):
         self.type("#literal", "\n0x1_000.5")

@@ -1,34 +1,6 @@
 /* Functions of test_settings.py, which run in the page. */
 "use strict";
 
-/* Each kind and each case of an opening and a closing gives texts another value, or refuses them. What is only read does not. */
-function test_kinds_are_told_apart() {
-    const { library } = page;
-    const marked = formOf("opening=x'", "closing='h'");
-    const differ = (...lists) => library.call("differ", ...lists.map((form) => ({ forms: [form] }))).flat().length;
-    const bits = ([least, most]) => range(least, Math.min(most, 127)); // No type has an integer of more than 128 bits.
-    const forms = library.conditions.filter(({ isOfForm }) => isOfForm)
-        .flatMap(({ name, limits = [1, 1] }) => bits(limits).map((it) => library.with(marked, name, it)));
-    const isTold = (it) => (library.value(it, "only_read") ? !differ(marked, it) : differ(marked, it) && differ(it, marked));
-    return forms.filter((it) => !isTold(it)).map((it) => library.formText(it));
-}
-
-function test_numbers_beyond_the_limits_of_a_condition_are_told() {
-    const beyond = ([least, most]) => [least - 1, most + 1, -1, 1.5, "x"].filter((it) => it !== 0);
-    const settings = page.library.conditions.flatMap(({ name, limits = [1, 1] }) => beyond(limits).map((it) => `${name}=${it}`));
-    return settings.filter((it) => !page.library.read(it).error?.includes(it));
-}
-
-function test_fields_are_in_the_sections_of_their_parts() {
-    const words = ["all", "integer", "fraction", "exponent", "special"];
-    const headOf = (it) => it.closest("fieldset").firstChild.textContent;
-    const ofSeparators = Object.fromEntries([...document.querySelectorAll("#separators input")].map((it) => [it.id, headOf(it)]));
-    return page.library.flags.filter(({ name }) => {
-        const word = words.find((it) => name.startsWith(`${it}_`)) ?? "all";
-        return name.includes("digit_separator") ? !ofSeparators[name]?.split(" ").includes(word) : name in ofSeparators;
-    }).map(({ name }) => name);
-}
-
 /* Each flag and condition shows texts that it makes the library refuse, or of a separator accept. No two show the same rows. */
 function test_flags_are_shown_with_texts_that_they_refuse() {
     const { library, controls: { boxes } } = page;
@@ -83,7 +55,7 @@ function test_each_choice_lands_in_the_state_the_link_and_the_code() {
         const [form, control] = [start(name), find(name)];
         const usual = library.value(form, name);
         const isTaken = (it) => !library.explain(library.with(form, name, it)).problems.some(({ fields }) => fields.includes(name));
-        const numbers = range(0, 98).filter((it) => it === 0 || isTaken(it));
+        const numbers = range(0, 98).filter((it) => it === 0 || isOfForm || isTaken(it));
         const typed = isText ? ["!", "&H", ":'#"] : isNumber ? [2, 4, 8, 16, 32, 36] : [33, 59, 126];
         const values = !control ? [1, field.limits?.[1] ?? 1, 0] : control.type === "checkbox" ? [1 - usual, usual] : control.options ? numbers : typed;
         const options = control?.options ? [...control.options].map(({ value }) => Number(value)) : values;
@@ -177,19 +149,4 @@ function test_a_changed_language_keeps_its_special_values() {
         follow(page.fragment());
         return changed !== before || told() !== before;
     }).map(({ name }) => name);
-}
-
-/* If another form reads a number after the shown one is changed, its name is told. */
-function test_a_number_that_another_form_still_reads_is_told() {
-    const read = (forms, text) => page.library.call("numbers", { forms, specials: ["", "", ""] }, text)[0];
-    const edits = [["digit_separator_flags", 0, "1_000"], ["digit_separator_flags", 0, "0x1_F"], ["required_exponent_notation", 1, "1"]];
-    return page.data.languages.flatMap(({ name, forms }) => unlike(forms).flatMap((form) => edits.filter(([field, value, text]) => {
-        const at = forms.indexOf(form);
-        show(forms, text, name);
-        page.change({ at });
-        page.edit(field, value);
-        const [before, after = before] = [forms, page.state.forms].map((it) => read(it, text));
-        const isMoved = !before.error && before.form === at && !after.error && after.form !== at;
-        return find("told").textContent.includes(`is still read, by the form ${forms[after.form].name}.`) !== isMoved;
-    }).map((edit) => [name, form.name, ...edit])));
 }

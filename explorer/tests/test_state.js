@@ -1,18 +1,6 @@
 /* Functions of test_state.py, which run in the page. */
 "use strict";
 
-/* Each select has its own choices, and the languages. No two have one name. */
-function test_choices_are_the_languages() {
-    const choices = { language: ["own", ""], compare: ["", "standard"], add: ["", "copy", "standard"] };
-    return Object.entries(choices).filter(([id, own]) => {
-        const shown = [...find(id).options].map((it) => [it.value, it.textContent]);
-        const wanted = page.data.languages.map(({ name, title }) => [name, title]);
-        const titles = shown.map(([, title]) => title);
-        const isNamed = new Set(titles).size === titles.length && !titles.some((it) => /^[,.:\s]|[,.:\s]$/.test(it));
-        return !isNamed || json(shown.slice(own.length)) !== json(wanted) || json(shown.slice(0, own.length).map(([it]) => it)) !== json(own);
-    });
-}
-
 /* A text that is typed anew is a step of its own, which the button and Ctrl+Z undo, each time. */
 function test_each_typing_is_undone() {
     page.chooseTab("edit");
@@ -46,7 +34,7 @@ function test_large_inputs_are_read_at_once() {
         const took = range(1, 5).map((run) => {
             show(forms, "0x1F", language);
             find("literal").value = numbersOf(run);
-            return timeOf(() => page.type(find("literal").value));
+            return timeOf(() => page.change({ numbers: find("literal").value }, "literal"));
         });
         return Math.min(...took) <= most ? "" : `${forms.length} forms: ${took} of ${most} ms`;
     }).filter(Boolean);
