@@ -60,12 +60,12 @@ function differ(library, list, other) {
     const isLost = ({ long, integer, float }) => !long && integer === undefined && float === undefined;
     const found = [new Map(), new Map(), new Map()];
     const add = (part, cause, it) => found[part].has(cause) || found[part].set(cause, it);
-    texts.forEach((text, index) => {
+    (here.length && there.length ? texts : []).forEach((text, index) => {
         const [one, two] = [here[index], there[index]];
         const kind = (it) => (it.is === "special value" ? text.replace(/^[-+]/, "").toLowerCase() : "");
-        if (one?.is && !two.is) add(0, two.error + kind(one), { text, error: two.error });
-        else if (!one?.is && two?.is) add(1, one.error + kind(two), { text, error: one.error });
-        else if (one?.is && !isSameValue(valueText(one), valueText(two)) && !(isLost(one) && isLost(two))) {
+        if (one.is && !two.is) add(0, two.error + kind(one), { text, error: two.error });
+        else if (!one.is && two.is) add(1, one.error + kind(two), { text, error: one.error });
+        else if (one.is && !isSameValue(valueText(one), valueText(two)) && !(isLost(one) && isLost(two))) {
             add(2, [one.form, two.form, one.is, two.is, isLost(one), isLost(two)].join(), { text, here: one, there: two });
         }
     });

@@ -54,8 +54,8 @@ function changeWords(library, form, changes) {
         if (it.isOfForm) return it.part === "base" && !form[it.name.slice("case_sensitive_".length)] ? "" : wordsBeside(it);
         if (it.name in SIZES) return `groups of ${it.value || "any number of"} digits${SIZES[it.name]}`;
         const [text] = library.examples(it.name);
-        const words = it.name.replace("required", "require").replaceAll("_", " ");
-        return it.value ? `refuse \`${text}\`: ${words}` : `allow \`${text}\``;
+        const told = it.name.replace("required", "require").replaceAll("_", " ");
+        return it.value ? `refuse \`${text}\`: ${told}` : `allow \`${text}\``;
     });
     return [...separators, ...others].filter(Boolean).join(", ");
 }
