@@ -116,11 +116,11 @@ pub fn value_of(number: Number<'_>) -> Value {
 }
 
 pub fn value_of_literal(literal: Literal<'_>) -> Value {
+    // The reason names the type.
     let is_single = literal.kind().floats() == FloatKind::Single;
+    let typed = |error| literal.to_f32().err().filter(|_| is_single).unwrap_or(error);
     let value = match literal.is_float() {
-        // The reason names the type.
-        true if is_single && literal.to_f64().is_err() => literal.to_f32().map(|it| Value::Float(f64::from(it).to_bits())),
-        true => literal.to_f64().map(|it| Value::Float(it.to_bits())),
+        true => literal.to_f64().map(|it| Value::Float(it.to_bits())).map_err(typed),
         false => match literal.to_i128() {
             Ok(value) => Ok(Value::Integer(value < 0, value.unsigned_abs())),
             Err(error) if literal.is_negative() => Err(error),

@@ -95,7 +95,7 @@ fn utf8(bytes: &[u8]) -> &str {
 /// of special values, and the forms of each language.
 fn facts() -> String {
     let setter = |it: &Setter| format!(r#"{{"name":"{}","mask":{}}}"#, it.name(), word(it.mask()));
-    let condition = |it: &Condition| format!(r#"{{"name":"{}","limits":[{},{}]}}"#, it.name(), it.limits().0, it.limits().1);
+    let rule = |it: &Condition| format!(r#"{{"name":"{}","limits":{:?}}}"#, it.name(), <[_; 2]>::from(it.limits()));
     let languages = Language::ALL.iter().map(|language| {
         let title = quoted(language.title());
         let Specials { nan, inf, infinity } = language.forms().specials();
@@ -104,7 +104,7 @@ fn facts() -> String {
         let forms = forms.map(|it| format!(r#"{{{},"name":{}}}"#, parts_of(state_of(it)), quoted(it.name())));
         format!(r#"{{"name":"{language}","title":{title},"specials":{specials},"forms":{}}}"#, list(forms))
     });
-    let [setters, conditions] = [list(Setter::ALL.iter().map(setter)), list(Condition::ALL.iter().map(condition))];
+    let [setters, conditions] = [list(Setter::ALL.iter().map(setter)), list(Condition::ALL.iter().map(rule))];
     format!(r#"{{"setters":{setters},"limits":{conditions},"languages":{}}}"#, list(languages))
 }
 

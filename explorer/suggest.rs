@@ -434,7 +434,7 @@ fn separator(state: State, text: &[u8], byte: u8) -> Option<State> {
 /// The last byte is the base suffix: with the radix that its letter shows, and with the same radix. It is not one if it is a factor.
 fn suffixes(state: State, text: &[u8]) -> [Option<State>; 2] {
     let Some((&last, digits)) = text.split_last() else { return [None; 2] };
-    if last.is_ascii_digit() || is_mark(last) || matches!(last, b'+' | b'-' | b'x' | b'X' | b'%' | b'k' | b'K' | b'M' | b'G') {
+    if last.is_ascii_digit() || is_mark(last) || b"+-xX%kKMG".contains(&last) {
         return [None; 2];
     }
     let is_shown = |&radix: &u8| radix != 10 && radix_of(digits, 2).is_some_and(|least| least <= radix);
