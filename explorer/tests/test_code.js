@@ -48,8 +48,10 @@ function test_settings_are_those_of_the_forms(_, shown) {
     }));
 }
 
-function test_code_is_used_by_three_commands() {
-    return ["cargo add --path rust", "make -C c install", "pip install ./c"].filter((it) => !textsOf("#pane-code code").includes(it));
+function test_code_names_its_commands_and_types() {
+    const types = [["point='.'", "is `f64::try_from(number)` or, of an integer, `i128::"], ["point=none exponent=none", "is `i128::try_from(number)`."]]
+        .filter(([settings, words]) => (show([formOf(settings)]), !codeOf("rust").includes(words)));
+    return ["cargo add --path rust", "make -C c install", "pip install ./c"].filter((it) => !textsOf("#pane-code code").includes(it)).concat(types);
 }
 
 function test_code_whose_test_fails_is_marked() {
@@ -91,7 +93,7 @@ function shown(tried, shown) {
         const after = json([page.state.forms, page.state.at]);
         const again = after === before ? page.fragment() : after;
         const answers = trial.read(texts.map((text, place) => ({ text, place })));
-        const kindOf = ({ form }) => ["single", "largest"].map((it) => library.value(trial.forms[form], it));
+        const kindOf = ({ form }) => library.value(trial.forms[form], "single");
         const told = answers.map((answer) => [trial.told(answer), kindOf(answer)]);
         const tests = answers.map(({ text, error }) => ({ text, isRefused: Boolean(error) }));
         const codes = ["rust", "c", "python"].map((tab) => ((trial.answers = tests), codeOf(tab)));

@@ -57,15 +57,14 @@ def show(forms, read):
 """
 
 
-def is_same(told, kind, printed, is_c):
+def is_same(told, is_single, printed, is_c):
     """Returns whether a program prints what the page tells of a text: its value, a number without one, or a refusal.
 
-    Rust has no type for integers of more than 128 bits, and C for those from 2^127 on. They are floats there by their kind."""
+    Rust has no type for integers of more than 128 bits, and C for those from 2^127 on. They are floats there, single or not, or none."""
     value = told.partition(" = ")[2].partition(",")[0]
     if re.fullmatch(r"-?\d+", value) and not -(2**127) <= int(value) < 2 ** (128 - is_c):
-        is_single, is_limited = kind
         number = ctypes.c_float(float(value)).value if is_single else float(value)
-        return is_limited and abs(number) == float("inf") if printed == "none" else float(printed) in (number, float(value))
+        return printed == "none" or float(printed) in (number, float(value))
     if not value or printed in ("none", "refused"):
         return not value and told.startswith("accepted") == (printed != "refused")
     if re.fullmatch(r"-?\d+ (-?\d+|0x\w+)", f"{value} {printed}"):

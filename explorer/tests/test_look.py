@@ -41,8 +41,7 @@ class Look(Walk):
     def test_numbers_have_room_at_400_percent(self):
         for _ in self.screens((320, 180), (320, 256)):
             self.load("#numbers=1_000%0A0x1F")
-            self.run_script("find('read').scrollIntoView()")
-            room = "return [...Array(innerHeight).keys()].filter((y) => find('trial').contains(document.elementFromPoint(160, y))).length"
+            room = "find('read').scrollIntoView(); return [...Array(innerHeight).keys()].filter((y) => find('trial').contains(document.elementFromPoint(160, y))).length"
             self.assertGreaterEqual(self.run_script(room), 120)
 
     def test_what_has_the_focus_has_an_outline(self):
