@@ -55,7 +55,7 @@ function differ(library, list, other) {
     const seen = new Set();
     const tried = lists.flatMap(({ forms }) => forms.flatMap((form) => textsFor(library, form, seen)));
     const texts = [...new Set([...tried, ...spelled, ...known])].filter(Boolean).sort((a, b) => a.length - b.length);
-    const chunks = Array.from({ length: Math.ceil(texts.length / 3000) }, (_, it) => texts.slice(3000 * it, 3000 * it + 3000));
+    const chunks = Array.from({ length: Math.ceil(texts.length / 500) }, (_, it) => texts.slice(500 * it, 500 * it + 500));
     const [here, there] = lists.map((it) => chunks.flatMap((part) => library.call("numbers", it, part.join("\n"))));
     const isLost = ({ long, integer, float }) => !long && integer === undefined && float === undefined;
     const found = [new Map(), new Map(), new Map()];
