@@ -161,7 +161,6 @@ class Walk(unittest.TestCase):
         self.find(selector).send_keys(text or Keys.DELETE)
 
     def select(self, selector, value):
-        """Chooses an option."""
         self.open(selector)
         Select(self.find(selector)).select_by_value(value)
 

@@ -87,7 +87,6 @@ class Code(Walk):
                     self.assertTrue(is_same(wanted, kind, value, program == self.c), (program, link, text, wanted, kind, value))
 
     def test_each_tab_shows_what_it_names(self):
-        """By its button, and by keys in both directions. The link that the page makes shows it again."""
         self.load(f"#forms={MIXED_FORM}&compare=JSON&tab=rust")
         heads = {"rust": "use peltzivar::", "c": '#include "peltzivar.h"', "python": "from peltzivar import", "settings": f"# {MIXED}"}
         words = {"sentence": "Numbers are", "grammar": "Literal  ::=", "regex": "(?:"}

@@ -13,7 +13,6 @@ class Look(Walk):
             self.assertEqual((wrong, self.call("idle", link), len(named) > 9), ([], [], True), link)
 
     def test_each_tab_looks_right_on_each_screen(self):
-        """Nothing is faint, squeezed, cut off or beyond an edge, and a phone has the controls of a laptop."""
         shown = {}
         for mode, phone in (("light", (360, 700)), ("dark", (320, 700))):
             self.media(prefers_color_scheme=mode)
@@ -23,7 +22,6 @@ class Look(Walk):
                     self.assertEqual((wrong, controls, whole), ([], shown.setdefault(link, controls), width), (mode, link))
 
     def test_a_phone_has_the_texts_of_a_laptop(self):
-        """In both colours, in which the parts of numbers differ, and what screen readers announce has its role."""
         shown = {}
         for mode in ("light", "dark"):
             self.media(prefers_color_scheme=mode)
@@ -73,13 +71,11 @@ class Look(Walk):
             self.assertEqual(self.call("wordless"), [])
 
     def test_the_answer_is_in_view(self):
-        """After each choice, the heading of its tab and ten lines are in view, and so are the sentence and the first number."""
         for width in self.screens((1280, 657), (1000, 700)):
             self.load()
             self.assertEqual(self.call("outOfView"), [], width)
 
     def test_nothing_moves_while_the_page_loads_and_while_one_types(self):
-        """The sum of layout shifts, also of those that follow a key at once, is at most 0.05."""
         for _ in self.screens():
             self.load()
             self.run_script("""window.shift = 0; new PerformanceObserver((list) => list.getEntries().forEach((it) => { window.shift += it.value; }))
@@ -89,7 +85,6 @@ class Look(Walk):
             self.assertLessEqual(self.run_script("return window.shift"), 0.05)
 
     def test_numbers_and_code_are_printed_whole(self):
-        """So is the tab that is open, without buttons, in both directions of the paper."""
         self.media("print")
         for tab, pane in {"languages": "languages", "rust": "code", "compare": "compare", "edit": "edit", "words": "words"}.items():
             self.load(f"#language=JULIA&tab={tab}&numbers=1%271{'%0A1' * 99}")

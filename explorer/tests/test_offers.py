@@ -17,7 +17,6 @@ SAMPLES = {
 
 class Offers(Walk):
     def test_the_first_offers_are_right(self):
-        """And what no format has is told."""
         for text, meant in SAMPLES.items():
             offer, told = self.call("offeredFor", text)
             if isinstance(meant, str):

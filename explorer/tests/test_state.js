@@ -61,6 +61,19 @@ function untold() {
     }).filter(([, isRight]) => !isRight).map(([name]) => name);
 }
 
+/* What fails is told in place of the old answer, in each box, and so is a link. */
+function test_failures_are_told() {
+    show([page.library.usual], "1_0");
+    window.reportError = page.code.text = page.trial.read = page.library.form = (error) => { if (!error?.stack) throw new Error("spent"); };
+    page.chooseTab("rust");
+    const shown = [find("failed").textContent, find("pane-code").checkVisibility(), find("read").children.length];
+    page.change({ numbers: "2" });
+    follow("#forms=0xC");
+    shown.push(find("summary").textContent, find("read").children.length, find("told").textContent.slice(0, 15));
+    const words = "This cannot be shown: spent";
+    return json(shown) === json([words, false, 1, words, 0, "This link fails"]) ? [] : shown;
+}
+
 /* Each field in which forms can differ is set, alone and with each other one. No answer is that of another form or number. */
 function test_each_pair_of_fields_has_an_answer() {
     const { library, library: { usual, differing } } = page;

@@ -6,7 +6,6 @@ from test_base import Walk, Keys, STANDARD, MIXED, MIXED_FORM
 
 class State(Walk):
     def test_changes_are_undone_and_done_again(self):
-        """By buttons and keys. The browser goes back from a language and an offer, too, which is a step to undo."""
         def state():
             return self.run_script("return `${page.library.formText(page.form)} ${page.state.language} ${page.state.numbers}`")
 
@@ -102,7 +101,6 @@ class State(Walk):
         self.assertEqual(self.value(), STANDARD)
 
     def test_a_copied_link_of_a_file_stands_behind_its_address(self):
-        """Of many numbers, it has the first ones, which is told. The button has its label again."""
         numbers = "\n".join(f"1_{index}" for index in range(2000))
         lines = numbers[:4001].count("\n")
         for language in ("RUST", ""):
@@ -120,7 +118,6 @@ class State(Walk):
             self.assertTrue(numbers.startswith(f"{self.value('#literal')}\n1_{lines}"))
 
     def test_a_list_has_up_to_64_forms(self):
-        """As in C and Python. The 65th is refused, with a sentence, whatever would add it."""
         forms = [f"{STANDARD} opening=a{index}" for index in range(70)]
         self.load("#forms=" + "%0A".join(forms))
         count = "return page.state.forms.length"
