@@ -1,24 +1,36 @@
 /* Prefixes of other languages, such as `$` and `16#`: a mark alone stands before a letter, or digits and a letter. */
 const PREFIXED = /^[+-]?(?:(?:[#&][hox]|\d+#|\d\dr|\d*'s?[hdob]|x')[\da-f]|[#\p{Sc}]\d*[a-f])[\da-f_]*['#]?(?:e[+-]?\d+)?$/iu;
-/* Texts that no format has: a pattern, and the row of what no format can express, or words. */
+/* Texts that no format has: a pattern, and words. */
 const IMPOSSIBLE = [
-    [PREFIXED, 1],
-    [/^[+-]?\d+(?:[/\u2044]\d+|(?::\d+)+)$/, 4],
+    [PREFIXED, "has a sign before an opening, or an exponent behind a closing, which no format has: read its parts each by itself."],
+    [/^[+-]?\d+(?:[/\u2044]\d+|(?::\d+)+)$/, "is a ratio or a time, which no format has: read each number, and compute the value."],
     [/^[+-]?0(?:[by][01]*[2-9]|[oq][0-7]*[89])\d*$/i, "has a digit that its prefix does not allow: binary digits are 0 and 1, octal ones 0 to 7."],
     [/^(?!\d{1,3}(?:\.\d{3})+$)\d+(?:\.\d+){2,}$/, "has several numbers, as a version has: read each by itself."],
+    [/^[+-]?\d[\d.,]*(?:\s*[\t;|]\s*[+-]?\d[\d.,]*)+$|^\d{1,2}(?:,\d{1,2}){2,}$/, "has several numbers: write each on a line of its own."],
+    [/^[+-]{2,}[\d.]/, "has two signs: remove one."],
+    [/[\u00b2\u00b3\u00b9\u2070-\u2079]/, "has a power or a note in small digits, which no format has: remove it, and compute the value."],
+    [/^(?:true|false|null|nil|none|undefined|n\/a)$/i, "is a word, and not a number: compare the text with it before the number is read."],
     [/^[+-]?[\d.]+\s*(?:\^|\*\*?|x\s*10\^|[\u00d7\u00b7+-])\s*[\d.]+/i,
         "is not one number, and no format has its operator: read each number, and compute the value."],
 ];
 const TOKEN = "the library's call `token` reads the number before it";
 /* What a text must lose before it is read: a pattern, what is told of it, and the text that takes its place. */
 const UNREADABLE = [
+    [/^\s+|\s+$/g, "It has a space at an end: remove it", ""],
     [/[\u2018\u2019\u02bc]/g, "is an apostrophe that no format has: replace it by `'`", "'"],
     [/[\u00a0\u2007\u2009\u202f]/g, "is a space that no format has: replace it by the space of ASCII", " "],
     [/[\u2010-\u2015\u2212]/g, "is a minus sign that no format has: replace it by `-`", "-"],
     [/(?![0-9])\p{Decimal_Number}/gu, "is a digit that no format has: replace it by one of ASCII", digitOf],
     [/^\((.+)\)$|^([^-].*)-$/g, "is a negative number in a way that no format has: replace it by one with `-`", "-$1$2"],
-    [/\s*%$/g, "is a percent sign: divide the value by 100, and remove it", ""],
+    [/\u221e/g, "is an infinity that no format has: replace it by `inf`", "inf"],
+    /* What has a factor has no button, whose value would lack it. */
+    [/\s*%$/g, "is a percent sign: divide the value by 100, and remove it"],
+    [/(?<=^[+-]?\.?\d[\d.,_' ]*)[kKMG]$/g, "is a factor: multiply the value by it, and remove it"],
     [/\s*\p{Sc}\s*/gu, "is a currency sign: remove it", ""],
+    [/^(?![A-F]{3})[A-Z]{3}\s*(?=[-\d.])|(?<=\d)\s*(?![A-F]{3})[A-Z]{3}$/g, "is a currency: remove it", ""],
+];
+/* What is not a suffix that a language names, and can be one. */
+const SUFFIX = [
     [/(?<!^[+-]?0(?=[dhqty]\w))(?<=^[+-]?\.?\d([\w.,']*[\da-f.])?)_?[g-nq-wyz]\w*$|(?<=^[+-]?[\d._]*\d\.?)_?[fd](32|64|128)?$|(?<=\d) [a-z]+$/gi,
         `can be a suffix: ${TOKEN}, with your suffixes. Remove it`, ""],
 ];
@@ -29,21 +41,20 @@ function digitOf(digit) {
     return String([...Array(10).keys()].find((it) => !isDigit(digit.codePointAt() - it - 1)));
 }
 
-/* Returns in words what a text must lose, with the text then, or what no format can express, with its row in FORMAT. An
- * opening that is offered is neither. */
-function adviceFor(text, isOffered) {
-    const [pattern, row] = IMPOSSIBLE.find(([pattern]) => pattern.test(text.normalize("NFKC"))) ?? [];
+/* Returns in words what a text must lose, with the text then, or what no format has; else, that it is a token or can be one. An opening
+ * that is offered is neither. */
+function adviceFor(text, isOffered, ofToken) {
+    const [pattern, told] = IMPOSSIBLE.find(([pattern]) => [text, text.normalize("NFKC")].some((it) => pattern.test(it))) ?? [];
     if (pattern === PREFIXED && isOffered) return [];
-    if (typeof row === "string") return [{ words: `\`${text}\` ${row}` }];
-    if (row !== undefined) {
-        const [cannot, , instead] = [...find("limits").querySelectorAll("td")].slice(3 * row).map((it) => it.textContent);
-        return [{ words: `A format cannot ${cannot}. Instead, ${instead}.`, row }];
-    }
-    return UNREADABLE.flatMap(([pattern, told, other]) => {
+    if (pattern) return [{ words: `\`${visible(text)}\` ${told}` }];
+    const lose = ([pattern, told, other]) => {
         const [found] = text.match(pattern) ?? [];
         if (!found) return [];
         const lost = found.trim() || found;
         const shown = /^[!-~]/.test(lost) ? lost : visible(lost.replace(/[^ -~]/u, numberOf));
-        return [{ words: `\`${shown}\` ${told} before the number is read.`, text: text.replace(pattern, other) }];
-    });
+        const words = `${/^[A-Z]/.test(told) ? "" : `\`${shown}\` `}${told} before the number is read.`;
+        return [{ words, text: other === undefined ? other : text.replace(pattern, other) }];
+    };
+    const all = UNREADABLE.flatMap(lose);
+    return all.length ? all : ofToken ?? SUFFIX.flatMap(lose);
 }

@@ -43,8 +43,7 @@ class Code {
         this.library = library;
     }
 
-    /* Returns the text of a tab for a list, which can be that of a language, and the answers for its numbers. A test has none whose
-     * value alone is refused. */
+    /* Returns the text of a tab for a list, also of a language, and answers. A test has none of which the value alone is refused. */
     text(tab, { forms, specials = SPECIALS }, answers, language) {
         const bad = forms.find(({ problems }) => problems.length);
         const quoted = this.hasSpecials(forms) ? specials.map((it) => JSON.stringify(it)) : [];
@@ -245,8 +244,7 @@ ${tests.length ? test : ""}`;
 
     /* Returns what a form has beside its syntax, each with its code in a language of `KIND_CODE`, or by `codeOf`. */
     beside(form, language, codeOf) {
-        const isLeft = ({ name }) => name === "largest" && this.library.value(form, "vanishing");
-        return this.library.differences(form).filter((it) => it.isOfForm && !isLeft(it))
+        return this.library.differences(form).filter(({ isOfForm }) => isOfForm)
             .map((it) => ({ ...it, code: KIND_CODE[it.name]?.[language].replace("%", it.value) ?? codeOf(it) }));
     }
 

@@ -1,49 +1,43 @@
 /* The controls: bytes, options and flags. Each calls `edit` with the name of a field and its new value. */
 
-/* Returns in words what a flag makes a parser refuse, and what it accepts then. Flags of separators make it accept texts. */
-function examples({ accepts = [], refuses = [], part }) {
-    const told = part === "separator" ? { accepts } : { refuses, accepts };
-    const withTexts = ([verb, texts]) => (texts.length ? [`${verb} ${texts.map((text) => `\`${text}\``).join(", ")}`] : []);
-    return Object.entries(told).flatMap(withTexts).join(", ");
-}
-
 class Controls {
     constructor(library, page) {
-        Object.assign(this, { library, page, inputs: new Map() });
+        Object.assign(this, { library, page, inputs: new Map(), boxes: [...library.flags, ...library.conditions.filter((it) => !it.isOfForm)] });
         find("bytes").append(...[...library.bytes, ...OPTIONS, ...AFFIXES].map((field) => this.byteRow(field)));
-        for (const it of library.conditions) find({ base: "bytes" }[it.part] ?? (it.isOfForm ? "kinds" : "conditions")).append(this.row(it));
-        const titleOf = ({ section, name }) => section ?? /^(integer|fraction|exponent|special)_|$/.exec(name)[1] ?? "all parts";
-        for (const [title, fields] of Map.groupBy([...library.groups, ...library.flags], titleOf)) {
-            const rows = fields.map((it) => this.row(it));
-            find(fields[0].part === "separator" ? "separators" : "flags").append(element("fieldset", {}, element("legend", {}, title), rows));
-        }
-    }
-
-    box(field) {
-        const { name, meaning } = field;
-        const change = ({ target }) => {
-            const bits = this.shown[field.holder] & field.mask;
-            const isPart = !field.isNumber && bits && bits !== field.mask;
-            this.page.edit(name, Number(field.isNumber ? target.value : target.checked));
-            if (isPart) find("told").append(" Some of these were set, and none is now. Undo brings them back.");
+        const titleOf = ({ section, name, holder }) => {
+            return holder === "conditions" ? "Conditions" : section || (/^(integer|fraction|exponent|special)_/.exec(name) ?? [])[1];
         };
-        const label = `${[meaning, examples(field)].filter(Boolean).join(": ")} (${name})`.replaceAll("`", "");
-        const attributes = { id: name, change, "aria-label": label };
-        if (field.isNumber) {
-            const [least, most] = field.limits;
-            const numbers = [0, ...Array.from({ length: most - least + 1 }, (_, index) => least + index)];
-            return element("select", attributes, numbers.map((value) => element("option", { value }, value || "none")));
+        for (const [title, fields] of Map.groupBy(this.boxes, titleOf)) {
+            const rows = fields.map((it) => this.row(it, this.box(it)));
+            const place = fields[0].part === "separator" ? "separators" : fields[0].limits ? "conditions" : "flags";
+            find(place).append(element("fieldset", {}, element("legend", {}, title), rows));
         }
-        return element("input", { type: "checkbox", ...attributes });
     }
 
-    /* Returns the row of a field: its box, its title or what it does, examples, and its name. Messages are in the place of these. */
-    row(field, box = this.box(field), messages = []) {
-        const { name, title, part, meaning } = field;
-        const label = element("label", { for: name }, element("span", { class: `dot ${part}` }), ...withCode(title ?? meaning));
-        const texts = element("span", { class: "meaning", id: `${name}-meaning` }, withCode(title ? meaning : examples(field)));
-        const all = [box, label, ...messages, texts, element("span", { class: "name" }, name)];
-        return element("div", { class: "control", "data-field": name }, all);
+    box({ name, isNumber, limits }) {
+        const change = ({ target }) => this.page.edit(name, Number(isNumber ? target.value : target.checked));
+        const attributes = { id: name, change, "aria-describedby": `${name}-meaning` };
+        if (!isNumber) return element("input", { type: "checkbox", ...attributes });
+        const [least, most] = limits;
+        const numbers = [0, ...Array.from({ length: most - least + 1 }, (_, index) => least + index)];
+        return element("select", attributes, numbers.map((value) => element("option", { value }, value || "none")));
+    }
+
+    /* Returns the row of a field: its box, its title, and its meaning or, of a flag, which is shown later, examples. Messages are in the
+     * place of these. */
+    row({ name, title = name.replaceAll("_", " "), part, meaning = "" }, box, messages = []) {
+        const label = element("label", { for: name }, element("span", { class: `dot ${part}` }), title);
+        const texts = element("span", { class: "meaning", id: `${name}-meaning` }, withCode(meaning));
+        return element("div", { class: "control", "data-field": name }, box, label, ...messages, texts);
+    }
+
+    /* Shows which texts each flag and condition makes a parser refuse, or accept. */
+    showExamples() {
+        for (const { name, part } of this.boxes) {
+            const verb = part === "separator" ? "accepts" : "refuses";
+            const texts = this.library.examples(name).map((text) => `\`${text}\``).join(", ");
+            find(`${name}-meaning`).replaceChildren(...withCode(`${verb} ${texts}`));
+        }
     }
 
     byteRow(given) {
@@ -79,15 +73,14 @@ class Controls {
     }
 
     show(state) {
+        if (!this.shown) this.showExamples();
         this.shown = state;
-        const { flags, groups, conditions } = this.library;
-        for (const { name, holder, mask } of [...flags, ...groups, ...conditions]) {
-            const [value, box] = [this.library.value(state, name), find(name)];
-            /* A click on the box of a group that is partly set clears it, and the next one sets it. */
-            const isSet = (state[holder] & mask) !== 0n;
-            const marks = { checked: isSet, indeterminate: isSet && !value };
-            Object.assign(box, box.options ? { value } : marks);
+        for (const { name, isNumber } of this.boxes) {
+            const value = this.library.value(state, name);
+            Object.assign(find(name), isNumber ? { value } : { checked: value === 1 });
         }
+        const beside = this.library.differences(state).filter(({ isOfForm, isText }) => isOfForm && !isText);
+        setText(find("kinds"), beside.length ? `Beside these settings, this form has: ${beside.map(wordsBeside).join("; ")}.` : "");
         this.inputs.forEach((it) => this.showByte(it, state));
     }
 

@@ -27,6 +27,17 @@ function refill(node, children, other) {
     if (place >= 0) (buttons()[place] ?? buttons().at(-1) ?? other).focus();
 }
 
+/* Returns why a call fails, as a sentence, or nothing. The console has it, too. */
+function failure(call) {
+    try {
+        call();
+    } catch (error) {
+        reportError(error);
+        return `This cannot be shown: ${error.message}`;
+    }
+    return "";
+}
+
 const find = (id) => document.getElementById(id);
 const setText = (node, text) => node.textContent === text || (node.textContent = text);
 

@@ -5,8 +5,8 @@ use core::array;
 use core::str::FromStr;
 
 use peltzivar::literal::{
-    Affix, Condition, Conditions, FloatKind, FloatLimits, Form, Forms, IntegerKind, Kind, Number, Specials, ValueError,
-    ValueErrorKind,
+    Affix, Condition, Conditions, FloatKind, FloatLimits, Form, Forms, IntegerKind, Kind, Literal, Number, Specials,
+    ValueError, ValueErrorKind,
 };
 
 use crate::suggest::{lines_of, Line, State};
@@ -95,14 +95,13 @@ pub fn numbers_of(State { kind, opening, closing, only_read, .. }: State) -> [u8
     let [signed, unsigned, wraps, modulo] = KINDS.map(bits);
     let (single, limits) = (kind.floats() == FloatKind::Single, kind.limits());
     let cases = [opening, closing].map(|it| it.is_case_sensitive());
-    let limits = [limits != FloatLimits::None, limits == FloatLimits::Both];
+    let limits = [limits == FloatLimits::Largest, limits == FloatLimits::Both];
     let flags = [single, limits[0], limits[1], cases[0], cases[1], only_read];
     [signed, unsigned, wraps, modulo, flags.iter().rev().fold(0, |all, &it| all << 1 | u8::from(it))]
 }
 
 /// The value of a number: an integer by its sign and size, and a float by its bits. A number that is too large for its kind
 /// is refused, and that of others without a value is unknown.
-#[derive(Clone, Copy, PartialEq)]
 pub enum Value {
     Integer(bool, u128),
     Float(u64),
@@ -110,28 +109,19 @@ pub enum Value {
     Refused(ValueError),
 }
 
-impl Value {
-    /// Returns whether both are the same number, also as an integer and a float.
-    pub fn is_same(self, other: Self) -> bool {
-        match (self, other) {
-            (Value::Integer(is_negative, size), Value::Float(bits))
-            | (Value::Float(bits), Value::Integer(is_negative, size)) => {
-                let float = f64::from_bits(bits);
-                let is_integer = float.abs() == size as f64 && float.abs() as u128 == size;
-                is_integer && float.is_sign_negative() == is_negative
-            }
-            _ => self == other,
-        }
+pub fn value_of(number: Number<'_>) -> Value {
+    match number {
+        Number::Special(special) => Value::Float(special.to_f64().to_bits()),
+        Number::Literal { literal, .. } => value_of_literal(literal),
     }
 }
 
-pub fn value_of(number: Number<'_>) -> Value {
-    let literal = match number {
-        Number::Special(special) => return Value::Float(special.to_f64().to_bits()),
-        Number::Literal { literal, .. } => literal,
-    };
+pub fn value_of_literal(literal: Literal<'_>) -> Value {
+    // The reason names the type.
+    let is_single = literal.kind().floats() == FloatKind::Single;
+    let typed = |error| literal.to_f32().err().filter(|_| is_single).unwrap_or(error);
     let value = match literal.is_float() {
-        true => literal.to_f64().map(|it| Value::Float(it.to_bits())),
+        true => literal.to_f64().map(|it| Value::Float(it.to_bits())).map_err(typed),
         false => match literal.to_i128() {
             Ok(value) => Ok(Value::Integer(value < 0, value.unsigned_abs())),
             Err(error) if literal.is_negative() => Err(error),

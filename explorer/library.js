@@ -6,6 +6,23 @@
 /* How many bytes a text may have, and how many characters the texts of kept answers. */
 const [MOST_TEXT, MOST_ANSWERED] = [60000, 500000];
 const WORDS = ["word", "normal", "conditions", "mask"];
+/* The fields of a word: the title of their section, the part of a number, and their names. Those of separators have their own titles. */
+const SECTIONS = [
+    ["Digits", "digits", /^(required_\w*digits|no_\w+_leading_zeros|mantissa_radix)$/],
+    ["Signs", "sign", /_sign$/],
+    ["Exponent", "exponent", /exponent(_notation|_without_fraction|_base|_radix)?$/],
+    ["NaN and infinity", "special", /_special$/],
+    ["Base prefix and suffix", "base", /base_\w+$/],
+    ["", "separator", /digit_separator/],
+];
+const BYTES = {
+    digit_separator: "separates digits, such as the `_` in `1_000`", base_prefix: "behind a first zero, such as the `x` in `0x1F`",
+    base_suffix: "behind the digits, such as the `h` in `1Fh`", mantissa_radix: "of the integer and fraction digits",
+    exponent_base: "what is raised to the exponent, such as the 2 in 1 \u00d7 2^3", exponent_radix: "of the exponent digits",
+};
+/* Texts of which each flag and each condition refuses or accepts one. */
+const SAMPLES = `1 .5 5. 1e . +1 -1 1e5 1e+5 1E5 NaN nan 01 01.5 0X1 1H 1_0 0.1_0 1e1_0 _1 0._1 1e_1 1_ 0.1_ 1e1_ 1__0 0.1__0 1e1__0
+N_aN 1_000_000 0.1_000`.split(/\s/);
 /* The options of a parser, which are not in the word. If both are 0, numbers are integers alone. */
 const OPTIONS = [
     { name: "exponent", part: "exponent", isByte: true, title: "exponent character", meaning: "an option of the parser, such as the `e` in `1e5`" },
@@ -26,7 +43,7 @@ const OF_FORM = [
     { name: "wraps_modulo", meaning: "Lowest bits of an integer, which count, the highest of which makes it negative", limits: [1, 64] },
     { name: "single", meaning: "Floats have 32 bits" },
     { name: "largest", meaning: "Floats that are too large are errors" },
-    { name: "vanishing", meaning: "So are those, and floats that are not 0 and vanish" },
+    { name: "vanishing", meaning: "Floats that are too large are errors, and so are those that are not 0 and vanish" },
     { name: "case_sensitive_opening", part: "base", meaning: "Letters of the opening have only this case" },
     { name: "case_sensitive_closing", part: "base", meaning: "Letters of the closing have only this case" },
     { name: "only_read", meaning: "Numbers are written in other forms" },
@@ -34,30 +51,37 @@ const OF_FORM = [
 const SPECIALS = ["NaN", "inf", "infinity"];
 
 class Library {
-    constructor(calls, { flags, groups, bytes, conditions, languages }) {
+    constructor(calls, languages) {
         Object.assign(this, { calls, answers: new Map(), answered: 0 });
         const facts = this.call("facts");
         this.languages = facts.languages.map((it) => ({ ...it, ...languages[it.name] }));
-        [this.flags, this.groups] = [flags, groups].map((all) => all.map((it) => {
-            return { ...it, holder: "word", mask: it.bits.reduce((mask, bit) => mask | (1n << BigInt(bit)), 0n) };
-        }));
+        const setters = facts.setters.filter(({ name }) => name !== "radix").map((it) => {
+            const [section, part] = SECTIONS.find(([, , names]) => names.test(it.name));
+            return { ...it, holder: "word", section, part, meaning: BYTES[it.name] };
+        });
+        const isFlag = ({ mask }) => (mask & (mask - 1n)) === 0n;
+        const bytes = setters.filter(({ meaning }) => meaning);
+        this.flags = setters.filter(isFlag);
+        this.bytes = bytes.map((it) => {
+            return { ...it, isByte: true, isNumber: /_(base|radix)$/.test(it.name), shift: BigInt(it.mask.toString(2).length - 8) };
+        });
         const byteAt = (bit) => ({ mask: 255n << BigInt(bit), shift: BigInt(bit) });
-        this.bytes = bytes.map((it) => ({ ...it, holder: "word", isByte: true, isNumber: /_(base|radix)$/.test(it.name), ...byteAt(it.bits[0]) }));
-        /* The conditions are the bytes of a number. Those of integers of a kind exclude each other. */
-        const limited = conditions.map((it, index) => ({ ...it, limits: facts.limits[index] }));
-        const ofIntegers = 0xffffffn << BigInt(8 * conditions.length);
+        /* The conditions are the bytes of a number. Kinds of integers exclude each other, and so do limits. */
+        const rivals = [({ isOfForm, isNumber }) => isOfForm && isNumber, ({ name }) => name === "largest" || name === "vanishing"];
         let end = 0;
-        this.conditions = [...limited, ...OF_FORM.map((it) => ({ ...it, isOfForm: true }))].map((it, index) => {
+        this.conditions = [...facts.limits, ...OF_FORM.map((it) => ({ ...it, isOfForm: true }))].map((it, index) => {
             const isNumber = it.limits?.[1] > 1;
             const place = isNumber ? byteAt(end) : { mask: 1n << BigInt(end) };
             end += it.limits ? 8 : 1;
-            const clears = place.mask & ofIntegers ? ofIntegers : place.mask;
-            return { ...it, part: it.part || "option", holder: "conditions", isNumber, clears, ...place };
+            return { ...it, part: it.part || "option", holder: "conditions", isNumber, ...place };
         });
+        for (const all of rivals.map((isOne) => this.conditions.filter(isOne))) {
+            for (const it of all) it.clears = all.reduce((mask, other) => mask | other.mask, 0n);
+        }
         /* The fields in the order of their bits, all that differs in states, and all that can be set by its name. */
         this.fields = [...this.flags, ...this.bytes];
         this.differing = [...this.fields, ...AFFIXES, ...OPTIONS, ...this.conditions];
-        this.named = new Map([...this.differing, ...this.groups].map((field) => [field.name, field]));
+        this.named = new Map([...setters, ...this.differing].map((field) => [field.name, field]));
         const [word, numbers] = [this.fields, this.conditions].map((all) => all.reduce((known, { mask }) => known | mask, 0n));
         this.known = { word, conditions: numbers };
         this.usual = { word: this.call("build").word, ...STANDARD_OPTIONS, name: "" };
@@ -67,7 +91,7 @@ class Library {
     static async load(bytes, data) {
         const stream = new Blob([bytes]).stream().pipeThrough(new DecompressionStream("gzip"));
         const { instance } = await WebAssembly.instantiate(await new Response(stream).arrayBuffer(), {});
-        return new Library(instance.exports, data);
+        return new Library(instance.exports, data.languages);
     }
 
     /* Returns the answer of a call, as library.rs describes it, for texts and lists of forms. The last answers are kept. */
@@ -138,6 +162,19 @@ class Library {
     parse(name, text) {
         const { word, error } = this.call("build", "digit_separator_flags=true", `${name}=${text.replace("\n", " ")}`);
         return error ? { error } : { value: this.value({ word }, name) };
+    }
+
+    /* Returns which of SAMPLES a flag or a condition makes a parser refuse, or, of a separator, accept. */
+    examples(name) {
+        const { limits, isNumber, part } = this.named.get(name);
+        const others = { internal_digit_separator: Boolean(limits) || /consecutive/.test(name), integer_group_size: name[0] === "h" && 3 };
+        const whole = { digit_separator: 95, base_prefix: 120, base_suffix: 104, ...others };
+        const base = Object.entries(whole).reduce((all, [it, value]) => (value ? this.with(all, it, Number(value)) : all), this.usual);
+        const refusals = [0, isNumber ? 3 - (name[0] === "h") : 1].map((value) => {
+            return this.call("numbers", { forms: [this.with(base, name, value)] }, SAMPLES.join("\n")).map(({ error }) => Boolean(error));
+        });
+        const [before, after] = part === "separator" ? refusals.toReversed() : refusals;
+        return SAMPLES.filter((_, index) => !before[index] && after[index]).slice(0, 3);
     }
 
     /* Returns the value of an option, an affix or a condition in a setting: of an option, a byte or its character. */
@@ -211,8 +248,9 @@ function isSame(forms, others) {
     return forms.length === others.length && forms.every((form, index) => isEqual(form, others[index]));
 }
 
-/* Returns the value of a number, which the library computed, as text, or why it has none. */
-function valueText({ integer, float, unknown, refused }) {
+/* Returns the value of a number, which the library computed, as text, or why it has none. A long integer has up to 1000 digits. */
+function valueText({ long: [sign, digits, radix] = [], integer, float, unknown, refused }) {
+    if (digits?.length <= 1000) return sign + [...digits].reduce((all, it) => all * BigInt(radix) + BigInt(parseInt(it, 36)), 0n);
     if (float === undefined) return integer ?? unknown ?? refused;
     const [value] = new Float64Array(BigUint64Array.of(BigInt(float)).buffer);
     return Object.is(value, -0) ? "-0" : String(value);

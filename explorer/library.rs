@@ -9,20 +9,20 @@ use core::alloc::{GlobalAlloc, Layout};
 use core::fmt::Display;
 use core::ops::Range;
 
-use examples::{examples, Example};
-use forms::{numbers_of, state_of, states_of, value_of, List, Value};
+use forms::{numbers_of, state_of, states_of, value_of, value_of_literal, List, Value};
 use peltzivar::edits::{apply, is_built, normal_form};
 use peltzivar::literal::{
-    Condition, Conditions, ConditionsError, ConditionsErrorKind, FormError, Forms, Language, Number, Special, Specials,
-    Syntax,
+    Condition, Conditions, ConditionsError, ConditionsErrorKind, Form, FormError, Forms, Language, Literal, Number,
+    Special, Specials, Syntax, Token,
 };
-use peltzivar::{Byte, Cause, Edit, Format, FormatView, NamedByte, NumberFormatBuilder, Reason};
-use suggest::{lines_of, offers, State};
+use peltzivar::{Byte, Cause, Edit, Format, FormatView, NamedByte, NumberFormatBuilder, Part, Reason, Setter};
+use suggest::{lines_of, offers, Line, State};
 
-mod examples;
 mod forms;
 mod suggest;
 
+/// How many digits of an integer of more than 128 bits are passed.
+const MOST_DIGITS: usize = 1001;
 const INPUT_SIZE: usize = 1 << 18;
 const HEAP_SIZE: usize = 1 << 26;
 
@@ -75,8 +75,7 @@ pub extern "C" fn call(length: usize) -> u64 {
         "explain" => explain(first),
         "readers" => readers(lines),
         "numbers" => numbers(first, others),
-        "offered" => offered(first, others),
-        _ => differ(first, utf8(others)),
+        _ => offered(first, others),
     };
     let text = answer.leak();
     (text.len() as u64) << 32 | text.as_ptr() as u64
@@ -92,9 +91,11 @@ fn utf8(bytes: &[u8]) -> &str {
     core::str::from_utf8(bytes).unwrap_or("")
 }
 
-/// Returns the limits of each condition; and the name, the title, the spellings of special values, and the forms of each language.
+/// Returns the name and the bits of each setter; the name and the limits of each condition; and the name, the title, the spellings
+/// of special values, and the forms of each language.
 fn facts() -> String {
-    let limits = |it: &Condition| format!("[{},{}]", it.limits().0, it.limits().1);
+    let setter = |it: &Setter| format!(r#"{{"name":"{}","mask":{}}}"#, it.name(), word(it.mask()));
+    let rule = |it: &Condition| format!(r#"{{"name":"{}","limits":{:?}}}"#, it.name(), <[_; 2]>::from(it.limits()));
     let languages = Language::ALL.iter().map(|language| {
         let title = quoted(language.title());
         let Specials { nan, inf, infinity } = language.forms().specials();
@@ -103,7 +104,8 @@ fn facts() -> String {
         let forms = forms.map(|it| format!(r#"{{{},"name":{}}}"#, parts_of(state_of(it)), quoted(it.name())));
         format!(r#"{{"name":"{language}","title":{title},"specials":{specials},"forms":{}}}"#, list(forms))
     });
-    format!(r#"{{"limits":{},"languages":{}}}"#, list(Condition::ALL.iter().map(limits)), list(languages))
+    let [setters, conditions] = [list(Setter::ALL.iter().map(setter)), list(Condition::ALL.iter().map(rule))];
+    format!(r#"{{"setters":{setters},"limits":{conditions},"languages":{}}}"#, list(languages))
 }
 
 /// Returns what settings, one a line, build: `{"word", "notes"}`, or `{"error", "index"}` for the first that is none.
@@ -166,22 +168,30 @@ fn reason_of(error: FormError) -> String {
     error.error().map_or_else(|| quoted(error), |it| quoted(it.full_text().as_str()))
 }
 
-/// Returns for each line and each language what the line is, as `told` does, and its suffix if it is a token.
+/// Returns for each line and each language what the line is, as `told` does or, if it is a token, its value and its suffix.
 fn readers(lines: &[u8]) -> String {
     let reader = |text, language: &Language| {
-        let suffix = quoted(suffix_of(language, text).unwrap_or_default());
-        format!(r#"{{{},"suffix":{suffix}}}"#, told(language.read(text), text))
+        let read = language.read(text);
+        match read.is_err().then(|| token_of(language, text)).flatten() {
+            Some(it) => format!(r#"{{{},"suffix":{}}}"#, value(value_of_literal(it.literal)), quoted(utf8(it.suffix))),
+            None => format!("{{{}}}", told(read, text)),
+        }
     };
     list(lines_of(lines).map(|line| list(Language::ALL.iter().map(|language| reader(line.text, language)))))
 }
 
-/// Returns the suffix of a text that is a literal of a language and one of the suffixes of its form.
-fn suffix_of<'a>(language: &Language, text: &'a [u8]) -> Option<&'a str> {
-    let (number, suffix) = language.read_prefix(text).ok().filter(|it| !it.1.is_empty())?;
-    let known = language.forms()[number.form()?].suffixes()?;
-    let words = if number.literal()?.is_float() { known.floats() } else { known.integers() };
-    let is_word = |it: &&[u8]| *it == suffix || known.is_either_case() && it.eq_ignore_ascii_case(suffix);
-    words.iter().any(is_word).then(|| utf8(suffix))
+/// Returns the token of a language that a whole text is, if it has a suffix.
+fn token_of<'a>(language: &Language, text: &'a [u8]) -> Option<Token<'a>> {
+    language.token(text).ok().filter(|it| it.rest.is_empty() && !it.suffix.is_empty())
+}
+
+/// Returns whether a text is a token of a language that names its suffix: it is not any word, as in CSS.
+fn has_named_suffix(text: &[u8]) -> bool {
+    Language::ALL.iter().any(|language| {
+        let Some(Token { suffix, .. }) = token_of(language, text) else { return false };
+        let mut forms = language.forms().as_slice().iter().filter_map(Form::suffixes);
+        forms.any(|it| it.integers().iter().chain(it.floats()).any(|word| word.eq_ignore_ascii_case(suffix)))
+    })
 }
 
 /// Returns the parts of an object with a state.
@@ -206,6 +216,7 @@ fn numbers(states: &'static str, lines: &[u8]) -> String {
 fn offered(states: &'static str, lines: &[u8]) -> String {
     let (Some(all), Some(line)) = (List::of(states_of(states)), lines_of(lines).next()) else { return "[]".into() };
     let lines = &lines[line.text.len() + usize::from(line.is_refused)..];
+    let line = Line { has_suffix: has_named_suffix(line.text), ..line };
     let form = all.forms().read(line.text).map_or_else(|error| error.form, |number| number.form().unwrap_or(0));
     let offers = offers(all.states[form], &all.lines(form, lines), line);
     list(offers.into_iter().map(|state| format!("{{{}}}", parts_of(state))))
@@ -242,7 +253,13 @@ fn told(read: Result<Number<'_>, FormError>, text: &[u8]) -> String {
         Ok(number) => {
             let is_float = number.literal().map(|it| it.is_float());
             let is = is_float.map_or("special value", |is_float| if is_float { "float" } else { "integer" });
-            format!(r#""is":"{is}",{},"form":{}"#, value(value_of(number)), number.form().unwrap_or(0))
+            let is_long = |it: &Literal| !it.is_float() && matches!(value_of_literal(*it), Value::Unknown(_));
+            let long = number.literal().filter(is_long).map_or(String::new(), |it| {
+                let (sign, radix) = (if it.is_negative() { "-" } else { "" }, it.radix(Part::Integer));
+                let digits = it.digits(Part::Integer).filter_map(|it| char::from_digit(it.into(), 36));
+                format!(r#""long":["{sign}","{}",{radix}],"#, digits.take(MOST_DIGITS).collect::<String>())
+            });
+            format!(r#""is":"{is}",{long}{},"form":{}"#, value(value_of(number)), number.form().unwrap_or(0))
         }
         Err(it) => {
             let (form, mask, Range { start, end }) = (it.form, word(it.mask()), it.span());
@@ -250,22 +267,6 @@ fn told(read: Result<Number<'_>, FormError>, text: &[u8]) -> String {
             format!(r#""form":{form},"error":{error},"mask":{mask},"start":{start},"end":{end}"#)
         }
     }
-}
-
-/// Returns texts that tell the forms of two lines apart: those that the second ones refuse, those that the first ones refuse,
-/// and those to which they give different values. If a word is not lawful, returns an empty array.
-fn differ(first: &'static str, second: &'static str) -> String {
-    let [Some(first), Some(second)] = [first, second].map(|it| List::of(states_of(it))) else { return "[]".into() };
-    let line = |Example { text, told, .. }: &Example| {
-        let text = quoted(utf8(text));
-        match told.map(|values| values.map(value)) {
-            Err(error) => format!(r#"{{"text":{text},"error":{}}}"#, reason_of(error)),
-            Ok([here, there]) => format!(r#"{{"text":{text},"here":{{{here}}},"there":{{{there}}}}}"#),
-        }
-    };
-    let part = |all: &[Example], is_refused| list(all.iter().filter(|it| it.told.is_err() == is_refused).map(line));
-    let [here, there] = [examples(&first, &second), examples(&second, &first)];
-    list([part(&here, true), part(&there, true), part(&here, false)].into_iter())
 }
 
 /// Returns an integer as digits, a float as the number of its bits, or why a number has no value, as a part of an object.

@@ -8,7 +8,7 @@ const BUTTON = ": a button below changes that.";
 const WELCOME = "Type numbers of your language or file: the page finds their format, and the code that reads them.";
 
 const titlesOf = (languages) => named(languages.map(({ title }) => title));
-const inCode = ({ text }) => `\`${visible(text.slice(0, 40))}\``;
+const inCode = ({ text }) => `\`${visible(text.length > 40 ? `${text.slice(0, 40)}\u2026` : text)}\``;
 
 class Trial {
     constructor(library, page) {
@@ -25,16 +25,26 @@ class Trial {
         const hasRoom = ({ text }) => (size += new TextEncoder().encode(text).length + 1) <= MOST_TEXT;
         this.lines = all.slice(0, MOST_LINES).filter(hasRoom);
         this.answers = this.read();
+        /* Nothing is expected before a form or a language is chosen. */
+        this.isChosen = Boolean(state.language) || !isSame(state.forms, [this.library.usual]);
         const unexpected = this.answers.filter(({ isExpected }) => !isExpected);
         this.expected = this.answers.length - unexpected.length;
-        box.setAttribute("aria-invalid", String(unexpected.length > 0));
+        box.setAttribute("aria-invalid", String(this.isChosen && unexpected.length > 0));
         box.className = all.length > MOST_LINES ? "many" : "";
         const left = all.length - this.lines.length;
         const unread = left && `${left === 1 ? "1 line is" : `${left} lines are`} not read`;
         this.showRows(unread && `${unread}: the page reads up to ${MOST_LINES} lines with ${MOST_TEXT / 1000} kB`);
         this.showSummary(unexpected);
-        const count = this.answers.length && `${this.expected} of ${this.answers.length} as expected`;
+        const count = this.isChosen && this.answers.length && `${this.expected} of ${this.answers.length} as expected`;
         return { count: [count, unread].filter(Boolean).join("; "), isGood: !unexpected.length && !left };
+    }
+
+    /* Shows why there is no answer. */
+    fail(message) {
+        [this.answers, this.rows] = [[], new Map()];
+        find("read").replaceChildren();
+        find("summary").replaceChildren(element("p", { class: "bad" }, message));
+        setText(find("count"), "");
     }
 
     /* Returns what the library returns for lines, with what each line expects, and of each part the runs of digits and between
@@ -56,14 +66,15 @@ class Trial {
 
     /* Returns the answer with what is offered in words: up to three states, those last that change other numbers, and advice. */
     withOffers(answer) {
-        const isRead = answer.isExpected && !answer.isRefused;
-        if (answer.isExpected || answer.refused) return { ...answer, offers: [], advice: isRead ? this.starts(answer, true) : [] };
+        if (answer.isExpected || answer.refused) return { ...answer, offers: [], advice: [] };
         const lines = [answer, ...this.answers].map(({ line }) => line).join("\n");
         const offered = this.library.call("offered", this.list, lines).map((it) => this.worded(answer, it));
         const all = offered.toSorted((a, b) => Boolean(a.lost) - Boolean(b.lost));
         const most = Math.max(...all.map(({ rank }) => rank));
         const advice = answer.isRefused ? [] : this.adviceOf(answer, all);
-        return { ...answer, offers: all.filter(({ rank }) => rank === most), advice };
+        /* What only takes back the last offer is not offered. */
+        const isBack = ({ ways: [[, { forms }]] }) => this.before?.numbers === this.state.numbers && isSame(forms, this.before.forms);
+        return { ...answer, offers: all.filter((it) => it.rank === most && !isBack(it)), advice };
     }
 
     /* Returns an offer in words, with its ways into the state: in the form that it changes, in all if other ones read what must be
@@ -71,8 +82,7 @@ class Trial {
     worded(answer, offer) {
         const [{ forms }, { library, answers }, at] = [this.state, this, answer.form];
         const isFlag = ({ isByte, isText }) => Number(!isByte && !isText);
-        const differences = (it) => library.differences(it, forms[at]).sort((a, b) => isFlag(a) - isFlag(b));
-        const changes = differences(offer);
+        const changes = library.differences(offer, forms[at]).sort((a, b) => isFlag(a) - isFlag(b));
         const affixes = changes.filter(({ name, value }) => value && name.startsWith("base_"));
         const own = affixes.reduce((all, { name }) => library.with(all, `required_${name}`, 1), offer);
         const changed = (form) => changes.reduce((all, { name, value }) => library.with(all, name, value), form);
@@ -96,42 +106,29 @@ class Trial {
         const count = expected(then);
         const counted = answers.length > 1 && `${count} of ${answers.length} as expected`;
         const told = [this.told(reading(then)), counted, !isOwn && lost].filter(Boolean).join("; ");
-        const label = differences(isOwn ? own : offer).map((it) => it.text).join(", ");
         const rank = reading(then).isExpected * MOST_LINES + count;
-        return { ways, lost, changes, label, then: told, rank, isBetter: count > this.expected };
+        return { ways, lost, changes, then: told, rank, isBetter: count > this.expected };
     }
 
     /* Returns what else can be done for a text, each with words and, at most, the label of a button and what it does. */
     adviceOf(answer, offers) {
         const { text, place } = answer;
         const language = this.page.languageOf(this.state);
-        const isOwn = ({ name }) => name === language?.name;
-        const [{ tokens }] = this.withReaders([{ text }]);
-        const chosen = tokens.filter(isOwn);
-        const suffix = tokens[0]?.suffix;
-        const words = `\`${suffix}\` is a suffix in ${titlesOf(chosen.length ? chosen : tokens)}: ${TOKEN}.`;
-        const limits = () => (this.page.open("words"), (find("limits").open = true), find("limits").firstElementChild.focus());
+        const isOwn = (it) => language !== undefined && it?.name === language.name;
+        if (text.length > MOST_CHARACTERS) return [];
+        const [{ readers, tokens }] = this.withReaders([{ text }]);
+        /* Of tokens, the one with the longest number counts, and first that of the language. */
+        const [first] = tokens.toSorted((a, b) => isOwn(b) - isOwn(a) || a.suffix.length - b.suffix.length);
+        const { suffix } = first ?? {};
+        const same = isOwn(first) ? [first] : tokens.filter((it) => it.suffix === suffix);
+        const words = `\`${visible(suffix ?? "")}\` is a suffix in ${titlesOf(same)}: ${TOKEN}.`;
+        const ofToken = suffix && (isOwn(first) || !readers.length) ? [{ words, text: text.slice(0, -suffix.length) }] : undefined;
         const numbers = this.state.numbers.split("\n");
         const replace = (other) => this.page.change({ numbers: numbers.with(place, other).join("\n") });
-        const told = suffix ? [{ words, text: text.slice(0, -suffix.length) }] : adviceFor(text, offers.length > 0);
-        const all = told.map((it) => {
-            if (it.row !== undefined) return { ...it, kind: "link", label: "What a format cannot express", act: limits };
-            return it.text === undefined ? it : { ...it, label: `try ${it.text}`, act: () => replace(it.text) };
-        });
         const isOperator = language && this.hasOperator(text, language);
-        if (isOperator) all.push({ words: `In ${language.title}, \`-\` is an operator, so that numbers have no sign.` });
-        return [...all, ...this.starts(answer, offers.length > 0)];
-    }
-
-    /* Returns advice to start from other languages that read a number: as octal with another value, and else if nothing is offered. */
-    starts({ text, integer = text }, isOffered) {
-        const own = this.page.languageOf(this.state)?.name;
-        const readers = this.withReaders([{ text }])[0].readers.filter(({ name }) => name !== own);
-        const isOctal = (it) => /^[+-]?0\d/.test(text) && Number(it.integer) === parseInt(text, 8) && Number(integer) !== Number(it.integer);
-        const groups = [...Map.groupBy(readers, isOctal)].filter(([is]) => is || !isOffered);
-        return groups.map(([is, [first, ...others]]) => {
-            const words = `${titlesOf([first, ...others])} read${others.length ? "" : "s"} it${is ? ` as octal, ${first.integer}` : ""}.`;
-            return { words, label: `start from ${first.title}`, act: () => this.page.start(first.name, 0) };
+        const ofSign = isOperator ? [{ words: `In ${language.title}, \`-\` is an operator, so that numbers have no sign.` }] : [];
+        return [...adviceFor(text, offers.length > 0, ofToken), ...ofSign].map((it) => {
+            return it.text === undefined ? it : { ...it, label: `try ${it.text}`, act: () => replace(it.text) };
         });
     }
 
@@ -149,7 +146,7 @@ class Trial {
         const nodes = this.answers.map((answer) => {
             const whole = open.has(answer) ? this.withOffers(answer) : answer;
             const form = this.forms[answer.form];
-            const texts = [whole, this.expected, form.name, this.forms.length, this.state.language];
+            const texts = [whole, this.expected, this.isChosen, form.name, this.forms.length, this.state.language];
             const key = JSON.stringify(texts, (_, it) => (typeof it === "bigint" ? String(it) : it));
             this.rows.set(key, old.get(key) ?? (open.has(answer) ? this.row(whole) : this.line(whole)));
             return this.rows.get(key);
@@ -183,12 +180,12 @@ class Trial {
         const line = element("div", {}, element("span", { class: "written" }, this.pieces(answer)), told);
         const nothing = isRefused ? "No flag alone refuses it." : "No change of a few fields was found that accepts it.";
         const none = isExpected || answer.refused || offers.length || advice.length ? [] : [element("li", {}, nothing)];
-        const advised = ({ words, kind = "use", label, act }) => {
-            return element("li", {}, element("span", {}, withCode(words)), label ? [button(kind, label, act)] : []);
+        const advised = ({ words, label, act }) => {
+            return element("li", {}, element("span", {}, withCode(words)), label ? [button("use", label, act)] : []);
         };
-        const all = [...offers.map((it) => this.offer(it)), ...advice.map(advised), ...none];
+        const all = [...advice.map(advised), ...offers.map((it) => this.offer(it)), ...none];
         const row = { id: `row-${place}`, tabindex: "-1", "aria-label": text, class: isExpected ? "" : "unexpected" };
-        return element("li", row, line, this.legend(answer), element("ul", {}, all));
+        return element("li", row, line, this.legend(answer), all.length ? element("ul", {}, all) : "");
     }
 
     /* Returns the parts of a number in words, if it has several. */
@@ -201,8 +198,38 @@ class Trial {
         }));
     }
 
-    /* Shows what the numbers are: a clause for each form with the languages that read these, and what is not as expected. */
+    /* Shows what the numbers are. */
     showSummary(unexpected) {
+        const bad = this.forms.find(({ problems }) => problems.length);
+        const none = bad && this.lines.length ? `Nothing is read: ${bad.problems[0].text}.` : WELCOME;
+        const told = () => (this.isChosen ? this.chosenWords(unexpected) : this.languageWords());
+        const sentences = this.answers.length ? told() : [none];
+        find("summary").replaceChildren(...sentences.map((it) => element("p", { class: it.endsWith(BUTTON) ? "screen" : "" }, withCode(it))));
+    }
+
+    /* Returns in how many and which languages the numbers are as their lines ask, and each by itself, with its values if these differ. */
+    languageWords() {
+        const answers = this.withReaders(this.answers.filter(({ text }) => text.length <= MOST_CHARACTERS).slice(0, MOST_READ));
+        const isGood = ({ refused }) => !refused;
+        const counted = (all) => `${all.length || "none"} of ${this.languages.length} languages`;
+        const sentences = answers.slice(0, MOST_OPEN).map((it) => {
+            const readers = it.readers.filter(isGood);
+            const none = this.languages.filter(({ name }) => !readers.some((reader) => reader.name === name));
+            if (it.isRefused && none.length) return `${inCode(it)} is not a number in ${counted(none)}: ${titlesOf(none)}.`;
+            const values = [...Map.groupBy(readers, valueText)];
+            const words = values.map(([value, all]) => (values.length > 1 ? `${value} in ${titlesOf(all)}` : titlesOf(all))).join("; ");
+            const advice = readers.length ? "" : ` ${this.adviceOf(it, [])[0]?.words ?? ""}`.trimEnd();
+            return `${inCode(it)} is a number in ${counted(readers)}${words && `: ${words}`}.${advice}`;
+        });
+        if (answers.length < 2) return sentences;
+        const [all, refused] = [this.readersOf(answers), answers.filter(({ isRefused }) => isRefused).length];
+        const parts = [answers.length > refused && `read ${answers.length - refused}`, refused && `refuse ${refused}`].filter(Boolean);
+        const whole = counted(all).replace("none", "None");
+        return [`${whole} ${parts.join(" and ")} of these${all.length ? `, as asked: ${titlesOf(all)}` : ""}.`, ...sentences];
+    }
+
+    /* Returns a clause for each form with the languages that read its numbers, and what is not as expected. */
+    chosenWords(unexpected) {
         const isRead = (it) => !it.isRefused && !it.error && it.text.length <= MOST_CHARACTERS;
         const read = this.withReaders(this.answers.filter(isRead));
         const groups = Map.groupBy(read, (it) => (it.is === "special value" ? this.forms.length : it.form));
@@ -222,10 +249,7 @@ class Trial {
         for (const [way, [first, ...more]] of ways) {
             sentences.push(`${inCode(first)}${more.length ? ` and ${more.length} more are` : " is"} not as expected${way}`);
         }
-        const bad = this.forms.find(({ problems }) => problems.length);
-        const none = bad && this.lines.length ? `Nothing is read: ${bad.problems[0].text}.` : WELCOME;
-        if (!this.answers.length) sentences.push(none);
-        find("summary").replaceChildren(...sentences.map((it) => element("p", { class: it.endsWith(BUTTON) ? "screen" : "" }, withCode(it))));
+        return sentences;
     }
 
     /* Returns how a number that is not as expected becomes so, as the end of a sentence. */
@@ -240,9 +264,16 @@ class Trial {
         const found = this.library.call("readers", answers.map(({ text, line = text }) => line).join("\n"));
         return answers.map((it, index) => {
             const all = found[index].map((it, language) => ({ ...this.languages[language], ...it, language }));
-            const groups = Object.groupBy(all, ({ error, suffix }) => (!error ? "readers" : suffix ? "tokens" : "others"));
+            const groups = Object.groupBy(all, ({ error, suffix }) => (suffix ? "tokens" : error ? "others" : "readers"));
             return { ...it, readers: [], tokens: [], others: [], ...groups };
         });
+    }
+
+    /* Returns the languages with a name, a title or an alias that has this text, those first that begin with it. */
+    named(text) {
+        const namesOf = ({ name, title, aliases = [] }) => [name, title, ...aliases].map((it) => it.toLowerCase());
+        const places = this.languages.map((it) => [it, Math.min(...namesOf(it).map((name) => (name.indexOf(text.toLowerCase()) + 1) || Infinity))]);
+        return places.filter(([, place]) => place < Infinity).sort(([, a], [, b]) => a - b).map(([it]) => it);
     }
 
     /* Returns the languages by which all answers with readers are as expected. */
@@ -261,14 +292,17 @@ class Trial {
     /* Shows the languages that read each number, those first that read all, by value and form; and the others, by reason. */
     showReaders() {
         const { languages } = this;
+        const sought = find("sought").value.trim();
+        const found = this.named(sought);
+        const isFound = ({ name }) => found.some((it) => it.name === name);
         const answers = this.answers.filter(({ text }) => text.length <= MOST_CHARACTERS).slice(0, MOST_READ);
         const all = this.withReaders(answers);
         const reader = ({ name, title, form }) => {
             return button("link rover", title, () => this.page.start(name, form), { title: `starts from ${title}` });
         };
         const line = (title, all) => element("p", {}, element("span", { class: "meaning" }, visible(title)), all.map(reader));
-        const grouped = (all, title) => [...Map.groupBy(all, title)].map(([title, group]) => line(title, group));
-        const common = all.length < 2 ? [] : this.readersOf(all);
+        const grouped = (all, title) => [...Map.groupBy(all.filter(isFound), title)].map(([title, group]) => line(title, group));
+        const common = all.length < 2 ? [] : this.readersOf(all).filter(isFound);
         const cut = `The first ${all.length} of ${this.answers.length} numbers, with up to ${MOST_CHARACTERS} characters:`;
         const first = [...(all.length < this.answers.length ? [line(cut, [])] : []),
             ...(common.length ? [line(`All ${all.length}, as expected:`, common)] : [])];
@@ -281,13 +315,13 @@ class Trial {
             const unsigned = others.filter((it) => this.hasOperator(text, it));
             const words = `In ${titlesOf(unsigned)}, - is an operator before the number.`;
             const told = unsigned.length ? [element("p", { class: "meaning" }, words)] : [];
-            const reasons = element("details", all[1] ? {} : { open: "" }, element("summary", {}, `Refused by ${others.length}`),
+            const reasons = element("details", all[1] && !sought ? {} : { open: "" }, element("summary", {}, `Refused by ${others.length}`),
                 grouped(others, ({ error }) => `${error}:`));
-            const ofTokens = grouped(tokens, ({ suffix }) => `with the suffix ${suffix}, as a token:`);
+            const ofTokens = grouped(tokens, (it) => `${valueText(it)} with the suffix ${it.suffix}, as a token:`);
             return [head, ...told, ...grouped([...good, ...refused], title), ...ofTokens, ...(others.length ? [reasons] : [])];
         });
-        const rest = all.length ? [] : languages.map(reader);
-        refill(find("readers"), [...first, ...nodes, ...rest], find("tab-languages"));
+        const rest = all.length ? [] : found.map(reader);
+        refill(find("readers"), found.length ? [...first, ...nodes, ...rest] : ["No language has this name."], find("tab-languages"));
         find("no-numbers").hidden = Boolean(all.length);
         oneStop(find("readers"));
     }
@@ -297,9 +331,10 @@ class Trial {
         const { unknown, refused } = answer;
         const where = start < text.length ? `at index ${start}` : "at the end";
         const name = this.forms.length > 1 ? `, ${this.forms[form]?.name ?? "the new form"}` : "";
-        const value = unknown ? `: ${unknown}` : refused ? `, but its value is refused: ${refused}` : ` = ${valueText(answer)}`;
+        const value = unknown && valueText(answer) === unknown ? `: ${unknown}` : refused ? `, but its value is refused: ${refused}` : ` = ${valueText(answer)}`;
         if (refused && isRefused) return `refused: its value is ${refused}${name}`;
-        if (error) return `${isRefused ? "refused: " : ""}${where}: ${error}`;
+        const who = this.isChosen ? "" : "the standard format refuses it ";
+        if (error) return `${isRefused ? "refused: " : who}${where}: ${error}`;
         return `accepted${isRefused ? " as" : ":"} ${is}${value}${name}${isRefused ? ", but it must be refused" : ""}`;
     }
 
@@ -318,11 +353,15 @@ class Trial {
         return [...cut(0, start), marked, ...cut(end, text.length)];
     }
 
-    /* Returns a form that is offered, as buttons in words, with what the number is then and the settings. */
-    offer({ label, ways, then, changes }) {
-        const take = (part) => () => (this.page.enter(part), (find("read").querySelector(".use") ?? find("literal")).focus());
-        const attributes = { title: changes.map((it) => it.meaning).join("; ") };
-        const buttons = ways.map(([words, part], index) => button("use", withCode(words), take(part), index ? {} : attributes));
-        return element("li", {}, buttons, element("span", { class: "then" }, withCode(visible(then))), element("span", { class: "name" }, label));
+    /* Returns a form that is offered, as buttons in words, with what the number is then. The settings are told behind the words. */
+    offer({ ways, then, changes }) {
+        const take = (part) => () => {
+            this.before = this.state;
+            this.page.enter(part);
+            (find("read").querySelector(".use") ?? find("literal")).focus();
+        };
+        const title = changes.map(({ text }) => text).join(", ");
+        const buttons = ways.map(([words, part]) => button("use", withCode(words), take(part), { title }));
+        return element("li", {}, buttons, element("span", { class: "then" }, withCode(visible(then))));
     }
 }

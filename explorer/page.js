@@ -14,21 +14,21 @@ const CHOICES = {
     compare: [["", "nothing"], STANDARD],
     add: [["", "Add a form"], ["copy", "a copy of this one"], STANDARD],
 };
-/* The milliseconds between two fragments that are written, the changes that can be undone after a reload, the parts of a
- * fragment, and the example. */
+/* The milliseconds between two fragments, the changes that can be undone after a reload, the parts of a fragment, an example. */
 const [PAUSE, MOST_UNDONE] = [150, 30];
 const LINK = ["language", "forms", "at", "numbers", "compare", "tab"];
 const EXAMPLE = "1_000.5\n0x1F\n-2e-3\n!1__0";
-/* A link that is pasted, what is told of one from a file, which others cannot open, and how many characters of numbers it has. */
-const PASTED = /^\s*[^\s#]*#((?:language|forms|compare|tab|numbers)=\S*)\s*$/;
-const OF_FILE = "Copied: pasted into the numbers of any copy of this page, it opens there.";
+/* What is told of a link of a file, which others do not have, and how many characters of numbers a link has. */
+const OF_FILE = "Copied. Send this file with this link, which stands behind its address.";
 const MOST_LINKED = 4000;
+const MOST_FORMS = 64; // As in C and Python.
+const TOO_MANY = `A list has up to ${MOST_FORMS} forms, and this would be more: remove a form first.`;
 /* The names of forms without one, by their radix. */
 const RADIXES = { 2: "binary", 8: "octal", 10: "decimal", 16: "hexadecimal" };
 
 class Page {
     constructor(library, data) {
-        Object.assign(this, { library, data: { ...data, languages: library.languages }, saved: 0 });
+        Object.assign(this, { library, data: { languages: library.languages }, saved: 0 });
         this.chosen = { code: "rust", words: "sentence" };
         this.controls = new Controls(library, this);
         this.trial = new Trial(library, this);
@@ -45,10 +45,6 @@ class Page {
                 return button("", title, () => this.open(name), attributes);
             }));
         }
-        find("parts").append(...[...document.querySelectorAll("#controls h3, #word-title")].map((it) => {
-            return button("link rover", it.textContent, () => (it.scrollIntoView(), it.focus({ preventScroll: true })));
-        }));
-        oneStop(find("parts"));
         this.listen();
         this.read();
     }
@@ -79,9 +75,14 @@ class Page {
             const beside = find(it.dataset.copies);
             it.addEventListener("click", () => copy(it, beside.value ?? beside.textContent, beside));
         }
-        find("literal").addEventListener("input", ({ target }) => this.type(target.value));
+        find("literal").addEventListener("input", ({ target }) => this.change({ numbers: target.value }, "literal"));
         find("language").addEventListener("change", ({ target }) => this.start(target.value));
         find("compare").addEventListener("change", () => this.open("compare"));
+        find("sought").addEventListener("input", () => this.draw());
+        find("sought").addEventListener("keydown", ({ key, target }) => {
+            const [first] = this.trial.named(target.value.trim());
+            if (key === "Enter" && first) this.start(first.name);
+        });
         find("add").addEventListener("change", ({ target }) => {
             const added = target.value === "copy" ? [{ ...this.form, name: "" }] : this.library.listOf(target.value).forms;
             this.change({ forms: [...this.state.forms, ...added], at: this.state.forms.length });
@@ -103,19 +104,11 @@ class Page {
     async copyLink() {
         this.save();
         const isFile = location.protocol === "file:";
-        const link = isFile ? location.hash : location.href;
+        const link = isFile ? location.pathname.split("/").pop() + location.hash : location.href;
         const isCut = this.linked() !== this.state.numbers;
         const cut = isCut ? `The link has the first ${this.linked().split("\n").length} lines alone. ` : "";
         setText(find("told"), link);
         if (await copy(find("copy-link"), link, find("told"))) setText(find("told"), cut + (isFile ? OF_FILE : ""));
-    }
-
-    /* Takes typed numbers, or a link in their place. */
-    type(numbers) {
-        const [, link] = PASTED.exec(numbers) ?? [];
-        if (!link) return this.change({ numbers }, "literal");
-        history.pushState(null, "", `#${link}`);
-        this.read();
     }
 
     /* Takes Ctrl+Z, Ctrl+Y and Ctrl+Shift+Z, except in the field for numbers, which has steps of its own. */
@@ -213,22 +206,14 @@ class Page {
         this.wordTold = this.form.word;
     }
 
-    /* Changes a field or an option of the shown form, or of all. If another form reads a number in its place then, tells so. */
+    /* Changes a field or an option of the shown form. Numbers are integers alone without both options, or floats with both. */
     edit(name, value, key) {
-        const [{ at }, { answers }] = [this.state, this.trial];
-        const isChanged = (it) => it === at || find("all").checked;
-        this.change({ forms: this.state.forms.map((form, it) => (isChanged(it) ? this.edited(form, it, name, value) : form)) }, key);
-        const wasRead = (it) => it?.form === at && !it.error;
-        const other = this.trial.answers.find((it, index) => wasRead(answers[index]) && !it.error && it.form !== at);
-        if (other) find("told").append(` ${visible(other.text.slice(0, 40))} is still read, by the form ${this.list.forms[other.form].name}.`);
-    }
-
-    /* Returns a form with another value of a field or an option. Numbers are integers alone without both options, or floats with both. */
-    edited(form, at, name, value) {
-        const changed = this.library.with(form, name, value);
+        const { forms, at } = this.state;
+        const changed = this.library.with(this.form, name, value);
         const other = { point: "exponent", exponent: "point" }[name];
         const before = this.past.at(-1)?.forms[at]?.[other] || STANDARD_OPTIONS[other];
-        return other && (value === 0) !== (form[other] === 0) ? { ...changed, [other]: value && before } : changed;
+        const isOther = other && (value === 0) !== (this.form[other] === 0);
+        this.change({ forms: forms.with(at, isOther ? { ...changed, [other]: value && before } : changed) }, key);
     }
 
     get form() {
@@ -238,6 +223,7 @@ class Page {
     /* Changes the state. What is typed into one control, the key, is undone at once, and keeps refused texts. */
     change(part, key = "") {
         const state = { ...this.state, ...part };
+        if (state.forms.length > MOST_FORMS) return setText(find("told"), TOO_MANY);
         if (isSame(state.forms, this.state.forms)) state.forms = this.state.forms;
         if (Object.keys(state).some((name) => state[name] !== this.state[name])) {
             const lost = this.languageOf(state) ? undefined : this.languageOf(this.state)?.title;
@@ -276,8 +262,20 @@ class Page {
         history.replaceState({ past: this.past.slice(-MOST_UNDONE), future: this.future }, "", this.fragment());
     }
 
-    /* Reads the state from the fragment. A part that is missing has its default. If one is invalid, the page says so. */
+    /* Reads the state from the fragment. If that fails, the page says so, and shows the standard format. */
     read() {
+        try {
+            this.follow();
+        } catch (error) {
+            reportError(error);
+            history.replaceState(null, "", "#");
+            this.follow();
+            setText(find("told"), `This link fails, and the page shows ${STANDARD[1]} in its place: ${error.message}`);
+        }
+    }
+
+    /* Shows the state of the fragment. A part that is missing has its default. If one is invalid, the page says so. */
+    follow() {
         const { library, data: { languages } } = this;
         const parts = Object.fromEntries(new URLSearchParams(location.hash.slice(1).replaceAll("&amp;", "&")));
         const lost = Object.keys(parts).filter((name) => !LINK.includes(name));
@@ -288,7 +286,8 @@ class Page {
         const language = languages.find(({ name }) => name === parts.language);
         const lines = (parts.forms ?? "").split("\n").filter(Boolean);
         const own = lines.flatMap((line) => library.form(line) ?? (lost.push(`forms=${line.slice(0, 40)}`), []));
-        const forms = own.length ? own : language?.forms ?? [library.usual];
+        if (own.length > MOST_FORMS) lost.push(`forms, of which there are up to ${MOST_FORMS}`);
+        const forms = own.length ? own.slice(0, MOST_FORMS) : language?.forms ?? [library.usual];
         const numbers = parts.numbers ?? (parts.forms ? "" : language?.numbers) ?? "";
         find("compare").value = parts.compare ?? "";
         part("compare", find("compare").value);
@@ -327,7 +326,15 @@ class Page {
         (isSticky ? document.scrollingElement : focused.closest("#trial, #pane"))?.scrollBy(0, top() - before);
     }
 
+    /* Shows the state. What fails is told in place of an old answer: a list without an explanation has none in any box. */
     showAll() {
+        this.list = undefined;
+        const failed = failure(() => this.showAnswers());
+        if (failed) this.trial.fail(failed);
+        this.draw();
+    }
+
+    showAnswers() {
         this.list = this.listOf(this.state);
         this.shown = this.list.forms[this.state.at];
         this.showLanguage();
@@ -340,17 +347,20 @@ class Page {
         const { count, isGood } = this.trial.show(this.state, this.list);
         Object.assign(find("count"), { textContent: count, className: isGood ? "good" : "bad" });
         [find("clear").hidden, find("example").hidden] = [!this.state.numbers, Boolean(this.state.numbers)];
-        this.draw();
     }
 
     /* Shows the pane that is chosen, and then writes the fragment, not too often for browsers. */
     draw() {
         clearTimeout(this.timer);
         this.timer = setTimeout(() => this.save(), Math.max(0, this.saved + PAUSE - Date.now()));
-        if (this.pane in INNER) this.showText(this.pane);
-        if (this.pane === "languages") this.trial.showReaders();
-        if (this.pane === "compare") compare(this.library, this.list);
-        if (this.pane === "edit") this.showSettings();
+        const failed = failure(() => {
+            if (this.pane in INNER) this.showText(this.pane);
+            if (this.pane === "languages") this.trial.showReaders();
+            if (this.pane === "compare") compare(this.library, this.list);
+            if (this.pane === "edit") this.showSettings();
+        });
+        setText(find("failed"), failed);
+        find(`pane-${this.pane}`).hidden = Boolean(failed);
     }
 
     showSettings() {
@@ -370,8 +380,9 @@ class Page {
             node.classList.toggle("blamed", names.some((name) => blamed.has(name)));
             node.classList.toggle("changed", names.some((name) => changed.has(name)));
         }
-        const { flags, groups } = this.library;
-        for (const { name } of [...flags, ...groups]) find(name).setAttribute("aria-invalid", String(blamed.has(name)));
+        for (const { name, isNumber } of this.controls.boxes) {
+            if (!isNumber) find(name).setAttribute("aria-invalid", String(blamed.has(name)));
+        }
     }
 
     /* Shows the text of a tab on all forms, in code with the numbers as a test. */

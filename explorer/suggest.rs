@@ -17,8 +17,7 @@ const MOST_ROLES: usize = 3;
 const SEPARATORS: u128 = DIGIT_SEPARATOR_FLAG_MASK & !SPECIAL_DIGIT_SEPARATOR;
 
 /// The flags that require something of all numbers, which few formats do.
-const REQUIREMENTS: u128 =
-    REQUIRED_DIGITS | REQUIRED_MANTISSA_SIGN | REQUIRED_EXPONENT_SIGN | REQUIRED_EXPONENT_NOTATION;
+const REQUIREMENTS: u128 = REQUIRED_MANTISSA_SIGN | REQUIRED_EXPONENT_SIGN | REQUIRED_EXPONENT_NOTATION;
 
 /// The flags of letters in one case, which refuse the fewest texts, and count as no change.
 const CASES: u128 =
@@ -120,7 +119,13 @@ impl State {
     /// Returns why what is between the opening and the closing of a text is not a literal, which shows the flags to blame.
     fn read_inside(self, text: &[u8]) -> Option<FormError> {
         let inside = text.strip_prefix(self.opening.as_bytes())?.strip_suffix(self.closing.as_bytes())?;
-        Self { opening: Affix::NONE, closing: Affix::NONE, ..self }.read(inside).err()?
+        self.with_affixes(b"", b"")?.read(inside).err()?
+    }
+
+    /// Returns the state with another opening and closing, whose letters have one case if they had before.
+    fn with_affixes(self, opening: &[u8], closing: &[u8]) -> Option<Self> {
+        let of = |text, before: Affix| Some(Affix::new(text)?.case_sensitive(before.is_case_sensitive()));
+        Some(Self { opening: of(opening, self.opening)?, closing: of(closing, self.closing)?, ..self })
     }
 
     fn refuses(self, text: &[u8]) -> bool {
@@ -136,7 +141,8 @@ impl State {
         let required = conditions.clone().filter(|it| it.limits().1 == 1 && **it != Condition::NegativeSign);
         let set = (self.word & flags & REQUIREMENTS).count_ones() as usize + required.count();
         let weight = if self.has_free_groups() { MOST } else { 1 };
-        let count = (flags & !CASES).count_ones() as usize + fields + weight * conditions.count();
+        let options = 2 * usize::from(self.is_integers() != other.is_integers());
+        let count = (flags & !CASES).count_ones() as usize + fields + options + weight * conditions.count();
         (set, count)
     }
 
@@ -151,19 +157,20 @@ impl State {
     }
 }
 
-/// A number, whether it must be refused, and whether another form reads it.
+/// A number, whether it must be refused, whether another form reads it, and whether it is a token with a suffix of a language.
 #[derive(Clone, Copy)]
 pub struct Line<'a> {
     pub text: &'a [u8],
     pub is_refused: bool,
     pub is_read: bool,
+    pub has_suffix: bool,
 }
 
 /// Returns the numbers of a text, one a line. A number behind a `!` must be refused.
 pub fn lines_of(text: &[u8]) -> impl Iterator<Item = Line<'_>> {
     text.split(|&byte| byte == b'\n').filter(|line| !line.is_empty()).map(|line| {
         let refused = line.strip_prefix(b"!");
-        Line { text: refused.unwrap_or(line), is_refused: refused.is_some(), is_read: false }
+        Line { text: refused.unwrap_or(line), is_refused: refused.is_some(), is_read: false, has_suffix: false }
     })
 }
 
@@ -221,7 +228,13 @@ fn refusing(state: State, line: Line<'_>, lines: &[Line<'_>]) -> Vec<State> {
     });
     let refuses = |it: &State| it.refuses(line.text);
     let best = |&it: &Condition| State::first_best(state.with_numbers(it).filter(refuses), lines);
-    flags.filter(refuses).chain(Condition::ALL.iter().filter_map(best)).collect()
+    let integers = State { exponent: 0, point: 0, ..state };
+    let mut found: Vec<_> = flags.chain([integers]).filter(refuses).collect();
+    // What refuses `.5` and `5.` refuses a number without a leading zero only by chance.
+    let is_of_digits = found.iter().any(|it| it.word & !state.word & REQUIRED_DIGITS != 0);
+    let conditions = Condition::ALL.iter().filter(|&&it| it != Condition::LeadingZero || !is_of_digits);
+    found.extend(conditions.filter_map(best));
+    found
 }
 
 /// Returns a state in which a line is as expected with the flags of another one that need no change for this. Those of
@@ -252,7 +265,7 @@ fn accepting(state: State, line: Line<'_>, lines: &[Line<'_>], roles: usize, fou
         }
         Err(_) if roles == 0 => {}
         Err(at) => {
-            let next = candidates(state, text, at).into_iter().flatten();
+            let next = candidates(state, line, at).into_iter().flatten();
             next.for_each(|it| accepting(it, line, lines, roles - 1, found));
         }
     }
@@ -305,17 +318,18 @@ fn has_other_letters(text: &[u8]) -> bool {
             if shown_radix(*letter).is_some() && digits.iter().all(u8::is_ascii_digit))
 }
 
-/// Returns the states in which the byte at an index, or the last one, gets a role, the likeliest first.
-fn candidates(state: State, text: &[u8], at: usize) -> [Option<State>; 13] {
-    let Some((&byte, rest)) = text.get(at..).and_then(<[u8]>::split_first) else { return [None; 13] };
+/// Returns the states in which the byte at an index, or the last one, gets a role, the likeliest first. Letters of a suffix that a
+/// language names are no digits.
+fn candidates(state: State, line: Line<'_>, at: usize) -> [Option<State>; 12] {
+    let text = line.text;
+    let Some((&byte, rest)) = text.get(at..).and_then(<[u8]>::split_first) else { return [None; 12] };
     let before = &text[..at];
-    let [shown, same, needed] = suffixes(state, text, at);
-    // A letter that is the last of a fraction is a suffix, and letters in front show a large radix.
+    let [shown, same] = suffixes(state, text);
+    // A letter that is the last of a fraction is a suffix.
     let is_whole = unsigned(text).iter().all(u8::is_ascii_alphanumeric);
-    let is_word = is_whole && unsigned(text).first().is_some_and(u8::is_ascii_alphabetic);
-    let radix = radix_of(text, state.radix() + 1).or(is_word.then_some(36).filter(|&it| it > state.radix()));
-    let is_digit = byte.is_ascii_alphanumeric() && (is_whole || !rest.is_empty());
-    let radix = radix.filter(|_| is_digit && !has_other_letters(text)).map(|radix| state.with_radix(radix));
+    let is_digit = byte.is_ascii_alphanumeric() && (is_whole || !rest.is_empty()) && !line.has_suffix;
+    let radix = radix_of(text, state.radix() + 1).filter(|_| is_digit && !has_other_letters(text));
+    let radix = radix.map(|radix| state.with_radix(radix));
     // In `1,234`, the comma separates groups.
     let is_group =
         rest.len() == usize::from(USUAL_SIZE) && rest.iter().all(u8::is_ascii_digit) && unsigned(before).len() <= 3;
@@ -323,15 +337,14 @@ fn candidates(state: State, text: &[u8], at: usize) -> [Option<State>; 13] {
     let usual = State { word: STANDARD, exponent: b'e', point: b'.', conditions: Conditions::NONE, ..state };
     [
         opened(state, text),
-        (!state.opening.is_empty()).then_some(State { opening: Affix::NONE, closing: Affix::NONE, ..usual }),
-        prefix(state, before, byte, rest),
+        usual.with_affixes(b"", b"").filter(|_| !state.opening.is_empty()),
+        prefix(state, before, byte),
         exponent(state, before, byte, rest),
         mark.filter(|_| byte == b',' && is_group && !matches!(unsigned(before), b"" | b"0")),
         point(state, before, byte, rest),
         shown,
-        radix.filter(|it| is_whole && it.radix() <= 16),
+        radix.filter(|_| is_whole),
         same,
-        needed,
         mark,
         radix,
         state.is_integers().then_some(State { exponent: b'e', point: b'.', ..state }),
@@ -378,19 +391,14 @@ fn opened(state: State, text: &[u8]) -> Option<State> {
         let radix = opened_radix(opening)?;
         let has_letter = digits.iter().any(u8::is_ascii_alphabetic) || !matches!(opening, [b'$' | b'#']);
         let is_digit = |&byte: &u8| !byte.is_ascii_alphanumeric() || value(byte) < Some(radix);
-        let found = State { opening: Affix::new(opening)?, closing: Affix::new(closing)?, ..state.with_radix(radix) };
+        let found = state.with_radix(radix).with_affixes(opening, closing)?;
         (has_letter && digits.iter().all(is_digit)).then_some(found)
     })
 }
 
-/// A letter behind the first zero is the base prefix, and shows the radix. A digit of this radix is never before a sign,
-/// so the radix is kept if the exponent character is such a digit and is before a sign.
-fn prefix(state: State, before: &[u8], byte: u8, rest: &[u8]) -> Option<State> {
-    let radix = shown_radix(byte)?;
-    let is_digit = value(state.exponent).is_some_and(|digit| digit < radix);
-    let is_exponent = |it: &[u8]| it[0].eq_ignore_ascii_case(&state.exponent) && matches!(it[1], b'+' | b'-');
-    let is_kept = is_digit && rest.windows(2).any(is_exponent);
-    let shown = if is_kept { state } else { state.with_radix(radix) };
+/// A letter behind the first zero is the base prefix, and shows the radix.
+fn prefix(state: State, before: &[u8], byte: u8) -> Option<State> {
+    let shown = state.with_radix(shown_radix(byte)?);
     (unsigned(before) == b"0").then(|| shown.with(BASE_PREFIX, byte))
 }
 
@@ -418,20 +426,19 @@ fn separator(state: State, text: &[u8], byte: u8) -> Option<State> {
     let point = if state.point == byte { other } else { state.point };
     let last = text.rsplit(|&it| it == byte).next().unwrap_or_default();
     let is_group = last.iter().take_while(|it| it.is_ascii_digit()).count() == usize::from(USUAL_SIZE);
-    let is_separator = is_mark(byte) && (is_group || !matches!(byte, b',' | b'.'));
+    let is_inside = text.trim_ascii() == text;
+    let is_separator = is_mark(byte) && is_inside && (is_group || !matches!(byte, b',' | b'.'));
     is_separator.then(|| State { point, ..state.with(DIGIT_SEPARATOR, byte) })
 }
 
-/// The last byte is the base suffix: with the radix that its letter shows, with the same radix, and with the one that the
-/// digits need.
-fn suffixes(state: State, text: &[u8], at: usize) -> [Option<State>; 3] {
-    let Some((&last, digits)) = text.split_last() else { return [None; 3] };
-    if last.is_ascii_digit() || is_mark(last) || matches!(last, b'+' | b'-' | b'x' | b'X') {
-        return [None; 3];
+/// The last byte is the base suffix: with the radix that its letter shows, and with the same radix. It is not one if it is a factor.
+fn suffixes(state: State, text: &[u8]) -> [Option<State>; 2] {
+    let Some((&last, digits)) = text.split_last() else { return [None; 2] };
+    if last.is_ascii_digit() || is_mark(last) || b"+-xX%kKMG".contains(&last) {
+        return [None; 2];
     }
     let is_shown = |&radix: &u8| radix != 10 && radix_of(digits, 2).is_some_and(|least| least <= radix);
     let shown = shown_radix(last).filter(is_shown);
-    let needed = radix_of(digits, state.radix() + 1).filter(|_| at < digits.len());
     let with = |radix| state.with_radix(radix).with(BASE_SUFFIX, last);
-    [shown.map(with), Some(state.with(BASE_SUFFIX, last)), needed.map(with)]
+    [shown.map(with), Some(state.with(BASE_SUFFIX, last))]
 }

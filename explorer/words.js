@@ -17,6 +17,12 @@ function placesOf(flags) {
 /* Where groups of digits have sizes. */
 const SIZES = { integer_group_size: "", higher_group_size: " before the last one", fraction_group_size: " in the fraction" };
 
+/* Returns in words what a form has beside its syntax, or what it has no more. */
+function wordsBeside({ meaning, isNumber, value }) {
+    const words = meaning[0].toLowerCase() + meaning.slice(1);
+    return isNumber ? `${words}: ${value || "none"}` : value ? words : `not: ${words}`;
+}
+
 /* Returns in words what fields that differ, as `differences` returns them, do to a form, which has them then. */
 function changeWords(library, form, changes) {
     const isSeparator = ({ part, isByte }) => part === "separator" && !isByte;
@@ -45,11 +51,11 @@ function changeWords(library, form, changes) {
     };
     const others = changes.filter((it) => !isSeparator(it)).map((it) => {
         if (words[it.name]) return words[it.name](it);
+        if (it.isOfForm) return it.part === "base" && !form[it.name.slice("case_sensitive_".length)] ? "" : wordsBeside(it);
         if (it.name in SIZES) return `groups of ${it.value || "any number of"} digits${SIZES[it.name]}`;
-        const required = it.holder === "conditions" && it.name.startsWith("required_") && it.name.slice(9).replaceAll("_", " ");
-        if (required) return it.value ? `require the ${required}` : `the ${required} is optional`;
-        const [refused, accepted] = [it.refuses, it.accepts ?? []].map((texts) => texts.slice(0, 1).map((text) => `\`${text}\``).join());
-        return it.value ? `refuse ${refused}${accepted && `, keep ${accepted}`}` : `allow ${refused}`;
+        const [text] = library.examples(it.name);
+        const told = it.name.replace("required", "require").replaceAll("_", " ");
+        return it.value ? `refuse \`${text}\`: ${told}` : `allow \`${text}\``;
     });
     return [...separators, ...others].filter(Boolean).join(", ");
 }

@@ -42,7 +42,7 @@ TEXTS = r"""1 1\5 1'5 1"5 -0 12 1F inf nan 9007199254740993 12345678901234567 12
 2147483647 2147483648 -2147483648 4611686018427387904 9223372036854775808 18446744073709551615 18446744073709551616 0xffffffff 0x100000000
 0x4000000000000000 0x8000000000000000 0xffffffffffffffff 0x10000000000000001 0ffffffffffffffffh 0b11111111111111111111111111111111""".split()
 # Links with all parts of a number, several forms, reasons, notes, offers, and a condition that does not fit.
-LINKS = [f"#forms={MIXED_FORM}&numbers=-0x1_0%2C8p%2B1h%0A!0x1h%0A1k&compare=JSON",
+LINKS = [f"#forms={MIXED_FORM}&numbers=-0x1_0%2C8p%2B1h%0A!0x1h%0A1m&compare=JSON",
          f"#language=C&numbers={60 * '1'}%0A0xg%0A0b1.5{6 * ('%0A1.' + 50 * '0')}&compare=standard",
          f"#forms={UNLAWFUL} exponent=112&compare=standard",
          f"#forms={STANDARD} integer_group_size=3&numbers=-inf%0A1_0%0A0x1F&compare=standard"]
@@ -161,7 +161,6 @@ class Walk(unittest.TestCase):
         self.find(selector).send_keys(text or Keys.DELETE)
 
     def select(self, selector, value):
-        """Chooses an option."""
         self.open(selector)
         Select(self.find(selector)).select_by_value(value)
 

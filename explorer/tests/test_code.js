@@ -26,22 +26,6 @@ function test_the_sentence_the_grammar_and_the_expression_are_those_of_all_forms
     });
 }
 
-/* A case-sensitive opening or closing is read in its own case alone, as the grammar and the expression tell. */
-function test_openings_have_their_case() {
-    const texts = ["x'1h", "X'1h", "x'1H", "X'1H"];
-    const rows = {
-        "": ['[Xx] "\'" Literal [Hh]', "1111"],
-        case_sensitive_opening: ['"x\'" Literal [Hh]', "1010"],
-        case_sensitive_closing: ['[Xx] "\'" Literal "h"', "1100"],
-    };
-    return Object.entries(rows).filter(([name, [rule, wanted]]) => {
-        show([formOf("opening=x'", "closing=h", name && `${name}=true`)], texts.join("\n"));
-        const expression = new RegExp(`^(?:${codeOf("regex")})$`);
-        const read = [page.trial.answers.map(({ error }) => !error), texts.map((it) => expression.test(it))].map((all) => all.map(Number).join(""));
-        return read.some((it) => it !== wanted) || !codeOf("grammar").startsWith(`Number   ::= ${rule}\n`);
-    });
-}
-
 /* What the tab of settings shows makes the same forms, in place of the usual one and, with the line ends of Windows, of another. */
 function test_settings_are_those_of_the_forms(_, shown) {
     const { library, data: { languages } } = page;
@@ -62,6 +46,12 @@ function test_settings_are_those_of_the_forms(_, shown) {
         const wanted = forms.map((form, at) => ({ ...form, word: nearest ? BigInt(nearest) : form.word, name: forms[1] ? names[at] : "" }));
         return isSame(wanted, page.state.forms) ? [] : [settings];
     }));
+}
+
+function test_code_names_its_commands_and_types() {
+    const types = [["point='.'", "is `f64::try_from(number)` or, of an integer, `i128::"], ["point=none exponent=none", "is `i128::try_from(number)`."]]
+        .filter(([settings, words]) => (show([formOf(settings)]), !codeOf("rust").includes(words)));
+    return ["cargo add --path rust", "make -C c install", "pip install ./c"].filter((it) => !textsOf("#pane-code code").includes(it)).concat(types);
 }
 
 function test_code_whose_test_fails_is_marked() {
@@ -103,7 +93,7 @@ function shown(tried, shown) {
         const after = json([page.state.forms, page.state.at]);
         const again = after === before ? page.fragment() : after;
         const answers = trial.read(texts.map((text, place) => ({ text, place })));
-        const kindOf = ({ form }) => ["single", "largest"].map((it) => library.value(trial.forms[form], it));
+        const kindOf = ({ form }) => library.value(trial.forms[form], "single");
         const told = answers.map((answer) => [trial.told(answer), kindOf(answer)]);
         const tests = answers.map(({ text, error }) => ({ text, isRefused: Boolean(error) }));
         const codes = ["rust", "c", "python"].map((tab) => ((trial.answers = tests), codeOf(tab)));

@@ -57,15 +57,14 @@ def show(forms, read):
 """
 
 
-def is_same(told, kind, printed, is_c):
+def is_same(told, is_single, printed, is_c):
     """Returns whether a program prints what the page tells of a text: its value, a number without one, or a refusal.
 
-    C has no type for integers from 2^127 on, which are floats there by their kind: singles or not, with a limit or not."""
+    Rust has no type for integers of more than 128 bits, and C for those from 2^127 on. They are floats there, single or not, or none."""
     value = told.partition(" = ")[2].partition(",")[0]
-    if is_c and value.isdigit() and int(value) >= 2**127:
-        is_single, is_limited = kind
+    if re.fullmatch(r"-?\d+", value) and not -(2**127) <= int(value) < 2 ** (128 - is_c):
         number = ctypes.c_float(float(value)).value if is_single else float(value)
-        return printed == "none" if is_limited and number == float("inf") else repr(float(printed)) == repr(number)
+        return printed == "none" or float(printed) in (number, float(value))
     if not value or printed in ("none", "refused"):
         return not value and told.startswith("accepted") == (printed != "refused")
     if re.fullmatch(r"-?\d+ (-?\d+|0x\w+)", f"{value} {printed}"):
@@ -88,7 +87,6 @@ class Code(Walk):
                     self.assertTrue(is_same(wanted, kind, value, program == self.c), (program, link, text, wanted, kind, value))
 
     def test_each_tab_shows_what_it_names(self):
-        """By its button, and by keys in both directions. The link that the page makes shows it again."""
         self.load(f"#forms={MIXED_FORM}&compare=JSON&tab=rust")
         heads = {"rust": "use peltzivar::", "c": '#include "peltzivar.h"', "python": "from peltzivar import", "settings": f"# {MIXED}"}
         words = {"sentence": "Numbers are", "grammar": "Literal  ::=", "regex": "(?:"}

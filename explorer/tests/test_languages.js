@@ -7,8 +7,9 @@ function test_comparisons_find_what_tells_two_languages_apart(tried) {
     const { library, data: { languages } } = page;
     const all = textsAndNumbers([...tried, ...languages.flatMap((it) => it.specials)]).filter(Boolean);
     const readings = (texts) => texts.map((text) => new Map(readersOf(text).map((it) => [it.language, valueText(it)])));
-    const pairs = languages.flatMap((here, first) => languages.slice(first + 1).map((there, next) => [first, first + next + 1]));
-    const listed = pairs.map(([here, there]) => library.call("differ", languages[here], languages[there]));
+    const pairs = languages.flatMap((here, first) => languages.slice(first + 1).map((there, next) => [first, first + next + 1]))
+        .filter((_, index) => index % 7 === 0);
+    const listed = pairs.map(([here, there]) => differ(library, languages[here], languages[there]));
     const texts = [...new Set([...all, ...listed.flat(2).map(({ text }) => text)])];
     const read = new Map(readings(texts).map((all, index) => [texts[index], all]));
     const errors = languages.map((list) => new Map(library.call("numbers", list, texts.join("\n")).map(({ error }, index) => [texts[index], error])));
@@ -32,16 +33,6 @@ function test_comparisons_find_what_tells_two_languages_apart(tried) {
             ...texts.filter((it) => differs(it) && (part < 2 ? !isCaused(it) || !list.length : !list.length)).slice(0, 1)]
             .map((text) => `${languages[here].name} ${languages[there].name} ${part} ${text} ${values(text)}`);
     }));
-}
-
-function test_spellings_in_one_case_are_told_apart() {
-    const { library, data: { languages } } = page;
-    const words = languages.flatMap(({ specials }) => specials).flatMap((it) => [it, it.toLowerCase(), it.toUpperCase()]);
-    const forms = [library.with(library.usual, "case_sensitive_special", 1)];
-    return [...new Set(words)].filter((it) => /[a-z]/i.test(it)).filter((it) => {
-        const specials = /n.?a/i.test(it) ? [it, "", ""] : ["", it, ""];
-        return !library.call("differ", { forms: [library.usual], specials }, { forms, specials }).flat().length;
-    });
 }
 
 /* Returns what is shown of each language after it is chosen: the code, what is told of it, its forms and its numbers. */
@@ -72,11 +63,11 @@ function test_each_language_is_below_what_it_reads() {
         const wanted = [...languages.filter(hasAll).map(({ title }) => `All 2, as expected: ${title}`), ...numbers.flatMap((text) => {
             const told = languages.map((list) => [list, reads(list, text)]);
             const readers = told.filter(([, it]) => !it.error && !it.refused).length;
-            const tokens = page.library.call("readers", text)[0].map(({ suffix }) => suffix);
+            const tokens = page.library.call("readers", text)[0].map((it) => it.suffix && `${valueText(it)} with the suffix ${it.suffix}, as a token`);
             const refused = told.filter(([, it], index) => it.error && !tokens[index]).length;
             const counts = [`${text} Read by formats of ${readers || "none"} of ${languages.length} languages`, ...(refused ? [`Refused by ${refused}`] : [])];
             return [...counts, ...told.map(([list, it], index) => {
-                if (tokens[index]) return `with the suffix ${tokens[index]}, as a token: ${list.title}`;
+                if (tokens[index]) return `${tokens[index]}: ${list.title}`;
                 const form = it.parts.some(({ kind }) => kind === "special") ? "special value" : list.forms[it.form].name;
                 return it.error ? `${it.error}: ${list.title}` : `${it.refused ? "refused, " : ""}${valueText(it)}, ${form}: ${list.title}`;
             })];
@@ -91,4 +82,36 @@ function test_numbers_that_are_left_out_are_told() {
         page.chooseTab("languages");
         return find("readers").textContent.startsWith(`The first 20 of ${count} numbers`) !== count > 20;
     });
+}
+
+/* A token with a suffix is told with both, also one of any word, and one of a form of tokens alone. */
+function test_tokens_have_their_suffixes() {
+    const rows = ["10px 10 px CSS", "1.5em 1.5 em CSS", "10_km 10 _km C++", "1.5_dp 1.5 _dp Fortran", "1_8 1 _8 Fortran", "01F 1 F Java", "1_000_f64 1000 f64 Rust"];
+    page.chooseTab("languages");
+    return rows.map((it) => it.split(" ")).filter(([text, value, suffix, title]) => {
+        show([page.library.usual], text);
+        return ![...find("readers").querySelectorAll("p")].some((it) => {
+            return it.textContent.startsWith(`${value} with the suffix ${suffix}, as a token:`) && textsOf("button", it).includes(title);
+        });
+    });
+}
+
+/* A language is found by a part of its name, its title or an alias, whatever the case is, and Enter starts from it. */
+function test_languages_are_found_by_their_names() {
+    const { trial, trial: { languages } } = page;
+    page.chooseTab("languages");
+    const alias = languages.findIndex(({ name }) => name === "JAVASCRIPT");
+    languages[alias].aliases = ["ecmascript"];
+    const rows = [["c++", "C++"], ["C_SHARP", "C#"], ["ECMA", languages[alias].title], ...languages.map(({ title }) => [title, title])];
+    const wrong = rows.filter(([text, title]) => ["1_000.5e3", ""].some((numbers) => {
+        show([page.library.usual], numbers);
+        choose("sought", text);
+        const shown = textsOf("#readers button");
+        return !shown.includes(title) || (text.length > 2 && shown.length > 9) || trial.named(text)[0].title !== title;
+    }));
+    find("sought").dispatchEvent(new KeyboardEvent("keydown", { key: "Enter" }));
+    const isStarted = page.state.language === languages.at(-1).name && page.pane === "code";
+    page.open("languages");
+    choose("sought", "no such");
+    return [...wrong, ...(isStarted ? [] : ["Enter"]), ...(find("readers").textContent === "No language has this name." ? [] : ["none"])];
 }

@@ -16,7 +16,6 @@ class Languages(Walk):
         self.assertEqual(len(self.texts("#readers button")), self.run_script("return page.data.languages.length"))
 
     def test_languages_are_shown_as_they_are_documented(self):
-        """Each with what LANGUAGES tells of it and of its forms, the numbers of the tests as expected, and its name in the code."""
         page = (TOP / "docs/LANGUAGES.md").read_text().replace("`", "")
         rows = [it.split() for it in (TOP / "rust/tests/literals.txt").read_text().splitlines() if it[:1].isalpha()]
         all_shown = dict(self.call("shownLanguages"))
@@ -38,7 +37,6 @@ class Languages(Walk):
             self.assertEqual(self.text("#same"), told)
 
     def test_texts_tell_two_languages_apart(self):
-        """In each part, the first text is told with why it is refused, or with both values."""
         for here, there, rows in (
                 ("JSON", "C", {"Accepted by JSON and refused by C": "-1 unexpected minus sign, which no_negative_mantissa_sign forbids",
                                "Refused by JSON and accepted by C": "0x1 unexpected character 'x'"}),

@@ -19,20 +19,9 @@ function outOfView() {
         return [...(isFirst ? [] : [name]), ...tabs.filter((tab) => {
             page.open(tab);
             const [pane, { text } = {}] = [find(`pane-${page.pane}`), INNER[page.pane]];
-            const shown = text ? [find(text)] : [...pane.querySelectorAll(".name, #readers > *, #texts :is(h3, li)")].slice(0, page.pane === "edit" ? 3 : 10);
+            const shown = text ? [find(text)] : [...pane.querySelectorAll(".control, #readers > *, #texts :is(h3, li)")].slice(0, page.pane === "edit" ? 3 : 10);
             return !shown.length || ![pane.querySelector("h2"), ...shown].every((it) => isSeen(it, tenLines));
         }).map((tab) => [name, tab])];
-    });
-}
-
-/* Returns the buttons for parts of the settings whose heading has no focus or is not in view after a click. */
-function partsOutOfView() {
-    page.open("edit");
-    return textsOf("button", find("parts")).filter((title, index) => {
-        find("parts").children[index].click();
-        const { left, top } = document.activeElement.getBoundingClientRect();
-        const isSeen = document.activeElement.contains(document.elementFromPoint(left + 9, top + 9));
-        return document.activeElement.textContent !== title || !isSeen;
     });
 }
 
@@ -44,12 +33,31 @@ function looks() {
     return [controls.map(({ id }) => id), document.documentElement.scrollWidth, wrong];
 }
 
+/* Returns the texts that are shown, and whether each is a control that is refused. */
+function shownTexts() {
+    const own = (it) => [...it.childNodes].filter((node) => node.nodeType === 3).map(({ data }) => data.trim()).join(" ").trim();
+    const all = [...document.querySelectorAll("body *")].filter((it) => it.checkVisibility({ visibilityProperty: true }) && (own(it) || it.ariaInvalid));
+    return all.map((it) => `${own(it)} ${it.ariaInvalid ?? ""}`);
+}
+
+/* Returns the kinds of parts of numbers whose colour and line are those of another kind, but for digits. */
+function alikeParts() {
+    const kinds = ["sign", "prefix", "integer", "digit_separator", "point", "exponent", "special"];
+    const styleOf = (kind) => getComputedStyle(document.querySelector(`.written .${kind}`));
+    return ["color", "textDecoration"].flatMap((name) => {
+        const styles = kinds.map((kind) => (name === "color" ? styleOf(kind).color : styleOf(kind).textDecoration.replace(/rgb.*/, "")));
+        return kinds.filter((_, index) => styles.indexOf(styles[index]) < index);
+    });
+}
+
 /* Returns the controls that are not marked as changed or blamed, or are in vain. */
 function wronglyMarked() {
     const names = page.library.differences(page.form).map(({ name }) => name);
     const blamed = page.shown.problems.flatMap(({ fields }) => fields);
     return page.tab !== "edit" ? [] : [...document.querySelectorAll("#controls .control")].filter(({ dataset: { field }, classList }) => {
-        return classList.contains("changed") !== names.includes(field) || classList.contains("blamed") !== blamed.includes(field);
+        const isInvalid = find(field).ariaInvalid === "true";
+        return classList.contains("changed") !== names.includes(field) || classList.contains("blamed") !== blamed.includes(field)
+            || (find(field).type === "checkbox" && isInvalid !== blamed.includes(field));
     });
 }
 
@@ -145,7 +153,7 @@ async function idle(link) {
         button.click();
         await new Promise((resolve) => setTimeout(resolve));
         const [beside, hasMoved] = [find(COPIED[button.ariaLabel]), ![document.body, button].includes(document.activeElement)];
-        const isCopied = window.copied === (beside ? beside.value ?? beside.textContent : before);
+        const isCopied = window.copied === (beside ? beside.value ?? beside.textContent : `index.html${before}`);
         if (!(button.id.startsWith("copy") ? isCopied : page.fragment() !== before || hasMoved)) idle.push(button.outerHTML);
     }
     return idle;

@@ -13,7 +13,6 @@ class Look(Walk):
             self.assertEqual((wrong, self.call("idle", link), len(named) > 9), ([], [], True), link)
 
     def test_each_tab_looks_right_on_each_screen(self):
-        """Nothing is faint, squeezed, cut off or beyond an edge, and a phone has the controls of a laptop."""
         shown = {}
         for mode, phone in (("light", (360, 700)), ("dark", (320, 700))):
             self.media(prefers_color_scheme=mode)
@@ -21,6 +20,27 @@ class Look(Walk):
                 for link in self.links():
                     controls, whole, wrong = self.call("looks")
                     self.assertEqual((wrong, controls, whole), ([], shown.setdefault(link, controls), width), (mode, link))
+
+    def test_a_phone_has_the_texts_of_a_laptop(self):
+        shown = {}
+        for mode in ("light", "dark"):
+            self.media(prefers_color_scheme=mode)
+            for width in self.screens((1280, 720), (390, 844)):
+                for link in self.links():
+                    self.assertEqual(self.call("shownTexts"), shown.setdefault(link, self.call("shownTexts")), (width, mode, link))
+            self.load(f"#forms={MIXED_FORM}&numbers=-0x1_0%2C8p%2B1h%0ANaN".replace("441F", "401F"))
+            self.assertEqual(self.call("alikeParts"), [])
+        nodes = self.driver.execute_cdp_cmd("Accessibility.getFullAXTree", {})["nodes"]
+        live = {it["role"]["value"] for it in nodes for one in it.get("properties", []) if one["name"] == "live" and one["value"]["value"] != "off"}
+        roles = {it: self.find(f"#{it}").get_attribute("role") for it in ("told", "summary", "same", "failed", "word-problem", "base_prefix-problem")}
+        self.assertEqual((live >= {"status"}, roles), (True, {"told": "status", "summary": "status", "same": "status", "failed": "alert",
+                         "word-problem": "alert", "base_prefix-problem": "status"}))
+
+    def test_numbers_have_room_at_400_percent(self):
+        for _ in self.screens((320, 180), (320, 256)):
+            self.load("#numbers=1_000%0A0x1F")
+            room = "find('read').scrollIntoView(); return [...Array(innerHeight).keys()].filter((y) => find('trial').contains(document.elementFromPoint(160, y))).length"
+            self.assertGreaterEqual(self.run_script(room), 120)
 
     def test_what_has_the_focus_has_an_outline(self):
         self.find("body").send_keys(Keys.TAB)
@@ -38,8 +58,8 @@ class Look(Walk):
         place = "return document.querySelector('#base_prefix').getBoundingClientRect().top"
         for _ in self.screens():
             self.load("#language=RUST&tab=edit")
-            self.run_script("find('kinds').scrollIntoView()")
-            self.find("#single").click()
+            self.run_script("find('decimal_first_digit').scrollIntoView()")
+            self.find("#decimal_first_digit").click()
             self.assertEqual(self.run_script(told), "The format is not that of Rust any more. Undo brings it back.")
             self.load(f"#forms={MIXED_FORM}&tab=edit")
             for text in ("5", "xyz"):
@@ -51,17 +71,11 @@ class Look(Walk):
             self.assertEqual(self.call("wordless"), [])
 
     def test_the_answer_is_in_view(self):
-        """After each choice, the heading of its tab and ten lines are in view, and so are the sentence and the first number."""
         for width in self.screens((1280, 657), (1000, 700)):
             self.load()
             self.assertEqual(self.call("outOfView"), [], width)
 
-    def test_each_part_of_the_settings_is_one_click_away(self):
-        for _ in self.screens():
-            self.assertEqual(self.call("partsOutOfView"), [])
-
     def test_nothing_moves_while_the_page_loads_and_while_one_types(self):
-        """The sum of layout shifts, also of those that follow a key at once, is at most 0.05."""
         for _ in self.screens():
             self.load()
             self.run_script("""window.shift = 0; new PerformanceObserver((list) => list.getEntries().forEach((it) => { window.shift += it.value; }))
@@ -70,18 +84,7 @@ class Look(Walk):
             self.run_script("return new Promise((done) => requestAnimationFrame(() => setTimeout(done, 200)))")
             self.assertLessEqual(self.run_script("return window.shift"), 0.05)
 
-    def test_the_code_is_few_tab_stops_behind_the_numbers(self):
-        self.load()
-        self.click("#example")
-        self.find("#tab-code").click()
-        self.find("#literal").click()
-        stops = 0
-        while self.focused() != "code":
-            ActionChains(self.driver, 0).send_keys(Keys.TAB).perform()
-            self.assertLessEqual(stops := stops + 1, 15)
-
     def test_numbers_and_code_are_printed_whole(self):
-        """So is the tab that is open, without buttons, in both directions of the paper."""
         self.media("print")
         for tab, pane in {"languages": "languages", "rust": "code", "compare": "compare", "edit": "edit", "words": "words"}.items():
             self.load(f"#language=JULIA&tab={tab}&numbers=1%271{'%0A1' * 99}")
@@ -94,6 +97,7 @@ class Look(Walk):
             self.assertEqual(set(self.run_script(f"return {shown}")), {"pane-code", f"pane-{pane}"})
             text = self.find("body").text
             self.assertEqual(("button" in text, "GHC2021" in text, "1'1" in text), (False, pane == "languages", True))
+            self.assertTrue(text.startswith("Peltzivar number formats"))
 
     def test_nothing_is_requested_and_the_policy_allows_the_page_alone(self):
         self.assertEqual(self.run_script("return performance.getEntriesByType('resource').map((it) => it.name)"), [])

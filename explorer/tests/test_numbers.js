@@ -18,7 +18,7 @@ function test_separators_are_those_of_the_form_that_reads() {
         return shown() !== first + second;
     });
     const flags = page.library.flags.filter(({ name, part }) => part === "separator" && !name.startsWith("special"));
-    return [...pairs, ...flags.flatMap(({ accepts }) => accepts).filter((text) => {
+    return [...pairs, ...flags.flatMap(({ name }) => page.library.examples(name)).filter((text) => {
         show([formOf("digit_separator_flags=true", "digit_separator='_'")], text);
         return shown() !== text.replace(/[^_]/g, "");
     })];
@@ -91,4 +91,41 @@ function test_rows_are_those_of_the_state() {
             return find("read").textContent !== kept;
         });
     }).map(({ name }) => name);
+}
+
+/* Before a choice, nothing is expected: the sentence has how many and which languages read each number, and all of them. */
+function test_languages_are_counted_before_a_choice() {
+    const { library, data: { languages } } = page;
+    const worth = (list, line) => {
+        const [it] = library.call("numbers", list, line.replace("!", ""));
+        return it.error || it.refused ? undefined : valueText(it);
+    };
+    const names = (all) => (all.length > 2 ? `${all[0].title}, ${all[1].title} and ${all.length - 2} more` : all.map(({ title }) => title).join(" and "));
+    return ["1_000.5e3", "010", "10px", "!1,0", "!1", "1_0\n0x1F", "5\n!1.5", "1__0\n!1_0\n0b1"].filter((numbers) => {
+        show([library.usual], numbers);
+        const lines = numbers.split("\n");
+        const isRefused = (line) => line[0] === "!";
+        const told = lines.map((line) => {
+            const [readers, others] = [true, false].map((is) => languages.filter((it) => (worth(it, line) !== undefined) === is));
+            if (isRefused(line) && others.length) return `${line.slice(1)} is not a number in ${others.length} of ${languages.length} languages: ${names(others)}.`;
+            const values = Map.groupBy(readers, (it) => worth(it, line));
+            const clauses = [...values].map(([value, all]) => (values.size > 1 ? `${value} in ${names(all)}` : names(all))).join("; ");
+            return `${line.replace("!", "")} is a number in ${readers.length || "none"} of ${languages.length} languages${clauses && `: ${clauses}`}.`;
+        });
+        const all = languages.filter((it) => lines.every((line) => isRefused(line) === (worth(it, line) === undefined)));
+        const counts = [false, true].map((is) => lines.filter((it) => isRefused(it) === is).length);
+        const whole = `${all.length || "None"} of ${languages.length} languages read ${counts[0]}${counts[1] ? ` and refuse ${counts[1]}` : ""} of these`;
+        const shown = textsOf("#summary p");
+        const wanted = lines.length > 1 ? [whole, ...told] : told;
+        return shown.length !== wanted.length || wanted.some((it, index) => !shown[index].startsWith(it)) || find("count").textContent;
+    });
+}
+
+function test_long_integers_and_reasons_have_their_type() {
+    const rows = [["", `1${"0".repeat(40)}`, `integer = 1${"0".repeat(40)}`], ["", `-${2n ** 128n}`, `integer = -${2n ** 128n}`],
+        ["PYTHON", `0x${"f".repeat(40)}`, `integer = ${16n ** 40n - 1n}`], ["FORTRAN", "1e53", "above the largest f32"], ["C", "1e999", "Infinity"]];
+    return rows.filter(([name, text, told]) => {
+        show(page.library.listOf(name).forms, text, name);
+        return !find("read").textContent.includes(told);
+    });
 }

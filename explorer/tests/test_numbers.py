@@ -21,15 +21,15 @@ class Numbers(Walk):
         self.assertEqual(self.text("#count"), "2 of 5 as expected")
         self.load("#forms=0x00000A0000000000000000000000101E&numbers=001%0A%2BInfinity%0A1.%0A1\U0001f6002")
         self.assertEqual((self.texts("#read mark"), self.texts("#read mark span")), (["001", "+", " ", "\U0001f600"], ["0"]))
-        self.assertEqual(self.texts("#read .use"), ["allow 01", "allow +1", "allow 1."])
+        self.assertEqual(self.texts("#read .use"), ["allow 01", "allow +1", "allow 5.", "try 1"])
 
-    def test_numbers_are_shown_as_they_are_typed_and_with_the_reason_for_no_value(self):
+    def test_numbers_are_shown_as_they_are_typed_and_with_their_values(self):
         shown = """page.change({ forms: [page.library.usual], at: 0, language: "", numbers: arguments[0] });
             return [find("read").querySelector(".written").innerText, ...[...find("read").querySelectorAll("p")].map((it) => it.textContent)]"""
         for text in (" 1", "1 ", "1  0", "  "):
             self.assertEqual(self.run_script(shown, text)[0], text)
-        for number, why in ((-(2**127) - 1, f"below {-(2**127)}, the least i128"), (2**128, f"above {2**128 - 1}, the largest u128")):
-            self.assertEqual(self.run_script(shown, str(number)), [str(number), f"accepted: integer: {why}"])
+        for number in (-(2**127) - 1, 2**128):
+            self.assertEqual(self.run_script(shown, str(number)), [str(number), f"accepted: integer = {number}"])
 
     def test_an_example_is_replaced_by_what_is_typed(self):
         self.load()
@@ -45,10 +45,6 @@ class Numbers(Walk):
         self.load(f"#forms={MIXED_FORM}&numbers=-0x1_0%2C8p%2B1h%0ANaN".replace("441F", "401F"))
         self.assertEqual(" ".join(self.texts(".legend")).replace("\n", " "), "- sign 0x prefix 1_0 integer , point 8 fraction p exponent character "
             "+ exponent sign 1 exponent h suffix _ digit separator")
-        kinds = ("sign", "prefix", "integer", "digit_separator", "point", "exponent", "special")
-        for style in ("[it.textDecorationStyle, it.textDecorationLine].join()", "it.color"):
-            styles = [self.run_script(f"const it = getComputedStyle(document.querySelector('.written .{kind}')); return {style}") for kind in kinds]
-            self.assertEqual(len(set(styles)), len(styles))
         self.load()
         self.type("#literal", "12\u05d03")
         before, mark = (self.run_script(f"return document.querySelector('#read {it}').getBoundingClientRect().toJSON()") for it in (".integer", "mark"))

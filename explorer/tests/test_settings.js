@@ -1,45 +1,27 @@
 /* Functions of test_settings.py, which run in the page. */
 "use strict";
 
-/* Each kind and each case of an opening and a closing gives texts another value, or refuses them. What is only read does not. */
-function test_kinds_are_told_apart() {
-    const { library } = page;
-    const marked = formOf("opening=x'", "closing='h'");
-    const differ = (...lists) => library.call("differ", ...lists.map((form) => ({ forms: [form] }))).flat().length;
-    const bits = ([least, most]) => range(least, Math.min(most, 127)); // No type has an integer of more than 128 bits.
-    const forms = library.conditions.filter(({ isOfForm }) => isOfForm)
-        .flatMap(({ name, limits = [1, 1] }) => bits(limits).map((it) => library.with(marked, name, it)));
-    const isTold = (it) => (library.value(it, "only_read") ? !differ(marked, it) : differ(marked, it) && differ(it, marked));
-    return forms.filter((it) => !isTold(it)).map((it) => library.formText(it));
-}
-
-function test_numbers_beyond_the_limits_of_a_condition_are_told() {
-    const beyond = ([least, most]) => [least - 1, most + 1, -1, 1.5, "x"].filter((it) => it !== 0);
-    const settings = page.library.conditions.flatMap(({ name, limits = [1, 1] }) => beyond(limits).map((it) => `${name}=${it}`));
-    return settings.filter((it) => !page.library.read(it).error?.includes(it));
-}
-
-function test_fields_are_in_the_sections_of_their_parts() {
-    const words = ["all", "integer", "fraction", "exponent", "special"];
-    const headOf = (it) => it.closest("fieldset").firstChild.textContent;
-    const ofSeparators = Object.fromEntries([...document.querySelectorAll("#separators input")].map((it) => [it.id, headOf(it)]));
-    return [...page.library.groups, ...page.library.flags].filter(({ name }) => {
-        const word = words.find((it) => name.startsWith(`${it}_`)) ?? "all";
-        return name.includes("digit_separator") ? !ofSeparators[name]?.split(" ").includes(word) : name in ofSeparators;
-    }).map(({ name }) => name);
-}
-
-/* Returns each flag, group, byte and condition: its name, its bits, and what is told and shown of it. */
-function shownFields() {
-    const { fields, groups, conditions } = page.library;
-    return [...fields, ...groups, ...conditions].filter(({ isOfForm }) => !isOfForm).map(({ name, mask }) => {
-        const shown = `${find(name).ariaLabel} ${find(name).closest(`[data-field=${name}]`).textContent}`;
-        return [name, String(mask), shown.replaceAll("`", "")];
-    });
+/* Each flag and condition shows texts that it makes the library refuse, or of a separator accept. No two show the same rows. */
+function test_flags_are_shown_with_texts_that_they_refuse() {
+    const { library, controls: { boxes } } = page;
+    page.chooseTab("edit");
+    const base = library.with(formOf("base_prefix='x'", "base_suffix='h'"), "digit_separator", 95);
+    const isRefused = (form, text) => Boolean(library.call("numbers", { forms: [form] }, text)[0].error);
+    const shown = boxes.map(({ name }) => find(name).closest(".control").textContent);
+    return boxes.filter(({ name, part, isNumber }) => {
+        const [, verb, text] = /(accepts|refuses) (\S+?)(,|$)/.exec(find(`${name}-meaning`).textContent) ?? [];
+        const flags = Object.entries({ "internal_digit_separator": isNumber || /consecutive/.test(name), integer_group_size: name === "higher_group_size" && 3 });
+        const states = [0, isNumber ? 3 - (name === "higher_group_size") : 1].map((value) => {
+            return library.with(flags.reduce((all, [it, set]) => (set ? library.with(all, it, Number(set)) : all), base), name, value);
+        });
+        const [without, set] = states.map((it) => text === undefined || isRefused(it, text));
+        return verb !== (part === "separator" ? "accepts" : "refuses") || without === set || set !== (verb === "refuses")
+            || !find(name).labels[0].textContent.includes(name.replaceAll("_", " "));
+    }).map(({ name }) => name).concat(new Set(shown).size < shown.length ? ["same"] : []);
 }
 
 /* Each value of each control that the library takes can be chosen, and no other one. It changes nothing else, and is in the state
- * that a link has, and in the code. */
+ * that a link has, and in the code. So is what a form has without a control, and in a sentence. */
 function test_each_choice_lands_in_the_state_the_link_and_the_code() {
     const { library } = page;
     const whole = ["digit_separator_flags=true", "digit_separator='_'", "base_prefix='x'", "base_suffix='h'", "opening=x'", "closing='"];
@@ -74,14 +56,15 @@ function test_each_choice_lands_in_the_state_the_link_and_the_code() {
         const [form, control] = [start(name), find(name)];
         const usual = library.value(form, name);
         const isTaken = (it) => !library.explain(library.with(form, name, it)).problems.some(({ fields }) => fields.includes(name));
-        const numbers = range(0, isOfForm ? field.limits?.[1] ?? 1 : 98).filter((it) => it === 0 || isOfForm || isTaken(it));
+        const numbers = range(0, 98).filter((it) => it === 0 || isOfForm || isTaken(it));
         const typed = isText ? ["!", "&H", ":'#"] : isNumber ? [2, 4, 8, 16, 32, 36] : [33, 59, 126];
-        const values = control.type === "checkbox" ? [1 - usual, usual] : control.options ? numbers : typed;
-        const options = control.options ? [...control.options].map(({ value }) => Number(value)) : values;
+        const values = !control ? [1, field.limits?.[1] ?? 1, 0] : control.type === "checkbox" ? [1 - usual, usual] : control.options ? numbers : typed;
+        const options = control?.options ? [...control.options].map(({ value }) => Number(value)) : values;
         const lost = String(options) === String(values) ? [] : [`${name}: ${options}`];
         return [...lost, ...values.flatMap((value) => {
             start(name);
-            set(control, isNumber || isText ? value : String.fromCharCode(value), value !== usual);
+            if (control) set(control, isNumber || isText ? value : String.fromCharCode(value), value !== usual);
+            else page.change({ forms: [library.with(page.form, name, value)] });
             const [link, text] = [new URLSearchParams(page.fragment().slice(1)), library.setting(field, value)];
             const changed = library.differences(page.form, form).map((it) => it.text).join();
             const linked = link.has("forms") ? library.form(link.get("forms")) : library.usual;
@@ -90,26 +73,11 @@ function test_each_choice_lands_in_the_state_the_link_and_the_code() {
             const codes = kinds[name]?.map((it) => it.replace("%", () => value)) ?? [setter, `"${text}`, `"${text}"`];
             const wanted = { settings: `\n${text}\n`, ...(page.shown.problems.length ? {} : { rust: codes[0], c: codes[1], python: codes[2] }) };
             const missing = isUsual ? [] : Object.entries(wanted).filter(([tab, it]) => !codeOf(tab).includes(it));
-            const isAlone = changed === (value === usual ? "" : text) && codeOf("settings").includes(wanted.settings) === !isUsual;
+            const isTold = control || find("kinds").textContent.includes(field.meaning.slice(1)) === value > 0;
+            const isAlone = isTold && changed === (value === usual ? "" : text) && codeOf("settings").includes(wanted.settings) === !isUsual;
             return isAlone && isSame([linked], page.state.forms) && !missing.length ? [] : [`${text}: ${changed} ${missing}`];
         })];
     });
-}
-
-/* A click on the box of a group that is partly set clears it and tells so, and the next one sets it. Other boxes tell nothing. */
-function test_a_group_that_is_partly_set_is_cleared_first() {
-    const { usual, groups, conditions } = page.library;
-    return [...groups, ...conditions.filter(({ isNumber }) => !isNumber)].filter(({ name, holder, mask }) => {
-        const isGroup = holder === "word";
-        show([{ ...usual, [holder]: (usual[holder] & ~mask) | (isGroup ? mask & -mask : mask) }]);
-        page.chooseTab("edit");
-        const isMixed = find(name).indeterminate;
-        const [[cleared, isTold], [set, isToldAgain]] = [1, 2].map(() => {
-            find(name).click();
-            return [page.form[holder] & mask, find("told").textContent.includes("Undo brings them back")];
-        });
-        return isMixed !== isGroup || cleared !== 0n || set !== mask || isTold !== isGroup || isToldAgain;
-    }).map(({ name }) => name);
 }
 
 /* Each byte and option refuses texts below it, without a change, and takes the names of bytes that cannot be seen. */
@@ -182,19 +150,4 @@ function test_a_changed_language_keeps_its_special_values() {
         follow(page.fragment());
         return changed !== before || told() !== before;
     }).map(({ name }) => name);
-}
-
-/* If another form reads a number after the shown one is changed, its name is told. */
-function test_a_number_that_another_form_still_reads_is_told() {
-    const read = (forms, text) => page.library.call("numbers", { forms, specials: ["", "", ""] }, text)[0];
-    const edits = [["digit_separator_flags", 0, "1_000"], ["digit_separator_flags", 0, "0x1_F"], ["required_exponent_notation", 1, "1"]];
-    return page.data.languages.flatMap(({ name, forms }) => unlike(forms).flatMap((form) => edits.filter(([field, value, text]) => {
-        const at = forms.indexOf(form);
-        show(forms, text, name);
-        page.change({ at });
-        page.edit(field, value);
-        const [before, after = before] = [forms, page.state.forms].map((it) => read(it, text));
-        const isMoved = !before.error && before.form === at && !after.error && after.form !== at;
-        return find("told").textContent.includes(`is still read, by the form ${forms[after.form].name}.`) !== isMoved;
-    }).map((edit) => [name, form.name, ...edit])));
 }

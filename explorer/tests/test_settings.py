@@ -1,7 +1,5 @@
 """Tests of the page: settings."""
-import re
-
-from test_base import Walk, Keys, TOP, STANDARD, UNLAWFUL
+from test_base import Walk, Keys, STANDARD, UNLAWFUL
 
 
 class Settings(Walk):
@@ -50,35 +48,7 @@ class Settings(Walk):
             self.type("#word", text + Keys.ENTER + Keys.TAB)
             self.assertEqual(self.value(), wanted)
 
-    def test_fields_are_shown_as_they_are_documented(self):
-        """Each flag, group, byte and condition with its row of FORMAT, and what no format can express."""
-        page = (TOP / "docs/FORMAT.md").read_text().replace("`", "")
-        lines = [line.strip("|").split("|") for line in page.splitlines() if line.startswith("| ")]
-        rows = [[cell.strip() for cell in line] for line in lines]
-        for name, mask, shown in self.call("shownFields"):
-            row = next(it for it in rows if name in it[:2] or re.fullmatch(rf"(.* )?{name}=\w+", it[0]))
-            meaning = row[{7: 3, 4: 3, 3: 2, 6: 1}[len(row)]].rstrip(".").removesuffix(", as below")
-            self.assertIn(re.sub("two|three", "as many", meaning), shown)
-            self.assertIn(name.replace("_", " ") if len(row) == 4 else f"({name})", shown)
-            if len(row) == 7:
-                accepts, refuses = (", ".join(texts.split()) for texts in row[5:])
-                words = f"accepts {accepts}" if "separator" in name else f"refuses {refuses}, accepts {accepts}"
-                self.assertEqual((words in shown, mask), (True, str(1 << int(row[0]))), name)
-            elif len(row) == 6:
-                self.assertIn(", ".join(row[4].split()), shown)
-        version = re.search('PELTZIVAR_VERSION "(.*)"', (TOP / "c/peltzivar.h").read_text())[1]
-        self.assertIn(f"Peltzivar {version}.", self.text("footer"))
-        limits = re.search(r"## What a format cannot express\n\n(.*?)(?:\n\n|\Z)", page, re.S)[1].splitlines()
-        texts = re.sub(r"\[([^\]]*)\]\([^)]*\)", r"\1", "\n".join(limits[:1] + limits[2:]))
-        cells = [it.strip() for line in texts.splitlines() for it in line.strip("|").split(" | ")]
-        self.assertEqual(self.run_script("return [...find('limits').querySelectorAll('th, td')].map((it) => it.textContent)"), cells)
-
-    def test_all_forms_are_changed_at_once(self):
-        """By a box of the settings, and by an offer if several forms read a number."""
-        self.load("#language=RUST&tab=edit&numbers=1_000%0A0x1_0%0A0b1__0")
-        self.click("#all")
-        self.click("#digit_separator_flags")
-        self.assertEqual(self.text("#count"), "0 of 3 as expected")
+    def test_an_offer_changes_all_forms_that_read_a_number(self):
         self.load("#language=RUST&numbers=!1_000")
         self.click("#read .use", "refuse _ between digits in all forms")
         self.assertEqual(self.text("#count"), "1 of 1 as expected")

@@ -6,7 +6,6 @@ from test_base import Walk, Keys, STANDARD, MIXED, MIXED_FORM
 
 class State(Walk):
     def test_changes_are_undone_and_done_again(self):
-        """By buttons and keys. The browser goes back from a language and an offer, too, which is a step to undo."""
         def state():
             return self.run_script("return `${page.library.formText(page.form)} ${page.state.language} ${page.state.numbers}`")
 
@@ -56,7 +55,16 @@ class State(Walk):
         self.wait(lambda: self.text("#copy-code") == "not copied: press Ctrl+C")
         self.assertEqual(self.run_script("return getSelection().toString()").strip(), self.text("#code").strip())
         self.click("#copy-link")
-        self.wait(lambda: self.run_script("return getSelection().toString() === location.hash && location.hash"))
+        self.wait(lambda: self.run_script("return location.hash && getSelection().toString() === `index.html${location.hash}`"))
+
+    def test_forty_changes_and_a_reload_leave_thirty_to_undo(self):
+        self.run_script("for (let it = 1; it <= 40; it++) page.change({ numbers: `${it}` }); page.save();")
+        self.driver.refresh()
+        self.wait_until_ready()
+        self.click("#undo")
+        self.assertEqual(self.value("#literal"), "39")
+        self.run_script("while (!find('undo').disabled) find('undo').click()")
+        self.assertEqual(self.value("#literal"), "10")
 
     def test_links_have_the_whole_state(self):
         self.load("#forms=0x0A0A10006200005F000000070001400C exponent=p point=44&compare=JSON&numbers=%2B1%0A!2%203")
@@ -66,6 +74,8 @@ class State(Walk):
         self.wait(lambda: self.run_script("return location.hash === page.fragment()"))
         self.load(self.run_script("return location.hash"))
         self.assertEqual((self.value("#compare"), self.value("#literal")), ("JSON", "1_0 %&"))
+        self.load("#numbers=1%0D%0A0x%0D2")
+        self.assertEqual((self.value("#literal"), self.texts("#read .written")), ("1\n0x\n2", ["1", "0x", "2"]))
         for link, word, tab in (("#numbers=1", STANDARD, "Languages"), ("#language=JSON&amp;tab=c", "0x0A0A0A0000000000000000000000341F", "Code")):
             self.load(link)
             self.assertEqual((self.text("#panes [aria-selected=true]"), self.value(), self.text("#told")), (tab, word, ""))
@@ -90,19 +100,33 @@ class State(Walk):
         self.click("#undo")
         self.assertEqual(self.value(), STANDARD)
 
-    def test_a_copied_link_opens_where_it_is_pasted(self):
-        """Of many numbers, it has the first ones, which is told."""
+    def test_a_copied_link_of_a_file_stands_behind_its_address(self):
         numbers = "\n".join(f"1_{index}" for index in range(2000))
+        lines = numbers[:4001].count("\n")
         for language in ("RUST", ""):
             self.run_script("""navigator.clipboard.writeText = async (text) => { window.copied = text; };
                 page.start(arguments[0]);
                 page.change({ numbers: arguments[1] });
                 find("copy-link").click();""", language, numbers)
-            self.wait(lambda: "lines alone. Copied: pasted into the numbers" in self.text("#told"))
-            link = self.run_script("return window.copied")
-            self.assertLess(len(link), 6000)
-            self.load("#language=JSON")
-            self.call("choose", "literal", link)
-            kept = self.value("#literal")
-            self.assertEqual((self.value("#language"), self.run_script("return page.state.numbers")), (language, kept))
-            self.assertTrue(numbers.startswith(f"{kept}\n"))
+            self.wait(lambda: self.text("#copy-link") == "copied")
+            self.assertEqual(self.text("#told"), f"The link has the first {lines} lines alone. Copied. Send this file with this link, which stands behind its address.")
+            self.wait(lambda: self.text("#copy-link") == "Copy link")
+            name, _, fragment = self.run_script("return window.copied").partition("#")
+            self.assertEqual((name, len(fragment) < 6000), ("index.html", True))
+            self.load(f"#{fragment}")
+            self.assertEqual(self.value("#language"), language)
+            self.assertTrue(numbers.startswith(f"{self.value('#literal')}\n1_{lines}"))
+
+    def test_a_list_has_up_to_64_forms(self):
+        forms = [f"{STANDARD} opening=a{index}" for index in range(70)]
+        self.load("#forms=" + "%0A".join(forms))
+        count = "return page.state.forms.length"
+        self.assertEqual((self.run_script(count), "up to 64" in self.text("#told")), (64, True))
+        self.run_script("page.change({ numbers: '0x1F' })")
+        self.select("#add", "copy")
+        self.assertEqual((self.run_script(count), self.text("#told")[:29]), (64, "A list has up to 64 forms, an"))
+        self.click("#read .use", "or as a form of its own")
+        self.assertEqual((self.run_script(count), self.value("#literal")), (64, "0x1F"))
+        self.click("#remove")
+        self.select("#add", "copy")
+        self.assertEqual((self.run_script(count), self.text("#told")), (64, ""))
