@@ -3,7 +3,7 @@
 mod rows;
 
 use crate::program::run;
-use crate::tests::rows::{ANSWERS, REFUSALS};
+use crate::tests::rows::{ANSWERS, EDITS, REFUSALS};
 use std::alloc::Global;
 use std::io;
 use std::io::Write;
@@ -84,6 +84,10 @@ fn check<R: Abort + AllocGlobal>(
 fn each_row_is_printed_with_its_status(rt: HostRuntime) -> Result<(), Fail> {
     for (args, text, status) in ANSWERS.iter().chain(&REFUSALS) {
         check(&rt, args, text, *status)?;
+    }
+    for (setting, bits) in &EDITS {
+        let text = format!(in rt.alloc(); "{:#034X}\n", 1_u128 << 44 | *bits)?;
+        check(&rt, &["edit", "0x100000000000", setting], text.as_str(), 0)?;
     }
     Ok(())
 }

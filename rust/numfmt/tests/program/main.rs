@@ -4,7 +4,7 @@
 
 mod rows;
 
-use rows::{ANSWERS, REFUSALS};
+use rows::{ANSWERS, EDITS, REFUSALS};
 use std::ffi::{OsStr, OsString};
 use std::fs::File;
 use std::os::unix::ffi::OsStrExt;
@@ -26,6 +26,10 @@ fn run<A: AsRef<OsStr>>(args: &[A]) -> (Option<i32>, String) {
 fn prints_the_text_of_each_row_and_ends_with_its_status() {
     for (args, text, status) in ANSWERS.into_iter().chain(REFUSALS) {
         assert_eq!(run(args), (Some(status.into()), text.into()), "{args:?}");
+    }
+    for (setting, bits) in EDITS {
+        let printed = (Some(0), format!("{:#034X}\n", 1 << 44 | bits));
+        assert_eq!(run(&["edit", "0x100000000000", setting]), printed, "{setting}");
     }
 }
 

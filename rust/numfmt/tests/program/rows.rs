@@ -80,7 +80,7 @@ note: case_sensitive_base_suffix is set, but there is no base suffix
 
 /// Lists of arguments, the text that they print, and the exit status.
 #[rustfmt::skip]
-pub const ANSWERS: [(&[&str], &str, u8); 33] = [
+pub const ANSWERS: [(&[&str], &str, u8); 34] = [
     (&[], STANDARD_FIELDS, 0),
     (&["show", "0x00000A0000000000000000000000000C"], STANDARD_FIELDS, 0),
     (&["show", "0xa0000000000000000000000000c"], STANDARD_FIELDS, 0),
@@ -91,6 +91,7 @@ pub const ANSWERS: [(&[&str], &str, u8); 33] = [
     (&["edit", "0x00000A0000000000000000000000000C"], "0x0A0A0A0000000000000000000000000C\n", 0),
     (&["edit", "0x00000A0000000000000000000000000C", "radix=007"], "0x0A0A070000000000000000000000000C\n", 0),
     (&["edit", "0x00000A0000000000000000000000000C", "digit_separator=0", "exponent_base=none"], "0x0A000A0000000000000000000000000C\n", 0),
+    (&["edit", "0x100000000000", "special_digit_separator=false"], "0x00000000000000000000000000000000\n", 0),
     (&["check", "0x00000A0000000000000000000000000C"], "'not actually an error'\n", 0),
     (&["check", "0xC"], "lexical number format error: 'invalid radix for mantissa digits'\n", 1),
     (&["check", "0x00000A0000000000000000008000000C"], "lexical number format error: 'invalid flags enabled without the format feature'\n", 1),
@@ -118,22 +119,36 @@ pub const ANSWERS: [(&[&str], &str, u8); 33] = [
 
 /// Lists of arguments that are refused, the text that states why, and the exit status.
 #[rustfmt::skip]
-pub const REFUSALS: [(&[&str], &str, u8); 23] = [
+pub const REFUSALS: [(&[&str], &str, u8); 37] = [
     (&[""], "numfmt: unknown command\n", 2),
     (&["edit"], "numfmt: wrong number of arguments\n", 2),
-    (&["same", "0xC"], "numfmt: wrong number of arguments\n", 2),
+    (&["same", "0x00000A0000000000000000000000000C"], "numfmt: wrong number of arguments\n", 2),
+    (&["check", "0x00000A0000000000000000000000000C", "0x00000A0000000000000000000000000C"], "numfmt: wrong number of arguments\n", 2),
+    (&["migrate"], "numfmt: wrong number of arguments\n", 2),
+    (&["migrate", "0xC", "0xC"], "numfmt: wrong number of arguments\n", 2),
     (&["show", "0x", "0x"], "numfmt: wrong number of arguments\n", 2),
     (&["show"], "numfmt: wrong number of arguments\n", 2),
     (&["options", "0x00000A0000000000000000000000000C", "101"], "numfmt: wrong number of arguments\n", 2),
     (&["show", "0x"], "numfmt: bad word\n", 2),
     (&["show", "0x000000000000000000000000000000000"], "numfmt: bad word\n", 2),
+    (&["show", "0X1"], "numfmt: bad word\n", 2),
+    (&["show", "12"], "numfmt: bad word\n", 2),
+    (&["check", "0xg"], "numfmt: bad word\n", 2),
     (&["edit", "0x", "radix"], "numfmt: bad word\n", 2),
     (&["same", "0x1", "0x"], "numfmt: bad word\n", 2),
     (&["options", "0x", "256", "2"], "numfmt: bad word\n", 2),
+    (&["options", "0x", "1", "2"], "numfmt: bad word\n", 2),
+    (&["migrate", "0x"], "numfmt: bad word\n", 2),
     (&["edit", "0xC", "radix=256"], "numfmt: bad edit\n", 2),
     (&["edit", "0xC", "radix"], "numfmt: bad edit\n", 2),
     (&["edit", "0xC", "radix=16", "radix"], "numfmt: bad edit\n", 2),
     (&["edit", "0x00000A0000000000000000000000000C", "STANDARD=true"], "numfmt: bad edit\n", 2),
+    (&["edit", "0x00000A0000000000000000000000000C", "radix="], "numfmt: bad edit\n", 2),
+    (&["edit", "0x00000A0000000000000000000000000C", "radix=0010"], "numfmt: bad edit\n", 2),
+    (&["edit", "0x00000A0000000000000000000000000C", "radix=none"], "numfmt: bad edit\n", 2),
+    (&["edit", "0x00000A0000000000000000000000000C", "=true"], "numfmt: bad edit\n", 2),
+    (&["edit", "0x00000A0000000000000000000000000C", "no_special=True"], "numfmt: bad edit\n", 2),
+    (&["edit", "0x00000A0000000000000000000000000C", "no_special=true="], "numfmt: bad edit\n", 2),
     (&["edit", "0xC", "radix= 16"], "numfmt: bad edit\n", 2),
     (&["edit", "0xC", "radix =16"], "numfmt: bad edit\n", 2),
     (&["edit", "0xC", "base_prefix='x'"], "numfmt: bad edit\n", 2),
@@ -142,4 +157,25 @@ pub const REFUSALS: [(&[&str], &str, u8); 23] = [
     (&["options", "0x00000A0000000000000000000000000C", "256", "46"], "numfmt: bad byte\n", 2),
     (&["options", "0x00000A0000000000000000000000000C", "e", "46"], "numfmt: bad byte\n", 2),
     (&["options", "0x00000A0000000000000000000000000C", "101", "none"], "numfmt: bad byte\n", 2),
+];
+
+/// A setting of each setter, and the bits that the edit sets.
+#[rustfmt::skip]
+pub const EDITS: [(&str, u128); 47] = [
+    ("required_integer_digits=true", 1 << 0), ("required_fraction_digits=true", 1 << 1), ("required_exponent_digits=true", 1 << 2),
+    ("required_mantissa_digits=true", 1 << 3), ("no_positive_mantissa_sign=true", 1 << 4), ("required_mantissa_sign=true", 1 << 5),
+    ("no_exponent_notation=true", 1 << 6), ("no_positive_exponent_sign=true", 1 << 7), ("required_exponent_sign=true", 1 << 8),
+    ("no_exponent_without_fraction=true", 1 << 9), ("no_special=true", 1 << 10), ("case_sensitive_special=true", 1 << 11),
+    ("no_integer_leading_zeros=true", 1 << 12), ("no_float_leading_zeros=true", 1 << 13), ("required_exponent_notation=true", 1 << 14),
+    ("case_sensitive_exponent=true", 1 << 15), ("case_sensitive_base_prefix=true", 1 << 16), ("case_sensitive_base_suffix=true", 1 << 17),
+    ("integer_internal_digit_separator=true", 1 << 32), ("fraction_internal_digit_separator=true", 1 << 33),
+    ("exponent_internal_digit_separator=true", 1 << 34), ("integer_leading_digit_separator=true", 1 << 35), ("fraction_leading_digit_separator=true", 1 << 36),
+    ("exponent_leading_digit_separator=true", 1 << 37), ("integer_trailing_digit_separator=true", 1 << 38), ("fraction_trailing_digit_separator=true", 1 << 39),
+    ("exponent_trailing_digit_separator=true", 1 << 40), ("integer_consecutive_digit_separator=true", 1 << 41),
+    ("fraction_consecutive_digit_separator=true", 1 << 42), ("exponent_consecutive_digit_separator=true", 1 << 43), ("special_digit_separator=true", 1 << 44),
+    ("required_digits=true", 0xF), ("internal_digit_separator=true", 0x7 << 32), ("leading_digit_separator=true", 0x7 << 35),
+    ("trailing_digit_separator=true", 0x7 << 38), ("consecutive_digit_separator=true", 0x7 << 41), ("digit_separator_flags=true", 0x1FFF << 32),
+    ("integer_digit_separator_flags=true", 0x249 << 32), ("fraction_digit_separator_flags=true", 0x249 << 33),
+    ("exponent_digit_separator_flags=true", 0x249 << 34), ("digit_separator=1", 1 << 64), ("base_prefix=1", 1 << 88), ("base_suffix=1", 1 << 96),
+    ("mantissa_radix=1", 1 << 104), ("radix=1", 1 << 104), ("exponent_base=1", 1 << 112), ("exponent_radix=1", 1 << 120),
 ];
