@@ -1,16 +1,19 @@
 -- Which form of a list writes a number, and how the text is read back.
 use Rattle.std.specs.Prelude.{ℕ, ◌≡◌, ◌≤◌, ◌-◌, ◌^◌, ◌+◌, ◌/◌, ◌%◌, ◌<◌, ◌==◌, ◌&&◌, ◌||◌, ◌⊎◌, not, if◌then◌else◌, Bool, true, false, is_some, List, [], Err}
-use Rattle.std.specs.Prelude.{IsSomeAnd, Ok, Option, Result, Some, None, ℤ, is_ok, length, min, slice_get}
+use Rattle.std.specs.Prelude.{IfOk, IsSomeAnd, Ok, Option, Result, Some, None, ℤ, ◌++◌, is_ok, length, min, slice_get, take, unwrap_or}
 use Rattle.std.specs.Borrow.{Bor}
 use Rattle.std.specs.Float.{Float, Format, binary64, float_is_infinite}
 use lib.Ieee.Exact.{HasValue as HasFraction}
 use Rattle.lexical_util.specs.Layout as layout
 use Rattle.lexical_util.specs.Record.{Record, bytes_of, raw}
 use Rattle.lexical_forms.specs.FormList.{FormList}
-use Rattle.lexical_forms.specs.Forms.{IsFirst}
+use Rattle.lexical_forms.specs.Affix.{spelling}
+use Rattle.lexical_forms.specs.Forms.{IsFirst, NoForm}
 use Rattle.lexical_forms.specs.Token.{IsReadByTokens}
 use Rattle.lexical_forms.specs.declared.form.Form.{Form}
+use Rattle.lexical_forms.specs.declared.suffix.Suffixes.{Suffixes}
 use Rattle.lexical_forms.specs.declared.token.Token.{Token}
+use Rattle.lexical_forms.specs.declared.token.TokenError.{TokenError}
 use Rattle.lexical_literal.specs.Notation.{lacks_options, notation_of}
 use Rattle.lexical_literal.specs.Read.{exact, Read}
 use Rattle.lexical_literal.specs.Literal.{Literal, Reads, is_float, is_minus, text_of}
@@ -23,83 +26,37 @@ use Rattle.lexical_value.specs.Float.{is_binary, is_decimal, nearest}
 use Rattle.lexical_value.specs.Integer.{integer_size}
 use Rattle.lexical_value.specs.Kind.{IsWorth, float_worth, integer_worth, is_exact}
 use Rattle.lexical_writer.specs.Conversion.{IsNear, SameFraction}
-use Rattle.lexical_writer.specs.Layout.{HasValue, needs_exponent, wants_exponent}
+use Rattle.lexical_writer.specs.Layout.{HasValue, laid_out, number_of_size, refusal, wants_exponent}
 use Rattle.lexical_writer.specs.Rounded.{IsRounded, decimals_in}
-use Rattle.lexical_writer.specs.declared.choice.Order.{Order}
 use Rattle.lexical_writer.specs.declared.layout.ExponentStyle.TheVariants as exponents
 use Rattle.lexical_writer.specs.declared.layout.Style.{Style}
 use Rattle.lexical_writer.specs.declared.layout.WriteError.{WriteError}
 use Rattle.lexical_writer.specs.declared.layout.WriteError.TheVariants as errors
 
--- `turn radix integer g` is in which turn a form with the syntax `g` is asked to write an integer or, if `integer` is false, a float of a
--- radix: first the forms of this radix, then the decimal ones, and then the others. All forms with floats write a float before those of
--- integers alone.
-abbrev pub turn : ℕ → Bool → Grammar → ℕ
-turn radix integer g =
-    let late = if integer || not (lacks_options g.options) then 0 else 3 in
-    if (raw g.word).byte layout.mantissa_radix == radix then late
-    else (if (raw g.word).byte layout.mantissa_radix == 10 then late + 1 else late + 2)
+-- `is_own radix integer g` is true if a form with the syntax `g` is one of the own forms of an integer or, if `integer` is false, of another
+-- number of a radix: it has this radix and, for a number that is no integer, floats.
+abbrev pub is_own : ℕ → Bool → Grammar → Bool
+is_own radix integer g = (raw g.word).byte layout.mantissa_radix == radix && (integer || not (lacks_options g.options))
 
--- `takes_part order part exponent` is true if a form is asked in this part of its turn: in the first one without a word, and in the second one with
--- a word, if the number is an integer. If all literals of the form have an `exponent` that the style does not wish for, it is the third one.
-abbrev pub takes_part : Order → ℕ → Bool → Bool
-takes_part order part exponent =
-    if part == 0 then order.all || not exponent else (if part == 1 then order.integer && not exponent else not order.all && exponent)
+-- `is_asked radix integer step form` is true if `form` is asked in a step: in the first one, 0, if it is one of the number's own, and otherwise
+-- in the second one. A form that is only read is not asked.
+abbrev pub is_asked : ℕ → Bool → ℕ → Form → Bool
+is_asked radix integer step form =
+    (if step == 0 then is_own radix integer form.syntax else not (is_own radix integer form.syntax)) && not form.only_read
 
--- `is_radix first g` is true if a syntax `g` has the radix of the form that is asked first, where the number is rounded.
-abbrev pub is_radix : Option (ℕ × Bool) → Grammar → Bool
-is_radix None g = true
-is_radix (Some first) g = (raw g.word).byte layout.mantissa_radix == first.0
+-- `steps rounded` is how many steps there are. A number that is rounded is written by its own forms alone.
+abbrev pub steps : Bool → ℕ
+steps rounded = if rounded then 1 else 2
 
--- `is_asked order step form` is true if `form` is asked in a step, of which each turn has three. A form that is only read is not asked.
-abbrev pub is_asked : Order → ℕ → Form → Bool
-is_asked order step form = ((turn order.radix order.integer form.syntax == step / 3 && takes_part order (step % 3) (needs_exponent form.syntax))
-    && not form.only_read) && is_radix order.first form.syntax
-
--- `AreBefore P order forms step index` holds if `P` holds of each step, index and form that is asked before the form with this index is asked in this
--- step.
-pub record AreBefore (P : ℕ → ℕ → Form → Type 0) (order : Order) (forms : List Form) (step index : ℕ) : Type 0 where
+-- `AreBefore P asked forms step index` holds if `P` holds of each index and form that is asked before the form with this index is asked in this step.
+pub record AreBefore (P : ℕ → Form → Type 0) (asked : ℕ → Form → Bool) (forms : List Form) (step index : ℕ) : Type 0 where
   pub each : (before at : ℕ) → (form : Form) → (before < step) ⊎ ((before ≡ step) × (at < index)) → slice_get forms at ≡ Some form
-      → is_asked order before form ≡ true → P before at form
+      → asked before form ≡ true → P at form
 
--- `IsAskedAs order step first form` holds if `form` is asked in a step, and `first` is its radix, and whether it has floats.
-abbrev pub IsAskedAs : Order → ℕ → ℕ × Bool → Form → Type 0
-IsAskedAs order step first form = (is_asked order step form ≡ true) × (first.0 ≡ (raw form.syntax.word).byte layout.mantissa_radix)
-    × (first.1 ≡ not (lacks_options form.syntax.options))
-
--- `IsFirstAsked order forms first` holds if `first` is the radix of the form that is asked first, and whether it has floats, or `None` if none is asked.
-abbrev pub IsFirstAsked : Order → List Form → Option (ℕ × Bool) → Type 0
-IsFirstAsked order forms None = AreBefore (λ step index form. ⊥) order forms 18 0
-IsFirstAsked order forms (Some first) = (step index : ℕ) × AreBefore (λ step index form. ⊥) order forms step index
-    × IsSomeAnd (slice_get forms index) (IsAskedAs order step first)
-
--- `IsOrder radix integer rounded style forms order` holds if `order` is that in which `forms` are asked to write an integer or, if `integer`
--- is false, a float of a radix in a style, by which it is rounded or not.
-pub record IsOrder (radix : ℕ) (integer rounded : Bool) (style : Style) (forms : List Form) (order : Order) : Type 0 where
-  pub own : order.radix ≡ radix
-  pub whole : order.integer ≡ integer
-  pub all : order.all ≡ (not integer || wants_exponent style.exponent)
-  pub exact : rounded ≡ false → order.first ≡ None
-  pub first : rounded ≡ true → IsFirstAsked (record order { first = None }) forms order.first
-
--- `is_unrounded first g decimals` is true if a form with the syntax `g` does not round a number: in a list with floats, integers alone do not, unless to
--- no digit. `asked_style first g style` is the style in which such a form is asked.
-abbrev pub is_unrounded : Option (ℕ × Bool) → Grammar → Option ℕ → Bool
-is_unrounded (Some first) g (Some n) = (first.1 && lacks_options g.options) && not (n == 0)
-is_unrounded _ _ _ = false
-
-abbrev pub asked_style : Option (ℕ × Bool) → Grammar → Style → Style
-asked_style first g style = if is_unrounded first g style.decimals then record style { decimals = None } else style
-
--- `is_replaced first` is true if the error `first` of the forms before, if there is one, gives way to that of the next form: if it is `Fraction`.
--- `first_reason first error` is the error of a list, where `error` is that of the next form.
-abbrev pub is_replaced : Option WriteError → Bool
-is_replaced None = true
-is_replaced (Some errors.Fraction) = true
-is_replaced _ = false
-
+-- `first_reason first error` is the error of a list, where `first` is that of the forms before, if there is one, and `error` that of the next form.
 abbrev pub first_reason : Option WriteError → WriteError → Option WriteError
-first_reason first error = if is_replaced first then Some error else first
+first_reason None error = Some error
+first_reason (Some first) error = Some first
 
 -- `whole_of read` is the sign and the size of the integer that `read` is worth by its kind, or `None` if it is worth none. `has_worth read` is true
 -- if `read` is worth an integer or, with a decimal point or an exponent, an `f64`.
@@ -116,54 +73,122 @@ abbrev pub IsReadElse : (Bool → Read → Type 0) → List Form → ℕ → Lis
 IsReadElse keeps forms index text error = (at : ℕ) × (read : Read) × IsFirst forms text at read
     × (keeps (at == index) read → ⊥) × (error ≡ (if has_worth read then errors.ReadBack else errors.TooLarge))
 
--- `IsUnusable keeps room forms index text error` holds if `error` is why a text is not used: it is longer than a buffer with this `room`, or it is read as
--- a literal that does not surely keep the number.
-abbrev pub IsUnusable : (Bool → Read → Type 0) → ℕ → List Form → ℕ → List ℕ → WriteError → Type 0
-IsUnusable keeps room forms index text error =
-    (((room < length text) ⊎ (2 ^ 64 - 1 ≤ length text)) × (error ≡ errors.Buffer (min (length text) (2 ^ 64 - 1))))
-    ⊎ IsReadElse keeps forms index text error
+-- `is_marked form` is true if a form has an opening or a closing.
+abbrev pub is_marked : Form → Bool
+is_marked form = not (form.opening.size == 0) || not (form.closing.size == 0)
 
--- `IsRefused writes P style form error` holds if `error` is why a form without an opening and a closing does not write a number in a style: no literal is
--- written for the number, or `P` holds of the text of one that is written.
-abbrev pub IsRefused : (Style → Grammar → Result Literal WriteError → Type 0) → (Style → List ℕ → WriteError → Type 0) → Style → Form → WriteError
-    → Type 0
-IsRefused writes P style form error = (form.opening.size ≡ 0) → (form.closing.size ≡ 0) → writes style form.syntax (Err error)
-    ⊎ ((l : Literal) × Reads (notation_of form.syntax) l (text_of l) × writes style form.syntax (Ok l) × P style (text_of l) error)
+-- `bytes_of_word word` has the bytes of a word, if there is one.
+abbrev pub bytes_of_word : Option (Bor (Bor (List ℕ))) → Option (List ℕ)
+bytes_of_word None = None
+bytes_of_word (Some word) = Some word.now.now
 
--- `IsPassedOver writes P style form error` holds if the form is refused with `error` in the style or, where a wish for an exponent is dropped, with some
--- error in the style, and with `error` without the wish.
-abbrev pub IsPassedOver : (Style → Grammar → Result Literal WriteError → Type 0) → (Style → List ℕ → WriteError → Type 0) → Style → Form → WriteError
-    → Type 0
-IsPassedOver writes P style form error = IsRefused writes P style form error
-    ⊎ (((first : WriteError) × IsRefused writes P style form first) × IsRefused writes P (record style { exponent = exponents.AsNumber }) form error)
+-- `words_of suffixes` are the words with which a form writes integers, in their order.
+abbrev pub words_of : Option (Bor Suffixes) → List (Bor (List ℕ))
+words_of None = []
+words_of (Some suffixes) = suffixes.now.written.now
 
--- `IsReason writes keeps room order style forms step index form error` holds if `error` is why a form that is asked in a step without a word does not write
--- a number.
-abbrev pub IsReason : (Style → Grammar → Result Literal WriteError → Type 0) → (Style → Bool → Read → Type 0) → ℕ → Order → Style → List Form → ℕ → ℕ
-    → Form → WriteError → Type 0
-IsReason writes keeps room order style forms step index form error = (step % 3 == 1) ≡ false
-    → IsPassedOver writes (λ style. IsUnusable (keeps style) room forms index) (asked_style order.first form.syntax style) form error
+-- `text_by form word l` is the text of the literal `l` of a form, between its opening and its closing, with a word behind it if there is one.
+abbrev pub text_by : Form → Option (List ℕ) → Literal → List ℕ
+text_by form word l = ((spelling form.opening ++ text_of l) ++ spelling form.closing) ++ unwrap_or word []
 
--- `IsFraction P step index form` holds if `P` holds of a step, an index, a form and `Fraction`.
-abbrev pub IsFraction : (ℕ → ℕ → Form → WriteError → Type 0) → ℕ → ℕ → Form → Type 0
-IsFraction P step index form = (error : WriteError) × (is_replaced (Some error) ≡ true) × P step index form error
+-- `IsPut text bytes size` holds if `size` is the length of `text`, or the largest `usize` if that is less, and if `bytes` begin with `text`, where they
+-- are enough.
+pub record IsPut (text bytes : List ℕ) (size : ℕ) : Type 0 where
+  pub counted : size ≡ min (length text) (2 ^ 64 - 1)
+  pub begins : length text ≤ length bytes → take (length text) bytes ≡ text
 
--- `IsSearched P order forms step index reason` holds if each form that is asked before this step and index has an error, of which `P` holds with the
--- step, the index and the form, and if `reason` is the first of these errors that is not `Fraction`, or `Fraction` if each is, or `None` if no form is asked.
-pub record IsSearched (P : ℕ → ℕ → Form → WriteError → Type 0) (order : Order) (forms : List Form) (step index : ℕ) (reason : Option WriteError) : Type 0
-  where
-    pub passed : AreBefore (λ before at form. (error : WriteError) × P before at form error) order forms step index
-    pub none : reason ≡ None → AreBefore (λ before at form. ⊥) order forms step index
-    pub fraction : is_replaced reason ≡ true → AreBefore (IsFraction P) order forms step index
-    pub other : (error : WriteError) → reason ≡ Some error → is_replaced reason ≡ false → (before at : ℕ) × AreBefore (IsFraction P) order forms before at
-        × IsSomeAnd (slice_get forms at) (λ form. (is_asked order before form ≡ true) × P before at form error)
+-- `is_short error` is true if a text does not fit the buffer, which ends the search.
+abbrev pub is_short : WriteError → Bool
+is_short (errors.Buffer n) = true
+is_short _ = false
 
--- `IsShort P order forms error` holds if `error` is that a text of at most 4,096 bytes needs a longer buffer: it is the error of a form, of which `P` holds,
--- as of some error of each form that is asked before.
-abbrev pub IsShort : (ℕ → ℕ → Form → WriteError → Type 0) → Order → List Form → WriteError → Type 0
-IsShort P order forms error = (n : ℕ) × (n ≤ 4096) × (error ≡ errors.Buffer n) × (step index : ℕ)
-    × AreBefore (λ before at form. (other : WriteError) × P before at form other) order forms step index
-    × IsSomeAnd (slice_get forms index) (λ form. (is_asked order step form ≡ true) × P step index form error)
+-- `IsNoToken keeps list word text error` holds if `error` is `ReadBack`, and the list has no token that is all of `text`, with this suffix, and surely keeps
+-- the number.
+abbrev pub IsNoToken : (Bool → Read → Type 0) → FormList → List ℕ → List ℕ → WriteError → Type 0
+IsNoToken keeps list word text error = (error ≡ errors.ReadBack) × (result : Result Token TokenError) × IsReadByTokens list list.tokens text result
+    × IfOk result (λ token. token.suffix.now ≡ word → token.rest.now ≡ [] → keeps false token.literal → ⊥)
+
+-- `unwished style` is `style` without a wish for an exponent.
+abbrev pub unwished : Style → Style
+unwished style = record style { exponent = exponents.AsNumber }
+
+-- These are about a number, with what is written for it and what surely keeps it, and a form of a list, by a buffer with some `room`.
+module _ (writes : Style → Grammar → Result Literal WriteError → Type 0) (keeps : Style → Bool → Read → Type 0) (room : ℕ) (list : FormList)
+    (index : ℕ) (form : Form) where
+  -- `IsMisread style word text error` holds if `error` is why `text`, which the form writes, is not used: the list reads it as no literal that surely keeps
+  -- the number or, with a word, has no such token.
+  abbrev pub IsMisread : Style → Option (List ℕ) → List ℕ → WriteError → Type 0
+  IsMisread style None text error = IsReadElse (λ own. keeps style (not (is_marked form) && own)) list.forms index text error
+      ⊎ (NoForm list.forms text × (error ≡ errors.ReadBack))
+  IsMisread style (Some word) text error = IsNoToken (keeps style) list word text error
+
+  -- `IsUnusable style word text error` holds if `error` is why `text` is not used: it is longer than the room, or it is misread.
+  abbrev pub IsUnusable : Style → Option (List ℕ) → List ℕ → WriteError → Type 0
+  IsUnusable style word text error =
+      (((room < length text) ⊎ (2 ^ 64 - 1 ≤ length text)) × (error ≡ errors.Buffer (min (length text) (2 ^ 64 - 1))))
+      ⊎ ((length text ≤ room) × IsMisread style word text error)
+
+  -- `IsRefused style word error` holds if `error` is why the form does not write the number in a style, with a word or without: no literal is written for
+  -- it, or the text of the one that is written is not used.
+  abbrev pub IsRefused : Style → Option (List ℕ) → WriteError → Type 0
+  IsRefused style word error = writes style form.syntax (Err error)
+      ⊎ ((l : Literal) × writes style form.syntax (Ok l) × IsUnusable style word (text_by form word l) error)
+
+  -- `IsPassed style word` holds if the form does not write the number so, for a reason that does not end the search.
+  abbrev pub IsPassed : Style → Option (List ℕ) → Type 0
+  IsPassed style word = (error : WriteError) × IsRefused style word error × (is_short error ≡ false)
+
+  -- `IsPassedOver integer style error` holds if `error` is why the form does not write the number without a word: in the style or, where an integer is
+  -- not written in a style with a wish for an exponent, without this wish.
+  abbrev pub IsPassedOver : Bool → Style → WriteError → Type 0
+  IsPassedOver integer style error =
+      (IsRefused style None error × ((is_short error ≡ true) ⊎ ((integer && wants_exponent style.exponent) ≡ false)))
+      ⊎ (((integer && wants_exponent style.exponent) ≡ true) × IsPassed style None × IsRefused (unwished style) None error)
+
+  -- `ArePassed style n` holds if the form does not write the number with one of its first `n` words.
+  abbrev pub ArePassed : Style → ℕ → Type 0
+  ArePassed style n = (at : ℕ) → (word : Bor (List ℕ)) → at < n → slice_get (words_of form.suffixes) at ≡ Some word
+      → IsPassed (unwished style) (Some word.now)
+
+  -- `HasNoText style` holds if the form does not write an integer without a word, so that it is asked for one with a word.
+  abbrev pub HasNoText : Bool → Style → Type 0
+  HasNoText integer style = (integer ≡ true) × (first : WriteError) × IsPassedOver integer style first × (is_short first ≡ false)
+
+  -- `IsWithWord style P` holds if `P` holds of one of the words, and the number is not written with one before it.
+  abbrev pub IsWithWord : Style → (List ℕ → Type 0) → Type 0
+  IsWithWord style P = (at : ℕ) × (word : Bor (List ℕ)) × (slice_get (words_of form.suffixes) at ≡ Some word)
+      × ArePassed style at × P word.now
+
+  -- `IsReason integer style error` holds if `error` is why the form does not write the number: why it does not without a word, or else that a text with a
+  -- word is too long.
+  abbrev pub IsReason : Bool → Style → WriteError → Type 0
+  IsReason integer style error = (IsPassedOver integer style error
+      × ((is_short error ≡ true) ⊎ ((integer ≡ false) ⊎ ArePassed style (length (words_of form.suffixes)))))
+      ⊎ (HasNoText integer style × (is_short error ≡ true) × IsWithWord style (λ word. IsRefused (unwished style) (Some word) error))
+
+  -- `IsChosen integer style it word text` holds if `text` is the text of the form, in the style `it` and with a word or without, and the number is not
+  -- written by the form in a way that is tried before.
+  abbrev pub IsChosen : Bool → Style → Style → Option (List ℕ) → List ℕ → Type 0
+  IsChosen integer style it word text = ((l : Literal) × writes it form.syntax (Ok l) × (text ≡ text_by form word l)) × by word
+    where
+      by : Option (List ℕ) → Type 0
+      by None = (it ≡ style) ⊎ (((integer && wants_exponent style.exponent) ≡ true) × IsPassed style None × (it ≡ unwished style))
+      by (Some word) = HasNoText integer style × (it ≡ unwished style) × IsWithWord style (λ other. other ≡ word)
+
+-- `PassesOver writes keeps room list integer style at form error` holds if `error` is why the form of a list with this index does not write the number, and
+-- does not end the search.
+abbrev pub PassesOver : (Style → Grammar → Result Literal WriteError → Type 0) → (Style → Bool → Read → Type 0) → ℕ → FormList → Bool → Style → ℕ → Form
+    → WriteError → Type 0
+PassesOver writes keeps room list integer style at form error = IsReason writes keeps room list at form integer style error × (is_short error ≡ false)
+
+-- `IsSearched P asked forms step index reason` holds if `P` holds of an error of each form that is asked before this step and index, and if `reason` is
+-- that of the first of them, or `None` if there is none.
+pub record IsSearched (P : ℕ → Form → WriteError → Type 0) (asked : ℕ → Form → Bool) (forms : List Form) (step index : ℕ) (reason : Option WriteError)
+  : Type 0 where
+    pub passed : AreBefore (λ at form. (error : WriteError) × P at form error) asked forms step index
+    pub none : reason ≡ None → AreBefore (λ at form. ⊥) asked forms step index
+    pub first : (error : WriteError) → reason ≡ Some error → (before at : ℕ) × AreBefore (λ at form. ⊥) asked forms before at
+        × IsSomeAnd (slice_get forms at) (λ form. (asked before form ≡ true) × P at form error)
 
 -- `has_float read` is true if `read` has a decimal point or an exponent, and is worth a float.
 abbrev pub has_float : Read → Bool
@@ -236,12 +261,6 @@ IsKeptNumber a own b = ((w : Bool × ℕ) × (w.1 < 2 ^ 128) × (whole_of a ≡ 
 abbrev pub IsInStyle : Read → Style → Read → Type 0
 IsInStyle a style b = IsSameNumber style.nearest a b ⊎ ((style.nearest ≡ true) × (is_some style.decimals ≡ true) × (g : Grammar) × (l : Literal)
     × IsWrittenNumber a style g l × IsReal binary64 (nearest binary64 (bytes_of g.word) l) b)
-
--- `IsStyleOf integer style it` holds if `it` is `style` or, for an integer, `style` without the wish for an exponent, and for a float,
--- without decimals.
-abbrev pub IsStyleOf : Bool → Style → Style → Type 0
-IsStyleOf integer style it = (it ≡ style) ⊎ (((integer ≡ true) × (it ≡ record style { exponent = exponents.AsNumber }))
-    ⊎ ((integer ≡ false) × (it ≡ record style { decimals = None })))
 
 -- `IsReadBack list text P` holds if `text` is a literal of some form of the list, and if `P` holds of the literal that it is in the
 -- first such form, with the kind of this form.

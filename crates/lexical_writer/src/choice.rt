@@ -1,7 +1,7 @@
 //! A list of forms writes numbers: in the first form whose text the list reads as the number.
 
-ghost use Rattle.std.specs.Prelude.{◌≡◌, ◌≤◌, ◌<◌, ◌-◌, ◌^◌, ◌⊎◌, ◌||◌, if◌then◌else◌, not, Bool, true, false};
-ghost use Rattle.std.specs.Prelude.{ℕ, ◌+◌, All, Err, IfErr, IfOk, IfSome, IsFalse, IsSomeAnd, None, Ok, Option, Result, Some};
+ghost use Rattle.std.specs.Prelude.{◌==◌, ◌≡◌, ◌≤◌, ◌<◌, ◌-◌, ◌^◌, ◌⊎◌, ◌||◌, ◌&&◌, ◌++◌, if◌then◌else◌, not, Bool, true, false};
+ghost use Rattle.std.specs.Prelude.{ℕ, ◌+◌, All, Err, List, [], IfErr, IfOk, IfSome, IsFalse, IsSomeAnd, None, Ok, Option, Result, Some};
 ghost use Rattle.std.specs.Prelude.{unwrap_or, from_bits, is_some, length, slice_get, take, ℤ};
 ghost use Rattle.std.specs.Float.{Float as Value, float_is_infinite};
 ghost use Rattle.lexical_util.specs.Record.{bytes_of};
@@ -17,13 +17,13 @@ ghost use Rattle.lexical_value.specs.Kind.{float_worth, integer_worth, is_exact,
 ghost use Rattle.lexical_literal.specs.declared.kind.FloatKind.TheVariants as floats;
 ghost use Rattle.lexical_writer.specs.Buffer.{IsTaken};
 ghost use Rattle.lexical_forms.specs.Forms.{IsFirst, NoForm};
+ghost use Rattle.lexical_forms.specs.Token.{IsReadByTokens};
 ghost use Rattle.lexical_forms.specs.declared.form.Form.{Form as Asked};
 ghost use Rattle.lexical_writer.specs.Layout.{integer_literal, laid_out, literal_of as written, number_of_size};
-ghost use Rattle.lexical_writer.specs.Choice.{AreBefore, IsAskedAs, IsFirstAsked, IsOrder, IsPassedOver, IsReadBack, IsReadElse, IsReadWith, IsReal, IsReason};
-ghost use Rattle.lexical_writer.specs.Choice.{IsRefused};
-ghost use Rattle.lexical_writer.specs.Choice.{IsSearched, IsShort, IsStyleOf, IsTokenOf, IsUnusable, IsWhole, has_worth, whole_of};
-ghost use Rattle.lexical_writer.specs.Choice.{asked_style, first_reason, is_asked, is_radix, is_unrounded, takes_part, turn};
-ghost use Rattle.lexical_writer.specs.declared.choice.Order.{Order as Turns};
+ghost use Rattle.lexical_writer.specs.Choice.{ArePassed, AreBefore, IsChosen, IsNoToken, IsPassedOver, IsPut, IsReadBack, IsReadElse};
+ghost use Rattle.lexical_writer.specs.Choice.{IsReadWith, IsReal, IsReason, IsRefused, IsSearched, IsTokenOf, IsWhole, IsWithWord, PassesOver, bytes_of_word};
+ghost use Rattle.lexical_writer.specs.Choice.{first_reason, has_worth, is_asked, is_marked, is_own, is_short, steps, text_by, unwished, whole_of};
+ghost use Rattle.lexical_writer.specs.Choice.{words_of};
 ghost use Rattle.lexical_writer.specs.declared.layout.ExponentStyle.TheVariants as exponents;
 ghost use Rattle.lexical_writer.specs.declared.layout.WriteError.{WriteError as Reason};
 ghost use Rattle.lexical_writer.specs.declared.layout.WriteError.TheVariants as errors;
@@ -32,7 +32,7 @@ ghost use Rattle.lexical_writer.specs.declared.layout.Style.{Style as Wishes};
 use crate::float::{format_float, is_integer};
 use crate::float_digits::FloatDigits;
 use crate::integer::WrittenInteger;
-use crate::layout::{ExponentStyle, Layout, Style, WriteError, needs_exponent, wants_exponent};
+use crate::layout::{ExponentStyle, Layout, Style, WriteError, wants_exponent};
 use crate::near::format_near;
 use lexical_forms::form::Form;
 use lexical_forms::list::{Forms, Number};
@@ -76,8 +76,7 @@ pub trait Writable {
 
     /// Returns whether a float is rounded in a style.
     fn is_rounded(&self, style: Style) -> bool
-        ensures value { result ≡ rounded self.now style }
-        ensures float { result ≡ true → integer self.now ≡ false };
+        ensures { result ≡ rounded self.now style };
 
     /// Writes the number as a literal of `syntax` to the beginning of a buffer, as far as it has room, and returns the length of
     /// the text, and whether it has a decimal point or an exponent.
@@ -139,7 +138,7 @@ impl Writable for Whole {
     ghost use Rattle.lexical_util.specs.Record.{raw};
     ghost use Rattle.lexical_number.specs.Numeral.{with_sign};
     ghost use Rattle.lexical_writer.specs.Choice.{IsWhole, IsWrittenWhole, whole_of};
-    ghost use Rattle.lexical_writer.specs.Layout.{number_of_size, refusal};
+    ghost use Rattle.lexical_writer.specs.Layout.{laid_out, number_of_size, refusal};
 
     ghost base = { λ number. 10 };
 
@@ -147,7 +146,8 @@ impl Writable for Whole {
 
     ghost rounded = { λ number style. false };
 
-    ghost writes = { λ number style g result. MatchResult result (IsWrittenWhole (with_sign number.negative number.size) (raw g.word))
+    ghost writes = { λ number style g result. MatchResult result (λ l. (l ≡ laid_out g style (number_of_size number.negative number.size))
+        × IsWrittenWhole (with_sign number.negative number.size) (raw g.word) l)
         (λ error. refusal g (number_of_size number.negative number.size) ≡ Some error) };
 
     ghost is = { λ number style read. IsWhole (with_sign number.negative number.size) read };
@@ -203,7 +203,7 @@ pub struct Real<F> {
 impl<F: Float> Writable for Real<F> {
     ghost use Rattle.std.specs.Prelude.{◌≡◌, MatchResult, false, is_some, true};
     ghost use Rattle.lexical_number.specs.Float.{format_of};
-    ghost use Rattle.lexical_writer.specs.Amount.{IsFloatError};
+    ghost use Rattle.lexical_writer.specs.Amount.{IsFloatError, IsFloatOf};
     ghost use Rattle.lexical_writer.specs.Choice.{IsAmount, IsKept, IsWrittenReal};
 
     ghost base = { λ number. 10 };
@@ -212,8 +212,8 @@ impl<F: Float> Writable for Real<F> {
 
     ghost rounded = { λ number style. is_some style.decimals };
 
-    ghost writes = { λ number style g result. MatchResult result (IsWrittenReal (format_of F.DOUBLE) (F.value number.value) style.decimals g)
-        (IsFloatError (F.value number.value) g style) };
+    ghost writes = { λ number style g result. MatchResult result (λ l. IsFloatOf (format_of F.DOUBLE) (F.value number.value) g style l
+        × IsWrittenReal (format_of F.DOUBLE) (F.value number.value) style.decimals g l) (IsFloatError (F.value number.value) g style) };
 
     ghost is = { λ number style read. IsAmount (format_of F.DOUBLE) (F.value number.value) style.decimals read };
 
@@ -307,8 +307,8 @@ impl Writable for Literal<'_> {
     ghost use Rattle.lexical_util.specs.Layout as layout;
     ghost use Rattle.lexical_util.specs.Record.{raw};
     ghost use Rattle.lexical_writer.specs.Choice.{IsInStyle, IsKeptNumber, IsWrittenNumber};
-    ghost use Rattle.lexical_writer.specs.Conversion.{IsWritten};
-    ghost use Rattle.lexical_writer.specs.declared.layout.WriteError.{WriteError as Reason};
+    ghost use Rattle.std.specs.Float.{binary64};
+    ghost use Rattle.lexical_writer.specs.Conversion.{IsWrittenAs};
 
     ghost base = { λ number. (raw number.format).byte layout.mantissa_radix };
 
@@ -316,8 +316,8 @@ impl Writable for Literal<'_> {
 
     ghost rounded = { λ number style. false };
 
-    ghost writes = { λ number style g result. MatchResult result (IsWrittenNumber number style g)
-        (λ error. (other : Reason) × IsWritten number g style (Err other)) };
+    ghost writes = { λ number style g result. MatchResult result (λ l. IsWrittenAs binary64 number g style (Ok l) × IsWrittenNumber number style g l)
+        (λ error. IsWrittenAs binary64 number g style (Err error)) };
 
     ghost is = { λ number style read. IsInStyle number style read };
 
@@ -544,145 +544,15 @@ pub struct Chosen {
     pub style: Style,
 }
 
-// How many steps there are in which forms are asked: three in each of the six turns.
-const STEPS: u8 = 18;
-
-// The order in which a list asks its forms to write a number: the number's radix, whether it is an integer, whether forms whose
-// literals all have an exponent are asked with the others, and of the form that is asked first, if the number is rounded, the radix,
-// and whether it has floats.
-#[derive(Clone, Copy)]
-struct Order {
-    radix: u32,
-    integer: bool,
-    all: bool,
-    first: Option<(u32, bool)>,
-}
-
-impl Order {
-    // Returns the order in which forms are asked to write a number in a style.
-    #[inline(always)]
-    fn of<N: Writable>(forms: &[Form], number: &N, style: Style) -> Order
-        ensures order { IsOrder (N.base number.now) (N.integer number.now) (N.rounded number.now style) style forms.now result }
-        ensures float { is_some result.first ≡ true → N.integer number.now ≡ false }
-    {
-        let integer = number.is_integer();
-        let order = Order {
-            radix: number.radix(),
-            integer,
-            all: !integer | wants_exponent(style.exponent),
-            first: None,
-        };
-        if number.is_rounded(style) {
-            Order {
-                first: order.first_of(forms),
-                ..order
-            }
-        } else {
-            order
-        }
-    }
-
-    // Returns the radix of the form that is asked first, if any is, and whether it has floats.
-    #[inline(always)]
-    fn first_of(&self, forms: &[Form]) -> Option<(u32, bool)>
-        ensures { IsFirstAsked self.now forms.now result }
-    {
-        let mut step = 0;
-        while step < STEPS {
-            let mut index = 0;
-            while index < forms.len() {
-                let it = &forms[index];
-                if self.is_asked(step, it) {
-                    let syntax = it.syntax();
-                    return Some((
-                        syntax.format().view().mantissa_radix(),
-                        syntax.options().is_some(),
-                    ));
-                }
-                index += 1;
-            }
-            step += 1;
-        }
-        None
-    }
-
-    // Returns whether a form is asked in a step.
-    #[inline(always)]
-    fn is_asked(&self, step: u8, form: &Form) -> bool
-        ensures { result ≡ is_asked self.now step form.now }
-    {
-        let syntax = form.syntax();
-        if turn(self.radix, self.integer, &syntax) != step / 3 {
-            return false;
-        }
-        self.takes_part(step % 3, needs_exponent(&syntax))
-            & !form.is_only_read()
-            & self.is_radix(&syntax)
-    }
-
-    // Returns whether a form is asked in a part of its turn, where all of its literals may have an exponent.
-    #[inline(always)]
-    const fn takes_part(&self, part: u8, exponent: bool) -> bool
-        ensures { result ≡ takes_part self.now part exponent }
-    {
-        match part {
-            0 => self.all || !exponent,
-            1 => self.integer && !exponent,
-            _ => !self.all && exponent,
-        }
-    }
-
-    // Returns whether a form with a syntax has the radix in which the number is rounded, if it is.
-    #[inline(always)]
-    fn is_radix(&self, syntax: &Syntax) -> bool
-        ensures { result ≡ is_radix self.now.first syntax.now }
-    {
-        match self.first {
-            Some((radix, _)) => syntax.format().view().mantissa_radix() == radix,
-            None => true,
-        }
-    }
-
-    // Returns the style in which a form with a syntax is asked to write the number.
-    #[inline(always)]
-    fn style(&self, syntax: &Syntax, style: Style) -> Style
-        ensures { result ≡ asked_style self.now.first syntax.now style }
-    {
-        if self.is_unrounded(syntax, style.decimals) {
-            Style {
-                decimals: None,
-                ..style
-            }
-        } else {
-            style
-        }
-    }
-
-    // Returns whether a form with a syntax writes the number without rounding it.
-    #[inline(always)]
-    fn is_unrounded(&self, syntax: &Syntax, decimals: Option<u8>) -> bool
-        ensures { result ≡ is_unrounded self.now.first syntax.now decimals }
-    {
-        match (self.first, decimals) {
-            (Some((_, floats)), Some(count)) => floats && syntax.options().is_none() && count > 0,
-            _ => false,
-        }
-    }
-}
-
-/// Writes a number by the first form whose text the list reads as this number, to the beginning of a buffer, and returns the
-/// index of the form, the length of the text, and the style in which it is written. Forms of the number's radix are asked first,
-/// then decimal ones, and then the others, each in the order of the list, and all forms with floats write a float before those of
-/// integers alone. Of each of these turns, an integer is written without a word, if no form does so with one of its
-/// [words][Suffixes::written], with which its token is the number, and else as a float that is this integer.
-/// Where an exponent would make an integer another number, the wish for one is dropped. A float is rounded in the radix
-/// of the form that is asked first.
+/// Writes a number by the first form whose text the list reads as this number, to the beginning of a buffer. The number's own forms
+/// are asked first: those of its radix which, if it is no integer, have floats. No other form writes a float that is rounded. A form
+/// writes an integer with the first of its [words][Suffixes::written] with which its token is the number, if it does not without one.
 ///
 /// # Errors
 ///
-/// If there is no such form, returns the error of the form that is asked first, but [`WriteError::Fraction`] gives way to another one.
-/// It is [`WriteError::ReadBack`] if the text is read as another number, [`WriteError::TooLarge`] if it is too large for its kind,
-/// and [`WriteError::Buffer`] if it does not fit the buffer. With a text of up to 4,096 bytes that does not, the search ends.
+/// If there is no such form, returns the error of the form that is asked first. It is [`WriteError::ReadBack`] if the text is read as
+/// another number, and [`WriteError::TooLarge`] if it is too large for its kind. If a text does not fit the buffer, the search ends
+/// with [`WriteError::Buffer`].
 pub fn choose<N: Writable>(
     forms: &Forms,
     number: &N,
@@ -692,32 +562,36 @@ pub fn choose<N: Writable>(
     // The list reads the text as the number or, with a word, its token is the number.
     ensures value { IfOk result (λ it. IsReadWith forms.now it.word (take it.length buffer.new) (N.is number.now it.style)) }
     ensures length { IfOk result (λ it. it.length ≤ length buffer.new) }
-    // The form is asked in some step, and each form that is asked before it has a reason not to write the number.
-    ensures form { IfOk result (λ it. (order : Turns) × (step : ℕ) × IsOrder (N.base number.now) (N.integer number.now)
-        (N.rounded number.now style) style forms.now.forms order
-        × IsSomeAnd (slice_get forms.now.forms it.form) (λ form. is_asked order step form ≡ true)
-        × AreBefore (λ before at form. (error : WriteError) × IsReason (N.writes number.now) (N.keeps number.now) (length buffer.old)
-        order style forms.now.forms before at form error) order forms.now.forms step it.form) }
-    // The error is the first that is not `Fraction`, if there is one, or that of a text for which the buffer is too short.
-    ensures error { IfErr result (λ error. (order : Turns)
-        × IsOrder (N.base number.now) (N.integer number.now) (N.rounded number.now style) style forms.now.forms order
-        × (IsShort (IsReason (N.writes number.now) (N.keeps number.now) (length buffer.old) order style forms.now.forms) order forms.now.forms error
-        ⊎ ((first : Option WriteError)
-        × IsSearched (IsReason (N.writes number.now) (N.keeps number.now) (length buffer.old) order style forms.now.forms) order forms.now.forms 18 0 first
-        × (error ≡ unwrap_or first errors.ReadBack)))) }
-    ensures style { IfOk result (λ it. IsStyleOf (N.integer number.now) style it.style) }
+    // The form is asked in some step, and each form that is asked before it has a reason not to write the number, which does not end the search.
+    ensures form { IfOk result (λ it. (step : ℕ) × (step < steps (N.rounded number.now style))
+        × IsSomeAnd (slice_get forms.now.forms it.form) (λ form. is_asked (N.base number.now) (N.integer number.now) step form ≡ true)
+        × AreBefore (λ at form. (error : Reason) × PassesOver (N.writes number.now) (N.keeps number.now) (length buffer.old) forms.now
+        (N.integer number.now) style at form error) (is_asked (N.base number.now) (N.integer number.now)) forms.now.forms step it.form) }
+    // The text is what this form writes, in the first way in which it does.
+    ensures text { IfOk result (λ it. IsSomeAnd (slice_get forms.now.forms it.form) (λ form. IsChosen (N.writes number.now) (N.keeps number.now)
+        (length buffer.old) forms.now it.form form (N.integer number.now) style it.style (bytes_of_word it.word) (take it.length buffer.new))) }
+    // The error is that of a text for which the buffer is too short, which ends the search, or else that of the form that is asked first.
+    ensures error { IfErr result (λ error. ((is_short error ≡ true) × (step : ℕ) × (at : ℕ) × (step < steps (N.rounded number.now style))
+        × AreBefore (λ at form. (error : Reason) × PassesOver (N.writes number.now) (N.keeps number.now) (length buffer.old) forms.now
+        (N.integer number.now) style at form error) (is_asked (N.base number.now) (N.integer number.now)) forms.now.forms step at
+        × IsSomeAnd (slice_get forms.now.forms at) (λ form. (is_asked (N.base number.now) (N.integer number.now) step form ≡ true)
+        × IsReason (N.writes number.now) (N.keeps number.now) (length buffer.old) forms.now at form (N.integer number.now) style error))
+        ⊎ ((first : Option Reason) × IsSearched (PassesOver (N.writes number.now) (N.keeps number.now) (length buffer.old) forms.now
+        (N.integer number.now) style) (is_asked (N.base number.now) (N.integer number.now)) forms.now.forms (steps (N.rounded number.now style)) 0 first
+        × (error ≡ unwrap_or first errors.ReadBack))) }
 {
     let list = forms.as_slice();
-    let order = Order::of(list, number, style);
+    let radix = number.radix();
+    let integer = number.is_integer();
+    let end = steps(number.is_rounded(style));
     let mut error = None;
     let mut step = 0;
-    while step < STEPS {
+    while step < end {
         let mut index = 0;
         while index < list.len() {
             let it = &list[index];
-            if order.is_asked(step, it) {
-                let own = order.style(&it.syntax(), style);
-                match write_in(forms, index, it, step % 3 == 1, number, own, buffer) {
+            if is_asked(radix, integer, step, it) {
+                match write_form(forms, index, it, number, style, buffer) {
                     Ok(chosen) => return Ok(chosen),
                     Err(other) if is_short(other) => return Err(other),
                     Err(other) => error = first_reason(error, other),
@@ -730,18 +604,64 @@ pub fn choose<N: Writable>(
     Err(error.unwrap_or(WriteError::ReadBack))
 }
 
+// Returns how many steps there are: in the first one, a number's own forms are asked, and in the second one the others.
+const fn steps(rounded: bool) -> u8
+    ensures { result ≡ steps rounded }
+{
+    if rounded {
+        1
+    } else {
+        2
+    }
+}
+
+// Returns whether a form is asked in a step.
+#[inline(always)]
+fn is_asked(radix: u32, integer: bool, step: u8, form: &Form) -> bool
+    ensures { result ≡ is_asked radix integer step form.now }
+{
+    is_turn(step, is_own(radix, integer, &form.syntax())) & !form.is_only_read()
+}
+
+// Returns whether a step is that of a number's own forms, or of the others.
+#[inline(always)]
+const fn is_turn(step: u8, own: bool) -> bool
+    ensures { result ≡ (if step == 0 then own else not own) }
+{
+    match step {
+        0 => own,
+        _ => !own,
+    }
+}
+
+// Returns whether a form with a syntax is one of a number's own.
+#[inline(always)]
+fn is_own(radix: u32, integer: bool, syntax: &Syntax) -> bool
+    ensures { result ≡ is_own radix integer syntax.now }
+{
+    (syntax.format().view().mantissa_radix() == radix) & takes(integer, syntax)
+}
+
+// Returns whether a syntax has floats, or the number is an integer.
+#[inline(always)]
+fn takes(integer: bool, syntax: &Syntax) -> bool
+    ensures { result ≡ (integer || not (lacks_options syntax.now.options)) }
+{
+    integer || syntax.options().is_some()
+}
+
 /// Returns how the first form of a list writes an integer, if this form is asked first, and its text is known to be read back.
 #[inline(always)]
 pub fn lay_out_first(forms: &Forms, number: &Whole, style: Style) -> Option<WrittenInteger>
     ensures back { IfSome result (λ it.
         IsReadBack forms.now (text_of (integer_literal it)) (IsWhole (with_sign number.now.negative number.now.size))) }
     ensures first { IfSome result (λ it. (form : Asked) × (slice_get forms.now.forms 0 ≡ Some form) × (form.only_read ≡ false)
-        × (turn 10 true form.syntax ≡ 0)
+        × (is_own 10 true form.syntax ≡ true)
         × (integer_literal it ≡ laid_out form.syntax style (number_of_size number.now.negative number.now.size))) }
 {
     let form = &forms.as_slice()[0];
     let syntax = form.syntax();
-    if form.is_only_read() || form.is_marked() || turn(10, true, &syntax) != 0 {
+    if form.is_only_read() || form.is_marked() || !is_own(10, true, &syntax) {
         return None;
     }
     let Ok(integer) = WrittenInteger::of_size(number.negative, number.size, &syntax, style) else {
@@ -753,49 +673,21 @@ pub fn lay_out_first(forms: &Forms, number: &Whole, style: Style) -> Option<Writ
     Some(integer)
 }
 
-// Returns the first of the reasons why forms do not write a number. `Fraction` gives way to another one.
+// Returns the first of the reasons why forms do not write a number.
 const fn first_reason(first: Option<WriteError>, error: WriteError) -> Option<WriteError>
     ensures { result ≡ first_reason first error }
 {
     match first {
-        None | Some(WriteError::Fraction) => Some(error),
+        None => Some(error),
         Some(_) => first,
     }
 }
 
-// Returns in which turn a form with a syntax is asked to write an integer, or another number, of a radix.
-fn turn(radix: u32, integer: bool, syntax: &Syntax) -> u8
-    ensures { result ≡ turn radix integer syntax.now }
-{
-    let own = syntax.format().view().mantissa_radix();
-    let late = delay(integer, syntax);
-    if own == radix {
-        late
-    } else if own == 10 {
-        late + 1
-    } else {
-        late + 2
-    }
-}
-
-// Returns 3 for a form of integers alone and a float, which all forms with floats write before, and 0 for others.
-#[inline(always)]
-fn delay(integer: bool, syntax: &Syntax) -> u8
-    ensures { result ≡ (if integer || not (lacks_options syntax.now.options) then 0 else 3) }
-{
-    if integer || syntax.options().is_some() {
-        0
-    } else {
-        3
-    }
-}
-
-// Writes a number by one form, with a word if `with` is true, or returns why it is not used.
-fn write_in<N: Writable>(
+// Writes a number by one form, without a word or else with one, or returns why it is not used.
+fn write_form<N: Writable>(
     forms: &Forms,
     index: usize,
     form: &Form,
-    with: bool,
     number: &N,
     style: Style,
     buffer: &mut [u8],
@@ -805,13 +697,48 @@ fn write_in<N: Writable>(
     ensures length { IfOk result (λ it. it.length ≤ length buffer.new) }
     ensures room { length buffer.new ≡ length buffer.old }
     ensures form { IfOk result (λ it. it.form ≡ index) }
-    ensures style { IfOk result (λ it. IsStyleOf (N.integer number.now) style it.style) }
-    ensures error { with ≡ false → IfErr result (IsPassedOver (N.writes number.now)
-        (λ style. IsUnusable (N.keeps number.now style) (length buffer.old) forms.now.forms index) style form.now) }
+    ensures text { IfOk result (λ it. IsChosen (N.writes number.now) (N.keeps number.now) (length buffer.old) forms.now index form.now
+        (N.integer number.now) style it.style (bytes_of_word it.word) (take it.length buffer.new)) }
+    ensures error { IfErr result (IsReason (N.writes number.now) (N.keeps number.now) (length buffer.old) forms.now index form.now
+        (N.integer number.now) style) }
 {
-    if with && number.is_integer() {
-        return write_words(forms, index, form, number, style, buffer);
+    let error = match write_in(forms, index, form, number, style, buffer) {
+        Ok(chosen) => return Ok(chosen),
+        Err(error) => error,
+    };
+    if is_short(error) {
+        return Err(error);
     }
+    if !number.is_integer() {
+        return Err(error);
+    }
+    match write_words(forms, index, form, number, style, buffer) {
+        Ok(chosen) => Ok(chosen),
+        Err(other) if is_short(other) => Err(other),
+        Err(_) => Err(error),
+    }
+}
+
+// Writes a number by one form, without a word, or returns why it is not used.
+fn write_in<N: Writable>(
+    forms: &Forms,
+    index: usize,
+    form: &Form,
+    number: &N,
+    style: Style,
+    buffer: &mut [u8],
+) -> Result<Chosen, WriteError>
+    requires { slice_get forms.now.forms index ≡ Some form.now }
+    ensures value { IfOk result (λ it. IsReadWith forms.now it.word (take it.length buffer.new) (N.is number.now it.style)) }
+    ensures length { IfOk result (λ it. it.length ≤ length buffer.new) }
+    ensures room { length buffer.new ≡ length buffer.old }
+    ensures form { IfOk result (λ it. it.form ≡ index) }
+    ensures word { IfOk result (λ it. it.word ≡ None) }
+    ensures text { IfOk result (λ it. IsChosen (N.writes number.now) (N.keeps number.now) (length buffer.old) forms.now index form.now
+        (N.integer number.now) style it.style (bytes_of_word it.word) (take it.length buffer.new)) }
+    ensures error { IfErr result (IsPassedOver (N.writes number.now) (N.keeps number.now) (length buffer.old) forms.now index form.now
+        (N.integer number.now) style) }
+{
     let error = match write_by(forms, index, form, number, style, buffer) {
         Ok(length) => return Ok(Chosen {
             form: index,
@@ -821,7 +748,11 @@ fn write_in<N: Writable>(
         }),
         Err(error) => error,
     };
-    if is_short(error) || !number.is_integer() || !wants_exponent(style.exponent) {
+    let wished = number.is_integer() & wants_exponent(style.exponent);
+    if is_short(error) {
+        return Err(error);
+    }
+    if !wished {
         return Err(error);
     }
     let style = without_wish(style);
@@ -836,7 +767,7 @@ fn write_in<N: Writable>(
 
 // Returns the style without a wish for an exponent.
 const fn without_wish(style: Style) -> Style
-    ensures { result ≡ record style { exponent = exponents.AsNumber } }
+    ensures { result ≡ unwished style }
 {
     Style {
         exponent: ExponentStyle::AsNumber,
@@ -859,19 +790,28 @@ fn write_words<N: Writable>(
     ensures length { IfOk result (λ it. it.length ≤ length buffer.new) }
     ensures room { length buffer.new ≡ length buffer.old }
     ensures form { IfOk result (λ it. it.form ≡ index) }
-    ensures style { IfOk result (λ it. IsStyleOf (N.integer number.now) style it.style) }
+    ensures style { IfOk result (λ it. it.style ≡ unwished style) }
+    ensures text { IfOk result (λ it. (word : List ℕ) × (bytes_of_word it.word ≡ Some word) × (l : Parts)
+        × N.writes number.now (unwished style) form.now.syntax (Ok l) × (take it.length buffer.new ≡ text_by form.now (Some word) l)
+        × IsWithWord (N.writes number.now) (N.keeps number.now) (length buffer.old) forms.now index form.now style (λ other. other ≡ word)) }
+    ensures error { IfErr result (λ error. (is_short error ≡ true → IsWithWord (N.writes number.now) (N.keeps number.now) (length buffer.old)
+        forms.now index form.now style (λ word. IsRefused (N.writes number.now) (N.keeps number.now) (length buffer.old) forms.now index form.now
+        (unwished style) (Some word) error))
+        × (is_short error ≡ false → ArePassed (N.writes number.now) (N.keeps number.now) (length buffer.old) forms.now index form.now style
+        (length (words_of form.now.suffixes)))) }
 {
     let Some(suffixes) = form.suffixes() else {
         return Err(WriteError::ReadBack);
     };
-    let style = without_wish(style);
-    for word in suffixes.written() {
-        match write_around(forms, form, number, style, Some(word), buffer) {
+    let plain = without_wish(style);
+    let words = suffixes.written();
+    for word in words {
+        match write_around(forms, form, number, plain, Some(word), buffer) {
             Ok(length) => return Ok(Chosen {
                 form: index,
                 word: Some(word),
                 length,
-                style,
+                style: plain,
             }),
             Err(error) if is_short(error) => return Err(error),
             Err(_) => {}
@@ -890,19 +830,16 @@ fn write_around<N: Writable>(
     word: Option<&'static &'static [u8]>,
     buffer: &mut [u8],
 ) -> Result<usize, WriteError>
+    requires { word ≡ None → is_marked form.now ≡ true }
     ensures value { IfOk result (λ size. IsReadWith forms.now word.entry (take size buffer.new) (N.is number.now style)) }
     ensures length { IfOk result (λ size. size ≤ length buffer.new) }
     ensures room { length buffer.new ≡ length buffer.old }
+    ensures text { IfOk result (λ size. (l : Parts) × N.writes number.now style form.now.syntax (Ok l)
+        × (take size buffer.new ≡ text_by form.now (bytes_of_word word.entry) l)) }
+    ensures error { (index : ℕ) → IfErr result (IsRefused (N.writes number.now) (N.keeps number.now) (length buffer.old) forms.now index form.now
+        style (bytes_of_word word.entry)) }
 {
-    let (opening, closing) = (form.opening(), form.closing());
-    let start = put_at(buffer, 0, opening.as_bytes());
-    let least = start.min(buffer.len());
-    let (size, _) = number.write(&form.syntax(), style, &mut buffer[least..])?;
-    let end = put_at(buffer, start.saturating_add(size), closing.as_bytes());
-    let end = match word {
-        Some(word) => put_at(buffer, end, word),
-        None => end,
-    };
+    let end = put_text(form, number, style, word, buffer)?;
     // A text that is longer than a `usize` has the size `usize::MAX`.
     if end == usize::MAX || end > buffer.len() {
         return Err(WriteError::Buffer(end));
@@ -915,9 +852,53 @@ fn write_around<N: Writable>(
     Ok(end)
 }
 
+// Writes a number by one form with its opening and its closing, and a word behind it if there is one, to the beginning of a buffer, as far as
+// it has room, and returns the length of the text, or why there is none.
+fn put_text<N: Writable>(
+    form: &Form,
+    number: &N,
+    style: Style,
+    word: Option<&'static &'static [u8]>,
+    buffer: &mut [u8],
+) -> Result<usize, WriteError>
+    ensures room { length buffer.new ≡ length buffer.old }
+    ensures text { IfOk result (λ size. (l : Parts) × N.writes number.now style form.now.syntax (Ok l)
+        × IsPut (text_by form.now (bytes_of_word word.entry) l) buffer.new size) }
+    ensures error { IfErr result (λ error. N.writes number.now style form.now.syntax (Err error)) }
+{
+    let (opening, closing) = (form.opening(), form.closing());
+    let start = put_at(buffer, 0, opening.as_bytes());
+    let end = put_number(&form.syntax(), number, style, start, buffer)?;
+    let end = put_at(buffer, end, closing.as_bytes());
+    Ok(match word {
+        Some(word) => put_at(buffer, end, word),
+        None => end,
+    })
+}
+
+// Writes a number as a literal of a syntax to a buffer from an index on, as far as it has room, and returns the index behind it, or why there
+// is none.
+fn put_number<N: Writable>(
+    syntax: &Syntax,
+    number: &N,
+    style: Style,
+    start: usize,
+    buffer: &mut [u8],
+) -> Result<usize, WriteError>
+    ensures room { length buffer.new ≡ length buffer.old }
+    ensures text { (front : List ℕ) → start < 2 ^ 64 - 1 → IsPut front buffer.old start
+        → IfOk result (λ size. (l : Parts) × N.writes number.now style syntax.now (Ok l) × IsPut (front ++ text_of l) buffer.new size) }
+    ensures error { IfErr result (λ error. N.writes number.now style syntax.now (Err error)) }
+{
+    let least = start.min(buffer.len());
+    let (size, _) = number.write(syntax, style, &mut buffer[least..])?;
+    Ok(start.saturating_add(size))
+}
+
 // Writes bytes to a buffer from an index on, as far as it has room, and returns the index behind them.
 fn put_at(buffer: &mut [u8], index: usize, bytes: &[u8]) -> usize
-    ensures { length buffer.new ≡ length buffer.old }
+    ensures room { length buffer.new ≡ length buffer.old }
+    ensures text { (front : List ℕ) → IsPut front buffer.old index → IsPut (front ++ bytes.now) buffer.new result }
 {
     let end = index.saturating_add(bytes.len());
     if end <= buffer.len() {
@@ -933,7 +914,9 @@ fn read_alone<N: Writable>(
     style: Style,
     text: &[u8],
 ) -> Result<(), WriteError>
-    ensures { IfOk result (λ _. IsReadBack forms.now text.now (N.is number.now style)) }
+    ensures value { IfOk result (λ _. IsReadBack forms.now text.now (N.is number.now style)) }
+    ensures error { IfErr result (λ error. IsReadElse (λ own. N.keeps number.now style false) forms.now.forms 0 text.now error
+        ⊎ (NoForm forms.now.forms text.now × (error ≡ errors.ReadBack))) }
 {
     let Some((_, literal)) = read_literal(forms, text) else {
         return Err(WriteError::ReadBack);
@@ -952,12 +935,20 @@ fn read_token<N: Writable>(
     word: &[u8],
     text: &[u8],
 ) -> Result<(), WriteError>
-    ensures { IfOk result (λ _. IsTokenOf forms.now word.now text.now (N.is number.now style)) }
+    ensures value { IfOk result (λ _. IsTokenOf forms.now word.now text.now (N.is number.now style)) }
+    ensures error { IfErr result (IsNoToken (N.keeps number.now style) forms.now word.now text.now) }
 {
     let Ok(token) = forms.token(text) else {
         return Err(WriteError::ReadBack);
     };
-    if token.rest.is_empty() && token.suffix == word && number.is_worth(style, &token.literal) {
+    if !token.rest.is_empty() {
+        return Err(WriteError::ReadBack);
+    }
+    let same = token.suffix == word;
+    if !same {
+        return Err(WriteError::ReadBack);
+    }
+    if number.is_worth(style, &token.literal) {
         return Ok(());
     }
     Err(WriteError::ReadBack)
@@ -965,9 +956,9 @@ fn read_token<N: Writable>(
 
 // Returns whether a text needs a longer buffer.
 const fn is_short(error: WriteError) -> bool
-    ensures { result ≡ true → (n : ℕ) × (n ≤ 4096) × (error ≡ errors.Buffer n) }
+    ensures { result ≡ is_short error }
 {
-    matches!(error, WriteError::Buffer(length) if length <= LONGEST)
+    matches!(error, WriteError::Buffer(_))
 }
 
 // Writes a number by one form, and returns the length of the text, or why it is not used.
@@ -983,8 +974,8 @@ fn write_by<N: Writable>(
     ensures value { IfOk result (λ size. IsReadBack forms.now (take size buffer.new) (N.is number.now style)) }
     ensures length { IfOk result (λ size. size ≤ length buffer.new) }
     ensures room { length buffer.new ≡ length buffer.old }
-    ensures error { IfErr result (IsRefused (N.writes number.now)
-        (λ style. IsUnusable (N.keeps number.now style) (length buffer.old) forms.now.forms index) style form.now) }
+    ensures text { IfOk result (λ size. (l : Parts) × N.writes number.now style form.now.syntax (Ok l) × (take size buffer.new ≡ text_by form.now None l)) }
+    ensures error { IfErr result (IsRefused (N.writes number.now) (N.keeps number.now) (length buffer.old) forms.now index form.now style None) }
 {
     if form.is_marked() {
         return write_around(forms, form, number, style, None, buffer);

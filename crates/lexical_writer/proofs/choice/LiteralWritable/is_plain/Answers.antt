@@ -18,7 +18,7 @@ returns-clause-plain c equal read kind word float has =
     (elim all.2 [
       | inl own ↦ inl (sym c.is_float.ensures.value ∙ own)
       | inr none ↦ inr (no_float c.args.syntax.now read _ word c.has_floats.ensures ((λ i. float i && c.has_floats.result) ∙ none))
-    ]) has
+    ]) has.1
 
 all_true : (a b c d : Bool) → ((a && b) && (c || not d)) ≡ false → a ≡ true → b ≡ true → (c ≡ true) ⊎ (d ≡ false) → ⊥
 all_true a b c d none first second third = elim third [

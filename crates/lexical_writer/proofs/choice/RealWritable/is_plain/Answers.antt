@@ -11,7 +11,7 @@ returns-then-is_nearest-clause-plain g c equal read kind word float has =
     ((λ i. (kind i).floats) ∙ c.is_nearest.ensures.near c.if-is_nearest.true)
     (λ negative n near same. (λ i. within (kind i).limits negative n near) ∙ (λ i. within (sym c.limits.ensures i) negative n near)
     ∙ c.is_within.ensures.near equal negative n near same)
-    ((λ i. is_exact (kind i).integers || float i) ∙ c.is_nearest.ensures.plain c.if-is_nearest.true) has
+    ((λ i. is_exact (kind i).integers || float i) ∙ c.is_nearest.ensures.plain c.if-is_nearest.true) has.1
 
 pub returns-then-not-has_floats-clause-kept : goal.returns-then-not-has_floats-clause-kept
 returns-then-not-has_floats-clause-kept g c equal read kind word float keeps = absurd (false≢true (sym c.if-not-has_floats.true ∙ c.has_floats.ensures

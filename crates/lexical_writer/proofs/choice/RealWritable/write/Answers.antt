@@ -9,8 +9,8 @@ returns-clause-text g c =
     let l = literal_of c.in_ok-format_float.field-0 in (
       l,
       written.literal,
-      written_real (format_of g.F.Float.DOUBLE) (g.F.Float.value c.args.self.now.value) c.args.style.decimals c.args.syntax.now l written.value
-          written.rounded,
+      (written.amount, written_real (format_of g.F.Float.DOUBLE) (g.F.Float.value c.args.self.now.value) c.args.style.decimals c.args.syntax.now l
+          written.value written.rounded),
       c.put.ensures.text,
       c.put.ensures.float,
     )

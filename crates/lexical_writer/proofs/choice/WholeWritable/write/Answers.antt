@@ -10,10 +10,10 @@ returns-clause-text c =
     let number = written.written.1 in (
       l,
       written.written.0,
-      (
+      (written.parts, (
         has_value c.args.syntax.now c.args.self.now.negative c.args.self.now.size _ refl written.lawful l number,
         λ i. with_sign (sym number.sign i) (sym number.integer i),
-      ),
+      )),
       c.write.ensures,
       c.is_float.ensures,
     )
