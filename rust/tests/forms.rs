@@ -4,7 +4,7 @@
 mod random;
 
 use peltzivar::literal::{
-    Condition, Conditions, ExponentStyle, FloatKind, Form, Forms, IntegerKind, Kind, Language, Literal, Number,
+    Affix, Condition, Conditions, ExponentStyle, FloatKind, Form, Forms, IntegerKind, Kind, Language, Literal, Number,
     ParseError, Real, Specials, Style, Syntax, Whole, Writable, WriteError,
 };
 use peltzivar::{Format, NumberFormatBuilder};
@@ -99,30 +99,23 @@ fn whole(forms: &Forms, text: &str) -> Option<String> {
     }
 }
 
-/// Returns what a list writes for a decimal integer by decimal forms, or else by others: an integer or, with a wish, a float, else an
-/// integer with a word, and else a float. A wish that makes it another number is dropped.
+/// Returns what a list writes for a decimal integer: the first text that it reads as this integer. Decimal forms come first, and each
+/// form writes it in the style, without a wish for an exponent, and with its words.
 fn integer_in(forms: &Forms, literal: &Literal, style: Style) -> Option<String> {
     let text_of = |form: &Form, style| form.syntax().format_literal(literal, style).ok().map(|text| text.to_string());
     let plain = style.exponent(ExponentStyle::AsNumber);
-    let is_float = |text: &str| forms.read(text).is_ok_and(|it| it.literal().is_some_and(|it| it.is_float()));
-    let is_late = |text: &str| style.exponent != ExponentStyle::Always && is_float(text);
-    let is_token =
-        |text: &str| forms.token(text).is_ok_and(|it| it.rest.is_empty() && it.literal.to_i128() == literal.to_i128());
-    [true, false].into_iter().find_map(|decimal| {
-        let asked = || forms.into_iter().filter(move |it| (it.syntax().format().mantissa_radix() == 10) == decimal);
-        let texts = || asked().flat_map(|form| [style, plain].map(|style| text_of(form, style))).flatten();
-        let without = |late| {
-            texts().find(|text| is_late(text) == late && whole(forms, text).as_deref() == Some(literal.as_str()))
-        };
-        let with = |form: &Form| {
-            let mut texts = form
-                .suffixes()?
-                .written()
-                .iter()
-                .filter_map(|word| Some(text_of(form, plain)? + std::str::from_utf8(word).ok()?));
-            texts.find(|text| is_token(text))
-        };
-        without(false).or_else(|| asked().find_map(with)).or_else(|| without(true))
+    let is_same = |text: &String| whole(forms, text).as_deref() == Some(literal.as_str());
+    let is_token = |text: &String| {
+        forms.token(text).is_ok_and(|it| it.rest.is_empty() && it.literal.to_i128() == literal.to_i128())
+    };
+    let asked = |decimal| forms.into_iter().filter(move |it| (it.syntax().format().mantissa_radix() == 10) == decimal);
+    asked(true).chain(asked(false)).find_map(|form| {
+        let without = [style, plain].into_iter().find_map(|style| text_of(form, style).filter(is_same));
+        without.or_else(|| {
+            let words = form.suffixes()?.written().iter().map(|word| std::str::from_utf8(word).unwrap());
+            let mut texts = words.filter_map(|word| Some(text_of(form, plain)? + word));
+            texts.find(is_token)
+        })
     })
 }
 
@@ -162,6 +155,33 @@ fn an_integer_has_an_exponent_where_it_stays_the_same_number() {
         let written = |value| Forms::new_or_panic(&forms).format_integer(value, Style::PLAIN).map(|it| it.to_string());
         assert_eq!([5, largest].map(written), [Ok("5e0".into()), Ok(format!("{largest}e0"))]);
         assert_eq!(written(largest + 1), Err(WriteError::ReadBack));
+    }
+}
+
+/// No type reads an exponent of a radix without floats: a wish for one is dropped, and where each literal has one, none is written.
+#[test]
+fn an_integer_has_no_exponent_in_a_radix_without_floats() {
+    for (radix, required) in (2..=36).flat_map(|radix| [(radix, false), (radix, true)]) {
+        let format = NumberFormatBuilder::new().mantissa_radix(radix).required_exponent_notation(required);
+        let form = Form::new("", Syntax::new_or_panic(format.build_format_or_panic(), b'^', b'.'));
+        let forms = [form, form.with_opening(Affix::new(b"$").unwrap())];
+        for forms in [&forms[..1], &forms[1..]].map(Forms::new_or_panic) {
+            let literal = Language::JSON.read("8").unwrap().literal().unwrap();
+            let style = Style::PLAIN.exponent(ExponentStyle::Always);
+            let has_floats = radix == 10 || radix.is_power_of_two();
+            for written in [forms.format_integer(8, style), forms.format_literal(&literal, style)] {
+                let read = written.map(|text| {
+                    let text = text.to_string();
+                    (forms.parse::<i64>(&text).ok(), forms.parse::<f64>(&text).ok())
+                });
+                let wanted = match (has_floats, required) {
+                    (true, _) => Ok((None, Some(8.0))),
+                    (false, false) => Ok((Some(8), None)),
+                    (false, true) => Err(WriteError::ReadBack),
+                };
+                assert_eq!(read, wanted, "{radix}");
+            }
+        }
     }
 }
 

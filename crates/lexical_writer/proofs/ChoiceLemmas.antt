@@ -1,9 +1,9 @@
 -- What a list reads is the number that a form has written.
-use Rattle.lexical_writer.proofs.Common.{Bool, Form, Grammar, HasValue, IsFirst, IsRounded, IsSomeAnd, IsWhole, Kind, List, Literal, NoForm, None, Ok}
+use Rattle.lexical_writer.proofs.Common.{Bool, Form, Grammar, IsFirst, IsRounded, IsSomeAnd, IsWhole, Kind, List, Literal, NoForm, None, Ok}
 use Rattle.lexical_writer.proofs.Common.{Option, Read, Reads, ReadsForm, Record, SameFraction, Some, Style, ap, arith, decimals_in, exact, false, false≢true}
 use Rattle.lexical_writer.proofs.Common.{float_worth, format_by, if◌then◌else◌, inl, inr, integer_worth, is_binary, is_decimal, is_exact, is_float, is_minus}
 use Rattle.lexical_writer.proofs.Common.{is_some, length-take-le}
-use Rattle.lexical_writer.proofs.Common.{mantissa, nearest, negsuc, notation_of, pos, raw, refl, slice_get, subst, suc, sym, take, true, with_sign, within}
+use Rattle.lexical_writer.proofs.Common.{mantissa, nearest, negsuc, not, notation_of, pos, raw, refl, slice_get, subst, suc, sym, take, true, with_sign, within}
 use Rattle.lexical_writer.proofs.Common.{whole_of, worth, zero, ℕ, ℤ, ◌&&◌, ◌||◌, ◌<◌, ◌∙◌, ◌≡◌, ◌⊎◌}
 use Rattle.std.proofs.lemmas.Option.{get_or_from_slice_get, slice_get_within}
 use Rattle.std.specs.Float.{Float, Format, binary64}
@@ -16,7 +16,7 @@ use Rattle.lexical_value.specs.Integer.{integer_size}
 use Rattle.lexical_value.specs.Kind.{IsNotWorth}
 use Rattle.lexical_value.specs.declared.integer.ValueErrorKind.{ValueErrorKind}
 use Rattle.lexical_value.specs.declared.integer.ValueErrorKind.TheVariants as kinds
-use Rattle.lexical_writer.specs.Choice.{IsAmount, IsInStyle, IsReal, IsWrittenNumber, IsWrittenReal, IsWrittenWhole, has_float, has_worth}
+use Rattle.lexical_writer.specs.Choice.{IsAmount, IsInStyle, IsReal, IsWrittenNumber, IsWrittenReal, has_floats, has_worth}
 use Rattle.lexical_forms.proofs.MarkLemmas.{plain_in}
 use Rattle.lexical_value.proofs.KindLemmas.{exact_float, limited_worth}
 use Rattle.lexical_literal.specs.declared.kind.FloatKind.TheVariants as floats
@@ -72,7 +72,7 @@ same_real f x decimals g own read kind word has y same real = amount_is f x deci
 
 -- If a literal of the exact kind is written for a number of the exact kind, it is this number in the style, unless an integer is written as a float.
 pub plain_number : (a : Read) (style : Style) (g : Grammar) (b : Read) → a.kind ≡ exact → b.kind ≡ exact → b.format ≡ g.word
-    → (is_float a.literal ≡ true) ⊎ (has_float b ≡ false) → IsWrittenNumber a style g b.literal → IsInStyle a style b
+    → (is_float a.literal ≡ true) ⊎ (is_float b.literal ≡ false) → IsWrittenNumber a style g b.literal → IsInStyle a style b
 plain_number a style g b own kind word whole has = go style.nearest style.decimals refl refl
   where
     fraction : SameFraction (raw a.format) a.literal (raw g.word) b.literal → IsInStyle a style b
@@ -113,18 +113,6 @@ rounded_number a style g own read wish some kind word has y same real = inr (
   subst (λ z. IsReal binary64 z read) (subst (λ w. y ≡ nearest binary64 (raw w).byte own.literal) word (nearest_is binary64 y own kind same)) real,
 )
 
--- A literal of a format that has no floats is worth none.
-pub no_float : (g : Grammar) (read : Read) (known : Bool) → read.format ≡ g.word → known ≡ (is_decimal (raw g.word).byte || is_binary (raw g.word).byte)
-    → (is_float read.literal && known) ≡ false → has_float read ≡ false
-no_float g read known word is none =
-    subst (λ w. (is_float read.literal && (is_decimal (raw w).byte || is_binary (raw w).byte)) ≡ false) (sym word)
-    (ap (λ known. is_float read.literal && known) (sym is) ∙ none)
-
--- If a literal of the exact kind is written for an integer, and is worth no float, it is this integer.
-pub plain_whole : (z : ℤ) (g : Grammar) (read : Read) → read.kind ≡ exact → read.format ≡ g.word → has_float read ≡ false
-    → IsWrittenWhole z (raw g.word) read.literal → IsWhole z read
-plain_whole z g read kind word none has = inr (inr (kind, none, subst (λ w. HasValue (raw w) read.literal z) (sym word) has.0))
-
 abbrev size_without : ℤ → ℕ
 size_without (pos n) = n
 size_without (negsuc n) = suc n
@@ -137,10 +125,11 @@ size_with true (suc n) = refl
 -- An integer literal that is written for an integer is worth it by a kind that keeps its size.
 pub kept_whole : (negative : Bool) (size : ℕ) (g : Grammar) (read : Read) → read.format ≡ g.word → is_float read.literal ≡ false
     → ((negative : Bool) → worth read.kind.integers negative size ≡ Some (negative, size))
-    → IsWrittenWhole (with_sign negative size) (raw g.word) read.literal → IsWhole (with_sign negative size) read
+    → with_sign negative size ≡ with_sign (is_minus read.literal.sign) (integer_size (raw g.word).byte read.literal)
+    → IsWhole (with_sign negative size) read
 kept_whole negative size g read word whole kept has =
     let is : with_sign negative size ≡ with_sign (is_minus read.literal.sign) (integer_size (raw read.format).byte read.literal) =
-    subst (λ w. with_sign negative size ≡ with_sign (is_minus read.literal.sign) (integer_size (raw w).byte read.literal)) (sym word) has.1 in
+    subst (λ w. with_sign negative size ≡ with_sign (is_minus read.literal.sign) (integer_size (raw w).byte read.literal)) (sym word) has in
     let same = sym (size_with negative size) ∙ ap size_without is ∙ size_with (is_minus read.literal.sign) (integer_size (raw read.format).byte read.literal) in
     inl (
       whole,
@@ -190,7 +179,8 @@ never_whole read kinds.TooLong none = absurd (none 0 0)
 
 worth_whole : (read : Read) → is_float read.literal ≡ false → has_worth read ≡ is_some (whole_of read)
 worth_whole read whole =
-    ap (λ float. if float then is_ok (float_worth read.kind binary64 (raw read.format).byte read.literal) else is_some (whole_of read)) whole
+    ap (λ float. if float then not (has_floats read.format) || is_ok (float_worth read.kind binary64 (raw read.format).byte read.literal)
+    else is_some (whole_of read)) whole
 
 -- A literal without a decimal point and an exponent has a worth if it is worth an integer.
 pub worth_is : (read : Read) (result : Result Numeral ValueErrorKind) → is_float read.literal ≡ false

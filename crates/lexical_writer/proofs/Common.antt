@@ -31,7 +31,7 @@ pub use Rattle.lexical_writer.specs.Amount.{is_far, is_long, is_shown, is_wanted
 pub use Rattle.lexical_writer.specs.Buffer.{IsTaken}
 pub use Rattle.lexical_writer.specs.Choice.{ArePassed, AreBefore, IsChosen, IsMisread, IsNoToken, IsPassed, IsPassedOver, IsPut, IsReadElse, IsReason}
 pub use Rattle.lexical_writer.specs.Choice.{HasNoText, IsRefused, IsSearched, IsUnusable, IsWhole, IsWithWord, PassesOver, bytes_of_word, is_marked, is_short, text_by, unwished, words_of}
-pub use Rattle.lexical_writer.specs.Choice.{is_asked, is_own, steps, whole_of}
+pub use Rattle.lexical_writer.specs.Choice.{has_floats, is_asked, is_own, steps, unasked, whole_of}
 pub use Rattle.lexical_writer.specs.Conversion.{SameFraction, amount_of, fraction_of, or_limit, source_of}
 pub use Rattle.lexical_writer.specs.Digits.{at_least, begins_decimal, character, ends_group, grouped, grouped_front, no_groups, only_if, padded_values}
 pub use Rattle.lexical_writer.specs.Digits.{separated, size_of, values_of}

@@ -5,7 +5,7 @@ use Rattle.std.specs.Borrow.{Bor}
 use Rattle.std.specs.Float.{Float, Format, binary64, float_is_infinite}
 use lib.Ieee.Exact.{HasValue as HasFraction}
 use Rattle.lexical_util.specs.Layout as layout
-use Rattle.lexical_util.specs.Record.{Record, bytes_of, raw}
+use Rattle.lexical_util.specs.Record.{bytes_of, raw}
 use Rattle.lexical_forms.specs.FormList.{FormList}
 use Rattle.lexical_forms.specs.Affix.{spelling}
 use Rattle.lexical_forms.specs.Forms.{IsFirst, NoForm}
@@ -16,17 +16,16 @@ use Rattle.lexical_forms.specs.declared.token.Token.{Token}
 use Rattle.lexical_forms.specs.declared.token.TokenError.{TokenError}
 use Rattle.lexical_literal.specs.Notation.{lacks_options, notation_of}
 use Rattle.lexical_literal.specs.Read.{exact, Read}
-use Rattle.lexical_literal.specs.Literal.{Literal, Reads, is_float, is_minus, text_of}
+use Rattle.lexical_literal.specs.Literal.{Literal, Reads, is_float, text_of}
 use Rattle.lexical_literal.specs.declared.syntax.Grammar.{Grammar}
 use Rattle.lexical_literal.specs.declared.kind.FloatKind.TheVariants as floats
 use Rattle.lexical_literal.specs.declared.kind.FloatLimits.TheVariants as limits
 use Rattle.lexical_number.specs.Float.{is_zero}
 use Rattle.lexical_number.specs.Numeral.{with_sign}
 use Rattle.lexical_value.specs.Float.{is_binary, is_decimal, nearest}
-use Rattle.lexical_value.specs.Integer.{integer_size}
 use Rattle.lexical_value.specs.Kind.{IsWorth, float_worth, integer_worth, is_exact}
 use Rattle.lexical_writer.specs.Conversion.{IsNear, SameFraction}
-use Rattle.lexical_writer.specs.Layout.{HasValue, laid_out, number_of_size, refusal, wants_exponent}
+use Rattle.lexical_writer.specs.Layout.{wants_exponent}
 use Rattle.lexical_writer.specs.Rounded.{IsRounded, decimals_in}
 use Rattle.lexical_writer.specs.declared.layout.ExponentStyle.TheVariants as exponents
 use Rattle.lexical_writer.specs.declared.layout.Style.{Style}
@@ -48,6 +47,10 @@ is_asked radix integer step form =
 abbrev pub steps : Bool → ℕ
 steps rounded = if rounded then 1 else 2
 
+-- `unasked rounded` is the error of a number for which no form is asked.
+abbrev pub unasked : Bool → WriteError
+unasked rounded = if rounded then errors.Fraction else errors.ReadBack
+
 -- `AreBefore P asked forms step index` holds if `P` holds of each index and form that is asked before the form with this index is asked in this step.
 pub record AreBefore (P : ℕ → Form → Type 0) (asked : ℕ → Form → Bool) (forms : List Form) (step index : ℕ) : Type 0 where
   pub each : (before at : ℕ) → (form : Form) → (before < step) ⊎ ((before ≡ step) × (at < index)) → slice_get forms at ≡ Some form
@@ -58,14 +61,19 @@ abbrev pub first_reason : Option WriteError → WriteError → Option WriteError
 first_reason None error = Some error
 first_reason (Some first) error = Some first
 
+-- `has_floats word` is true if literals of the format `word` can be worth a float.
+abbrev pub has_floats : ℕ → Bool
+has_floats word = is_decimal (bytes_of word) || is_binary (bytes_of word)
+
 -- `whole_of read` is the sign and the size of the integer that `read` is worth by its kind, or `None` if it is worth none. `has_worth read` is true
--- if `read` is worth an integer or, with a decimal point or an exponent, an `f64`.
+-- if `read` is worth an integer or, with a decimal point or an exponent, an `f64`, or if its radix has no floats.
 abbrev pub whole_of : Read → Option (Bool × ℕ)
 whole_of read = if is_float read.literal then None else integer_worth read.kind.integers (bytes_of read.format) read.literal
 
 abbrev pub has_worth : Read → Bool
 has_worth read =
-    if is_float read.literal then is_ok (float_worth read.kind binary64 (bytes_of read.format) read.literal) else is_some (whole_of read)
+    if is_float read.literal then not (has_floats read.format) || is_ok (float_worth read.kind binary64 (bytes_of read.format) read.literal)
+    else is_some (whole_of read)
 
 -- `IsReadElse keeps forms index text error` holds if `forms` read `text`, which the form with this index writes for a number, as a literal that does not
 -- surely keep it. `keeps own read` says which do; `own` is true for a literal of this form. `error` is `ReadBack` or, if the literal has no worth, `TooLarge`.
@@ -190,24 +198,14 @@ pub record IsSearched (P : ℕ → Form → WriteError → Type 0) (asked : ℕ 
     pub first : (error : WriteError) → reason ≡ Some error → (before at : ℕ) × AreBefore (λ at form. ⊥) asked forms before at
         × IsSomeAnd (slice_get forms at) (λ form. (asked before form ≡ true) × P at form error)
 
--- `has_float read` is true if `read` has a decimal point or an exponent, and is worth a float.
-abbrev pub has_float : Read → Bool
-has_float read = is_float read.literal && (is_decimal (bytes_of read.format) || is_binary (bytes_of read.format))
-
 -- `IsExactly z read` holds if `read` is worth an `f64` that is exactly the integer `z`, or -0 for 0.
 abbrev pub IsExactly : ℤ → Read → Type 0
 IsExactly z read = (value : Float) × (negative : Bool) × (size : ℕ) × (z ≡ with_sign negative size) × HasFraction value negative size 1
     × (float_worth read.kind binary64 (bytes_of read.format) read.literal ≡ Ok value)
 
--- `IsWhole z read` holds if `read` is worth the integer `z` by its kind, or a float that is exactly `z`, or if it is of the exact kind,
--- its value is `z`, and it is worth no float.
+-- `IsWhole z read` holds if `read` is worth the integer `z` by its kind, or an `f64` that is exactly `z`.
 abbrev pub IsWhole : ℤ → Read → Type 0
-IsWhole z read = IsWorth read.kind.integers (bytes_of read.format) read.literal z
-    ⊎ (IsExactly z read ⊎ ((read.kind ≡ exact) × (has_float read ≡ false) × HasValue (raw read.format) read.literal z))
-
--- `IsWrittenWhole z r l` holds if the literal `l` has the value `z` in the format `r`, and so have its integer digits with its sign.
-abbrev pub IsWrittenWhole : ℤ → Record → Literal → Type 0
-IsWrittenWhole z r l = HasValue r l z × (z ≡ with_sign (is_minus l.sign) (integer_size r.byte l))
+IsWhole z read = IsWorth read.kind.integers (bytes_of read.format) read.literal z ⊎ IsExactly z read
 
 -- `IsReal f value read` holds if `read` is worth the float `value` of `f` by its kind, or if it is of the exact kind, and `value` is nearest to it.
 abbrev pub IsReal : Format → Float → Read → Type 0
@@ -222,7 +220,7 @@ IsWrittenReal f value (Some n) g l = IsRounded value (raw g.word) l (decimals_in
 
 -- `IsKept value decimals read` holds if `read` is worth the nearest float, and if its limits, if there are any, take the float `value`, which is not rounded.
 abbrev pub IsKept : Float → Option ℕ → Read → Type 0
-IsKept value decimals read = ((is_decimal (bytes_of read.format) || is_binary (bytes_of read.format)) ≡ true) × (read.kind.floats ≡ floats.Nearest)
+IsKept value decimals read = (has_floats read.format ≡ true) × (read.kind.floats ≡ floats.Nearest)
     × ((is_exact read.kind.integers || is_float read.literal) ≡ true)
     × ((read.kind.limits ≡ limits.None) ⊎ ((decimals ≡ None) × (float_is_infinite value ≡ false) × (is_zero value ≡ false)))
 
@@ -234,12 +232,12 @@ IsAmount f value (Some n) read = (g : Grammar) × (l : Literal) × IsRounded val
     × IsReal f (nearest f (bytes_of g.word) l) read
 
 -- `IsSameNumber near a b` holds if `a` and `b` are worth the same integer or, if `a` has a decimal point or an exponent, or `near` is
--- true, the same `f64`, by their kinds. Or they are of the exact kind, and have the same value as fractions with a sign, and `b` is
--- worth no float unless `a` has a decimal point or an exponent.
+-- true, the same `f64`, by their kinds. Or they are of the exact kind, and have the same value as fractions with a sign, and `b` has
+-- neither a decimal point nor an exponent unless `a` has one.
 abbrev pub IsSameNumber : Bool → Read → Read → Type 0
 IsSameNumber near a b = ((z : ℤ) × IsWhole z a × IsWhole z b)
     ⊎ ((((is_float a.literal ≡ true) ⊎ (near ≡ true)) × (value : Float) × IsReal binary64 value a × IsReal binary64 value b)
-    ⊎ ((a.kind ≡ exact) × (b.kind ≡ exact) × ((is_float a.literal ≡ true) ⊎ (has_float b ≡ false))
+    ⊎ ((a.kind ≡ exact) × (b.kind ≡ exact) × ((is_float a.literal ≡ true) ⊎ (is_float b.literal ≡ false))
     × SameFraction (raw a.format) a.literal (raw b.format) b.literal))
 
 -- `IsWrittenNumber read style g l` holds if the literal `l` of `g` has the value of `read` or, by a style that wishes so, that of the
@@ -251,10 +249,10 @@ pub record IsWrittenNumber (read : Read) (style : Style) (g : Grammar) (l : Lite
   pub exact : style.nearest ≡ false → SameFraction (raw read.format) read.literal (raw g.word) l
 
 -- `IsKeptNumber a own b` holds if `a` and `b` are worth the same integer of at most 128 bits or, if `own` is true, if both are of the exact kind, and
--- `b` is worth no float unless `a` has a decimal point or an exponent.
+-- `b` has neither a decimal point nor an exponent unless `a` has one.
 abbrev pub IsKeptNumber : Read → Bool → Read → Type 0
 IsKeptNumber a own b = ((w : Bool × ℕ) × (w.1 < 2 ^ 128) × (whole_of a ≡ Some w) × (whole_of b ≡ Some w))
-    ⊎ ((own ≡ true) × (a.kind ≡ exact) × (b.kind ≡ exact) × ((is_float a.literal ≡ true) ⊎ (has_float b ≡ false)))
+    ⊎ ((own ≡ true) × (a.kind ≡ exact) × (b.kind ≡ exact) × ((is_float a.literal ≡ true) ⊎ (is_float b.literal ≡ false)))
 
 -- `IsInStyle a style b` holds if `a` and `b` are the same number or, if the style wishes for the nearest float and for decimals, if `b`
 -- is worth the `f64` that is nearest to a literal that is written for `a`.

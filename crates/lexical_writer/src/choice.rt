@@ -12,7 +12,6 @@ ghost use Rattle.lexical_number.specs.Float.{format_of, is_zero};
 ghost use Rattle.lexical_literal.specs.declared.kind.FloatLimits.TheVariants as bounds;
 ghost use Rattle.lexical_literal.specs.declared.syntax.Grammar.{Grammar};
 ghost use Rattle.lexical_number.specs.Numeral.{magnitude_size, with_sign};
-ghost use Rattle.lexical_value.specs.Float.{is_binary, is_decimal};
 ghost use Rattle.lexical_value.specs.Kind.{float_worth, integer_worth, is_exact, width, within, worth};
 ghost use Rattle.lexical_literal.specs.declared.kind.FloatKind.TheVariants as floats;
 ghost use Rattle.lexical_writer.specs.Buffer.{IsTaken};
@@ -22,7 +21,7 @@ ghost use Rattle.lexical_forms.specs.declared.form.Form.{Form as Asked};
 ghost use Rattle.lexical_writer.specs.Layout.{integer_literal, laid_out, literal_of as written, number_of_size};
 ghost use Rattle.lexical_writer.specs.Choice.{ArePassed, AreBefore, IsChosen, IsNoToken, IsPassedOver, IsPut, IsReadBack, IsReadElse};
 ghost use Rattle.lexical_writer.specs.Choice.{IsReadWith, IsReal, IsReason, IsRefused, IsSearched, IsTokenOf, IsWhole, IsWithWord, PassesOver, bytes_of_word};
-ghost use Rattle.lexical_writer.specs.Choice.{first_reason, has_worth, is_asked, is_marked, is_own, is_short, steps, text_by, unwished, whole_of};
+ghost use Rattle.lexical_writer.specs.Choice.{first_reason, has_floats, has_worth, is_asked, is_marked, is_own, is_short, steps, text_by, unasked, unwished, whole_of};
 ghost use Rattle.lexical_writer.specs.Choice.{words_of};
 ghost use Rattle.lexical_writer.specs.declared.layout.ExponentStyle.TheVariants as exponents;
 ghost use Rattle.lexical_writer.specs.declared.layout.WriteError.{WriteError as Reason};
@@ -137,7 +136,9 @@ impl Writable for Whole {
     ghost use Rattle.std.specs.Prelude.{◌≡◌, MatchResult, Some, false, true};
     ghost use Rattle.lexical_util.specs.Record.{raw};
     ghost use Rattle.lexical_number.specs.Numeral.{with_sign};
-    ghost use Rattle.lexical_writer.specs.Choice.{IsWhole, IsWrittenWhole, whole_of};
+    ghost use Rattle.lexical_literal.specs.Literal.{is_minus};
+    ghost use Rattle.lexical_value.specs.Integer.{integer_size};
+    ghost use Rattle.lexical_writer.specs.Choice.{IsWhole, whole_of};
     ghost use Rattle.lexical_writer.specs.Layout.{laid_out, number_of_size, refusal};
 
     ghost base = { λ number. 10 };
@@ -147,7 +148,7 @@ impl Writable for Whole {
     ghost rounded = { λ number style. false };
 
     ghost writes = { λ number style g result. MatchResult result (λ l. (l ≡ laid_out g style (number_of_size number.negative number.size))
-        × IsWrittenWhole (with_sign number.negative number.size) (raw g.word) l)
+        × (with_sign number.negative number.size ≡ with_sign (is_minus l.sign) (integer_size (raw g.word).byte l)))
         (λ error. refusal g (number_of_size number.negative number.size) ≡ Some error) };
 
     ghost is = { λ number style read. IsWhole (with_sign number.negative number.size) read };
@@ -176,12 +177,8 @@ impl Writable for Whole {
         Ok((integer.write(buffer), integer.is_float()))
     }
 
-    fn is_plain(&self, syntax: &Syntax, kind: Kind, _: Style, float: bool) -> bool {
-        if float {
-            is_exact(kind) && !has_floats(syntax)
-        } else {
-            is_kept(kind.integers(), self.size)
-        }
+    fn is_plain(&self, _syntax: &Syntax, kind: Kind, _: Style, float: bool) -> bool {
+        !float && is_kept(kind.integers(), self.size)
     }
 
     fn is_read_as(&self, _: Style, _: &Literal, literal: &Literal) -> bool {
@@ -348,8 +345,8 @@ impl Writable for Literal<'_> {
         ))
     }
 
-    fn is_plain(&self, syntax: &Syntax, kind: Kind, _style: Style, float: bool) -> bool {
-        is_exact(self.kind()) & is_exact(kind) & (self.is_float() | !(float & has_floats(syntax)))
+    fn is_plain(&self, _syntax: &Syntax, kind: Kind, _style: Style, float: bool) -> bool {
+        is_exact(self.kind()) & is_exact(kind) & (self.is_float() | !float)
     }
 
     fn is_read_as(&self, style: Style, own: &Literal, literal: &Literal) -> bool {
@@ -432,7 +429,7 @@ fn put(layout: &Layout, buffer: &mut [u8]) -> (usize, bool)
 
 // Returns whether literals of a syntax have floats.
 fn has_floats(syntax: &Syntax) -> bool
-    ensures { result ≡ (is_decimal (bytes_of syntax.now.word) || is_binary (bytes_of syntax.now.word)) }
+    ensures { result ≡ has_floats syntax.now.word }
 {
     supports_floats(syntax.format().view())
 }
@@ -551,8 +548,9 @@ pub struct Chosen {
 /// # Errors
 ///
 /// If there is no such form, returns the error of the form that is asked first. It is [`WriteError::ReadBack`] if the text is read as
-/// another number, and [`WriteError::TooLarge`] if it is too large for its kind. If a text does not fit the buffer, the search ends
-/// with [`WriteError::Buffer`].
+/// another number, and [`WriteError::TooLarge`] if it is too large for its kind. If no form is asked, it is
+/// [`WriteError::Fraction`] of a float that is rounded, and else `ReadBack`. If a text does not fit the buffer, the search ends with
+/// [`WriteError::Buffer`].
 pub fn choose<N: Writable>(
     forms: &Forms,
     number: &N,
@@ -578,12 +576,13 @@ pub fn choose<N: Writable>(
         × IsReason (N.writes number.now) (N.keeps number.now) (length buffer.old) forms.now at form (N.integer number.now) style error))
         ⊎ ((first : Option Reason) × IsSearched (PassesOver (N.writes number.now) (N.keeps number.now) (length buffer.old) forms.now
         (N.integer number.now) style) (is_asked (N.base number.now) (N.integer number.now)) forms.now.forms (steps (N.rounded number.now style)) 0 first
-        × (error ≡ unwrap_or first errors.ReadBack))) }
+        × (error ≡ unwrap_or first (unasked (N.rounded number.now style))))) }
 {
     let list = forms.as_slice();
     let radix = number.radix();
     let integer = number.is_integer();
-    let end = steps(number.is_rounded(style));
+    let rounded = number.is_rounded(style);
+    let end = steps(rounded);
     let mut error = None;
     let mut step = 0;
     while step < end {
@@ -601,7 +600,7 @@ pub fn choose<N: Writable>(
         }
         step += 1;
     }
-    Err(error.unwrap_or(WriteError::ReadBack))
+    Err(error.unwrap_or(unasked(rounded)))
 }
 
 // Returns how many steps there are: in the first one, a number's own forms are asked, and in the second one the others.
@@ -612,6 +611,17 @@ const fn steps(rounded: bool) -> u8
         1
     } else {
         2
+    }
+}
+
+// Returns the error if no form is asked.
+const fn unasked(rounded: bool) -> WriteError
+    ensures { result ≡ unasked rounded }
+{
+    if rounded {
+        WriteError::Fraction
+    } else {
+        WriteError::ReadBack
     }
 }
 
@@ -1041,12 +1051,12 @@ fn mismatch(literal: &Literal) -> WriteError
     }
 }
 
-// Returns whether a literal is worth an integer or, with a decimal point or an exponent, an `f64`.
+// Returns whether a literal is worth an integer or, with a decimal point or an exponent, an `f64`, or if its radix has no floats.
 fn has_worth(literal: &Literal) -> bool
     ensures { result ≡ has_worth literal.now }
 {
     if literal.is_float() {
-        to_float::<f64>(literal).is_ok()
+        !supports_floats(literal.format()) || to_float::<f64>(literal).is_ok()
     } else {
         own_numeral(literal).is_ok()
     }

@@ -92,12 +92,8 @@ impl Writable for Whole {
         Ok((integer.write(buffer), integer.is_float()))
     }
 
-    fn is_plain(&self, syntax: &Syntax, kind: Kind, _: Style, float: bool) -> bool {
-        if float {
-            is_exact(kind) && !has_floats(syntax)
-        } else {
-            is_kept(kind.integers(), self.size)
-        }
+    fn is_plain(&self, _syntax: &Syntax, kind: Kind, _: Style, float: bool) -> bool {
+        !float && is_kept(kind.integers(), self.size)
     }
 
     fn is_read_as(&self, _: Style, _: &Literal, literal: &Literal) -> bool {
@@ -202,8 +198,8 @@ impl Writable for Literal<'_> {
         Ok(put(&format_near::<f64>(self, syntax, style, &mut digits)?, buffer))
     }
 
-    fn is_plain(&self, syntax: &Syntax, kind: Kind, _style: Style, float: bool) -> bool {
-        is_exact(self.kind()) & is_exact(kind) & (self.is_float() | !(float & has_floats(syntax)))
+    fn is_plain(&self, _syntax: &Syntax, kind: Kind, _style: Style, float: bool) -> bool {
+        is_exact(self.kind()) & is_exact(kind) & (self.is_float() | !float)
     }
 
     fn is_read_as(&self, style: Style, own: &Literal, literal: &Literal) -> bool {
@@ -361,8 +357,9 @@ pub struct Chosen {
 /// # Errors
 ///
 /// If there is no such form, returns the error of the form that is asked first. It is [`WriteError::ReadBack`] if the text is read as
-/// another number, and [`WriteError::TooLarge`] if it is too large for its kind. If a text does not fit the buffer, the search ends
-/// with [`WriteError::Buffer`].
+/// another number, and [`WriteError::TooLarge`] if it is too large for its kind. If no form is asked, it is
+/// [`WriteError::Fraction`] of a float that is rounded, and else `ReadBack`. If a text does not fit the buffer, the search ends with
+/// [`WriteError::Buffer`].
 pub fn choose<N: Writable + ?Sized>(
     forms: &Forms,
     number: &N,
@@ -372,7 +369,8 @@ pub fn choose<N: Writable + ?Sized>(
     let list = forms.as_slice();
     let radix = number.radix();
     let integer = number.is_integer();
-    let end = steps(number.is_rounded(style));
+    let rounded = number.is_rounded(style);
+    let end = steps(rounded);
     let mut error = None;
     let mut step = 0;
     while step < end {
@@ -390,7 +388,7 @@ pub fn choose<N: Writable + ?Sized>(
         }
         step += 1;
     }
-    Err(error.unwrap_or(WriteError::ReadBack))
+    Err(error.unwrap_or(unasked(rounded)))
 }
 
 // Returns how many steps there are: in the first one, a number's own forms are asked, and in the second one the others.
@@ -399,6 +397,15 @@ const fn steps(rounded: bool) -> u8 {
         1
     } else {
         2
+    }
+}
+
+// Returns the error if no form is asked.
+const fn unasked(rounded: bool) -> WriteError {
+    if rounded {
+        WriteError::Fraction
+    } else {
+        WriteError::ReadBack
     }
 }
 
@@ -704,10 +711,10 @@ fn mismatch(literal: &Literal) -> WriteError {
     }
 }
 
-// Returns whether a literal is worth an integer or, with a decimal point or an exponent, an `f64`.
+// Returns whether a literal is worth an integer or, with a decimal point or an exponent, an `f64`, or if its radix has no floats.
 fn has_worth(literal: &Literal) -> bool {
     if literal.is_float() {
-        to_float::<f64>(literal).is_ok()
+        !supports_floats(literal.format()) || to_float::<f64>(literal).is_ok()
     } else {
         own_numeral(literal).is_ok()
     }

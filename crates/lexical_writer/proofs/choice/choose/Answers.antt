@@ -1,6 +1,6 @@
 -- The form is asked in some step, and each form before it has a reason.
 use Rattle.lexical_writer.proofs.Common.{AreBefore, Bool, Form, List, IsChosen, IsReason, IsSearched, PassesOver, IsSomeAnd, ap, arith, false≢true, inl, inr, is_asked, length}
-use Rattle.lexical_writer.proofs.Common.{WriteError, bytes_of_word, take, refl, slice_get, slice_get_read, steps, subst, sym, true, ℕ, ◌+◌, ◌<◌, ◌∙◌, ◌≡◌}
+use Rattle.lexical_writer.proofs.Common.{WriteError, bytes_of_word, refl, slice_get, slice_get_read, steps, subst, sym, take, true, unasked, unwrap_or, ℕ, ◌+◌, ◌<◌, ◌∙◌, ◌≡◌}
 use Rattle.lexical_writer.proofs.OrderLemmas.{searched_more, searched_next, searched_skip, searched_start}
 use Rattle.lexical_writer.proofs.choice.choose.Goals as goal
 use Rattle.lexical_writer.proofs.choice.choose.Goals.{then-is_asked+in-Err-2, else-is_asked}
@@ -73,7 +73,7 @@ returns-in-Ok-clause-form g c =
     let Q : (ℕ → Form → Bool) → ℕ → ℕ → Type 0 = λ asked n at. AreBefore (λ at form. (error : WriteError) × P n at form error) asked list step at in
     let one : ℕ → List Form → Type 0 = λ at forms. IsSomeAnd (slice_get forms at) (λ form. is_asked base whole step form ≡ true) in (
       step,
-      subst (λ n. step < n) (c.steps-end.ensures ∙ ap steps c.is_rounded.ensures) c.loop-step-test.true,
+      subst (λ n. step < n) (c.steps-end.ensures ∙ ap steps c.is_rounded-rounded.ensures) c.loop-step-test.true,
       subst (one c.in-Ok.chosen.form) c.as_slice-list.ensures.list (subst (λ at. one at list) (sym c.in-Ok.ensures.form)
           (rw (slice_get_read _ _ c.loop-index.index c.index-list-index.result refl c.loop-index-test.true c.index-list-index.is)
           (subst (λ (asked : ℕ → Form → Bool). asked step c.index-list-index.result ≡ true) same (sym c.is_asked.ensures ∙ c.if-is_asked.true)))),
@@ -102,7 +102,7 @@ returns-in-Err-clause-error g c =
       sym c.is_short.ensures ∙ c.if-is_short.true,
       step,
       index,
-      subst (λ n. step < n) (c.steps-end.ensures ∙ ap steps c.is_rounded.ensures) c.loop-step-test.true,
+      subst (λ n. step < n) (c.steps-end.ensures ∙ ap steps c.is_rounded-rounded.ensures) c.loop-step-test.true,
       subst (λ forms. AreBefore (λ at form. (error : WriteError) × P room at form error) (is_asked base whole) forms step index)
           c.as_slice-list.ensures.list (subst (λ (asked : ℕ → Form → Bool). Q asked room) same
           (subst (Q code) c.loop-step.invariant.room c.loop-index.invariant.searched.passed)),
@@ -142,7 +142,7 @@ returns-clause-error g c =
       subst (λ forms. IsSearched P (is_asked (g.N.Writable.base c.args.number.now) (g.N.Writable.integer c.args.number.now)) forms
           (steps (g.N.Writable.rounded c.args.number.now c.args.style)) 0 c.loop-step.error) c.as_slice-list.ensures.list
           (subst (λ (asked : ℕ → Form → Bool). IsSearched P asked list (steps (g.N.Writable.rounded c.args.number.now c.args.style)) 0 c.loop-step.error) same
-          (subst (λ step. IsSearched P code list step 0 c.loop-step.error) (last ∙ c.steps-end.ensures ∙ ap steps c.is_rounded.ensures)
+          (subst (λ step. IsSearched P code list step 0 c.loop-step.error) (last ∙ c.steps-end.ensures ∙ ap steps c.is_rounded-rounded.ensures)
           c.loop-step.invariant.searched)),
-      c.unwrap_or.ensures,
+      c.unwrap_or.ensures ∙ ap (unwrap_or c.loop-step.error) (c.unasked.ensures ∙ ap unasked c.is_rounded-rounded.ensures),
     )
