@@ -73,17 +73,18 @@ fn amounts_are_rounded_as_std_rounds_them() {
         let amount = state.below(10_000_000) as f64 / if index % 4 == 0 { -1000.0 } else { 1000.0 };
         for places in 0..=6 {
             let (style, size) = (Style::PLAIN.decimals(places), usize::from(places));
-            // Bash has no floats, and PostScript singles alone.
-            let (written, digits) = if has(&language, FloatKind::Nearest) {
-                (language.forms().format_float(amount, style), format!("{amount:.size$}"))
-            } else if has(&language, FloatKind::Single) {
+            // PostScript has singles alone, and Bash no floats.
+            let (written, digits) = if has(&language, FloatKind::Single) && !has(&language, FloatKind::Nearest) {
                 (language.forms().format_float(amount as f32, style), format!("{:.size$}", amount as f32))
             } else {
-                continue;
+                (language.forms().format_float(amount, style), format!("{amount:.size$}"))
             };
-            let wanted = match is_unsigned(language.forms(), amount) {
-                true => Err(WriteError::Negative),
-                false => Ok(amount_in(language, &digits)),
+            let wanted = if language == Language::BASH {
+                Err(WriteError::Fraction)
+            } else if is_unsigned(language.forms(), amount) {
+                Err(WriteError::Negative)
+            } else {
+                Ok(amount_in(language, &digits))
             };
             assert_eq!(written.map(|text| text.to_string()), wanted, "{language}");
         }

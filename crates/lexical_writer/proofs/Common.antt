@@ -29,9 +29,10 @@ pub use Rattle.lexical_value.specs.Value.{denominator, numerator, power, scale}
 pub use Rattle.lexical_writer.specs.Amount.{HasShape, HasUnits, IsExponent, IsFinite, IsFloatOf, IsRaised, IsTextOf, IsWorth, IsWrittenWith, asks, float_error}
 pub use Rattle.lexical_writer.specs.Amount.{is_far, is_long, is_shown, is_wanted, least_places, power_if, units_at, units_in, wished_places, with_minus}
 pub use Rattle.lexical_writer.specs.Buffer.{IsTaken}
-pub use Rattle.lexical_writer.specs.Choice.{ArePassed, AreBefore, IsChosen, IsMisread, IsNoToken, IsPassed, IsPassedOver, IsPut, IsReadElse, IsReason}
-pub use Rattle.lexical_writer.specs.Choice.{HasNoText, IsRefused, IsSearched, IsUnusable, IsWhole, IsWithWord, PassesOver, bytes_of_word, is_marked, is_short, text_by, unwished, words_of}
-pub use Rattle.lexical_writer.specs.Choice.{has_floats, is_asked, is_own, steps, unasked, whole_of}
+pub use Rattle.lexical_writer.specs.Choice.{AreBefore, ArePassed, IsChosen, IsFound, IsMisread, IsNoToken, IsPassedOver, IsReached, IsReadElse, IsReadWith}
+pub use Rattle.lexical_writer.specs.Choice.{IsRefused, IsSearched, IsStopped, IsUnusable, IsWhole, bytes_of_word, has_floats, is_asked, is_marked, is_own}
+pub use Rattle.lexical_writer.specs.Choice.{is_short, steps, text_by, unasked, unwished, ways, whole_of, words_of}
+pub use Rattle.lexical_writer.specs.Private.{IsPut}
 pub use Rattle.lexical_writer.specs.Conversion.{SameFraction, amount_of, fraction_of, or_limit, source_of}
 pub use Rattle.lexical_writer.specs.Digits.{at_least, begins_decimal, character, ends_group, grouped, grouped_front, no_groups, only_if, padded_values}
 pub use Rattle.lexical_writer.specs.Digits.{separated, size_of, values_of}

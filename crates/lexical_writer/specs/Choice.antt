@@ -1,6 +1,6 @@
 -- Which form of a list writes a number, and how the text is read back.
-use Rattle.std.specs.Prelude.{ℕ, ◌≡◌, ◌≤◌, ◌-◌, ◌^◌, ◌+◌, ◌/◌, ◌%◌, ◌<◌, ◌==◌, ◌&&◌, ◌||◌, ◌⊎◌, not, if◌then◌else◌, Bool, true, false, is_some, List, [], Err}
-use Rattle.std.specs.Prelude.{IfOk, IsSomeAnd, Ok, Option, Result, Some, None, ℤ, ◌++◌, is_ok, length, min, slice_get, take, unwrap_or}
+use Rattle.std.specs.Prelude.{ℕ, ◌≡◌, ◌≤◌, ◌-◌, ◌^◌, ◌<◌, ◌==◌, ◌&&◌, ◌||◌, ◌⊎◌, not, if◌then◌else◌, Bool, true, false, is_some, List, [], Err}
+use Rattle.std.specs.Prelude.{IfOk, IsSomeAnd, Ok, Option, Result, Some, None, ℤ, ◌++◌, ◌∷◌, is_ok, length, map, min, slice_get, unwrap_or}
 use Rattle.std.specs.Borrow.{Bor}
 use Rattle.std.specs.Float.{Float, Format, binary64, float_is_infinite}
 use lib.Ieee.Exact.{HasValue as HasFraction}
@@ -14,9 +14,9 @@ use Rattle.lexical_forms.specs.declared.form.Form.{Form}
 use Rattle.lexical_forms.specs.declared.suffix.Suffixes.{Suffixes}
 use Rattle.lexical_forms.specs.declared.token.Token.{Token}
 use Rattle.lexical_forms.specs.declared.token.TokenError.{TokenError}
-use Rattle.lexical_literal.specs.Notation.{lacks_options, notation_of}
+use Rattle.lexical_literal.specs.Notation.{lacks_options}
 use Rattle.lexical_literal.specs.Read.{exact, Read}
-use Rattle.lexical_literal.specs.Literal.{Literal, Reads, is_float, text_of}
+use Rattle.lexical_literal.specs.Literal.{Literal, is_float, text_of}
 use Rattle.lexical_literal.specs.declared.syntax.Grammar.{Grammar}
 use Rattle.lexical_literal.specs.declared.kind.FloatKind.TheVariants as floats
 use Rattle.lexical_literal.specs.declared.kind.FloatLimits.TheVariants as limits
@@ -24,9 +24,8 @@ use Rattle.lexical_number.specs.Float.{is_zero}
 use Rattle.lexical_number.specs.Numeral.{with_sign}
 use Rattle.lexical_value.specs.Float.{is_binary, is_decimal, nearest}
 use Rattle.lexical_value.specs.Kind.{IsWorth, float_worth, integer_worth, is_exact}
-use Rattle.lexical_writer.specs.Conversion.{IsNear, SameFraction}
+use Rattle.lexical_writer.specs.Conversion.{SameFraction}
 use Rattle.lexical_writer.specs.Layout.{wants_exponent}
-use Rattle.lexical_writer.specs.Rounded.{IsRounded, decimals_in}
 use Rattle.lexical_writer.specs.declared.layout.ExponentStyle.TheVariants as exponents
 use Rattle.lexical_writer.specs.declared.layout.Style.{Style}
 use Rattle.lexical_writer.specs.declared.layout.WriteError.{WriteError}
@@ -56,10 +55,20 @@ pub record AreBefore (P : ℕ → Form → Type 0) (asked : ℕ → Form → Boo
   pub each : (before at : ℕ) → (form : Form) → (before < step) ⊎ ((before ≡ step) × (at < index)) → slice_get forms at ≡ Some form
       → asked before form ≡ true → P at form
 
--- `first_reason first error` is the error of a list, where `first` is that of the forms before, if there is one, and `error` that of the next form.
-abbrev pub first_reason : Option WriteError → WriteError → Option WriteError
-first_reason None error = Some error
-first_reason (Some first) error = Some first
+-- `IsFound P Q asked forms end` holds if `Q` holds of an index and its form, which is asked before the step `end`, and if `P` holds of an error of each form
+-- that is asked before.
+abbrev pub IsFound : (ℕ → Form → WriteError → Type 0) → (ℕ → Form → Type 0) → (ℕ → Form → Bool) → List Form → ℕ → Type 0
+IsFound P Q asked forms end = (step index : ℕ) × (step < end) × AreBefore (λ at form. (error : WriteError) × P at form error) asked forms step index
+    × IsSomeAnd (slice_get forms index) (λ form. (asked step form ≡ true) × Q index form)
+
+-- `IsSearched P asked forms step index reason` holds if `P` holds of an error of each form that is asked before this step and index, and if `reason` is
+-- that of the first of them, or `None` if there is none.
+pub record IsSearched (P : ℕ → Form → WriteError → Type 0) (asked : ℕ → Form → Bool) (forms : List Form) (step index : ℕ) (reason : Option WriteError)
+  : Type 0 where
+    pub passed : AreBefore (λ at form. (error : WriteError) × P at form error) asked forms step index
+    pub none : reason ≡ None → AreBefore (λ at form. ⊥) asked forms step index
+    pub first : (error : WriteError) → reason ≡ Some error → (before at : ℕ) × AreBefore (λ at form. ⊥) asked forms before at
+        × IsSomeAnd (slice_get forms at) (λ form. (asked before form ≡ true) × P at form error)
 
 -- `has_floats word` is true if literals of the format `word` can be worth a float.
 abbrev pub has_floats : ℕ → Bool
@@ -99,12 +108,6 @@ words_of (Some suffixes) = suffixes.now.written.now
 abbrev pub text_by : Form → Option (List ℕ) → Literal → List ℕ
 text_by form word l = ((spelling form.opening ++ text_of l) ++ spelling form.closing) ++ unwrap_or word []
 
--- `IsPut text bytes size` holds if `size` is the length of `text`, or the largest `usize` if that is less, and if `bytes` begin with `text`, where they
--- are enough.
-pub record IsPut (text bytes : List ℕ) (size : ℕ) : Type 0 where
-  pub counted : size ≡ min (length text) (2 ^ 64 - 1)
-  pub begins : length text ≤ length bytes → take (length text) bytes ≡ text
-
 -- `is_short error` is true if a text does not fit the buffer, which ends the search.
 abbrev pub is_short : WriteError → Bool
 is_short (errors.Buffer n) = true
@@ -116,9 +119,31 @@ abbrev pub IsNoToken : (Bool → Read → Type 0) → FormList → List ℕ → 
 IsNoToken keeps list word text error = (error ≡ errors.ReadBack) × (result : Result Token TokenError) × IsReadByTokens list list.tokens text result
     × IfOk result (λ token. token.suffix.now ≡ word → token.rest.now ≡ [] → keeps false token.literal → ⊥)
 
--- `unwished style` is `style` without a wish for an exponent.
-abbrev pub unwished : Style → Style
-unwished style = record style { exponent = exponents.AsNumber }
+-- `IsReadBack list text P` holds if `text` is a literal of some form of the list, and if `P` holds of the literal that it is in the
+-- first such form, with the kind of this form.
+abbrev pub IsReadBack : FormList → List ℕ → (Read → Type 0) → Type 0
+IsReadBack list text P = (read : Read) × (form : ℕ) × IsFirst list.forms text form read × P read
+
+-- `IsTokenOf list word text P` holds if all of `text` is a token of the list with the suffix `word`, and if `P` holds of its literal.
+abbrev pub IsTokenOf : FormList → List ℕ → List ℕ → (Read → Type 0) → Type 0
+IsTokenOf list word text P = (token : Token)
+    × IsReadByTokens list list.tokens text (Ok token) × (token.suffix.now ≡ word) × (token.rest.now ≡ []) × P token.literal
+
+-- `IsReadWith list word text P` holds if the list reads `text` as a literal or, with a `word`, as a token that has this suffix, and if `P` holds
+-- of the literal.
+abbrev pub IsReadWith : FormList → Option (List ℕ) → List ℕ → (Read → Type 0) → Type 0
+IsReadWith list None text P = IsReadBack list text P
+IsReadWith list (Some word) text P = IsTokenOf list word text P
+
+-- `unwished integer style` is `style` or, for an integer, `style` without a wish for an exponent.
+abbrev pub unwished : Bool → Style → Style
+unwished integer style = if integer && wants_exponent style.exponent then record style { exponent = exponents.AsNumber } else style
+
+-- `ways integer style form` are the ways in which a form is asked to write a number, in their order: by a style, and with the bytes of a word behind it, if
+-- there is one. A form is asked without a word, in `style` and without the wish for an exponent, and then with each of its words.
+abbrev pub ways : Bool → Style → Form → List (Style × Option (List ℕ))
+ways integer style form = (style, None) ∷ ((unwished integer style, None)
+    ∷ map (λ word. (unwished integer style, Some word.now)) (if integer then words_of form.suffixes else []))
 
 -- These are about a number, with what is written for it and what surely keeps it, and a form of a list, by a buffer with some `room`.
 module _ (writes : Style → Grammar → Result Literal WriteError → Type 0) (keeps : Style → Bool → Read → Type 0) (room : ℕ) (list : FormList)
@@ -136,67 +161,38 @@ module _ (writes : Style → Grammar → Result Literal WriteError → Type 0) (
       (((room < length text) ⊎ (2 ^ 64 - 1 ≤ length text)) × (error ≡ errors.Buffer (min (length text) (2 ^ 64 - 1))))
       ⊎ ((length text ≤ room) × IsMisread style word text error)
 
-  -- `IsRefused style word error` holds if `error` is why the form does not write the number in a style, with a word or without: no literal is written for
-  -- it, or the text of the one that is written is not used.
-  abbrev pub IsRefused : Style → Option (List ℕ) → WriteError → Type 0
-  IsRefused style word error = writes style form.syntax (Err error)
-      ⊎ ((l : Literal) × writes style form.syntax (Ok l) × IsUnusable style word (text_by form word l) error)
+  -- `IsRefused way error` holds if `error` is why the form does not write the number in this way: no literal is written for it, or the text of the one that
+  -- is written is not used.
+  abbrev pub IsRefused : Style × Option (List ℕ) → WriteError → Type 0
+  IsRefused way error = writes way.0 form.syntax (Err error)
+      ⊎ ((l : Literal) × writes way.0 form.syntax (Ok l) × IsUnusable way.0 way.1 (text_by form way.1 l) error)
 
-  -- `IsPassed style word` holds if the form does not write the number so, for a reason that does not end the search.
-  abbrev pub IsPassed : Style → Option (List ℕ) → Type 0
-  IsPassed style word = (error : WriteError) × IsRefused style word error × (is_short error ≡ false)
+-- These are about a number that a form of a list is asked to write in a style, in its `ways`.
+module _ (writes : Style → Grammar → Result Literal WriteError → Type 0) (keeps : Style → Bool → Read → Type 0) (room : ℕ) (list : FormList)
+    (integer : Bool) (style : Style) (index : ℕ) (form : Form) where
+  -- `ArePassed n` holds if the form does not write the number in its first `n` ways, for reasons that do not end the search.
+  abbrev pub ArePassed : ℕ → Type 0
+  ArePassed n = (at : ℕ) → (way : Style × Option (List ℕ)) → at < n → slice_get (ways integer style form) at ≡ Some way
+      → (error : WriteError) × IsRefused writes keeps room list index form way error × (is_short error ≡ false)
 
-  -- `IsPassedOver integer style error` holds if `error` is why the form does not write the number without a word: in the style or, where an integer is
-  -- not written in a style with a wish for an exponent, without this wish.
-  abbrev pub IsPassedOver : Bool → Style → WriteError → Type 0
-  IsPassedOver integer style error =
-      (IsRefused style None error × ((is_short error ≡ true) ⊎ ((integer && wants_exponent style.exponent) ≡ false)))
-      ⊎ (((integer && wants_exponent style.exponent) ≡ true) × IsPassed style None × IsRefused (unwished style) None error)
+  -- `IsReached P` holds if `P` holds of one of the ways, and the form does not write the number in one before.
+  abbrev pub IsReached : (Style × Option (List ℕ) → Type 0) → Type 0
+  IsReached P = (n : ℕ) × ArePassed n × IsSomeAnd (slice_get (ways integer style form) n) P
 
-  -- `ArePassed style n` holds if the form does not write the number with one of its first `n` words.
-  abbrev pub ArePassed : Style → ℕ → Type 0
-  ArePassed style n = (at : ℕ) → (word : Bor (List ℕ)) → at < n → slice_get (words_of form.suffixes) at ≡ Some word
-      → IsPassed (unwished style) (Some word.now)
+  -- `IsStopped error` holds if `error` is that a text of the form is too long, which ends the search.
+  abbrev pub IsStopped : WriteError → Type 0
+  IsStopped error = (is_short error ≡ true) × IsReached (λ way. IsRefused writes keeps room list index form way error)
 
-  -- `HasNoText style` holds if the form does not write an integer without a word, so that it is asked for one with a word.
-  abbrev pub HasNoText : Bool → Style → Type 0
-  HasNoText integer style = (integer ≡ true) × (first : WriteError) × IsPassedOver integer style first × (is_short first ≡ false)
+  -- `IsPassedOver error` holds if the form does not write the number in any way, and if `error` is why it does not in the last one without a word.
+  abbrev pub IsPassedOver : WriteError → Type 0
+  IsPassedOver error = (is_short error ≡ false) × ArePassed (length (ways integer style form))
+      × IsRefused writes keeps room list index form (unwished integer style, None) error
 
-  -- `IsWithWord style P` holds if `P` holds of one of the words, and the number is not written with one before it.
-  abbrev pub IsWithWord : Style → (List ℕ → Type 0) → Type 0
-  IsWithWord style P = (at : ℕ) × (word : Bor (List ℕ)) × (slice_get (words_of form.suffixes) at ≡ Some word)
-      × ArePassed style at × P word.now
-
-  -- `IsReason integer style error` holds if `error` is why the form does not write the number: why it does not without a word, or else that a text with a
-  -- word is too long.
-  abbrev pub IsReason : Bool → Style → WriteError → Type 0
-  IsReason integer style error = (IsPassedOver integer style error
-      × ((is_short error ≡ true) ⊎ ((integer ≡ false) ⊎ ArePassed style (length (words_of form.suffixes)))))
-      ⊎ (HasNoText integer style × (is_short error ≡ true) × IsWithWord style (λ word. IsRefused (unwished style) (Some word) error))
-
-  -- `IsChosen integer style it word text` holds if `text` is the text of the form, in the style `it` and with a word or without, and the number is not
-  -- written by the form in a way that is tried before.
-  abbrev pub IsChosen : Bool → Style → Style → Option (List ℕ) → List ℕ → Type 0
-  IsChosen integer style it word text = ((l : Literal) × writes it form.syntax (Ok l) × (text ≡ text_by form word l)) × by word
-    where
-      by : Option (List ℕ) → Type 0
-      by None = (it ≡ style) ⊎ (((integer && wants_exponent style.exponent) ≡ true) × IsPassed style None × (it ≡ unwished style))
-      by (Some word) = HasNoText integer style × (it ≡ unwished style) × IsWithWord style (λ other. other ≡ word)
-
--- `PassesOver writes keeps room list integer style at form error` holds if `error` is why the form of a list with this index does not write the number, and
--- does not end the search.
-abbrev pub PassesOver : (Style → Grammar → Result Literal WriteError → Type 0) → (Style → Bool → Read → Type 0) → ℕ → FormList → Bool → Style → ℕ → Form
-    → WriteError → Type 0
-PassesOver writes keeps room list integer style at form error = IsReason writes keeps room list at form integer style error × (is_short error ≡ false)
-
--- `IsSearched P asked forms step index reason` holds if `P` holds of an error of each form that is asked before this step and index, and if `reason` is
--- that of the first of them, or `None` if there is none.
-pub record IsSearched (P : ℕ → Form → WriteError → Type 0) (asked : ℕ → Form → Bool) (forms : List Form) (step index : ℕ) (reason : Option WriteError)
-  : Type 0 where
-    pub passed : AreBefore (λ at form. (error : WriteError) × P at form error) asked forms step index
-    pub none : reason ≡ None → AreBefore (λ at form. ⊥) asked forms step index
-    pub first : (error : WriteError) → reason ≡ Some error → (before at : ℕ) × AreBefore (λ at form. ⊥) asked forms before at
-        × IsSomeAnd (slice_get forms at) (λ form. (asked before form ≡ true) × P at form error)
+  -- `IsChosen is it word text` holds if the form writes the number as `text`, in the style `it` and with a word or without, and does not in a way before. The
+  -- list reads the text as a literal of which `is` holds.
+  abbrev pub IsChosen : (Style → Grammar → Literal → Read → Type 0) → Style → Option (List ℕ) → List ℕ → Type 0
+  IsChosen is it word text = IsReached (λ way. way ≡ (it, word))
+      × ((l : Literal) × writes it form.syntax (Ok l) × (text ≡ text_by form word l) × IsReadWith list word text (is it form.syntax l))
 
 -- `IsExactly z read` holds if `read` is worth an `f64` that is exactly the integer `z`, or -0 for 0.
 abbrev pub IsExactly : ℤ → Read → Type 0
@@ -212,24 +208,17 @@ abbrev pub IsReal : Format → Float → Read → Type 0
 IsReal f value read = (float_worth read.kind f (bytes_of read.format) read.literal ≡ Ok value)
     ⊎ ((read.kind ≡ exact) × (value ≡ nearest f (bytes_of read.format) read.literal))
 
--- `IsWrittenReal f value decimals g l` holds if the float `value` of `f` is nearest to the literal `l` of `g` or, with a number of
--- decimals, if `l` is `value`, rounded to these.
-abbrev pub IsWrittenReal : Format → Float → Option ℕ → Grammar → Literal → Type 0
-IsWrittenReal f value None g l = value ≡ nearest f (bytes_of g.word) l
-IsWrittenReal f value (Some n) g l = IsRounded value (raw g.word) l (decimals_in g n)
-
 -- `IsKept value decimals read` holds if `read` is worth the nearest float, and if its limits, if there are any, take the float `value`, which is not rounded.
 abbrev pub IsKept : Float → Option ℕ → Read → Type 0
 IsKept value decimals read = (has_floats read.format ≡ true) × (read.kind.floats ≡ floats.Nearest)
     × ((is_exact read.kind.integers || is_float read.literal) ≡ true)
     × ((read.kind.limits ≡ limits.None) ⊎ ((decimals ≡ None) × (float_is_infinite value ≡ false) × (is_zero value ≡ false)))
 
--- `IsAmount f value decimals read` holds if `read` is worth the float `value` of `f` or, with a number of decimals, the float that is
--- nearest to a literal that is `value`, rounded to these.
-abbrev pub IsAmount : Format → Float → Option ℕ → Read → Type 0
-IsAmount f value None read = IsReal f value read
-IsAmount f value (Some n) read = (g : Grammar) × (l : Literal) × IsRounded value (raw g.word) l (decimals_in g n)
-    × IsReal f (nearest f (bytes_of g.word) l) read
+-- `IsAmount f value decimals g l read` holds if `read` is worth the float `value` of `f` or, with a number of decimals, the float that is nearest to the literal
+-- `l` of `g`, which is written for `value`.
+abbrev pub IsAmount : Format → Float → Option ℕ → Grammar → Literal → Read → Type 0
+IsAmount f value None g l read = IsReal f value read
+IsAmount f value (Some n) g l read = IsReal f (nearest f (bytes_of g.word) l) read
 
 -- `IsSameNumber near a b` holds if `a` and `b` are worth the same integer or, if `a` has a decimal point or an exponent, or `near` is
 -- true, the same `f64`, by their kinds. Or they are of the exact kind, and have the same value as fractions with a sign, and `b` has
@@ -240,38 +229,14 @@ IsSameNumber near a b = ((z : ℤ) × IsWhole z a × IsWhole z b)
     ⊎ ((a.kind ≡ exact) × (b.kind ≡ exact) × ((is_float a.literal ≡ true) ⊎ (is_float b.literal ≡ false))
     × SameFraction (raw a.format) a.literal (raw b.format) b.literal))
 
--- `IsWrittenNumber read style g l` holds if the literal `l` of `g` has the value of `read` or, by a style that wishes so, that of the
--- `f64` that is nearest to it, which has the decimals of the style, if it has any.
-pub record IsWrittenNumber (read : Read) (style : Style) (g : Grammar) (l : Literal) : Type 0 where
-  pub near : style.decimals ≡ None → IsNear binary64 (raw read.format) read.literal (raw g.word) l
-  pub rounded : (n : ℕ) → style.decimals ≡ Some n → SameFraction (raw read.format) read.literal (raw g.word) l
-      ⊎ IsRounded (nearest binary64 (bytes_of read.format) read.literal) (raw g.word) l (decimals_in g n)
-  pub exact : style.nearest ≡ false → SameFraction (raw read.format) read.literal (raw g.word) l
-
 -- `IsKeptNumber a own b` holds if `a` and `b` are worth the same integer of at most 128 bits or, if `own` is true, if both are of the exact kind, and
 -- `b` has neither a decimal point nor an exponent unless `a` has one.
 abbrev pub IsKeptNumber : Read → Bool → Read → Type 0
 IsKeptNumber a own b = ((w : Bool × ℕ) × (w.1 < 2 ^ 128) × (whole_of a ≡ Some w) × (whole_of b ≡ Some w))
     ⊎ ((own ≡ true) × (a.kind ≡ exact) × (b.kind ≡ exact) × ((is_float a.literal ≡ true) ⊎ (is_float b.literal ≡ false)))
 
--- `IsInStyle a style b` holds if `a` and `b` are the same number or, if the style wishes for the nearest float and for decimals, if `b`
--- is worth the `f64` that is nearest to a literal that is written for `a`.
-abbrev pub IsInStyle : Read → Style → Read → Type 0
-IsInStyle a style b = IsSameNumber style.nearest a b ⊎ ((style.nearest ≡ true) × (is_some style.decimals ≡ true) × (g : Grammar) × (l : Literal)
-    × IsWrittenNumber a style g l × IsReal binary64 (nearest binary64 (bytes_of g.word) l) b)
-
--- `IsReadBack list text P` holds if `text` is a literal of some form of the list, and if `P` holds of the literal that it is in the
--- first such form, with the kind of this form.
-abbrev pub IsReadBack : FormList → List ℕ → (Read → Type 0) → Type 0
-IsReadBack list text P = (read : Read) × (form : ℕ) × IsFirst list.forms text form read × P read
-
--- `IsTokenOf list word text P` holds if all of `text` is a token of the list with the suffix `word`, and if `P` holds of its literal.
-abbrev pub IsTokenOf : FormList → List ℕ → List ℕ → (Read → Type 0) → Type 0
-IsTokenOf list word text P = (token : Token)
-    × IsReadByTokens list list.tokens text (Ok token) × (token.suffix.now ≡ word) × (token.rest.now ≡ []) × P token.literal
-
--- `IsReadWith list word text P` holds if the list reads `text` as a literal or, with a `word`, as a token that has this suffix, and if `P` holds
--- of the literal.
-abbrev pub IsReadWith : FormList → Option (Bor (Bor (List ℕ))) → List ℕ → (Read → Type 0) → Type 0
-IsReadWith list None text P = IsReadBack list text P
-IsReadWith list (Some word) text P = IsTokenOf list word.now.now text P
+-- `IsInStyle a style g l b` holds if `a` and `b` are the same number or, if the style wishes for the nearest float and for decimals, if `b` is worth the `f64`
+-- that is nearest to the literal `l` of `g`, which is written for `a`.
+abbrev pub IsInStyle : Read → Style → Grammar → Literal → Read → Type 0
+IsInStyle a style g l b = IsSameNumber style.nearest a b
+    ⊎ ((style.nearest ≡ true) × (is_some style.decimals ≡ true) × IsReal binary64 (nearest binary64 (bytes_of g.word) l) b)

@@ -19,10 +19,10 @@ ghost use Rattle.lexical_forms.specs.Forms.{IsFirst, NoForm};
 ghost use Rattle.lexical_forms.specs.Token.{IsReadByTokens};
 ghost use Rattle.lexical_forms.specs.declared.form.Form.{Form as Asked};
 ghost use Rattle.lexical_writer.specs.Layout.{integer_literal, laid_out, literal_of as written, number_of_size};
-ghost use Rattle.lexical_writer.specs.Choice.{ArePassed, AreBefore, IsChosen, IsNoToken, IsPassedOver, IsPut, IsReadBack, IsReadElse};
-ghost use Rattle.lexical_writer.specs.Choice.{IsReadWith, IsReal, IsReason, IsRefused, IsSearched, IsTokenOf, IsWhole, IsWithWord, PassesOver, bytes_of_word};
-ghost use Rattle.lexical_writer.specs.Choice.{first_reason, has_floats, has_worth, is_asked, is_marked, is_own, is_short, steps, text_by, unasked, unwished, whole_of};
-ghost use Rattle.lexical_writer.specs.Choice.{words_of};
+ghost use Rattle.lexical_writer.specs.Choice.{ArePassed, IsChosen, IsFound, IsNoToken, IsPassedOver, IsReadBack, IsReadElse, IsReadWith, IsReal};
+ghost use Rattle.lexical_writer.specs.Choice.{IsRefused, IsSearched, IsStopped, IsTokenOf, IsWhole, bytes_of_word, has_floats, has_worth, is_asked};
+ghost use Rattle.lexical_writer.specs.Choice.{is_marked, is_own, is_short, steps, text_by, unasked, unwished, ways, whole_of};
+ghost use Rattle.lexical_writer.specs.Private.{IsPut};
 ghost use Rattle.lexical_writer.specs.declared.layout.ExponentStyle.TheVariants as exponents;
 ghost use Rattle.lexical_writer.specs.declared.layout.WriteError.{WriteError as Reason};
 ghost use Rattle.lexical_writer.specs.declared.layout.WriteError.TheVariants as errors;
@@ -53,8 +53,8 @@ pub trait Writable {
     // A literal of a syntax is written for the number in a style, or none is, for a reason.
     ghost writes: { Self → Wishes → Grammar → Result Parts Reason → Type 0 };
 
-    // A literal is this number in a style.
-    ghost is: { Self → Wishes → Read → Type 0 };
+    // A literal that a list reads is this number, for which a literal of a syntax is written in a style.
+    ghost is: { Self → Wishes → Grammar → Parts → Read → Type 0 };
 
     // A literal that a list reads surely keeps the number in a style. Whether its form is the one that writes the number comes first.
     ghost keeps: { Self → Wishes → Bool → Read → Type 0 };
@@ -98,19 +98,19 @@ pub trait Writable {
     /// written for it in a style.
     fn is_plain(&self, syntax: &Syntax, kind: Kind, style: Style, float: bool) -> bool
         ensures plain { result ≡ true → (read : Read) → read.kind ≡ kind → read.format ≡ syntax.now.word → is_float read.literal ≡ float
-            → writes self.now style syntax.now (Ok read.literal) → is self.now style read }
+            → writes self.now style syntax.now (Ok read.literal) → is self.now style syntax.now read.literal read }
         ensures kept { result ≡ false → (read : Read) → read.kind ≡ kind → read.format ≡ syntax.now.word → is_float read.literal ≡ float
             → keeps self.now style true read → keeps self.now style false read };
 
     /// Returns whether a literal is worth the number in a style, of which `own` is what its form alone reads.
     fn is_read_as(&self, style: Style, own: &Literal, literal: &Literal) -> bool
         ensures same { result ≡ true → own.now.kind ≡ exact → (g : Grammar) → own.now.format ≡ g.word
-            → writes self.now style g (Ok own.now.literal) → is self.now style literal.now }
+            → writes self.now style g (Ok own.now.literal) → is self.now style g own.now.literal literal.now }
         ensures kept { result ≡ false → keeps self.now style false literal.now → ⊥ };
 
     /// Returns whether a literal is worth the number in a style, whatever is written for it. A number that is rounded is not.
     fn is_worth(&self, style: Style, literal: &Literal) -> bool
-        ensures worth { result ≡ true → is self.now style literal.now }
+        ensures worth { result ≡ true → (g : Grammar) → (l : Parts) → is self.now style g l literal.now }
         ensures kept { result ≡ false → keeps self.now style false literal.now → ⊥ };
 }
 
@@ -151,7 +151,7 @@ impl Writable for Whole {
         × (with_sign number.negative number.size ≡ with_sign (is_minus l.sign) (integer_size (raw g.word).byte l)))
         (λ error. refusal g (number_of_size number.negative number.size) ≡ Some error) };
 
-    ghost is = { λ number style read. IsWhole (with_sign number.negative number.size) read };
+    ghost is = { λ number style g l read. IsWhole (with_sign number.negative number.size) read };
 
     ghost keeps = { λ number style own read. whole_of read ≡ Some (number.negative, number.size) };
 
@@ -198,10 +198,12 @@ pub struct Real<F> {
 }
 
 impl<F: Float> Writable for Real<F> {
-    ghost use Rattle.std.specs.Prelude.{◌≡◌, MatchResult, false, is_some, true};
+    ghost use Rattle.std.specs.Prelude.{◌≡◌, MatchResult, None, false, is_some, true};
     ghost use Rattle.lexical_number.specs.Float.{format_of};
+    ghost use Rattle.lexical_util.specs.Record.{raw};
+    ghost use Rattle.lexical_value.specs.Float.{nearest};
     ghost use Rattle.lexical_writer.specs.Amount.{IsFloatError, IsFloatOf};
-    ghost use Rattle.lexical_writer.specs.Choice.{IsAmount, IsKept, IsWrittenReal};
+    ghost use Rattle.lexical_writer.specs.Choice.{IsAmount, IsKept};
 
     ghost base = { λ number. 10 };
 
@@ -210,9 +212,10 @@ impl<F: Float> Writable for Real<F> {
     ghost rounded = { λ number style. is_some style.decimals };
 
     ghost writes = { λ number style g result. MatchResult result (λ l. IsFloatOf (format_of F.DOUBLE) (F.value number.value) g style l
-        × IsWrittenReal (format_of F.DOUBLE) (F.value number.value) style.decimals g l) (IsFloatError (F.value number.value) g style) };
+        × (style.decimals ≡ None → F.value number.value ≡ nearest (format_of F.DOUBLE) (raw g.word).byte l))
+        (IsFloatError (F.value number.value) g style) };
 
-    ghost is = { λ number style read. IsAmount (format_of F.DOUBLE) (F.value number.value) style.decimals read };
+    ghost is = { λ number style. IsAmount (format_of F.DOUBLE) (F.value number.value) style.decimals };
 
     ghost keeps = { λ number style own read. (own ≡ true) × IsKept (F.value number.value) style.decimals read };
 
@@ -299,13 +302,13 @@ fn is_same<F: Float>(own: &Literal, literal: &Literal) -> bool
 }
 
 impl Writable for Literal<'_> {
-    ghost use Rattle.std.specs.Prelude.{Err, MatchResult, false, not};
+    ghost use Rattle.std.specs.Prelude.{◌≡◌, Err, MatchResult, None, false, not};
     ghost use Rattle.lexical_literal.specs.Literal.{is_float};
     ghost use Rattle.lexical_util.specs.Layout as layout;
     ghost use Rattle.lexical_util.specs.Record.{raw};
-    ghost use Rattle.lexical_writer.specs.Choice.{IsInStyle, IsKeptNumber, IsWrittenNumber};
+    ghost use Rattle.lexical_writer.specs.Choice.{IsInStyle, IsKeptNumber};
     ghost use Rattle.std.specs.Float.{binary64};
-    ghost use Rattle.lexical_writer.specs.Conversion.{IsWrittenAs};
+    ghost use Rattle.lexical_writer.specs.Conversion.{IsNear, IsWrittenAs, SameFraction};
 
     ghost base = { λ number. (raw number.format).byte layout.mantissa_radix };
 
@@ -313,10 +316,12 @@ impl Writable for Literal<'_> {
 
     ghost rounded = { λ number style. false };
 
-    ghost writes = { λ number style g result. MatchResult result (λ l. IsWrittenAs binary64 number g style (Ok l) × IsWrittenNumber number style g l)
+    ghost writes = { λ number style g result. MatchResult result (λ l. IsWrittenAs binary64 number g style (Ok l)
+        × (style.decimals ≡ None → IsNear binary64 (raw number.format) number.literal (raw g.word) l)
+        × (style.nearest ≡ false → SameFraction (raw number.format) number.literal (raw g.word) l))
         (λ error. IsWrittenAs binary64 number g style (Err error)) };
 
-    ghost is = { λ number style read. IsInStyle number style read };
+    ghost is = { λ number style. IsInStyle number style };
 
     ghost keeps = { λ number style. IsKeptNumber number };
 
@@ -557,25 +562,21 @@ pub fn choose<N: Writable>(
     style: Style,
     buffer: &mut [u8],
 ) -> Result<Chosen, WriteError>
-    // The list reads the text as the number or, with a word, its token is the number.
-    ensures value { IfOk result (λ it. IsReadWith forms.now it.word (take it.length buffer.new) (N.is number.now it.style)) }
     ensures length { IfOk result (λ it. it.length ≤ length buffer.new) }
-    // The form is asked in some step, and each form that is asked before it has a reason not to write the number, which does not end the search.
-    ensures form { IfOk result (λ it. (step : ℕ) × (step < steps (N.rounded number.now style))
-        × IsSomeAnd (slice_get forms.now.forms it.form) (λ form. is_asked (N.base number.now) (N.integer number.now) step form ≡ true)
-        × AreBefore (λ at form. (error : Reason) × PassesOver (N.writes number.now) (N.keeps number.now) (length buffer.old) forms.now
-        (N.integer number.now) style at form error) (is_asked (N.base number.now) (N.integer number.now)) forms.now.forms step it.form) }
-    // The text is what this form writes, in the first way in which it does.
-    ensures text { IfOk result (λ it. IsSomeAnd (slice_get forms.now.forms it.form) (λ form. IsChosen (N.writes number.now) (N.keeps number.now)
-        (length buffer.old) forms.now it.form form (N.integer number.now) style it.style (bytes_of_word it.word) (take it.length buffer.new))) }
-    // The error is that of a text for which the buffer is too short, which ends the search, or else that of the form that is asked first.
-    ensures error { IfErr result (λ error. ((is_short error ≡ true) × (step : ℕ) × (at : ℕ) × (step < steps (N.rounded number.now style))
-        × AreBefore (λ at form. (error : Reason) × PassesOver (N.writes number.now) (N.keeps number.now) (length buffer.old) forms.now
-        (N.integer number.now) style at form error) (is_asked (N.base number.now) (N.integer number.now)) forms.now.forms step at
-        × IsSomeAnd (slice_get forms.now.forms at) (λ form. (is_asked (N.base number.now) (N.integer number.now) step form ≡ true)
-        × IsReason (N.writes number.now) (N.keeps number.now) (length buffer.old) forms.now at form (N.integer number.now) style error))
-        ⊎ ((first : Option Reason) × IsSearched (PassesOver (N.writes number.now) (N.keeps number.now) (length buffer.old) forms.now
-        (N.integer number.now) style) (is_asked (N.base number.now) (N.integer number.now)) forms.now.forms (steps (N.rounded number.now style)) 0 first
+    // The text is what a form that is asked writes, and the list reads it as the number. Each form that is asked before is passed over.
+    ensures text { IfOk result (λ it. IsFound
+        (IsPassedOver (N.writes number.now) (N.keeps number.now) (length buffer.old) forms.now (N.integer number.now) style)
+        (λ at form. (at ≡ it.form) × IsChosen (N.writes number.now) (N.keeps number.now) (length buffer.old) forms.now (N.integer number.now) style
+        at form (N.is number.now) it.style (bytes_of_word it.word) (take it.length buffer.new))
+        (is_asked (N.base number.now) (N.integer number.now)) forms.now.forms (steps (N.rounded number.now style))) }
+    // The error is that of a text that is too long, which ends the search, or else that of the form that is asked first.
+    ensures error { IfErr result (λ error. IsFound
+        (IsPassedOver (N.writes number.now) (N.keeps number.now) (length buffer.old) forms.now (N.integer number.now) style)
+        (λ at form. IsStopped (N.writes number.now) (N.keeps number.now) (length buffer.old) forms.now (N.integer number.now) style at form error)
+        (is_asked (N.base number.now) (N.integer number.now)) forms.now.forms (steps (N.rounded number.now style))
+        ⊎ ((first : Option Reason) × IsSearched
+        (IsPassedOver (N.writes number.now) (N.keeps number.now) (length buffer.old) forms.now (N.integer number.now) style)
+        (is_asked (N.base number.now) (N.integer number.now)) forms.now.forms (steps (N.rounded number.now style)) 0 first
         × (error ≡ unwrap_or first (unasked (N.rounded number.now style))))) }
 {
     let list = forms.as_slice();
@@ -593,7 +594,7 @@ pub fn choose<N: Writable>(
                 match write_form(forms, index, it, number, style, buffer) {
                     Ok(chosen) => return Ok(chosen),
                     Err(other) if is_short(other) => return Err(other),
-                    Err(other) => error = first_reason(error, other),
+                    Err(other) => error = Some(error.unwrap_or(other)),
                 }
             }
             index += 1;
@@ -683,16 +684,6 @@ pub fn lay_out_first(forms: &Forms, number: &Whole, style: Style) -> Option<Writ
     Some(integer)
 }
 
-// Returns the first of the reasons why forms do not write a number.
-const fn first_reason(first: Option<WriteError>, error: WriteError) -> Option<WriteError>
-    ensures { result ≡ first_reason first error }
-{
-    match first {
-        None => Some(error),
-        Some(_) => first,
-    }
-}
-
 // Writes a number by one form, without a word or else with one, or returns why it is not used.
 fn write_form<N: Writable>(
     forms: &Forms,
@@ -703,14 +694,15 @@ fn write_form<N: Writable>(
     buffer: &mut [u8],
 ) -> Result<Chosen, WriteError>
     requires { slice_get forms.now.forms index ≡ Some form.now }
-    ensures value { IfOk result (λ it. IsReadWith forms.now it.word (take it.length buffer.new) (N.is number.now it.style)) }
     ensures length { IfOk result (λ it. it.length ≤ length buffer.new) }
     ensures room { length buffer.new ≡ length buffer.old }
     ensures form { IfOk result (λ it. it.form ≡ index) }
-    ensures text { IfOk result (λ it. IsChosen (N.writes number.now) (N.keeps number.now) (length buffer.old) forms.now index form.now
-        (N.integer number.now) style it.style (bytes_of_word it.word) (take it.length buffer.new)) }
-    ensures error { IfErr result (IsReason (N.writes number.now) (N.keeps number.now) (length buffer.old) forms.now index form.now
-        (N.integer number.now) style) }
+    ensures text { IfOk result (λ it. IsChosen (N.writes number.now) (N.keeps number.now) (length buffer.old) forms.now (N.integer number.now) style
+        index form.now (N.is number.now) it.style (bytes_of_word it.word) (take it.length buffer.new)) }
+    ensures passed { IfErr result (λ error. is_short error ≡ false
+        → IsPassedOver (N.writes number.now) (N.keeps number.now) (length buffer.old) forms.now (N.integer number.now) style index form.now error) }
+    ensures stopped { IfErr result (λ error. is_short error ≡ true
+        → IsStopped (N.writes number.now) (N.keeps number.now) (length buffer.old) forms.now (N.integer number.now) style index form.now error) }
 {
     let error = match write_in(forms, index, form, number, style, buffer) {
         Ok(chosen) => return Ok(chosen),
@@ -739,15 +731,17 @@ fn write_in<N: Writable>(
     buffer: &mut [u8],
 ) -> Result<Chosen, WriteError>
     requires { slice_get forms.now.forms index ≡ Some form.now }
-    ensures value { IfOk result (λ it. IsReadWith forms.now it.word (take it.length buffer.new) (N.is number.now it.style)) }
     ensures length { IfOk result (λ it. it.length ≤ length buffer.new) }
     ensures room { length buffer.new ≡ length buffer.old }
     ensures form { IfOk result (λ it. it.form ≡ index) }
-    ensures word { IfOk result (λ it. it.word ≡ None) }
-    ensures text { IfOk result (λ it. IsChosen (N.writes number.now) (N.keeps number.now) (length buffer.old) forms.now index form.now
-        (N.integer number.now) style it.style (bytes_of_word it.word) (take it.length buffer.new)) }
-    ensures error { IfErr result (IsPassedOver (N.writes number.now) (N.keeps number.now) (length buffer.old) forms.now index form.now
-        (N.integer number.now) style) }
+    ensures text { IfOk result (λ it. IsChosen (N.writes number.now) (N.keeps number.now) (length buffer.old) forms.now (N.integer number.now) style
+        index form.now (N.is number.now) it.style (bytes_of_word it.word) (take it.length buffer.new)) }
+    ensures passed { IfErr result (λ error. is_short error ≡ false
+        → ArePassed (N.writes number.now) (N.keeps number.now) (length buffer.old) forms.now (N.integer number.now) style index form.now 2
+        × IsRefused (N.writes number.now) (N.keeps number.now) (length buffer.old) forms.now index form.now
+        (unwished (N.integer number.now) style, None) error) }
+    ensures stopped { IfErr result (λ error. is_short error ≡ true
+        → IsStopped (N.writes number.now) (N.keeps number.now) (length buffer.old) forms.now (N.integer number.now) style index form.now error) }
 {
     let error = match write_by(forms, index, form, number, style, buffer) {
         Ok(length) => return Ok(Chosen {
@@ -765,23 +759,29 @@ fn write_in<N: Writable>(
     if !wished {
         return Err(error);
     }
-    let style = without_wish(style);
-    let length = write_by(forms, index, form, number, style, buffer)?;
-    Ok(Chosen {
-        form: index,
-        word: None,
-        length,
-        style,
-    })
+    let plain = without_wish(style);
+    match write_by(forms, index, form, number, plain, buffer) {
+        Ok(length) => Ok(Chosen {
+            form: index,
+            word: None,
+            length,
+            style: plain,
+        }),
+        Err(error) => Err(error),
+    }
 }
 
-// Returns the style without a wish for an exponent.
+// Returns the style of an integer without a wish for an exponent.
 const fn without_wish(style: Style) -> Style
-    ensures { result ≡ unwished style }
+    ensures { result ≡ unwished true style }
 {
-    Style {
-        exponent: ExponentStyle::AsNumber,
-        ..style
+    if wants_exponent(style.exponent) {
+        Style {
+            exponent: ExponentStyle::AsNumber,
+            ..style
+        }
+    } else {
+        style
     }
 }
 
@@ -795,20 +795,17 @@ fn write_words<N: Writable>(
     style: Style,
     buffer: &mut [u8],
 ) -> Result<Chosen, WriteError>
-    requires { N.integer number.now ≡ true }
-    ensures value { IfOk result (λ it. IsReadWith forms.now it.word (take it.length buffer.new) (N.is number.now it.style)) }
+    requires integer { N.integer number.now ≡ true }
+    requires passed { ArePassed (N.writes number.now) (N.keeps number.now) (length buffer.now) forms.now (N.integer number.now) style index form.now 2 }
     ensures length { IfOk result (λ it. it.length ≤ length buffer.new) }
     ensures room { length buffer.new ≡ length buffer.old }
     ensures form { IfOk result (λ it. it.form ≡ index) }
-    ensures style { IfOk result (λ it. it.style ≡ unwished style) }
-    ensures text { IfOk result (λ it. (word : List ℕ) × (bytes_of_word it.word ≡ Some word) × (l : Parts)
-        × N.writes number.now (unwished style) form.now.syntax (Ok l) × (take it.length buffer.new ≡ text_by form.now (Some word) l)
-        × IsWithWord (N.writes number.now) (N.keeps number.now) (length buffer.old) forms.now index form.now style (λ other. other ≡ word)) }
-    ensures error { IfErr result (λ error. (is_short error ≡ true → IsWithWord (N.writes number.now) (N.keeps number.now) (length buffer.old)
-        forms.now index form.now style (λ word. IsRefused (N.writes number.now) (N.keeps number.now) (length buffer.old) forms.now index form.now
-        (unwished style) (Some word) error))
-        × (is_short error ≡ false → ArePassed (N.writes number.now) (N.keeps number.now) (length buffer.old) forms.now index form.now style
-        (length (words_of form.now.suffixes)))) }
+    ensures text { IfOk result (λ it. IsChosen (N.writes number.now) (N.keeps number.now) (length buffer.old) forms.now (N.integer number.now) style
+        index form.now (N.is number.now) it.style (bytes_of_word it.word) (take it.length buffer.new)) }
+    ensures passed { IfErr result (λ error. is_short error ≡ false → ArePassed (N.writes number.now) (N.keeps number.now) (length buffer.old) forms.now
+        (N.integer number.now) style index form.now (length (ways (N.integer number.now) style form.now))) }
+    ensures stopped { IfErr result (λ error. is_short error ≡ true
+        → IsStopped (N.writes number.now) (N.keeps number.now) (length buffer.old) forms.now (N.integer number.now) style index form.now error) }
 {
     let Some(suffixes) = form.suffixes() else {
         return Err(WriteError::ReadBack);
@@ -841,13 +838,13 @@ fn write_around<N: Writable>(
     buffer: &mut [u8],
 ) -> Result<usize, WriteError>
     requires { word ≡ None → is_marked form.now ≡ true }
-    ensures value { IfOk result (λ size. IsReadWith forms.now word.entry (take size buffer.new) (N.is number.now style)) }
     ensures length { IfOk result (λ size. size ≤ length buffer.new) }
     ensures room { length buffer.new ≡ length buffer.old }
     ensures text { IfOk result (λ size. (l : Parts) × N.writes number.now style form.now.syntax (Ok l)
-        × (take size buffer.new ≡ text_by form.now (bytes_of_word word.entry) l)) }
+        × (take size buffer.new ≡ text_by form.now (bytes_of_word word.entry) l)
+        × IsReadWith forms.now (bytes_of_word word.entry) (take size buffer.new) (N.is number.now style form.now.syntax l)) }
     ensures error { (index : ℕ) → IfErr result (IsRefused (N.writes number.now) (N.keeps number.now) (length buffer.old) forms.now index form.now
-        style (bytes_of_word word.entry)) }
+        (style, bytes_of_word word.entry)) }
 {
     let end = put_text(form, number, style, word, buffer)?;
     // A text that is longer than a `usize` has the size `usize::MAX`.
@@ -924,7 +921,7 @@ fn read_alone<N: Writable>(
     style: Style,
     text: &[u8],
 ) -> Result<(), WriteError>
-    ensures value { IfOk result (λ _. IsReadBack forms.now text.now (N.is number.now style)) }
+    ensures value { (g : Grammar) → (l : Parts) → IfOk result (λ _. IsReadBack forms.now text.now (N.is number.now style g l)) }
     ensures error { IfErr result (λ error. IsReadElse (λ own. N.keeps number.now style false) forms.now.forms 0 text.now error
         ⊎ (NoForm forms.now.forms text.now × (error ≡ errors.ReadBack))) }
 {
@@ -945,7 +942,7 @@ fn read_token<N: Writable>(
     word: &[u8],
     text: &[u8],
 ) -> Result<(), WriteError>
-    ensures value { IfOk result (λ _. IsTokenOf forms.now word.now text.now (N.is number.now style)) }
+    ensures value { (g : Grammar) → (l : Parts) → IfOk result (λ _. IsTokenOf forms.now word.now text.now (N.is number.now style g l)) }
     ensures error { IfErr result (IsNoToken (N.keeps number.now style) forms.now word.now text.now) }
 {
     let Ok(token) = forms.token(text) else {
@@ -981,11 +978,11 @@ fn write_by<N: Writable>(
     buffer: &mut [u8],
 ) -> Result<usize, WriteError>
     requires { slice_get forms.now.forms index ≡ Some form.now }
-    ensures value { IfOk result (λ size. IsReadBack forms.now (take size buffer.new) (N.is number.now style)) }
     ensures length { IfOk result (λ size. size ≤ length buffer.new) }
     ensures room { length buffer.new ≡ length buffer.old }
-    ensures text { IfOk result (λ size. (l : Parts) × N.writes number.now style form.now.syntax (Ok l) × (take size buffer.new ≡ text_by form.now None l)) }
-    ensures error { IfErr result (IsRefused (N.writes number.now) (N.keeps number.now) (length buffer.old) forms.now index form.now style None) }
+    ensures text { IfOk result (λ size. (l : Parts) × N.writes number.now style form.now.syntax (Ok l) × (take size buffer.new ≡ text_by form.now None l)
+        × IsReadBack forms.now (take size buffer.new) (N.is number.now style form.now.syntax l)) }
+    ensures error { IfErr result (IsRefused (N.writes number.now) (N.keeps number.now) (length buffer.old) forms.now index form.now (style, None)) }
 {
     if form.is_marked() {
         return write_around(forms, form, number, style, None, buffer);
@@ -1015,7 +1012,8 @@ fn read_written<N: Writable>(
     requires form { slice_get forms.now.forms index ≡ Some form.now }
     requires unmarked { (form.now.opening.size ≡ 0) × (form.now.closing.size ≡ 0) }
     requires written { (l : Parts) × Reads (notation_of form.now.syntax) l text.now × N.writes number.now style form.now.syntax (Ok l) × (float ≡ is_float l) }
-    ensures value { IfOk result (λ _. IsReadBack forms.now text.now (N.is number.now style)) }
+    ensures value { IfOk result (λ _. (l : Parts) × N.writes number.now style form.now.syntax (Ok l) × (text.now ≡ text_of l)
+        × IsReadBack forms.now text.now (N.is number.now style form.now.syntax l)) }
     ensures error { IfErr result (IsReadElse (N.keeps number.now style) forms.now.forms index text.now) }
 {
     let syntax = form.syntax();

@@ -381,7 +381,7 @@ pub fn choose<N: Writable + ?Sized>(
                 match write_form(forms, index, it, number, style, buffer) {
                     Ok(chosen) => return Ok(chosen),
                     Err(other) if is_short(other) => return Err(other),
-                    Err(other) => error = first_reason(error, other),
+                    Err(other) => error = Some(error.unwrap_or(other)),
                 }
             }
             index += 1;
@@ -453,14 +453,6 @@ pub fn lay_out_first(forms: &Forms, number: &Whole, style: Style) -> Option<Writ
     Some(integer)
 }
 
-// Returns the first of the reasons why forms do not write a number.
-const fn first_reason(first: Option<WriteError>, error: WriteError) -> Option<WriteError> {
-    match first {
-        None => Some(error),
-        Some(_) => first,
-    }
-}
-
 // Writes a number by one form, without a word or else with one, or returns why it is not used.
 fn write_form<N: Writable + ?Sized>(
     forms: &Forms,
@@ -507,14 +499,20 @@ fn write_in<N: Writable + ?Sized>(
     if !wished {
         return Err(error);
     }
-    let style = without_wish(style);
-    let length = write_by(forms, index, form, number, style, buffer)?;
-    Ok(Chosen { form: index, word: None, length, style })
+    let plain = without_wish(style);
+    match write_by(forms, index, form, number, plain, buffer) {
+        Ok(length) => Ok(Chosen { form: index, word: None, length, style: plain }),
+        Err(error) => Err(error),
+    }
 }
 
-// Returns the style without a wish for an exponent.
+// Returns the style of an integer without a wish for an exponent.
 const fn without_wish(style: Style) -> Style {
-    Style { exponent: ExponentStyle::AsNumber, ..style }
+    if wants_exponent(style.exponent) {
+        Style { exponent: ExponentStyle::AsNumber, ..style }
+    } else {
+        style
+    }
 }
 
 // Writes an integer by one form with the first of its words that makes its token this integer, or returns why there is none.

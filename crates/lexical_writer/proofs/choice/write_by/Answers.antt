@@ -25,7 +25,7 @@ pub returns-in_err-size-clause-error : goal.returns-in_err-size-clause-error
 returns-in_err-size-clause-error g c =
     let writes = g.N.Writable.writes c.args.number.now in
     residual c.from_residual.result _ (IsRefused writes (g.N.Writable.keeps c.args.number.now) (length c.args.buffer.now) c.args.forms.now c.args.index
-    c.args.form.now c.args.style None) c.from_residual.ensures.1
+    c.args.form.now (c.args.style, None)) c.from_residual.ensures.1
     (λ error same. inl (subst (λ g. writes c.args.style g (Err error)) c.syntax.ensures
     (subst (λ error. writes c.args.style c.syntax.result (Err error)) (sym same) c.in_err-size.ensures.error)))
 
@@ -71,12 +71,9 @@ returns-in-Err-clause-error g c =
 
 pub returns-in-Ok-clause-text : goal.returns-in-Ok-clause-text
 returns-in-Ok-clause-text g c =
-    let written = c.in_ok-size.ensures.text in
-    let l = written.0 in
     let none = no_marks _ _ c.is_marked.result c.is_marked.ensures c.if-is_marked.false in
-    let whole = taken (text_of l) c.args.buffer.now c.write.new.buffer c.in_ok-size.size written.3 c.if-size-buffer.false c.if-size.false in
-    (l, subst (λ s. g.N.Writable.writes c.args.number.now c.args.style s (Ok l)) c.syntax.ensures written.2,
-    sym (plain_by c.args.form.now l none.0 none.1 ∙ whole))
+    let written = c.in-Ok.ensures.value in
+    (written.0, written.1, written.2 ∙ sym (plain_by c.args.form.now written.0 none.0 none.1), written.3)
 
 pub read_written-requires-clause-unmarked : goal.read_written-requires-clause-unmarked
 read_written-requires-clause-unmarked g c = no_marks _ _ c.is_marked.result c.is_marked.ensures c.if-is_marked.false

@@ -1,87 +1,95 @@
 -- Each word before is passed.
-use Rattle.lexical_writer.proofs.Common.{IsPassed, IsRefused, List, [], Ok, Option, Some, Style, ap, arith, cases_lt, false≢true, inl, inr, is_short, length}
-use Rattle.lexical_writer.proofs.Common.{refl, slice_get, slice_index_or, subst, sym, unwished, unwrap_or, words_of, ℕ, ◌+◌, ◌<◌, ◌∙◌, ◌≡◌}
+use Rattle.lexical_writer.proofs.Common.{ArePassed, IsReached, IsRefused, List, [], Option, Some, Style, ap, arith, false≢true, is_short, length}
+use Rattle.lexical_writer.proofs.Common.{refl, slice_get, slice_index_or, subst, sym, true, unwished, ways, words_of, ℕ, ◌+◌, ◌<◌, ◌∙◌, ◌≡◌}
 use Rattle.std.specs.Borrow.{Bor}
 use Rattle.std.proofs.lemmas.Option.{slice_get-get_or}
+use Rattle.lexical_writer.proofs.OrderLemmas.{passed_more, ways_count, word_way}
 use Rattle.lexical_writer.proofs.choice.write_words.Goals as goal
 
 pub loop-word-init : goal.loop-word-init
-loop-word-init g c = record { room = refl; passed = λ at word less there. absurd (omega (arith, less)) }
+loop-word-init g c = record { room = refl; passed = c.requires.passed }
 
 pub returns-in-Ok-clause-text : goal.returns-in-Ok-clause-text
 returns-in-Ok-clause-text g c =
-    let words : words_of c.args.form.now.suffixes ≡ c.written-words.result.now =
+    let integer = g.N.Writable.integer c.args.number.now in
+    let form = c.args.form.now in
+    let style = c.args.style in
+    let words : words_of form.suffixes ≡ c.written-words.result.now =
     ap words_of (sym c.suffixes.ensures ∙ c.in-Some.is) ∙ ap (λ (w : Bor (List (Bor (List ℕ)))). w.now) (sym c.written-words.ensures) in
     let index = c.loop-word.word-index in
-    let word = slice_index_or c.written-words.result.now index (record { ref_ptr = (0, 0); now = [] }) in
-    let here = ap (λ l. slice_get l index) words ∙ slice_get-get_or c.written-words.result.now index (record { ref_ptr = (0, 0); now = [] }) c.loop-word-test.true in
-    let written = c.in-Ok.ensures.text in (
-      word.now,
-      refl,
-      written.0,
-      subst (λ (s : Style). g.N.Writable.writes c.args.number.now s c.args.form.now.syntax (Ok written.0)) c.without_wish-plain.ensures written.1,
-      written.2,
-      (index, word, here, c.loop-word.invariant.passed, refl),
+    let none : Bor (List ℕ) = record { ref_ptr = (0, 0); now = [] } in
+    let word = slice_index_or c.written-words.result.now index none in
+    let here = ap (λ l. slice_get l index) words ∙ slice_get-get_or c.written-words.result.now index none c.loop-word-test.true in
+    let plain = c.without_wish-plain.ensures ∙ ap (λ b. unwished b style) (sym c.requires.integer) in (
+      (
+        index + 2,
+        c.loop-word.invariant.passed,
+        rw (word_way integer style form index word c.requires.integer here) (ap (λ s. (s, Some word.now)) (sym plain)),
+      ),
+      c.in-Ok.ensures.text,
     )
 
-pub returns-in-Err-clause-error : goal.returns-in-Err-clause-error
-returns-in-Err-clause-error g c =
+pub returns-in-Err-clause-stopped : goal.returns-in-Err-clause-stopped
+returns-in-Err-clause-stopped g c short =
     let writes = g.N.Writable.writes c.args.number.now in
     let keeps = g.N.Writable.keeps c.args.number.now in
-    let words : words_of c.args.form.now.suffixes ≡ c.written-words.result.now =
+    let integer = g.N.Writable.integer c.args.number.now in
+    let form = c.args.form.now in
+    let style = c.args.style in
+    let words : words_of form.suffixes ≡ c.written-words.result.now =
     ap words_of (sym c.suffixes.ensures ∙ c.in-Some.is) ∙ ap (λ (w : Bor (List (Bor (List ℕ)))). w.now) (sym c.written-words.ensures) in
     let index = c.loop-word.word-index in
-    let word = slice_index_or c.written-words.result.now index (record { ref_ptr = (0, 0); now = [] }) in
-    let here = ap (λ l. slice_get l index) words ∙ slice_get-get_or c.written-words.result.now index (record { ref_ptr = (0, 0); now = [] }) c.loop-word-test.true in
-    let short = sym c.is_short.ensures ∙ c.if-is_short.true in (
-      λ _. (
-        index,
-        word,
-        here,
-        c.loop-word.invariant.passed,
-        subst (λ n. IsRefused writes keeps n c.args.forms.now c.args.index c.args.form.now (unwished c.args.style) (Some word.now) c.in-Err.error)
-            c.loop-word.invariant.room (subst (λ (s : Style). IsRefused writes keeps (length c.loop-word.buffer) c.args.forms.now c.args.index
-            c.args.form.now s (Some word.now) c.in-Err.error) c.without_wish-plain.ensures (c.in-Err.ensures.error c.args.index)),
-      ),
-      λ none. absurd (false≢true (sym none ∙ short)),
-    )
+    let none : Bor (List ℕ) = record { ref_ptr = (0, 0); now = [] } in
+    let word = slice_index_or c.written-words.result.now index none in
+    let here = ap (λ l. slice_get l index) words ∙ slice_get-get_or c.written-words.result.now index none c.loop-word-test.true in
+    let plain = c.without_wish-plain.ensures ∙ ap (λ b. unwished b style) (sym c.requires.integer) in
+    let refused = subst (λ n. IsRefused writes keeps n c.args.forms.now c.args.index form (unwished integer style, Some word.now) c.in-Err.error)
+    c.loop-word.invariant.room (subst (λ (s : Style). IsRefused writes keeps (length c.loop-word.buffer) c.args.forms.now c.args.index form
+    (s, Some word.now) c.in-Err.error) plain (c.in-Err.ensures.error c.args.index)) in
+    (short, (index + 2, c.loop-word.invariant.passed, rw (word_way integer style form index word c.requires.integer here) refused))
+
+pub returns-in-Err-clause-passed : goal.returns-in-Err-clause-passed
+returns-in-Err-clause-passed g c fits = absurd (false≢true (sym fits ∙ sym c.is_short.ensures ∙ c.if-is_short.true))
 
 pub loop-word-preserved : goal.loop-word-preserved
 loop-word-preserved g c =
     let writes = g.N.Writable.writes c.args.number.now in
     let keeps = g.N.Writable.keeps c.args.number.now in
-    let words : words_of c.args.form.now.suffixes ≡ c.written-words.result.now =
+    let integer = g.N.Writable.integer c.args.number.now in
+    let form = c.args.form.now in
+    let style = c.args.style in
+    let room = length c.args.buffer.now in
+    let words : words_of form.suffixes ≡ c.written-words.result.now =
     ap words_of (sym c.suffixes.ensures ∙ c.in-Some.is) ∙ ap (λ (w : Bor (List (Bor (List ℕ)))). w.now) (sym c.written-words.ensures) in
     let index = c.loop-word.word-index in
-    let word : Bor (List ℕ) = slice_index_or c.written-words.result.now index (record { ref_ptr = (0, 0); now = [] }) in
-    let here = ap (λ l. slice_get l index) words ∙ slice_get-get_or c.written-words.result.now index (record { ref_ptr = (0, 0); now = [] }) c.loop-word-test.true in
-    let room = length c.args.buffer.now in
-    let P : Bor (List ℕ) → Type 0 =
-    λ word. IsPassed writes keeps room c.args.forms.now c.args.index c.args.form.now (unwished c.args.style) (Some word.now) in
-    let new : P word = (
-      c.in-Err.error,
-      subst (λ n. IsRefused writes keeps n c.args.forms.now c.args.index c.args.form.now (unwished c.args.style) (Some word.now) c.in-Err.error)
-          c.loop-word.invariant.room (subst (λ (s : Style). IsRefused writes keeps (length c.loop-word.buffer) c.args.forms.now c.args.index
-          c.args.form.now s (Some word.now) c.in-Err.error) c.without_wish-plain.ensures (c.in-Err.ensures.error c.args.index)),
-      sym c.is_short.ensures ∙ c.if-is_short.false,
-    ) in
+    let none : Bor (List ℕ) = record { ref_ptr = (0, 0); now = [] } in
+    let word = slice_index_or c.written-words.result.now index none in
+    let here = ap (λ l. slice_get l index) words ∙ slice_get-get_or c.written-words.result.now index none c.loop-word-test.true in
+    let plain = c.without_wish-plain.ensures ∙ ap (λ b. unwished b style) (sym c.requires.integer) in
+    let refused = subst (λ n. IsRefused writes keeps n c.args.forms.now c.args.index form (unwished integer style, Some word.now) c.in-Err.error)
+    c.loop-word.invariant.room (subst (λ (s : Style). IsRefused writes keeps (length c.loop-word.buffer) c.args.forms.now c.args.index form
+    (s, Some word.now) c.in-Err.error) plain (c.in-Err.ensures.error c.args.index)) in
     record {
       room = c.in-Err.ensures.room ∙ c.loop-word.invariant.room;
-      passed = λ at it less there. elim (cases_lt at index) [
-        | inl before ↦ c.loop-word.invariant.passed at it before there
-        | inr least ↦
-            let same : index ≡ at = omega (arith, less, least) in
-            let one : word ≡ it = ap (λ (o : Option (Bor (List ℕ))). unwrap_or o word)
-            (sym here ∙ ap (slice_get (words_of c.args.form.now.suffixes)) same ∙ there) in
-            subst P one new
-      ];
+      passed = subst (ArePassed writes keeps room c.args.forms.now integer style c.args.index form) {x = index + 2 + 1} {y = index + 1 + 2} (omega arith)
+          (passed_more writes keeps room c.args.forms.now integer style c.args.index form (index + 2) (unwished integer style, Some word.now) c.in-Err.error
+          (word_way integer style form index word c.requires.integer here) refused (sym c.is_short.ensures ∙ c.if-is_short.false)
+          c.loop-word.invariant.passed);
     }
 
-pub returns-clause-error : goal.returns-clause-error
-returns-clause-error g c =
-    let words : words_of c.args.form.now.suffixes ≡ c.written-words.result.now =
+pub returns-clause-passed : goal.returns-clause-passed
+returns-clause-passed g c fits =
+    let form = c.args.form.now in
+    let words : words_of form.suffixes ≡ c.written-words.result.now =
     ap words_of (sym c.suffixes.ensures ∙ c.in-Some.is) ∙ ap (λ (w : Bor (List (Bor (List ℕ)))). w.now) (sym c.written-words.ensures) in
-    let size : length (words_of c.args.form.now.suffixes) ≡ length c.written-words.result.now = ap length words in (
-      λ short. absurd (false≢true short),
-      λ _ at word less there. c.loop-word.invariant.passed at word (omega (arith, less, size, c.loop-word-test.false)) there,
-    )
+    let size = ap length words in
+    let count = ways_count (g.N.Writable.integer c.args.number.now) c.args.style form c.requires.integer in
+    λ at way less there. c.loop-word.invariant.passed at way (omega (arith, less, count, size, c.loop-word-test.false)) there
+
+pub returns-in_default-clause-passed : goal.returns-in_default-clause-passed
+returns-in_default-clause-passed g c fits =
+    let form = c.args.form.now in
+    let words : words_of form.suffixes ≡ [] = ap words_of (sym c.suffixes.ensures ∙ c.in_default.is) in
+    let size = ap length words in
+    let count = ways_count (g.N.Writable.integer c.args.number.now) c.args.style form c.requires.integer in
+    λ at way less there. c.requires.passed at way (omega (arith, less, count, size)) there
