@@ -4,7 +4,7 @@ use Rattle.lexical_writer.proofs.Common.{Option, Read, Reads, ReadsForm, Record,
 use Rattle.lexical_writer.proofs.Common.{float_worth, format_by, if◌then◌else◌, inl, inr, integer_worth, is_binary, is_decimal, is_exact, is_float, is_minus}
 use Rattle.lexical_writer.proofs.Common.{is_some, length-take-le}
 use Rattle.lexical_writer.proofs.Common.{mantissa, nearest, negsuc, not, notation_of, pos, raw, refl, slice_get, subst, suc, sym, take, true, with_sign, within}
-use Rattle.lexical_writer.proofs.Common.{whole_of, worth, zero, ℕ, ℤ, ◌&&◌, ◌||◌, ◌<◌, ◌∙◌, ◌≡◌, ◌⊎◌}
+use Rattle.lexical_writer.proofs.Common.{whole_of, worth, zero, ℕ, ℤ, ◌||◌, ◌<◌, ◌∙◌, ◌≡◌, ◌⊎◌}
 use Rattle.std.proofs.lemmas.Option.{get_or_from_slice_get, slice_get_within}
 use Rattle.std.specs.Float.{Float, Format, binary64}
 use Rattle.lexical_forms.specs.Forms.{ReadsIn}

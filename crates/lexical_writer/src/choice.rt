@@ -1,7 +1,7 @@
 //! A list of forms writes numbers: in the first form whose text the list reads as the number.
 
 ghost use Rattle.std.specs.Prelude.{◌==◌, ◌≡◌, ◌≤◌, ◌<◌, ◌-◌, ◌^◌, ◌⊎◌, ◌||◌, ◌&&◌, ◌++◌, if◌then◌else◌, not, Bool, true, false};
-ghost use Rattle.std.specs.Prelude.{ℕ, ◌+◌, All, Err, List, [], IfErr, IfOk, IfSome, IsFalse, IsSomeAnd, None, Ok, Option, Result, Some};
+ghost use Rattle.std.specs.Prelude.{ℕ, ◌+◌, Err, List, IfErr, IfOk, IfSome, IsFalse, None, Ok, Option, Result, Some};
 ghost use Rattle.std.specs.Prelude.{unwrap_or, from_bits, is_some, length, slice_get, take, ℤ};
 ghost use Rattle.std.specs.Float.{Float as Value, float_is_infinite};
 ghost use Rattle.lexical_util.specs.Record.{bytes_of};
@@ -16,7 +16,6 @@ ghost use Rattle.lexical_value.specs.Kind.{float_worth, integer_worth, is_exact,
 ghost use Rattle.lexical_literal.specs.declared.kind.FloatKind.TheVariants as floats;
 ghost use Rattle.lexical_writer.specs.Buffer.{IsTaken};
 ghost use Rattle.lexical_forms.specs.Forms.{IsFirst, NoForm};
-ghost use Rattle.lexical_forms.specs.Token.{IsReadByTokens};
 ghost use Rattle.lexical_forms.specs.declared.form.Form.{Form as Asked};
 ghost use Rattle.lexical_writer.specs.Layout.{integer_literal, laid_out, literal_of as written, number_of_size};
 ghost use Rattle.lexical_writer.specs.Choice.{ArePassed, IsChosen, IsFound, IsNoToken, IsPassedOver, IsReadBack, IsReadElse, IsReadWith, IsReal};

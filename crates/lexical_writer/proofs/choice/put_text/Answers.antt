@@ -1,5 +1,5 @@
 -- The parts of the text are one behind another.
-use Rattle.lexical_writer.proofs.Common.{IsPut, Ok, [], append-nil, arith, bytes_of_word, length, length-take, min, subst, sym, text_of, unwrap_or, ℕ, ◌++◌, ◌-◌, ◌<◌, ◌^◌, ◌∙◌, ◌≡◌}
+use Rattle.lexical_writer.proofs.Common.{IsPut, Ok, [], append-nil, arith, bytes_of_word, length, length-take, min, subst, sym, text_of, unwrap_or, ◌++◌, ◌-◌, ◌<◌, ◌^◌, ◌∙◌, ◌≡◌}
 use Rattle.lexical_forms.specs.Affix.{spelling}
 use Rattle.lexical_writer.proofs.BufferLemmas.{put_none}
 use Rattle.lexical_writer.proofs.choice.put_text.Goals as goal

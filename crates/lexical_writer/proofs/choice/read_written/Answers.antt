@@ -3,7 +3,6 @@ use Rattle.lexical_writer.proofs.Common.{Bool, Grammar, IsSomeAnd, IsSyntax, Ok,
 use Rattle.lexical_writer.proofs.Common.{refl, rules, slice_get, true}
 use Rattle.lexical_writer.proofs.Common.{false, subst, sym, ◌&&◌, ◌==◌, ◌∙◌, ◌≡◌}
 use Rattle.lexical_writer.proofs.Common.{Some, eqb-true, false≢true}
-use Rattle.lexical_forms.specs.declared.form.Form.{Form}
 use Rattle.lexical_forms.proofs.MarkLemmas.{plain_of}
 use Rattle.lexical_writer.proofs.ChoiceLemmas.{first_reads, none_at}
 use Rattle.lexical_writer.proofs.choice.read_written.Goals as goal

@@ -1,6 +1,6 @@
 -- The text is in the buffer, and the list reads it or does not.
 use Rattle.lexical_writer.proofs.Common.{IsNoToken, IsReadElse, IsReadWith, Some, IsRefused, NoForm, None, ap, arith, false, bytes_of_word, inl, inr, length, length-take, not, subst, sym, take}
-use Rattle.lexical_writer.proofs.Common.{text_by, ℕ, ◌&&◌, ◌∙◌, ◌≡◌, ◌≤◌}
+use Rattle.lexical_writer.proofs.Common.{text_by, ◌&&◌, ◌∙◌, ◌≡◌}
 use Rattle.lexical_writer.proofs.BufferLemmas.{put_whole}
 use Rattle.lexical_writer.proofs.FloatLemmas.{residual}
 use Rattle.lexical_writer.proofs.choice.write_around.Goals as goal

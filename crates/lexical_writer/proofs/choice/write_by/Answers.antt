@@ -1,6 +1,6 @@
 -- What is written is in the buffer, and is not used for one of the errors.
-use Rattle.lexical_writer.proofs.Common.{Bool, Err, Grammar, IsMisread, IsReadElse, IsRefused, IsTaken, IsUnusable, List, Literal, None, Ok, Reads}
-use Rattle.lexical_writer.proofs.Common.{ap, arith, inl, inr, is_marked, text_by, ◌&&◌}
+use Rattle.lexical_writer.proofs.Common.{Err, Grammar, IsReadElse, IsRefused, IsTaken, IsUnusable, List, Literal, None, Ok, Reads}
+use Rattle.lexical_writer.proofs.Common.{ap, arith, inl, inr, ◌&&◌}
 use Rattle.lexical_writer.proofs.Common.{is_float, length, not, notation_of, subst, sym, take, text_of, ℕ, ◌-◌, ◌^◌}
 use Rattle.lexical_writer.proofs.Common.{◌∙◌, ◌≡◌, ◌≤◌}
 use Rattle.lexical_forms.proofs.MarkLemmas.{no_marks}

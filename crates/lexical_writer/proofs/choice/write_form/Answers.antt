@@ -1,5 +1,5 @@
 -- The error is that without a word, or that of a text that is too long.
-use Rattle.lexical_writer.proofs.Common.{ArePassed, IsChosen, IsStopped, ap, bytes_of_word, false, false≢true, length, subst, sym, take, true, ways, ◌∙◌, ◌≡◌}
+use Rattle.lexical_writer.proofs.Common.{ArePassed, IsChosen, IsStopped, ap, bytes_of_word, false≢true, length, subst, sym, take, ways, ◌∙◌}
 use Rattle.lexical_writer.proofs.choice.write_form.Goals as goal
 
 pub returns-then-is_short-clause-passed : goal.returns-then-is_short-clause-passed

@@ -1,5 +1,5 @@
 -- The form does not use what it writes, with the wish for an exponent and without.
-use Rattle.lexical_writer.proofs.Common.{ArePassed, Bool, IsChosen, IsRefused, IsStopped, None, Style, and_parts, ap, false≢true, length, refl, subst, sym, take, true}
+use Rattle.lexical_writer.proofs.Common.{Bool, IsRefused, None, Style, and_parts, ap, false≢true, length, refl, subst, sym, true}
 use Rattle.lexical_writer.proofs.Common.{if◌then◌else◌, unwished, ◌&&◌, ◌∙◌, ◌≡◌}
 use Rattle.lexical_writer.proofs.OrderLemmas.{passed_more, passed_none}
 use Rattle.lexical_writer.specs.declared.layout.ExponentStyle.TheVariants as exponents

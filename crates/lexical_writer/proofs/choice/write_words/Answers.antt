@@ -1,6 +1,6 @@
 -- Each word before is passed.
-use Rattle.lexical_writer.proofs.Common.{ArePassed, IsReached, IsRefused, List, [], Option, Some, Style, ap, arith, false≢true, is_short, length}
-use Rattle.lexical_writer.proofs.Common.{refl, slice_get, slice_index_or, subst, sym, true, unwished, ways, words_of, ℕ, ◌+◌, ◌<◌, ◌∙◌, ◌≡◌}
+use Rattle.lexical_writer.proofs.Common.{ArePassed, IsRefused, List, [], Some, Style, ap, arith, false≢true, length}
+use Rattle.lexical_writer.proofs.Common.{refl, slice_get, slice_index_or, subst, sym, unwished, words_of, ℕ, ◌+◌, ◌∙◌, ◌≡◌}
 use Rattle.std.specs.Borrow.{Bor}
 use Rattle.std.proofs.lemmas.Option.{slice_get-get_or}
 use Rattle.lexical_writer.proofs.OrderLemmas.{passed_more, ways_count, word_way}

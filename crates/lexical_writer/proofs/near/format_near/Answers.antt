@@ -3,7 +3,7 @@ use Rattle.std.proofs.Common.{is_ok}
 use Rattle.std.proofs.lemmas.Result.{IfErr-weaker}
 use Rattle.lexical_writer.specs.Amount.{IsFloatError}
 use Rattle.lexical_writer.specs.Conversion.{IsWritten, IsWrittenAs}
-use Rattle.lexical_writer.proofs.Common.{Bool, IsFloatOf, ap, false, false≢true, inl, refl, sym, true, ◌∙◌, ◌≡◌, Err, IfErr, IfOk-weaker, IsRounded, Ok, Result, SameFraction, WriteError, decimals_in, format_of, inr, literal_of}
+use Rattle.lexical_writer.proofs.Common.{Bool, IsFloatOf, ap, false, false≢true, inl, refl, sym, true, ◌∙◌, ◌≡◌, Err, IfOk-weaker, IsRounded, Ok, Result, SameFraction, WriteError, decimals_in, format_of, inr, literal_of}
 use Rattle.lexical_writer.proofs.Common.{nearest, raw, subst, ◌⊎◌}
 use Rattle.lexical_writer.proofs.near.format_near.Goals as goal
 
