@@ -64,11 +64,11 @@ IsFound P Q asked forms end = (step index : ℕ) × (step < end) × AreBefore (�
 -- `IsSearched P asked forms step index reason` holds if `P` holds of an error of each form that is asked before this step and index, and if `reason` is
 -- that of the first of them, or `None` if there is none.
 pub record IsSearched (P : ℕ → Form → WriteError → Type 0) (asked : ℕ → Form → Bool) (forms : List Form) (step index : ℕ) (reason : Option WriteError)
-  : Type 0 where
-    pub passed : AreBefore (λ at form. (error : WriteError) × P at form error) asked forms step index
-    pub none : reason ≡ None → AreBefore (λ at form. ⊥) asked forms step index
-    pub first : (error : WriteError) → reason ≡ Some error → (before at : ℕ) × AreBefore (λ at form. ⊥) asked forms before at
-        × IsSomeAnd (slice_get forms at) (λ form. (asked before form ≡ true) × P at form error)
+    : Type 0 where
+  pub passed : AreBefore (λ at form. (error : WriteError) × P at form error) asked forms step index
+  pub none : reason ≡ None → AreBefore (λ at form. ⊥) asked forms step index
+  pub first : (error : WriteError) → reason ≡ Some error → (before at : ℕ) × AreBefore (λ at form. ⊥) asked forms before at
+      × IsSomeAnd (slice_get forms at) (λ form. (asked before form ≡ true) × P at form error)
 
 -- `has_floats word` is true if literals of the format `word` can be worth a float.
 abbrev pub has_floats : ℕ → Bool

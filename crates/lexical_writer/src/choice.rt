@@ -1,6 +1,6 @@
 //! A list of forms writes numbers: in the first form whose text the list reads as the number.
 
-ghost use Rattle.std.specs.Prelude.{◌==◌, ◌≡◌, ◌≤◌, ◌<◌, ◌-◌, ◌^◌, ◌⊎◌, ◌||◌, ◌&&◌, ◌++◌, if◌then◌else◌, not, Bool, true, false};
+ghost use Rattle.std.specs.Prelude.{◌==◌, ◌≡◌, ◌≤◌, ◌<◌, ◌-◌, ◌^◌, ◌⊎◌, ◌||◌, ◌++◌, if◌then◌else◌, not, Bool, true, false};
 ghost use Rattle.std.specs.Prelude.{ℕ, ◌+◌, Err, List, IfErr, IfOk, IfSome, IsFalse, None, Ok, Option, Result, Some};
 ghost use Rattle.std.specs.Prelude.{unwrap_or, from_bits, is_some, length, slice_get, take, ℤ};
 ghost use Rattle.std.specs.Float.{Float as Value, float_is_infinite};
@@ -22,7 +22,6 @@ ghost use Rattle.lexical_writer.specs.Choice.{ArePassed, IsChosen, IsFound, IsNo
 ghost use Rattle.lexical_writer.specs.Choice.{IsRefused, IsSearched, IsStopped, IsTokenOf, IsWhole, bytes_of_word, has_floats, has_worth, is_asked};
 ghost use Rattle.lexical_writer.specs.Choice.{is_marked, is_own, is_short, steps, text_by, unasked, unwished, ways, whole_of};
 ghost use Rattle.lexical_writer.specs.Private.{IsPut};
-ghost use Rattle.lexical_writer.specs.declared.layout.ExponentStyle.TheVariants as exponents;
 ghost use Rattle.lexical_writer.specs.declared.layout.WriteError.{WriteError as Reason};
 ghost use Rattle.lexical_writer.specs.declared.layout.WriteError.TheVariants as errors;
 ghost use Rattle.lexical_writer.specs.declared.layout.Style.{Style as Wishes};
@@ -607,11 +606,7 @@ pub fn choose<N: Writable>(
 const fn steps(rounded: bool) -> u8
     ensures { result ≡ steps rounded }
 {
-    if rounded {
-        1
-    } else {
-        2
-    }
+    if rounded { 1 } else { 2 }
 }
 
 // Returns the error if no form is asked.

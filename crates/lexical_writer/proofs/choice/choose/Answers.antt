@@ -70,9 +70,15 @@ returns-in-Ok-clause-text g c =
       index,
       subst (λ n. step < n) (c.steps-end.ensures ∙ ap steps c.is_rounded-rounded.ensures) c.loop-step-test.true,
       c.loop-index.invariant.searched.passed,
-      rw here (sym now ∙ c.if-is_asked.true, (sym c.in-Ok.ensures.form, subst (λ n. IsChosen (g.N.Writable.writes number) (g.N.Writable.keeps number) n
-          c.args.forms.now integer c.args.style index form (g.N.Writable.is number) chosen.style (bytes_of_word chosen.word)
-          (take chosen.length c.write_form.new.buffer)) c.loop-index.invariant.room c.in-Ok.ensures.text)),
+      rw here (
+        sym now ∙ c.if-is_asked.true,
+        (
+          sym c.in-Ok.ensures.form,
+          subst (λ n. IsChosen (g.N.Writable.writes number) (g.N.Writable.keeps number) n
+              c.args.forms.now integer c.args.style index form (g.N.Writable.is number) chosen.style (bytes_of_word chosen.word)
+              (take chosen.length c.write_form.new.buffer)) c.loop-index.invariant.room c.in-Ok.ensures.text,
+        ),
+      ),
     )
 
 pub returns-in-Err-clause-error : goal.returns-in-Err-clause-error
@@ -92,8 +98,11 @@ returns-in-Err-clause-error g c =
       index,
       subst (λ n. step < n) (c.steps-end.ensures ∙ ap steps c.is_rounded-rounded.ensures) c.loop-step-test.true,
       c.loop-index.invariant.searched.passed,
-      rw here (sym now ∙ c.if-is_asked.true, subst (λ n. IsStopped (g.N.Writable.writes number) (g.N.Writable.keeps number) n c.args.forms.now integer
-          c.args.style index form c.in-Err.other) c.loop-index.invariant.room (c.in-Err.ensures.stopped (sym c.is_short.ensures ∙ c.if-is_short.true))),
+      rw here (
+        sym now ∙ c.if-is_asked.true,
+        subst (λ n. IsStopped (g.N.Writable.writes number) (g.N.Writable.keeps number) n c.args.forms.now integer
+            c.args.style index form c.in-Err.other) c.loop-index.invariant.room (c.in-Err.ensures.stopped (sym c.is_short.ensures ∙ c.if-is_short.true)),
+      ),
     )
 
 pub returns-clause-error : goal.returns-clause-error

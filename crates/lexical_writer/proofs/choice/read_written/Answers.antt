@@ -52,8 +52,13 @@ returns-then-plain-form-clause-value g c =
       l,
       has,
       reads.whole,
-      (literal, c.in-Some.form, first, subst (λ l. g.N.Writable.is c.args.number.now style form.syntax l literal) (sym same)
-          (subst (λ s. g.N.Writable.is c.args.number.now style s literal.literal literal) syntax plain)),
+      (
+        literal,
+        c.in-Some.form,
+        first,
+        subst (λ l. g.N.Writable.is c.args.number.now style form.syntax l literal) (sym same)
+            (subst (λ s. g.N.Writable.is c.args.number.now style s literal.literal literal) syntax plain),
+      ),
     )
 
 pub returns-then-is_read_as-clause-value : goal.returns-then-is_read_as-clause-value
@@ -73,9 +78,13 @@ returns-then-is_read_as-clause-value g c =
       l,
       has,
       reads.whole,
-      (c.in-Some.literal, c.in-Some.form, c.in-Some.ensures.some,
-          subst (λ l. g.N.Writable.is c.args.number.now style form.syntax l c.in-Some.literal) (sym same)
-          (subst (λ s. g.N.Writable.is c.args.number.now style s own.literal c.in-Some.literal) syntax read)),
+      (
+        c.in-Some.literal,
+        c.in-Some.form,
+        c.in-Some.ensures.some,
+        subst (λ l. g.N.Writable.is c.args.number.now style form.syntax l c.in-Some.literal) (sym same)
+            (subst (λ s. g.N.Writable.is c.args.number.now style s own.literal c.in-Some.literal) syntax read),
+      ),
     )
 
 and_left : (a b : Bool) → (a && b) ≡ false → b ≡ true → a ≡ false

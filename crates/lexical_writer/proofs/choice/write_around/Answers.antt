@@ -23,12 +23,19 @@ returns-in_err-read_alone-in-None-clause-error g c index =
     residual c.from_residual-in_err-read_alone-in-None.result _ (IsRefused writes keeps room c.args.forms.now index form (style, bytes_of_word c.args.word))
     c.from_residual-in_err-read_alone-in-None.ensures.1
     (λ error same. subst (λ w. IsRefused writes keeps room c.args.forms.now index form (style, bytes_of_word w) error) (sym c.in-None.is)
-    (inr (l, written.1, inr (omega (arith, long, size, c.in_ok-end.ensures.room), elim c.in_err-read_alone-in-None.ensures.error [
-      | inl else ↦ inl (subst (λ b. IsReadElse (λ own. keeps style (not b && own)) forms index (text_by form None l) error) (sym (c.requires c.in-None.is))
-          (subst (λ text. IsReadElse (λ own. keeps style false) forms 0 text error) (sym whole)
-          (subst (λ e. IsReadElse (λ own. keeps style false) forms 0 bytes e) (sym same) else)))
-      | inr none ↦ inr (subst (NoForm forms) (sym whole) none.0, same ∙ none.1)
-    ]))))
+    (inr (
+      l,
+      written.1,
+      inr (
+        omega (arith, long, size, c.in_ok-end.ensures.room),
+        elim c.in_err-read_alone-in-None.ensures.error [
+          | inl else ↦ inl (subst (λ b. IsReadElse (λ own. keeps style (not b && own)) forms index (text_by form None l) error) (sym (c.requires c.in-None.is))
+              (subst (λ text. IsReadElse (λ own. keeps style false) forms 0 text error) (sym whole)
+              (subst (λ e. IsReadElse (λ own. keeps style false) forms 0 bytes e) (sym same) else)))
+          | inr none ↦ inr (subst (NoForm forms) (sym whole) none.0, same ∙ none.1)
+        ],
+      ),
+    )))
 
 pub returns-in_err-read_token-in-Some-clause-error : goal.returns-in_err-read_token-in-Some-clause-error
 returns-in_err-read_token-in-Some-clause-error g c index =
@@ -49,8 +56,15 @@ returns-in_err-read_token-in-Some-clause-error g c index =
     residual c.from_residual-in_err-read_token-in-Some.result _ (IsRefused writes keeps room list index form (style, bytes_of_word c.args.word))
     c.from_residual-in_err-read_token-in-Some.ensures.1
     (λ error same. subst (λ w. IsRefused writes keeps room list index form (style, bytes_of_word w) error) (sym c.in-Some.is)
-    (inr (l, written.1, inr (omega (arith, long, size, c.in_ok-end.ensures.room), subst (λ text. IsNoToken (keeps style) list word text error) (sym whole)
-    (subst (IsNoToken (keeps style) list word bytes) (sym same) c.in_err-read_token-in-Some.ensures.error)))))
+    (inr (
+      l,
+      written.1,
+      inr (
+        omega (arith, long, size, c.in_ok-end.ensures.room),
+        subst (λ text. IsNoToken (keeps style) list word text error) (sym whole)
+            (subst (IsNoToken (keeps style) list word bytes) (sym same) c.in_err-read_token-in-Some.ensures.error),
+      ),
+    )))
 
 pub returns-in_ok-read_alone-in-None-clause-text : goal.returns-in_ok-read_alone-in-None-clause-text
 returns-in_ok-read_alone-in-None-clause-text g c =

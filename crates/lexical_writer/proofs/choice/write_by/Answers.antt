@@ -41,16 +41,19 @@ returns-then-size-clause-error g c =
     let l = written.0 in
     let none = no_marks _ _ c.is_marked.result c.is_marked.ensures c.if-is_marked.false in
     let form = c.args.form.now in
-    inr (l, subst (λ s. g.N.Writable.writes c.args.number.now c.args.style s (Ok l)) c.syntax.ensures written.2,
-    subst (λ text. IsUnusable (g.N.Writable.writes c.args.number.now) (g.N.Writable.keeps c.args.number.now) (length c.args.buffer.now) c.args.forms.now
-    c.args.index form c.args.style None text (errors.Buffer c.in_ok-size.size)) (sym (plain_by form l none.0 none.1))
-    (inl (
-      elim c.then-size.either [
-        | inl most ↦ inr (omega (arith, most, written.3.counted))
-        | inr over ↦ inl (omega (arith, over.1, written.3.counted, c.in_ok-size.ensures.room))
-      ],
-      ap errors.Buffer written.3.counted,
-    )))
+    inr (
+      l,
+      subst (λ s. g.N.Writable.writes c.args.number.now c.args.style s (Ok l)) c.syntax.ensures written.2,
+      subst (λ text. IsUnusable (g.N.Writable.writes c.args.number.now) (g.N.Writable.keeps c.args.number.now) (length c.args.buffer.now) c.args.forms.now
+          c.args.index form c.args.style None text (errors.Buffer c.in_ok-size.size)) (sym (plain_by form l none.0 none.1))
+          (inl (
+            elim c.then-size.either [
+              | inl most ↦ inr (omega (arith, most, written.3.counted))
+              | inr over ↦ inl (omega (arith, over.1, written.3.counted, c.in_ok-size.ensures.room))
+            ],
+            ap errors.Buffer written.3.counted,
+          )),
+    )
 
 pub returns-in-Err-clause-error : goal.returns-in-Err-clause-error
 returns-in-Err-clause-error g c =
@@ -61,13 +64,18 @@ returns-in-Err-clause-error g c =
     let keeps = g.N.Writable.keeps c.args.number.now in
     let whole = taken (text_of l) c.args.buffer.now c.write.new.buffer c.in_ok-size.size written.3 c.if-size-buffer.false c.if-size.false in
     let error = c.in-Err.error in
-    inr (l, subst (λ s. g.N.Writable.writes c.args.number.now c.args.style s (Ok l)) c.syntax.ensures written.2,
-    subst (λ text. IsUnusable (g.N.Writable.writes c.args.number.now) keeps (length c.args.buffer.now) c.args.forms.now
-    c.args.index form c.args.style None text error) (sym (plain_by form l none.0 none.1))
-    (inr (omega (arith, written.3.counted, c.if-size-buffer.false, c.if-size.false, c.in_ok-size.ensures.room),
-    inl (subst (λ b. IsReadElse (λ own. keeps c.args.style (not b && own)) c.args.forms.now.forms c.args.index (text_of l) error)
-    (sym (sym c.is_marked.ensures ∙ c.if-is_marked.false))
-    (subst (λ text. IsReadElse (keeps c.args.style) c.args.forms.now.forms c.args.index text error) (sym whole) c.in-Err.ensures.error)))))
+    inr (
+      l,
+      subst (λ s. g.N.Writable.writes c.args.number.now c.args.style s (Ok l)) c.syntax.ensures written.2,
+      subst (λ text. IsUnusable (g.N.Writable.writes c.args.number.now) keeps (length c.args.buffer.now) c.args.forms.now
+          c.args.index form c.args.style None text error) (sym (plain_by form l none.0 none.1))
+          (inr (
+            omega (arith, written.3.counted, c.if-size-buffer.false, c.if-size.false, c.in_ok-size.ensures.room),
+            inl (subst (λ b. IsReadElse (λ own. keeps c.args.style (not b && own)) c.args.forms.now.forms c.args.index (text_of l) error)
+                (sym (sym c.is_marked.ensures ∙ c.if-is_marked.false))
+                (subst (λ text. IsReadElse (keeps c.args.style) c.args.forms.now.forms c.args.index text error) (sym whole) c.in-Err.ensures.error)),
+          )),
+    )
 
 pub returns-in-Ok-clause-text : goal.returns-in-Ok-clause-text
 returns-in-Ok-clause-text g c =

@@ -9,9 +9,12 @@ pub returns-then-not-is_integer-clause-passed : goal.returns-then-not-is_integer
 returns-then-not-is_integer-clause-passed g c fits =
     let none = sym c.is_integer.ensures ∙ c.if-not-is_integer.true in
     let count = ap (λ integer. length (ways integer c.args.style c.args.form.now)) none in
-    let passed = c.in-Err.ensures.passed fits in
-    (fits, subst (ArePassed (g.N.Writable.writes c.args.number.now) (g.N.Writable.keeps c.args.number.now) (length c.args.buffer.now) c.args.forms.now
-        (g.N.Writable.integer c.args.number.now) c.args.style c.args.index c.args.form.now) (sym count) passed.0, passed.1)
+    let passed = c.in-Err.ensures.passed fits in (
+      fits,
+      subst (ArePassed (g.N.Writable.writes c.args.number.now) (g.N.Writable.keeps c.args.number.now) (length c.args.buffer.now) c.args.forms.now
+          (g.N.Writable.integer c.args.number.now) c.args.style c.args.index c.args.form.now) (sym count) passed.0,
+      passed.1,
+    )
 
 pub write_words-requires-clause-integer : goal.write_words-requires-clause-integer
 write_words-requires-clause-integer g c = sym c.is_integer.ensures ∙ c.if-not-is_integer.false

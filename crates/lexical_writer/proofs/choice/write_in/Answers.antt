@@ -103,6 +103,12 @@ returns-in-Err-write_by-clause-stopped g c short =
     let is = plain c.is_integer.result c.wants_exponent.result integer style c.without_wish-plain.result c.if-not-wished.false c.is_integer.ensures
     c.without_wish-plain.ensures in
     let again = subst (λ n. IsRefused writes keeps n list index form (unwished integer style, None) error) c.in-Err.ensures.room
-    (subst (λ (s : Style). IsRefused writes keeps (length c.write_by.new.buffer) list index form (s, None) error) is c.in-Err-write_by.ensures.error) in
-    (short, (1, passed_more writes keeps room list integer style index form 0 (style, None) c.in-Err.error refl c.in-Err.ensures.error
-        (sym c.is_short.ensures ∙ c.if-is_short.false) (passed_none writes keeps room list integer style index form), again))
+    (subst (λ (s : Style). IsRefused writes keeps (length c.write_by.new.buffer) list index form (s, None) error) is c.in-Err-write_by.ensures.error) in (
+      short,
+      (
+        1,
+        passed_more writes keeps room list integer style index form 0 (style, None) c.in-Err.error refl c.in-Err.ensures.error
+            (sym c.is_short.ensures ∙ c.if-is_short.false) (passed_none writes keeps room list integer style index form),
+        again,
+      ),
+    )
