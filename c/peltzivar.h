@@ -457,10 +457,10 @@ typedef struct {
 #define PELTZIVAR_INTEGER_SIZE 519
 #define PELTZIVAR_FLOAT_SIZE 2112
 
-/* Write an integer by the first form whose text all forms read as the same integer, or else with a word of
- * peltzivar_suffixes, which peltzivar_forms_token reads and the other calls refuse, or else as a double that is exactly
- * this integer. Decimal forms are asked first, and then the others, each in their order. If there is none, the status
- * is that of the form that is asked first, but PELTZIVAR_WRITE_FRACTION gives way to another one. */
+/* Write an integer by the first form whose text all forms read as the same integer, or as a double that is exactly this
+ * integer, or by the first of its words of peltzivar_suffixes, which peltzivar_forms_token reads and the other calls
+ * refuse. Decimal forms are asked first, and then the others, each in their order. If there is none, the status is that
+ * of the form that is asked first. */
 PELTZIVAR_MUST_USE peltzivar_write_status peltzivar_forms_format_i64(const peltzivar_forms *forms, int64_t value,
     const peltzivar_style *style, char *text, size_t len, size_t *needed);
 PELTZIVAR_MUST_USE peltzivar_write_status peltzivar_forms_format_u64(const peltzivar_forms *forms, uint64_t value,
@@ -469,15 +469,16 @@ PELTZIVAR_MUST_USE peltzivar_write_status peltzivar_forms_format_i128(const pelt
     peltzivar_i128 value, const peltzivar_style *style, char *text, size_t len, size_t *needed);
 
 /* Writes a float by the first form whose text all forms read as the same bits, or with `has_decimals` as the rounded
- * number, asked in the order of peltzivar_forms_format_i64, all that have floats before those of integers alone. If
- * there is none, the status is as there. NaN and infinity are the first of their spellings that the forms read as
- * special values, or else have PELTZIVAR_WRITE_SPECIAL. */
+ * number. Decimal forms that have floats are asked first, and then, unless it is rounded, the others. If there is none,
+ * the status is as for peltzivar_forms_format_i64, or PELTZIVAR_WRITE_FRACTION of a rounded number if none is asked. NaN
+ * and infinity are the first of their spellings that the forms read as special values, or else have
+ * PELTZIVAR_WRITE_SPECIAL. */
 PELTZIVAR_MUST_USE peltzivar_write_status peltzivar_forms_format_f64(const peltzivar_forms *forms, double value,
     const peltzivar_style *style, char *text, size_t len, size_t *needed);
 
 /* Writes a literal, which may be of another list, by the first form whose text all forms read as the same number. Forms
- * of its mantissa radix are asked first, then decimal ones, and then the others, and of a float, all that have floats
- * before those of integers alone. If there is none, the status is as in peltzivar_forms_format_i64. */
+ * of its mantissa radix are asked first, which have floats if it has a point or an exponent, and then the others. If
+ * there is none, the status is as in peltzivar_forms_format_i64. */
 PELTZIVAR_MUST_USE peltzivar_write_status peltzivar_forms_format_literal(const peltzivar_forms *forms,
     const peltzivar_literal *literal, const peltzivar_style *style, char *text, size_t len, size_t *needed);
 

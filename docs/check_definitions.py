@@ -52,7 +52,9 @@ class File:
         for line in text.splitlines()[len(self.header):]:
             module = () if line[:1].strip() else module
             inner = line.removeprefix("  ") if module else line
-            if inner.startswith("-- "):
+            if module and not module[-1].endswith(" where"):
+                module += (line,)
+            elif inner.startswith("-- "):
                 comment.append(line)
             elif inner.startswith("module "):
                 module, comment = ("", *comment, line), []
@@ -126,7 +128,7 @@ def contracts(call):
 
 def ghosts(kind):
     """Yields the path and the items for contracts of `impl Model` of a type, or of a trait and of each of its impls."""
-    heads = rf"impl(?:<.*?>)? Model for {kind}\b|pub trait {kind}\b|impl {kind} for "
+    heads = rf"impl(?:<.*?>)? Model for {kind}\b|pub trait {kind}\b|impl(?:<.*?>)? {kind} for "
     for path, source in SOURCES.items():
         for block in re.findall(rf"^(?:{heads}).*?(?=^}})", source if kind else "", re.M | re.S):
             items = [it.splitlines() for it in block.split("\n\n") if not re.search(r"^ *fn ", it, re.M)]

@@ -965,12 +965,11 @@ class _Reader(_peltzivar.Reader):
         With `nearest`, a `Literal` of another radix or base that cannot be written exactly is written by the nearest
         float.
 
-        Of several forms, as those of a Language, that is taken whose text all of them read as the same integer, or the
-        same float: one of the radix of a `Literal`, or else decimal, or else another, and of a float, one with floats
-        before those of integers alone. If there is none, the error is that of the first, but that the number is not
-        whole gives way to another one. An int that these forms of integers have only with a word is written with one,
-        which `token` reads: `languages.JAVA.format_number(3000000000)` is 3000000000L. Without one, it is written as a
-        float that is equal to it.
+        Of several forms, as those of a Language, the first is taken whose text all of them read as the same integer, as
+        a float that is equal to it, or as the same float. Forms of the radix of a `Literal`, or else decimal ones, are
+        asked first, those of a float only if they have floats, and then the others. `decimals` leaves out the others.
+        If none is taken, the error is that of the first. An int that a form has only with a word is written with one,
+        which `token` reads: `languages.JAVA.format_number(3000000000)` is 3000000000L.
 
         Raises ValueError for NaN and infinity without a spelling that is read as them, for a Fraction that no decimal
         number is equal to, for a sign `-` if no literal has one, for a number that is not whole if literals are

@@ -8,7 +8,7 @@ mod random;
 
 use limits::{whole, Limits};
 use peltzivar::literal::{
-    Condition, Conditions, ExponentStyle, FloatKind, Form, Forms, IntegerKind, Kind, Language, Literal, Number,
+    Affix, Condition, Conditions, ExponentStyle, FloatKind, Form, Forms, IntegerKind, Kind, Language, Literal, Number,
     ParseError, Real, Specials, Style, Syntax, Whole, Writable, WriteError,
 };
 use peltzivar::{Format, NumberFormatBuilder, Part};
@@ -77,17 +77,18 @@ fn amounts_are_rounded_as_std_rounds_them() {
         let amount = state.below(10_000_000) as f64 / if index % 4 == 0 { -1000.0 } else { 1000.0 };
         for places in 0..=6 {
             let (style, size) = (Style::PLAIN.decimals(places), usize::from(places));
-            // Bash has no floats, and PostScript singles alone.
-            let (written, digits) = if has(&language, FloatKind::Nearest) {
-                (language.forms().format_float(amount, style), format!("{amount:.size$}"))
-            } else if has(&language, FloatKind::Single) {
+            // PostScript has singles alone, and Bash no floats.
+            let (written, digits) = if has(&language, FloatKind::Single) && !has(&language, FloatKind::Nearest) {
                 (language.forms().format_float(amount as f32, style), format!("{:.size$}", amount as f32))
             } else {
-                continue;
+                (language.forms().format_float(amount, style), format!("{amount:.size$}"))
             };
-            let wanted = match is_unsigned(language.forms(), amount) {
-                true => Err(WriteError::Negative),
-                false => Ok(amount_in(language, &digits)),
+            let wanted = if language == Language::BASH {
+                Err(WriteError::Fraction)
+            } else if is_unsigned(language.forms(), amount) {
+                Err(WriteError::Negative)
+            } else {
+                Ok(amount_in(language, &digits))
             };
             assert_eq!(written.map(|text| text.to_string()), wanted, "{language}");
         }
@@ -126,25 +127,22 @@ fn number_of(language: Language, text: &str, suffix: &str) -> Option<i128> {
     (is_whole && has(&Limits::of(language, form, suffix), literal.is_float(), number)).then_some(number)
 }
 
-/// Returns what a list writes for a decimal integer by decimal forms, or else by others: an integer or, with a wish, a
-/// float, else an integer with a word, and else a float. A wish that makes it another number is dropped.
+/// Returns what a list writes for a decimal integer: the first text that is this integer by the limits of the language. Decimal
+/// forms come first, and each form writes it in the style, without a wish for an exponent, and with its words.
 fn integer_in(language: Language, literal: &Literal, value: i128, style: Style) -> Option<String> {
     let forms = language.forms();
     let text_of = |form: &Form, style| form.syntax().format_literal(literal, style).ok().map(|text| text.to_string());
     let plain = style.exponent(ExponentStyle::AsNumber);
-    let is_float = |text: &str| forms.read(text).is_ok_and(|it| it.literal().is_some_and(|it| it.is_float()));
-    let is_late = |text: &str| style.exponent != ExponentStyle::Always && is_float(text);
     let is_value = |text: &str, suffix| number_of(language, text, suffix) == Some(value);
-    [true, false].into_iter().find_map(|decimal| {
-        let asked = || forms.into_iter().filter(move |it| (it.syntax().format().mantissa_radix() == 10) == decimal);
-        let texts = || asked().flat_map(|form| [style, plain].map(|style| text_of(form, style))).flatten();
-        let without = |late| texts().find(|text| is_late(text) == late && is_value(text, ""));
-        let with = |form: &Form| {
+    let asked = |decimal| forms.into_iter().filter(move |it| (it.syntax().format().mantissa_radix() == 10) == decimal);
+    asked(true).chain(asked(false)).find_map(|form| {
+        let mut texts = [style, plain].into_iter().filter_map(|style| text_of(form, style));
+        let with = || {
             let words = form.suffixes()?.written().iter().filter_map(|word| std::str::from_utf8(word).ok());
             let mut texts = words.filter_map(|word| Some((text_of(form, plain)? + word, word)));
             texts.find(|(text, word)| is_value(text, word)).map(|it| it.0)
         };
-        without(false).or_else(|| asked().find_map(with)).or_else(|| without(true))
+        texts.find(|text| is_value(text, "")).or_else(with)
     })
 }
 
@@ -184,6 +182,33 @@ fn an_integer_has_an_exponent_where_it_stays_the_same_number() {
         let written = |value| Forms::new_or_panic(&forms).format_integer(value, Style::PLAIN).map(|it| it.to_string());
         assert_eq!([5, largest].map(written), [Ok("5e0".into()), Ok(format!("{largest}e0"))]);
         assert_eq!(written(largest + 1), Err(WriteError::ReadBack));
+    }
+}
+
+/// No type reads an exponent of a radix without floats: a wish for one is dropped, and where each literal has one, none is written.
+#[test]
+fn an_integer_has_no_exponent_in_a_radix_without_floats() {
+    for (radix, required) in (2..=36).flat_map(|radix| [(radix, false), (radix, true)]) {
+        let format = NumberFormatBuilder::new().mantissa_radix(radix).required_exponent_notation(required);
+        let form = Form::new("", Syntax::new_or_panic(format.build_format_or_panic(), b'^', b'.'));
+        let forms = [form, form.with_opening(Affix::new(b"$").unwrap())];
+        for forms in [&forms[..1], &forms[1..]].map(Forms::new_or_panic) {
+            let literal = Language::JSON.read("8").unwrap().literal().unwrap();
+            let style = Style::PLAIN.exponent(ExponentStyle::Always);
+            let has_floats = radix == 10 || radix.is_power_of_two();
+            for written in [forms.format_integer(8, style), forms.format_literal(&literal, style)] {
+                let read = written.map(|text| {
+                    let text = text.to_string();
+                    (forms.parse::<i64>(&text).ok(), forms.parse::<f64>(&text).ok())
+                });
+                let wanted = match (has_floats, required) {
+                    (true, _) => Ok((None, Some(8.0))),
+                    (false, false) => Ok((Some(8), None)),
+                    (false, true) => Err(WriteError::ReadBack),
+                };
+                assert_eq!(read, wanted, "{radix}");
+            }
+        }
     }
 }
 

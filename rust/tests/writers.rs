@@ -197,17 +197,16 @@ fn is_worth_integer(literal: &Literal, integer: i128) -> bool {
 }
 
 /// Each literal of the rows is read back by each language as the same number, and each error is that of the form that is asked
-/// first or, for a float, of the first that has floats.
+/// first: of the literal's radix and, for a float, with floats, or else of the first form.
 #[test]
 fn languages_read_what_they_write() {
     for (language, text) in rows() {
         let literal = language.read(text).unwrap().literal().unwrap();
         for target in Language::ALL {
-            let radix = literal.radix(Part::Integer);
-            let radixes = [Some(radix), Some(10).filter(|it| *it != radix), None];
-            let turn = |form: &Form| {
-                let own = form.syntax().format().mantissa_radix();
-                radixes.iter().position(|it| it.is_none_or(|it| it == own))
+            let is_own = |form: &Form| {
+                let syntax = form.syntax();
+                syntax.format().mantissa_radix() == literal.radix(Part::Integer)
+                    && (!literal.is_float() || syntax.point().is_some())
             };
             let is_same = |back: Literal| match i128::try_from(literal) {
                 Ok(value) if value != 0 => is_worth_integer(&back, value),
@@ -233,8 +232,7 @@ fn languages_read_what_they_write() {
                         !forms().any(|it| text_in(it).is_ok_and(is_written)),
                         "{language} {text:?} in {target}: {error}"
                     );
-                    let no_floats = |form: &Form| literal.is_float() && form.syntax().point().is_none();
-                    let first = forms().min_by_key(|form| (no_floats(form), turn(form))).unwrap();
+                    let first = forms().find(|it| is_own(it)).or(forms().next()).unwrap();
                     let wanted = match text_in(first) {
                         Ok(text) if target.read(&text).unwrap().to_f64().is_nan() => WriteError::TooLarge,
                         Ok(_) => WriteError::ReadBack,

@@ -1,10 +1,10 @@
 -- What a list reads is the number that a form has written.
-use Rattle.lexical_writer.proofs.Common.{Bool, Form, Grammar, HasValue, IsFirst, IsRounded, IsSomeAnd, IsWhole, Kind, List, Literal, NoForm, None, Ok}
-use Rattle.lexical_writer.proofs.Common.{Option, Read, Reads, ReadsForm, Record, SameFraction, Some, Style, ap, arith, decimals_in, exact, false, false≢true}
+use Rattle.lexical_writer.proofs.Common.{Bool, Form, Grammar, IsFirst, IsSomeAnd, IsWhole, Kind, List, Literal, NoForm, None, Ok}
+use Rattle.lexical_writer.proofs.Common.{Option, Read, Reads, ReadsForm, Record, SameFraction, Some, Style, ap, arith, exact, false, false≢true}
 use Rattle.lexical_writer.proofs.Common.{float_worth, format_by, if◌then◌else◌, inl, inr, integer_worth, is_binary, is_decimal, is_exact, is_float, is_minus}
 use Rattle.lexical_writer.proofs.Common.{is_some, length-take-le}
-use Rattle.lexical_writer.proofs.Common.{mantissa, nearest, negsuc, notation_of, pos, raw, refl, slice_get, subst, suc, sym, take, true, with_sign, within}
-use Rattle.lexical_writer.proofs.Common.{whole_of, worth, zero, ℕ, ℤ, ◌&&◌, ◌||◌, ◌<◌, ◌∙◌, ◌≡◌, ◌⊎◌}
+use Rattle.lexical_writer.proofs.Common.{mantissa, nearest, negsuc, not, notation_of, pos, raw, refl, slice_get, subst, suc, sym, take, true, with_sign, within}
+use Rattle.lexical_writer.proofs.Common.{whole_of, worth, zero, ℕ, ℤ, ◌||◌, ◌<◌, ◌∙◌, ◌≡◌, ◌⊎◌}
 use Rattle.std.proofs.lemmas.Option.{get_or_from_slice_get, slice_get_within}
 use Rattle.std.specs.Float.{Float, Format, binary64}
 use Rattle.lexical_forms.specs.Forms.{ReadsIn}
@@ -16,7 +16,8 @@ use Rattle.lexical_value.specs.Integer.{integer_size}
 use Rattle.lexical_value.specs.Kind.{IsNotWorth}
 use Rattle.lexical_value.specs.declared.integer.ValueErrorKind.{ValueErrorKind}
 use Rattle.lexical_value.specs.declared.integer.ValueErrorKind.TheVariants as kinds
-use Rattle.lexical_writer.specs.Choice.{IsAmount, IsInStyle, IsReal, IsWrittenNumber, IsWrittenReal, IsWrittenWhole, has_float, has_worth}
+use Rattle.lexical_writer.specs.Choice.{IsAmount, IsInStyle, IsReal, has_floats, has_worth}
+use Rattle.lexical_writer.specs.Conversion.{IsNear}
 use Rattle.lexical_forms.proofs.MarkLemmas.{plain_in}
 use Rattle.lexical_value.proofs.KindLemmas.{exact_float, limited_worth}
 use Rattle.lexical_literal.specs.declared.kind.FloatKind.TheVariants as floats
@@ -29,13 +30,6 @@ nearest_is f x read kind real = elim real [
   | inr near ↦ near.1
 ]
 
--- What is written for a float has its value or, with decimals, is the float, rounded to these.
-pub written_real : (f : Format) (x : Float) (decimals : Option ℕ) (g : Grammar) (l : Literal)
-    → (decimals ≡ None → x ≡ nearest f (raw g.word).byte l) → ((n : ℕ) → decimals ≡ Some n → IsRounded x (raw g.word) l (decimals_in g n))
-    → IsWrittenReal f x decimals g l
-written_real f x None g l near rounded = near refl
-written_real f x (Some n) g l near rounded = rounded n refl
-
 -- Within the limits, a float, or an integer of the exact kind, is worth the float that is nearest to it.
 worth_nearest : (f : Format) (kind : Kind) (r : Record) (l : Literal) → (is_decimal r.byte || is_binary r.byte) ≡ true → kind.floats ≡ floats.Nearest
     → within kind.limits (is_minus l.sign) (mantissa r.byte l) (nearest f r.byte l) ≡ Ok (nearest f r.byte l)
@@ -43,44 +37,42 @@ worth_nearest : (f : Format) (kind : Kind) (r : Record) (l : Literal) → (is_de
 worth_nearest f kind r l known near fits plain = limited_worth f kind r l (Ok (nearest f r.byte l)) known plain
     ((λ i. within kind.limits (is_minus l.sign) (mantissa r.byte l) (nearest (format_by (near i) f) r.byte l)) ∙ fits)
 
--- What is written for a float without a number of decimals has it as its nearest float.
-near_of : (f : Format) (x : Float) (decimals : Option ℕ) (g : Grammar) (l : Literal) → IsWrittenReal f x decimals g l → decimals ≡ None
-    → x ≡ nearest f (raw g.word).byte l
-near_of f x None g l has none = has
-near_of f x (Some n) g l has none = absurd (false≢true (ap is_some (sym none)))
-
 -- What is worth the float that is nearest to a literal that is written for a float is this float in the style.
-amount_is : (f : Format) (x : Float) (decimals : Option ℕ) (g : Grammar) (l : Literal) (read : Read) → IsWrittenReal f x decimals g l
-    → IsReal f (nearest f (raw g.word).byte l) read → IsAmount f x decimals read
-amount_is f x None g l read has worth = subst (λ y. IsReal f y read) (sym has) worth
-amount_is f x (Some n) g l read has worth = (g, l, has, worth)
+amount_is : (f : Format) (x : Float) (decimals : Option ℕ) (g : Grammar) (l : Literal) (read : Read)
+    → (decimals ≡ None → x ≡ nearest f (raw g.word).byte l) → IsReal f (nearest f (raw g.word).byte l) read → IsAmount f x decimals g l read
+amount_is f x None g l read near worth = subst (λ y. IsReal f y read) (sym (near refl)) worth
+amount_is f x (Some n) g l read near worth = worth
 
 -- If a literal is written for a float, and worth the nearest one, it is this float in the style.
 pub plain_real : (f : Format) (x : Float) (decimals : Option ℕ) (g : Grammar) (read : Read) → read.format ≡ g.word
     → (is_decimal (raw g.word).byte || is_binary (raw g.word).byte) ≡ true → read.kind.floats ≡ floats.Nearest
     → ((negative : Bool) → (n : ℕ) → (y : Float) → (decimals ≡ None → x ≡ y) → within read.kind.limits negative n y ≡ Ok y)
-    → (is_exact read.kind.integers || is_float read.literal) ≡ true → IsWrittenReal f x decimals g read.literal → IsAmount f x decimals read
+    → (is_exact read.kind.integers || is_float read.literal) ≡ true → (decimals ≡ None → x ≡ nearest f (raw g.word).byte read.literal)
+    → IsAmount f x decimals g read.literal read
 plain_real f x decimals g read word known near fits plain has = amount_is f x decimals g read.literal read has
     (inl (subst (λ w. float_worth read.kind f (raw w).byte read.literal ≡ Ok (nearest f (raw g.word).byte read.literal)) (sym word)
-    (worth_nearest f read.kind (raw g.word) read.literal known near (fits _ _ _ (near_of f x decimals g read.literal has)) plain)))
+    (worth_nearest f read.kind (raw g.word) read.literal known near (fits _ _ _ has) plain)))
 
 -- What is worth the same float as a literal of the exact kind that is written for a float is this float in the style.
 pub same_real : (f : Format) (x : Float) (decimals : Option ℕ) (g : Grammar) (own read : Read) → own.kind ≡ exact → own.format ≡ g.word
-    → IsWrittenReal f x decimals g own.literal → (y : Float) → IsReal f y own → IsReal f y read → IsAmount f x decimals read
+    → (decimals ≡ None → x ≡ nearest f (raw g.word).byte own.literal) → (y : Float) → IsReal f y own → IsReal f y read
+    → IsAmount f x decimals g own.literal read
 same_real f x decimals g own read kind word has y same real = amount_is f x decimals g own.literal read has
     (subst (λ z. IsReal f z read) (subst (λ w. y ≡ nearest f (raw w).byte own.literal) word (nearest_is f y own kind same)) real)
 
 -- If a literal of the exact kind is written for a number of the exact kind, it is this number in the style, unless an integer is written as a float.
 pub plain_number : (a : Read) (style : Style) (g : Grammar) (b : Read) → a.kind ≡ exact → b.kind ≡ exact → b.format ≡ g.word
-    → (is_float a.literal ≡ true) ⊎ (has_float b ≡ false) → IsWrittenNumber a style g b.literal → IsInStyle a style b
-plain_number a style g b own kind word whole has = go style.nearest style.decimals refl refl
+    → (is_float a.literal ≡ true) ⊎ (is_float b.literal ≡ false)
+    → (style.decimals ≡ None → IsNear binary64 (raw a.format) a.literal (raw g.word) b.literal)
+    → (style.nearest ≡ false → SameFraction (raw a.format) a.literal (raw g.word) b.literal) → IsInStyle a style g b.literal b
+plain_number a style g b own kind word whole near exact = go style.nearest style.decimals refl refl
   where
-    fraction : SameFraction (raw a.format) a.literal (raw g.word) b.literal → IsInStyle a style b
+    fraction : SameFraction (raw a.format) a.literal (raw g.word) b.literal → IsInStyle a style g b.literal b
     fraction same = inl (inr (inr (own, kind, whole, subst (λ w. SameFraction (raw a.format) a.literal (raw w) b.literal) (sym word) same)))
 
-    go : (near : Bool) (decimals : Option ℕ) → style.nearest ≡ near → style.decimals ≡ decimals → IsInStyle a style b
-    go false decimals wish places = fraction (has.exact wish)
-    go true None wish places = elim (has.near places) [
+    go : (wish : Bool) (decimals : Option ℕ) → style.nearest ≡ wish → style.decimals ≡ decimals → IsInStyle a style g b.literal b
+    go false decimals wish places = fraction (exact wish)
+    go true None wish places = elim (near places) [
       | inl same ↦ fraction same
       | inr float ↦ inl (inr (inl (
         inr wish,
@@ -89,41 +81,20 @@ plain_number a style g b own kind word whole has = go style.nearest style.decima
         inr (kind, subst (λ w. nearest binary64 (raw a.format).byte a.literal ≡ nearest binary64 (raw w).byte b.literal) (sym word) float),
       )))
     ]
-    go true (Some n) wish places = elim (has.rounded n places) [
-      | inl same ↦ fraction same
-      | inr float ↦ inr (
-        wish,
-        subst (λ o. is_some o ≡ true) (sym places) refl,
-        g,
-        b.literal,
-        has,
-        inr (kind, subst (λ w. nearest binary64 (raw g.word).byte b.literal ≡ nearest binary64 (raw w).byte b.literal) (sym word) refl),
-      )
-    ]
+    go true (Some n) wish places = inr (
+      wish,
+      subst (λ o. is_some o ≡ true) (sym places) refl,
+      inr (kind, subst (λ w. nearest binary64 (raw g.word).byte b.literal ≡ nearest binary64 (raw w).byte b.literal) (sym word) refl),
+    )
 
 -- A number that is rounded is read as what is written for it is.
 pub rounded_number : (a : Read) (style : Style) (g : Grammar) (own read : Read) → style.nearest ≡ true → is_some style.decimals ≡ true → own.kind ≡ exact
-    → own.format ≡ g.word → IsWrittenNumber a style g own.literal → (y : Float) → IsReal binary64 y own → IsReal binary64 y read → IsInStyle a style read
-rounded_number a style g own read wish some kind word has y same real = inr (
+    → own.format ≡ g.word → (y : Float) → IsReal binary64 y own → IsReal binary64 y read → IsInStyle a style g own.literal read
+rounded_number a style g own read wish some kind word y same real = inr (
   wish,
   some,
-  g,
-  own.literal,
-  has,
   subst (λ z. IsReal binary64 z read) (subst (λ w. y ≡ nearest binary64 (raw w).byte own.literal) word (nearest_is binary64 y own kind same)) real,
 )
-
--- A literal of a format that has no floats is worth none.
-pub no_float : (g : Grammar) (read : Read) (known : Bool) → read.format ≡ g.word → known ≡ (is_decimal (raw g.word).byte || is_binary (raw g.word).byte)
-    → (is_float read.literal && known) ≡ false → has_float read ≡ false
-no_float g read known word is none =
-    subst (λ w. (is_float read.literal && (is_decimal (raw w).byte || is_binary (raw w).byte)) ≡ false) (sym word)
-    (ap (λ known. is_float read.literal && known) (sym is) ∙ none)
-
--- If a literal of the exact kind is written for an integer, and is worth no float, it is this integer.
-pub plain_whole : (z : ℤ) (g : Grammar) (read : Read) → read.kind ≡ exact → read.format ≡ g.word → has_float read ≡ false
-    → IsWrittenWhole z (raw g.word) read.literal → IsWhole z read
-plain_whole z g read kind word none has = inr (inr (kind, none, subst (λ w. HasValue (raw w) read.literal z) (sym word) has.0))
 
 abbrev size_without : ℤ → ℕ
 size_without (pos n) = n
@@ -137,10 +108,11 @@ size_with true (suc n) = refl
 -- An integer literal that is written for an integer is worth it by a kind that keeps its size.
 pub kept_whole : (negative : Bool) (size : ℕ) (g : Grammar) (read : Read) → read.format ≡ g.word → is_float read.literal ≡ false
     → ((negative : Bool) → worth read.kind.integers negative size ≡ Some (negative, size))
-    → IsWrittenWhole (with_sign negative size) (raw g.word) read.literal → IsWhole (with_sign negative size) read
+    → with_sign negative size ≡ with_sign (is_minus read.literal.sign) (integer_size (raw g.word).byte read.literal)
+    → IsWhole (with_sign negative size) read
 kept_whole negative size g read word whole kept has =
     let is : with_sign negative size ≡ with_sign (is_minus read.literal.sign) (integer_size (raw read.format).byte read.literal) =
-    subst (λ w. with_sign negative size ≡ with_sign (is_minus read.literal.sign) (integer_size (raw w).byte read.literal)) (sym word) has.1 in
+    subst (λ w. with_sign negative size ≡ with_sign (is_minus read.literal.sign) (integer_size (raw w).byte read.literal)) (sym word) has in
     let same = sym (size_with negative size) ∙ ap size_without is ∙ size_with (is_minus read.literal.sign) (integer_size (raw read.format).byte read.literal) in
     inl (
       whole,
@@ -190,7 +162,8 @@ never_whole read kinds.TooLong none = absurd (none 0 0)
 
 worth_whole : (read : Read) → is_float read.literal ≡ false → has_worth read ≡ is_some (whole_of read)
 worth_whole read whole =
-    ap (λ float. if float then is_ok (float_worth read.kind binary64 (raw read.format).byte read.literal) else is_some (whole_of read)) whole
+    ap (λ float. if float then not (has_floats read.format) || is_ok (float_worth read.kind binary64 (raw read.format).byte read.literal)
+    else is_some (whole_of read)) whole
 
 -- A literal without a decimal point and an exponent has a worth if it is worth an integer.
 pub worth_is : (read : Read) (result : Result Numeral ValueErrorKind) → is_float read.literal ≡ false

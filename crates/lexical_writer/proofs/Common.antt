@@ -29,8 +29,10 @@ pub use Rattle.lexical_value.specs.Value.{denominator, numerator, power, scale}
 pub use Rattle.lexical_writer.specs.Amount.{HasShape, HasUnits, IsExponent, IsFinite, IsFloatOf, IsRaised, IsTextOf, IsWorth, IsWrittenWith, asks, float_error}
 pub use Rattle.lexical_writer.specs.Amount.{is_far, is_long, is_shown, is_wanted, least_places, power_if, units_at, units_in, wished_places, with_minus}
 pub use Rattle.lexical_writer.specs.Buffer.{IsTaken}
-pub use Rattle.lexical_writer.specs.Choice.{AreBefore, IsPassedOver, IsReadElse, IsReason, IsRefused, IsSearched, IsStyleOf, IsUnusable, IsWhole}
-pub use Rattle.lexical_writer.specs.Choice.{asked_style, is_asked, turn, whole_of}
+pub use Rattle.lexical_writer.specs.Choice.{AreBefore, ArePassed, IsChosen, IsFound, IsMisread, IsNoToken, IsPassedOver, IsReached, IsReadElse, IsReadWith}
+pub use Rattle.lexical_writer.specs.Choice.{IsRefused, IsSearched, IsStopped, IsUnusable, IsWhole, bytes_of_word, has_floats, is_asked, is_marked, is_own}
+pub use Rattle.lexical_writer.specs.Choice.{is_short, steps, text_by, unasked, unwished, ways, whole_of, words_of}
+pub use Rattle.lexical_writer.specs.Private.{IsPut}
 pub use Rattle.lexical_writer.specs.Conversion.{SameFraction, amount_of, fraction_of, or_limit, source_of}
 pub use Rattle.lexical_writer.specs.Digits.{at_least, begins_decimal, character, ends_group, grouped, grouped_front, no_groups, only_if, padded_values}
 pub use Rattle.lexical_writer.specs.Digits.{separated, size_of, values_of}
@@ -38,7 +40,6 @@ pub use Rattle.lexical_writer.specs.Layout.{HasNumber, HasValue, IsLaidOut, allo
 pub use Rattle.lexical_writer.specs.Layout.{integer_literal, laid_out, literal_of, needs_exponent, no_power, number_of_size, one_if, refusal}
 pub use Rattle.lexical_writer.specs.Moved.{IsEnding, IsMoved, IsOver, IsSize, can_move, down_of, is_unknown, places_of, trimmed, up_of}
 pub use Rattle.lexical_writer.specs.Rounded.{IsRounded, decimals_in, rounded}
-pub use Rattle.lexical_writer.specs.declared.choice.Order.{Order}
 pub use Rattle.lexical_writer.specs.declared.layout.Amount.{Amount}
 pub use Rattle.lexical_writer.specs.declared.layout.Layout.{Layout}
 pub use Rattle.lexical_writer.specs.declared.layout.Power.{Power}

@@ -1,15 +1,18 @@
 -- The order in which forms are asked.
-use Rattle.lexical_writer.proofs.Common.{AreBefore, Bool, Form, Grammar, IsPassedOver, IsReason, IsSearched, IsUnusable, Literal, Read, Result, IsSomeAnd}
-use Rattle.lexical_writer.proofs.Common.{IsStyleOf, List, None, Option, Options, Order, Some, Style}
-use Rattle.lexical_writer.proofs.Common.{WriteError, ap, arith, asked_style, cases_lt, false, false≢true, if◌then◌else◌, inl, inr, is_asked, is_some}
-use Rattle.lexical_writer.proofs.Common.{lacks_options, length, not, refl, slice_get, subst, sym, true, unwrap_or, ℕ, ◌%◌, ◌+◌, ◌<◌, ◌==◌, ◌∙◌, ◌≡◌, ◌≤◌, ◌⊎◌}
-use Rattle.lexical_writer.specs.Choice.{first_reason, is_replaced, is_unrounded}
+use Rattle.std.specs.Borrow.{Bor}
+use Rattle.std.specs.Option.{option_map}
+use Rattle.std.proofs.lemmas.List.{length-map}
+use Rattle.std.proofs.lemmas.Option.{slice_get-map}
+use Rattle.lexical_forms.specs.FormList.{FormList}
+use Rattle.lexical_writer.proofs.Common.{ArePassed, AreBefore, Bool, Form, Grammar, IsRefused, IsSearched, IsSomeAnd, List, Literal, None, Option, Options, Read, Result}
+use Rattle.lexical_writer.proofs.Common.{Some, Style, WriteError, [], ap, arith, cases_lt, false, false≢true, if◌then◌else◌, is_short, lacks_options, not, suc, unwished, ways, words_of}
+use Rattle.lexical_writer.proofs.Common.{inl, inr, is_some, length, refl, slice_get, subst, sym, true, unwrap_or, ℕ, ◌+◌, ◌<◌, ◌∙◌, ◌≡◌, ◌≤◌, ◌⊎◌}
 use Rattle.std.proofs.lemmas.Option.{slice_get_within}
 
 -- Nothing is asked before the first form in the first step.
-pub before_start : {P : ℕ → ℕ → Form → Type 0} {order : Order} {forms : List Form} → AreBefore P order forms 0 0
+pub before_start : {P : ℕ → Form → Type 0} {asked : ℕ → Form → Bool} {forms : List Form} → AreBefore P asked forms 0 0
 before_start = record {
-  each = λ before at form earlier there asked. elim earlier [ inl less ↦ absurd (omega (arith, less)) | inr same ↦ absurd (omega (arith, same.1)) ];
+  each = λ before at form earlier there now. elim earlier [ inl less ↦ absurd (omega (arith, less)) | inr same ↦ absurd (omega (arith, same.1)) ];
 }
 
 -- The form at an index is one alone.
@@ -17,119 +20,117 @@ one_form : (o : Option Form) (form it : Form) → o ≡ Some form → o ≡ Some
 one_form o form it here there = ap (λ o. unwrap_or o form) (sym here ∙ there)
 
 -- In a step, the next form is asked behind those before it.
-pub before_more : {P : ℕ → ℕ → Form → Type 0} {order : Order} {forms : List Form} {step index : ℕ} (form : Form) → slice_get forms index ≡ Some form
-    → (is_asked order step form ≡ true → P step index form) → AreBefore P order forms step index → AreBefore P order forms step (index + 1)
-before_more {P} {order} {forms} {step} {index} form here new old = record {
-  each = λ before at it earlier there asked. elim earlier [
-    | inl less ↦ old.each before at it (inl less) there asked
+pub before_more : {P : ℕ → Form → Type 0} {asked : ℕ → Form → Bool} {forms : List Form} {step index : ℕ} (form : Form) → slice_get forms index ≡ Some form
+    → (asked step form ≡ true → P index form) → AreBefore P asked forms step index → AreBefore P asked forms step (index + 1)
+before_more {P} {asked} {forms} {step} {index} form here new old = record {
+  each = λ before at it earlier there now. elim earlier [
+    | inl less ↦ old.each before at it (inl less) there now
     | inr same ↦ elim (cases_lt at index) [
-      | inl less ↦ old.each before at it (inr (same.0, less)) there asked
+      | inl less ↦ old.each before at it (inr (same.0, less)) there now
       | inr least ↦
           let next : index ≡ at = omega (arith, least, same.1) in
           let one : form ≡ it = one_form (slice_get forms index) form it here (ap (slice_get forms) next ∙ there) in
-          subst (λ i. P before i it) next (subst (λ s. P s index it) (sym same.0) (subst (P step index) one
-          (new (subst (λ s. is_asked order s form ≡ true) same.0 (subst (λ f. is_asked order before f ≡ true) (sym one) asked)))))
+          subst (λ i. P i it) next (subst (P index) one
+          (new (subst (λ s. asked s form ≡ true) same.0 (subst (λ f. asked before f ≡ true) (sym one) now))))
     ]
   ];
 }
 
 -- Behind the last form of a step is the first one of the next step.
-pub before_next : {P : ℕ → ℕ → Form → Type 0} {order : Order} {forms : List Form} {step index : ℕ} → length forms ≤ index
-    → AreBefore P order forms step index → AreBefore P order forms (step + 1) 0
-before_next {P} {order} {forms} {step} {index} end old = record {
-  each = λ before at form earlier there asked. elim earlier [
+pub before_next : {P : ℕ → Form → Type 0} {asked : ℕ → Form → Bool} {forms : List Form} {step index : ℕ} → length forms ≤ index
+    → AreBefore P asked forms step index → AreBefore P asked forms (step + 1) 0
+before_next {P} {asked} {forms} {step} {index} end old = record {
+  each = λ before at form earlier there now. elim earlier [
     | inl below ↦
         let last : (before < step) ⊎ ((before ≡ step) × (at < index)) = elim (cases_lt before step) [
           | inl less ↦ inl less
           | inr least ↦ inr (omega (arith, least, below), omega (arith, end, slice_get_within forms at form there))
         ] in
-        old.each before at form last there asked
+        old.each before at form last there now
     | inr none ↦ absurd (omega (arith, none.1))
   ];
 }
 
-module _ (P : ℕ → ℕ → Form → WriteError → Type 0) (order : Order) (forms : List Form) where
+module _ (P : ℕ → Form → WriteError → Type 0) (asked : ℕ → Form → Bool) (forms : List Form) where
   -- Before the first step, there is no reason.
-  pub searched_start : IsSearched P order forms 0 0 None
-  searched_start = record {
-    passed = before_start;
-    none = λ _. before_start;
-    fraction = λ _. before_start;
-    other = λ error same. absurd (false≢true (ap is_some same));
-  }
+  pub searched_start : IsSearched P asked forms 0 0 None
+  searched_start = record { passed = before_start; none = λ _. before_start; first = λ error same. absurd (false≢true (ap is_some same)) }
 
-  module _ (step index : ℕ) (reason : Option WriteError) (old : IsSearched P order forms step index reason) where
+  module _ (step index : ℕ) (reason : Option WriteError) (old : IsSearched P asked forms step index reason) where
     -- Behind forms that are not asked, the reason is the same.
-    moved : (to at : ℕ) → ((Q : ℕ → ℕ → Form → Type 0) → AreBefore Q order forms step index → AreBefore Q order forms to at)
-        → IsSearched P order forms to at reason
-    moved to at carry = record {
-      passed = carry _ old.passed;
-      none = λ same. carry _ (old.none same);
-      fraction = λ is. carry _ (old.fraction is);
-      other = old.other;
-    }
+    moved : (to at : ℕ) → ((Q : ℕ → Form → Type 0) → AreBefore Q asked forms step index → AreBefore Q asked forms to at)
+        → IsSearched P asked forms to at reason
+    moved to at carry = record { passed = carry _ old.passed; none = λ same. carry _ (old.none same); first = old.first }
 
-    pub searched_next : length forms ≤ index → IsSearched P order forms (step + 1) 0 reason
+    pub searched_next : length forms ≤ index → IsSearched P asked forms (step + 1) 0 reason
     searched_next end = moved (step + 1) 0 (λ Q. before_next end)
 
     module _ (form : Form) (here : slice_get forms index ≡ Some form) where
-      pub searched_skip : (is_asked order step form ≡ true → ⊥) → IsSearched P order forms step (index + 1) reason
-      searched_skip none = moved step (index + 1) (λ Q. before_more form here (λ asked. absurd (none asked)))
+      pub searched_skip : (asked step form ≡ true → ⊥) → IsSearched P asked forms step (index + 1) reason
+      searched_skip none = moved step (index + 1) (λ Q. before_more form here (λ now. absurd (none now)))
 
-      -- The error of a form takes the place of `Fraction`.
-      pub searched_more : (error : WriteError) → is_asked order step form ≡ true → P step index form error
-          → IsSearched P order forms step (index + 1) (first_reason reason error)
-      searched_more error asked holds = go (is_replaced reason) refl
+      -- The first error is that of the list.
+      pub searched_more : (error : WriteError) → asked step form ≡ true → P index form error
+          → IsSearched P asked forms step (index + 1) (Some (unwrap_or reason error))
+      searched_more error now holds = go reason refl
         where
-          go : (replaced : Bool) → is_replaced reason ≡ replaced → IsSearched P order forms step (index + 1) (if replaced then Some error else reason)
-          go true replaced = record {
+          go : (it : Option WriteError) → reason ≡ it → IsSearched P asked forms step (index + 1) (Some (unwrap_or it error))
+          go None same = record {
             passed = before_more form here (λ _. (error, holds)) old.passed;
-            none = λ same. absurd (false≢true (sym (ap is_some same)));
-            fraction = λ fraction. before_more form here (λ _. (error, fraction, holds)) (old.fraction replaced);
-            other = λ other same _. (
+            none = λ some. absurd (false≢true (sym (ap is_some some)));
+            first = λ other is. (
               step,
               index,
-              old.fraction replaced,
-              subst (λ o. IsSomeAnd o (λ form. (is_asked order step form ≡ true) × P step index form other)) (sym here)
-                  (asked, subst (P step index form) (cc same) holds),
+              old.none same,
+              subst (λ o. IsSomeAnd o (λ form. (asked step form ≡ true) × P index form other)) (sym here) (now, subst (P index form) (cc is) holds),
             );
           }
-          go false replaced = record {
+          go (Some it) same = record {
             passed = before_more form here (λ _. (error, holds)) old.passed;
-            none = λ same. absurd (false≢true (sym replaced ∙ ap is_replaced same));
-            fraction = λ fraction. absurd (false≢true (sym replaced ∙ fraction));
-            other = old.other;
+            none = λ some. absurd (false≢true (sym (ap is_some some)));
+            first = λ other is. old.first other (same ∙ is);
           }
 
--- Why a form does not write a number in its style, by a buffer of as much room, is its reason.
-pub reason_is : (writes : Style → Grammar → Result Literal WriteError → Type 0) (keeps : Style → Bool → Read → Type 0) (n room : ℕ) (order : Order)
-    (style own : Style) (list forms : List Form) (step index : ℕ) (form : Form) (error : WriteError) → own ≡ asked_style order.first form.syntax style
-    → list ≡ forms → n ≡ room
-    → ((step % 3 == 1) ≡ false → IsPassedOver writes (λ style. IsUnusable (keeps style) n forms index) own form error)
-    → IsReason writes keeps room order style list step index form error
-reason_is writes keeps n room order style own list forms step index form error is same long holds alone =
-    subst (λ (style : Style). IsPassedOver writes (λ style. IsUnusable (keeps style) room list index) style form error) is
-    (subst (λ forms. IsPassedOver writes (λ style. IsUnusable (keeps style) room forms index) own form error) (sym same)
-    (subst (λ n. IsPassedOver writes (λ style. IsUnusable (keeps style) n forms index) own form error) long (holds alone)))
+-- The ways in which a form is asked to write a number, in their order.
+module _ (writes : Style → Grammar → Result Literal WriteError → Type 0) (keeps : Style → Bool → Read → Type 0) (room : ℕ) (list : FormList)
+    (integer : Bool) (style : Style) (index : ℕ) (form : Form) where
+  pub passed_none : ArePassed writes keeps room list integer style index form 0
+  passed_none at way less there = absurd (omega (arith, less))
+
+  -- The form does not write the number in the next way either.
+  pub passed_more : (n : ℕ) (way : Style × Option (List ℕ)) (error : WriteError) → slice_get (ways integer style form) n ≡ Some way
+      → IsRefused writes keeps room list index form way error → is_short error ≡ false → ArePassed writes keeps room list integer style index form n
+      → ArePassed writes keeps room list integer style index form (n + 1)
+  passed_more n way error here refused fits old at it less there = elim (cases_lt at n) [
+    | inl earlier ↦ old at it earlier there
+    | inr least ↦
+        let same : n ≡ at = omega (arith, less, least) in
+        let one : way ≡ it = ap (λ o. unwrap_or o way) (sym here ∙ ap (slice_get (ways integer style form)) same ∙ there) in
+        subst (λ way. (error : WriteError) × IsRefused writes keeps room list index form way error × (is_short error ≡ false)) one (error, refused, fits)
+  ]
+
+-- Behind the two ways without a word, an integer has those with its words.
+pub word_way : (integer : Bool) (style : Style) (form : Form) (n : ℕ) (word : Bor (List ℕ)) → integer ≡ true
+    → slice_get (words_of form.suffixes) n ≡ Some word → slice_get (ways integer style form) (n + 2) ≡ Some (unwished integer style, Some word.now)
+word_way integer style form n word whole here =
+    let plain = unwished integer style in
+    let rest : List (Bor (List ℕ)) = if integer then words_of form.suffixes else [] in
+    let all : rest ≡ words_of form.suffixes = ap (λ b. if b then words_of form.suffixes else []) whole in
+    ap (slice_get (ways integer style form)) {x = n + 2} {y = suc (suc n)} (omega arith)
+    ∙ slice_get-map (λ (word : Bor (List ℕ)). (plain, Some word.now)) rest n
+    ∙ ap (λ words. option_map (λ (word : Bor (List ℕ)). (plain, Some word.now)) (slice_get words n)) all
+    ∙ ap (option_map (λ (word : Bor (List ℕ)). (plain, Some word.now))) here
+
+-- An integer has two ways and one for each word, and another number has two.
+pub ways_count : (integer : Bool) (style : Style) (form : Form) → integer ≡ true
+    → length (ways integer style form) ≡ length (words_of form.suffixes) + 2
+ways_count integer style form whole =
+    let plain = unwished integer style in
+    let rest : List (Bor (List ℕ)) = if integer then words_of form.suffixes else [] in
+    let size = length-map {B = Style × Option (List ℕ)} rest (λ word. (plain, Some word.now)) in
+    let all = ap (λ b. length (if b then words_of form.suffixes else [])) whole in
+    omega (arith, size, all)
 
 pub some_options : (o : Option Options) → is_some o ≡ not (lacks_options o)
 some_options None = refl
 some_options (Some options) = refl
-
-rounds : (first : Option (ℕ × Bool)) (g : Grammar) (decimals : Option ℕ) → is_unrounded first g decimals ≡ true → is_some first ≡ true
-rounds (Some first) g decimals same = refl
-rounds None g None same = absurd (false≢true same)
-rounds None g (Some n) same = absurd (false≢true same)
-
--- A form writes in the style that is asked for, but for a float without decimals.
-pub style_is : (integer : Bool) (first : Option (ℕ × Bool)) (g : Grammar) (style it : Style) → (is_some first ≡ true → integer ≡ false)
-    → IsStyleOf integer (asked_style first g style) it → IsStyleOf integer style it
-style_is integer first g style it float is = go (is_unrounded first g style.decimals) refl is
-  where
-    go : (keeps : Bool) → is_unrounded first g style.decimals ≡ keeps
-        → IsStyleOf integer (if keeps then record style { decimals = None } else style) it → IsStyleOf integer style it
-    go false keeps is = is
-    go true keeps is = let real = float (rounds first g style.decimals keeps) in elim is [
-      | inl same ↦ inr (inr (real, same))
-      | inr other ↦ elim other [ inl whole ↦ absurd (false≢true (sym real ∙ whole.0)) | inr less ↦ inr (inr less) ]
-    ]

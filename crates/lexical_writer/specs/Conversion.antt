@@ -16,7 +16,9 @@ use Rattle.lexical_literal.specs.declared.syntax.Grammar.{Grammar}
 use Rattle.lexical_number.specs.Number.{number}
 use Rattle.lexical_value.specs.Float.{nearest}
 use Rattle.lexical_value.specs.Value.{denominator, numerator}
+use Rattle.lexical_writer.specs.Amount.{IsFloatError, IsFloatOf}
 use Rattle.lexical_writer.specs.Layout.{IsLaidOut, allows_exponent, laid_out, needs_exponent, number_of_size, plain_style, refusal}
+use Rattle.lexical_writer.specs.Layout.{literal_of as written}
 use Rattle.lexical_writer.specs.Moved.{IsMoved, IsSize, can_move, places_of, too_far}
 use Rattle.lexical_writer.specs.declared.layout.Amount.{Amount}
 use Rattle.lexical_writer.specs.declared.layout.ExponentStyle.{ExponentStyle}
@@ -149,3 +151,13 @@ pub record IsConverted (r : Record) (parts : Parts) (g : Grammar) (style : Style
 -- written.
 abbrev pub IsWritten : Read → Grammar → Style → Result Layout WriteError → Type 0
 IsWritten read g style result = (parts : Parts) × (literal_of parts ≡ read.literal) × IsConverted (raw read.format) parts g style result
+
+-- `IsWrittenAs f read g style result` holds if `result` is the literal that is written for `read`, or why there is none: what is written for its parts or, if
+-- they cannot be, and `style` wishes so, for the float of `f` that is nearest to it.
+abbrev pub IsWrittenAs : Format → Read → Grammar → Style → Result Literal WriteError → Type 0
+IsWrittenAs f read g style (Ok l) = ((layout : Layout) × (written layout ≡ l) × IsWritten read g style (Ok layout))
+    ⊎ ((style.nearest ≡ true) × (error : WriteError) × IsWritten read g style (Err error)
+    × IsFloatOf f (nearest f (raw read.format).byte read.literal) g style l)
+IsWrittenAs f read g style (Err error) = IsWritten read g style (Err error)
+    ⊎ ((style.nearest ≡ true) × (first : WriteError) × IsWritten read g style (Err first)
+    × IsFloatError (nearest f (raw read.format).byte read.literal) g style error)

@@ -6,3 +6,4 @@ pub mod Buffer
 pub mod Rounded
 pub mod Choice
 pub mod Amount
+pub mod Private

@@ -1,7 +1,7 @@
 //! A list of forms writes numbers: in the first form whose text the list reads as the number.
 
-ghost use Rattle.std.specs.Prelude.{◌≡◌, ◌≤◌, ◌<◌, ◌-◌, ◌^◌, ◌⊎◌, ◌||◌, if◌then◌else◌, not, Bool, true, false};
-ghost use Rattle.std.specs.Prelude.{ℕ, ◌+◌, All, Err, IfErr, IfOk, IfSome, IsFalse, IsSomeAnd, None, Ok, Option, Result, Some};
+ghost use Rattle.std.specs.Prelude.{◌==◌, ◌≡◌, ◌≤◌, ◌<◌, ◌-◌, ◌^◌, ◌⊎◌, ◌||◌, ◌++◌, if◌then◌else◌, not, Bool, true, false};
+ghost use Rattle.std.specs.Prelude.{ℕ, ◌+◌, Err, List, IfErr, IfOk, IfSome, IsFalse, None, Ok, Option, Result, Some};
 ghost use Rattle.std.specs.Prelude.{unwrap_or, from_bits, is_some, length, slice_get, take, ℤ};
 ghost use Rattle.std.specs.Float.{Float as Value, float_is_infinite};
 ghost use Rattle.lexical_util.specs.Record.{bytes_of};
@@ -12,19 +12,16 @@ ghost use Rattle.lexical_number.specs.Float.{format_of, is_zero};
 ghost use Rattle.lexical_literal.specs.declared.kind.FloatLimits.TheVariants as bounds;
 ghost use Rattle.lexical_literal.specs.declared.syntax.Grammar.{Grammar};
 ghost use Rattle.lexical_number.specs.Numeral.{magnitude_size, with_sign};
-ghost use Rattle.lexical_value.specs.Float.{is_binary, is_decimal};
 ghost use Rattle.lexical_value.specs.Kind.{float_worth, integer_worth, is_exact, width, within, worth};
 ghost use Rattle.lexical_literal.specs.declared.kind.FloatKind.TheVariants as floats;
 ghost use Rattle.lexical_writer.specs.Buffer.{IsTaken};
 ghost use Rattle.lexical_forms.specs.Forms.{IsFirst, NoForm};
 ghost use Rattle.lexical_forms.specs.declared.form.Form.{Form as Asked};
 ghost use Rattle.lexical_writer.specs.Layout.{integer_literal, laid_out, literal_of as written, number_of_size};
-ghost use Rattle.lexical_writer.specs.Choice.{AreBefore, IsAskedAs, IsFirstAsked, IsOrder, IsPassedOver, IsReadBack, IsReadElse, IsReadWith, IsReal, IsReason};
-ghost use Rattle.lexical_writer.specs.Choice.{IsRefused};
-ghost use Rattle.lexical_writer.specs.Choice.{IsSearched, IsShort, IsStyleOf, IsTokenOf, IsUnusable, IsWhole, has_worth, whole_of};
-ghost use Rattle.lexical_writer.specs.Choice.{asked_style, first_reason, is_asked, is_radix, is_unrounded, takes_part, turn};
-ghost use Rattle.lexical_writer.specs.declared.choice.Order.{Order as Turns};
-ghost use Rattle.lexical_writer.specs.declared.layout.ExponentStyle.TheVariants as exponents;
+ghost use Rattle.lexical_writer.specs.Choice.{ArePassed, IsChosen, IsFound, IsNoToken, IsPassedOver, IsReadBack, IsReadElse, IsReadWith, IsReal};
+ghost use Rattle.lexical_writer.specs.Choice.{IsRefused, IsSearched, IsStopped, IsTokenOf, IsWhole, bytes_of_word, has_floats, has_worth, is_asked};
+ghost use Rattle.lexical_writer.specs.Choice.{is_marked, is_own, is_short, steps, text_by, unasked, unwished, ways, whole_of};
+ghost use Rattle.lexical_writer.specs.Private.{IsPut};
 ghost use Rattle.lexical_writer.specs.declared.layout.WriteError.{WriteError as Reason};
 ghost use Rattle.lexical_writer.specs.declared.layout.WriteError.TheVariants as errors;
 ghost use Rattle.lexical_writer.specs.declared.layout.Style.{Style as Wishes};
@@ -32,7 +29,7 @@ ghost use Rattle.lexical_writer.specs.declared.layout.Style.{Style as Wishes};
 use crate::float::{format_float, is_integer};
 use crate::float_digits::FloatDigits;
 use crate::integer::WrittenInteger;
-use crate::layout::{ExponentStyle, Layout, Style, WriteError, needs_exponent, wants_exponent};
+use crate::layout::{ExponentStyle, Layout, Style, WriteError, wants_exponent};
 use crate::near::format_near;
 use lexical_forms::form::Form;
 use lexical_forms::list::{Forms, Number};
@@ -54,8 +51,8 @@ pub trait Writable {
     // A literal of a syntax is written for the number in a style, or none is, for a reason.
     ghost writes: { Self → Wishes → Grammar → Result Parts Reason → Type 0 };
 
-    // A literal is this number in a style.
-    ghost is: { Self → Wishes → Read → Type 0 };
+    // A literal that a list reads is this number, for which a literal of a syntax is written in a style.
+    ghost is: { Self → Wishes → Grammar → Parts → Read → Type 0 };
 
     // A literal that a list reads surely keeps the number in a style. Whether its form is the one that writes the number comes first.
     ghost keeps: { Self → Wishes → Bool → Read → Type 0 };
@@ -76,8 +73,7 @@ pub trait Writable {
 
     /// Returns whether a float is rounded in a style.
     fn is_rounded(&self, style: Style) -> bool
-        ensures value { result ≡ rounded self.now style }
-        ensures float { result ≡ true → integer self.now ≡ false };
+        ensures { result ≡ rounded self.now style };
 
     /// Writes the number as a literal of `syntax` to the beginning of a buffer, as far as it has room, and returns the length of
     /// the text, and whether it has a decimal point or an exponent.
@@ -100,19 +96,19 @@ pub trait Writable {
     /// written for it in a style.
     fn is_plain(&self, syntax: &Syntax, kind: Kind, style: Style, float: bool) -> bool
         ensures plain { result ≡ true → (read : Read) → read.kind ≡ kind → read.format ≡ syntax.now.word → is_float read.literal ≡ float
-            → writes self.now style syntax.now (Ok read.literal) → is self.now style read }
+            → writes self.now style syntax.now (Ok read.literal) → is self.now style syntax.now read.literal read }
         ensures kept { result ≡ false → (read : Read) → read.kind ≡ kind → read.format ≡ syntax.now.word → is_float read.literal ≡ float
             → keeps self.now style true read → keeps self.now style false read };
 
     /// Returns whether a literal is worth the number in a style, of which `own` is what its form alone reads.
     fn is_read_as(&self, style: Style, own: &Literal, literal: &Literal) -> bool
         ensures same { result ≡ true → own.now.kind ≡ exact → (g : Grammar) → own.now.format ≡ g.word
-            → writes self.now style g (Ok own.now.literal) → is self.now style literal.now }
+            → writes self.now style g (Ok own.now.literal) → is self.now style g own.now.literal literal.now }
         ensures kept { result ≡ false → keeps self.now style false literal.now → ⊥ };
 
     /// Returns whether a literal is worth the number in a style, whatever is written for it. A number that is rounded is not.
     fn is_worth(&self, style: Style, literal: &Literal) -> bool
-        ensures worth { result ≡ true → is self.now style literal.now }
+        ensures worth { result ≡ true → (g : Grammar) → (l : Parts) → is self.now style g l literal.now }
         ensures kept { result ≡ false → keeps self.now style false literal.now → ⊥ };
 }
 
@@ -138,8 +134,10 @@ impl Writable for Whole {
     ghost use Rattle.std.specs.Prelude.{◌≡◌, MatchResult, Some, false, true};
     ghost use Rattle.lexical_util.specs.Record.{raw};
     ghost use Rattle.lexical_number.specs.Numeral.{with_sign};
-    ghost use Rattle.lexical_writer.specs.Choice.{IsWhole, IsWrittenWhole, whole_of};
-    ghost use Rattle.lexical_writer.specs.Layout.{number_of_size, refusal};
+    ghost use Rattle.lexical_literal.specs.Literal.{is_minus};
+    ghost use Rattle.lexical_value.specs.Integer.{integer_size};
+    ghost use Rattle.lexical_writer.specs.Choice.{IsWhole, whole_of};
+    ghost use Rattle.lexical_writer.specs.Layout.{laid_out, number_of_size, refusal};
 
     ghost base = { λ number. 10 };
 
@@ -147,10 +145,11 @@ impl Writable for Whole {
 
     ghost rounded = { λ number style. false };
 
-    ghost writes = { λ number style g result. MatchResult result (IsWrittenWhole (with_sign number.negative number.size) (raw g.word))
+    ghost writes = { λ number style g result. MatchResult result (λ l. (l ≡ laid_out g style (number_of_size number.negative number.size))
+        × (with_sign number.negative number.size ≡ with_sign (is_minus l.sign) (integer_size (raw g.word).byte l)))
         (λ error. refusal g (number_of_size number.negative number.size) ≡ Some error) };
 
-    ghost is = { λ number style read. IsWhole (with_sign number.negative number.size) read };
+    ghost is = { λ number style g l read. IsWhole (with_sign number.negative number.size) read };
 
     ghost keeps = { λ number style own read. whole_of read ≡ Some (number.negative, number.size) };
 
@@ -176,12 +175,8 @@ impl Writable for Whole {
         Ok((integer.write(buffer), integer.is_float()))
     }
 
-    fn is_plain(&self, syntax: &Syntax, kind: Kind, _: Style, float: bool) -> bool {
-        if float {
-            is_exact(kind) && !has_floats(syntax)
-        } else {
-            is_kept(kind.integers(), self.negative, self.size)
-        }
+    fn is_plain(&self, _syntax: &Syntax, kind: Kind, _: Style, float: bool) -> bool {
+        !float && is_kept(kind.integers(), self.negative, self.size)
     }
 
     fn is_read_as(&self, _: Style, _: &Literal, literal: &Literal) -> bool {
@@ -201,10 +196,12 @@ pub struct Real<F> {
 }
 
 impl<F: Float> Writable for Real<F> {
-    ghost use Rattle.std.specs.Prelude.{◌≡◌, MatchResult, false, is_some, true};
+    ghost use Rattle.std.specs.Prelude.{◌≡◌, MatchResult, None, false, is_some, true};
     ghost use Rattle.lexical_number.specs.Float.{format_of};
-    ghost use Rattle.lexical_writer.specs.Amount.{IsFloatError};
-    ghost use Rattle.lexical_writer.specs.Choice.{IsAmount, IsKept, IsWrittenReal};
+    ghost use Rattle.lexical_util.specs.Record.{raw};
+    ghost use Rattle.lexical_value.specs.Float.{nearest};
+    ghost use Rattle.lexical_writer.specs.Amount.{IsFloatError, IsFloatOf};
+    ghost use Rattle.lexical_writer.specs.Choice.{IsAmount, IsKept};
 
     ghost base = { λ number. 10 };
 
@@ -212,10 +209,11 @@ impl<F: Float> Writable for Real<F> {
 
     ghost rounded = { λ number style. is_some style.decimals };
 
-    ghost writes = { λ number style g result. MatchResult result (IsWrittenReal (format_of F.DOUBLE) (F.value number.value) style.decimals g)
+    ghost writes = { λ number style g result. MatchResult result (λ l. IsFloatOf (format_of F.DOUBLE) (F.value number.value) g style l
+        × (style.decimals ≡ None → F.value number.value ≡ nearest (format_of F.DOUBLE) (raw g.word).byte l))
         (IsFloatError (F.value number.value) g style) };
 
-    ghost is = { λ number style read. IsAmount (format_of F.DOUBLE) (F.value number.value) style.decimals read };
+    ghost is = { λ number style. IsAmount (format_of F.DOUBLE) (F.value number.value) style.decimals };
 
     ghost keeps = { λ number style own read. (own ≡ true) × IsKept (F.value number.value) style.decimals read };
 
@@ -302,13 +300,13 @@ fn is_same<F: Float>(own: &Literal, literal: &Literal) -> bool
 }
 
 impl Writable for Literal<'_> {
-    ghost use Rattle.std.specs.Prelude.{Err, MatchResult, false, not};
+    ghost use Rattle.std.specs.Prelude.{◌≡◌, Err, MatchResult, None, false, not};
     ghost use Rattle.lexical_literal.specs.Literal.{is_float};
     ghost use Rattle.lexical_util.specs.Layout as layout;
     ghost use Rattle.lexical_util.specs.Record.{raw};
-    ghost use Rattle.lexical_writer.specs.Choice.{IsInStyle, IsKeptNumber, IsWrittenNumber};
-    ghost use Rattle.lexical_writer.specs.Conversion.{IsWritten};
-    ghost use Rattle.lexical_writer.specs.declared.layout.WriteError.{WriteError as Reason};
+    ghost use Rattle.lexical_writer.specs.Choice.{IsInStyle, IsKeptNumber};
+    ghost use Rattle.std.specs.Float.{binary64};
+    ghost use Rattle.lexical_writer.specs.Conversion.{IsNear, IsWrittenAs, SameFraction};
 
     ghost base = { λ number. (raw number.format).byte layout.mantissa_radix };
 
@@ -316,10 +314,12 @@ impl Writable for Literal<'_> {
 
     ghost rounded = { λ number style. false };
 
-    ghost writes = { λ number style g result. MatchResult result (IsWrittenNumber number style g)
-        (λ error. (other : Reason) × IsWritten number g style (Err other)) };
+    ghost writes = { λ number style g result. MatchResult result (λ l. IsWrittenAs binary64 number g style (Ok l)
+        × (style.decimals ≡ None → IsNear binary64 (raw number.format) number.literal (raw g.word) l)
+        × (style.nearest ≡ false → SameFraction (raw number.format) number.literal (raw g.word) l))
+        (λ error. IsWrittenAs binary64 number g style (Err error)) };
 
-    ghost is = { λ number style read. IsInStyle number style read };
+    ghost is = { λ number style. IsInStyle number style };
 
     ghost keeps = { λ number style. IsKeptNumber number };
 
@@ -348,8 +348,8 @@ impl Writable for Literal<'_> {
         ))
     }
 
-    fn is_plain(&self, syntax: &Syntax, kind: Kind, _style: Style, float: bool) -> bool {
-        is_exact(self.kind()) & is_exact(kind) & (self.is_float() | !(float & has_floats(syntax)))
+    fn is_plain(&self, _syntax: &Syntax, kind: Kind, _style: Style, float: bool) -> bool {
+        is_exact(self.kind()) & is_exact(kind) & (self.is_float() | !float)
     }
 
     fn is_read_as(&self, style: Style, own: &Literal, literal: &Literal) -> bool {
@@ -432,7 +432,7 @@ fn put(layout: &Layout, buffer: &mut [u8]) -> (usize, bool)
 
 // Returns whether literals of a syntax have floats.
 fn has_floats(syntax: &Syntax) -> bool
-    ensures { result ≡ (is_decimal (bytes_of syntax.now.word) || is_binary (bytes_of syntax.now.word)) }
+    ensures { result ≡ has_floats syntax.now.word }
 {
     supports_floats(syntax.format().view())
 }
@@ -547,190 +547,115 @@ pub struct Chosen {
     pub style: Style,
 }
 
-// How many steps there are in which forms are asked: three in each of the six turns.
-const STEPS: u8 = 18;
-
-// The order in which a list asks its forms to write a number: the number's radix, whether it is an integer, whether forms whose
-// literals all have an exponent are asked with the others, and of the form that is asked first, if the number is rounded, the radix,
-// and whether it has floats.
-#[derive(Clone, Copy)]
-struct Order {
-    radix: u32,
-    integer: bool,
-    all: bool,
-    first: Option<(u32, bool)>,
-}
-
-impl Order {
-    // Returns the order in which forms are asked to write a number in a style.
-    #[inline(always)]
-    fn of<N: Writable>(forms: &[Form], number: &N, style: Style) -> Order
-        ensures order { IsOrder (N.base number.now) (N.integer number.now) (N.rounded number.now style) style forms.now result }
-        ensures float { is_some result.first ≡ true → N.integer number.now ≡ false }
-    {
-        let integer = number.is_integer();
-        let order = Order {
-            radix: number.radix(),
-            integer,
-            all: !integer | wants_exponent(style.exponent),
-            first: None,
-        };
-        if number.is_rounded(style) {
-            Order {
-                first: order.first_of(forms),
-                ..order
-            }
-        } else {
-            order
-        }
-    }
-
-    // Returns the radix of the form that is asked first, if any is, and whether it has floats.
-    #[inline(always)]
-    fn first_of(&self, forms: &[Form]) -> Option<(u32, bool)>
-        ensures { IsFirstAsked self.now forms.now result }
-    {
-        let mut step = 0;
-        while step < STEPS {
-            let mut index = 0;
-            while index < forms.len() {
-                let it = &forms[index];
-                if self.is_asked(step, it) {
-                    let syntax = it.syntax();
-                    return Some((
-                        syntax.format().view().mantissa_radix(),
-                        syntax.options().is_some(),
-                    ));
-                }
-                index += 1;
-            }
-            step += 1;
-        }
-        None
-    }
-
-    // Returns whether a form is asked in a step.
-    #[inline(always)]
-    fn is_asked(&self, step: u8, form: &Form) -> bool
-        ensures { result ≡ is_asked self.now step form.now }
-    {
-        let syntax = form.syntax();
-        if turn(self.radix, self.integer, &syntax) != step / 3 {
-            return false;
-        }
-        self.takes_part(step % 3, needs_exponent(&syntax))
-            & !form.is_only_read()
-            & self.is_radix(&syntax)
-    }
-
-    // Returns whether a form is asked in a part of its turn, where all of its literals may have an exponent.
-    #[inline(always)]
-    const fn takes_part(&self, part: u8, exponent: bool) -> bool
-        ensures { result ≡ takes_part self.now part exponent }
-    {
-        match part {
-            0 => self.all || !exponent,
-            1 => self.integer && !exponent,
-            _ => !self.all && exponent,
-        }
-    }
-
-    // Returns whether a form with a syntax has the radix in which the number is rounded, if it is.
-    #[inline(always)]
-    fn is_radix(&self, syntax: &Syntax) -> bool
-        ensures { result ≡ is_radix self.now.first syntax.now }
-    {
-        match self.first {
-            Some((radix, _)) => syntax.format().view().mantissa_radix() == radix,
-            None => true,
-        }
-    }
-
-    // Returns the style in which a form with a syntax is asked to write the number.
-    #[inline(always)]
-    fn style(&self, syntax: &Syntax, style: Style) -> Style
-        ensures { result ≡ asked_style self.now.first syntax.now style }
-    {
-        if self.is_unrounded(syntax, style.decimals) {
-            Style {
-                decimals: None,
-                ..style
-            }
-        } else {
-            style
-        }
-    }
-
-    // Returns whether a form with a syntax writes the number without rounding it.
-    #[inline(always)]
-    fn is_unrounded(&self, syntax: &Syntax, decimals: Option<u8>) -> bool
-        ensures { result ≡ is_unrounded self.now.first syntax.now decimals }
-    {
-        match (self.first, decimals) {
-            (Some((_, floats)), Some(count)) => floats && syntax.options().is_none() && count > 0,
-            _ => false,
-        }
-    }
-}
-
-/// Writes a number by the first form whose text the list reads as this number, to the beginning of a buffer, and returns the
-/// index of the form, the length of the text, and the style in which it is written. Forms of the number's radix are asked first,
-/// then decimal ones, and then the others, each in the order of the list, and all forms with floats write a float before those of
-/// integers alone. Of each of these turns, an integer is written without a word, if no form does so with one of its
-/// [words][Suffixes::written], with which its token is the number, and else as a float that is this integer.
-/// Where an exponent would make an integer another number, the wish for one is dropped. A float is rounded in the radix
-/// of the form that is asked first.
+/// Writes a number by the first form whose text the list reads as this number, to the beginning of a buffer. The number's own forms
+/// are asked first: those of its radix which, if it is no integer, have floats. No other form writes a float that is rounded. A form
+/// writes an integer with the first of its [words][Suffixes::written] with which its token is the number, if it does not without one.
 ///
 /// # Errors
 ///
-/// If there is no such form, returns the error of the form that is asked first, but [`WriteError::Fraction`] gives way to another one.
-/// It is [`WriteError::ReadBack`] if the text is read as another number, [`WriteError::TooLarge`] if it is too large for its kind,
-/// and [`WriteError::Buffer`] if it does not fit the buffer. With a text of up to 4,096 bytes that does not, the search ends.
+/// If there is no such form, returns the error of the form that is asked first. It is [`WriteError::ReadBack`] if the text is read as
+/// another number, and [`WriteError::TooLarge`] if it is too large for its kind. If no form is asked, it is
+/// [`WriteError::Fraction`] of a float that is rounded, and else `ReadBack`. If a text does not fit the buffer, the search ends with
+/// [`WriteError::Buffer`].
 pub fn choose<N: Writable>(
     forms: &Forms,
     number: &N,
     style: Style,
     buffer: &mut [u8],
 ) -> Result<Chosen, WriteError>
-    // The list reads the text as the number or, with a word, its token is the number.
-    ensures value { IfOk result (λ it. IsReadWith forms.now it.word (take it.length buffer.new) (N.is number.now it.style)) }
     ensures length { IfOk result (λ it. it.length ≤ length buffer.new) }
-    // The form is asked in some step, and each form that is asked before it has a reason not to write the number.
-    ensures form { IfOk result (λ it. (order : Turns) × (step : ℕ) × IsOrder (N.base number.now) (N.integer number.now)
-        (N.rounded number.now style) style forms.now.forms order
-        × IsSomeAnd (slice_get forms.now.forms it.form) (λ form. is_asked order step form ≡ true)
-        × AreBefore (λ before at form. (error : WriteError) × IsReason (N.writes number.now) (N.keeps number.now) (length buffer.old)
-        order style forms.now.forms before at form error) order forms.now.forms step it.form) }
-    // The error is the first that is not `Fraction`, if there is one, or that of a text for which the buffer is too short.
-    ensures error { IfErr result (λ error. (order : Turns)
-        × IsOrder (N.base number.now) (N.integer number.now) (N.rounded number.now style) style forms.now.forms order
-        × (IsShort (IsReason (N.writes number.now) (N.keeps number.now) (length buffer.old) order style forms.now.forms) order forms.now.forms error
-        ⊎ ((first : Option WriteError)
-        × IsSearched (IsReason (N.writes number.now) (N.keeps number.now) (length buffer.old) order style forms.now.forms) order forms.now.forms 18 0 first
-        × (error ≡ unwrap_or first errors.ReadBack)))) }
-    ensures style { IfOk result (λ it. IsStyleOf (N.integer number.now) style it.style) }
+    // The text is what a form that is asked writes, and the list reads it as the number. Each form that is asked before is passed over.
+    ensures text { IfOk result (λ it. IsFound
+        (IsPassedOver (N.writes number.now) (N.keeps number.now) (length buffer.old) forms.now (N.integer number.now) style)
+        (λ at form. (at ≡ it.form) × IsChosen (N.writes number.now) (N.keeps number.now) (length buffer.old) forms.now (N.integer number.now) style
+        at form (N.is number.now) it.style (bytes_of_word it.word) (take it.length buffer.new))
+        (is_asked (N.base number.now) (N.integer number.now)) forms.now.forms (steps (N.rounded number.now style))) }
+    // The error is that of a text that is too long, which ends the search, or else that of the form that is asked first.
+    ensures error { IfErr result (λ error. IsFound
+        (IsPassedOver (N.writes number.now) (N.keeps number.now) (length buffer.old) forms.now (N.integer number.now) style)
+        (λ at form. IsStopped (N.writes number.now) (N.keeps number.now) (length buffer.old) forms.now (N.integer number.now) style at form error)
+        (is_asked (N.base number.now) (N.integer number.now)) forms.now.forms (steps (N.rounded number.now style))
+        ⊎ ((first : Option Reason) × IsSearched
+        (IsPassedOver (N.writes number.now) (N.keeps number.now) (length buffer.old) forms.now (N.integer number.now) style)
+        (is_asked (N.base number.now) (N.integer number.now)) forms.now.forms (steps (N.rounded number.now style)) 0 first
+        × (error ≡ unwrap_or first (unasked (N.rounded number.now style))))) }
 {
     let list = forms.as_slice();
-    let order = Order::of(list, number, style);
+    let radix = number.radix();
+    let integer = number.is_integer();
+    let rounded = number.is_rounded(style);
+    let end = steps(rounded);
     let mut error = None;
     let mut step = 0;
-    while step < STEPS {
+    while step < end {
         let mut index = 0;
         while index < list.len() {
             let it = &list[index];
-            if order.is_asked(step, it) {
-                let own = order.style(&it.syntax(), style);
-                match write_in(forms, index, it, step % 3 == 1, number, own, buffer) {
+            if is_asked(radix, integer, step, it) {
+                match write_form(forms, index, it, number, style, buffer) {
                     Ok(chosen) => return Ok(chosen),
                     Err(other) if is_short(other) => return Err(other),
-                    Err(other) => error = first_reason(error, other),
+                    Err(other) => error = Some(error.unwrap_or(other)),
                 }
             }
             index += 1;
         }
         step += 1;
     }
-    Err(error.unwrap_or(WriteError::ReadBack))
+    Err(error.unwrap_or(unasked(rounded)))
+}
+
+// Returns how many steps there are: in the first one, a number's own forms are asked, and in the second one the others.
+const fn steps(rounded: bool) -> u8
+    ensures { result ≡ steps rounded }
+{
+    if rounded { 1 } else { 2 }
+}
+
+// Returns the error if no form is asked.
+const fn unasked(rounded: bool) -> WriteError
+    ensures { result ≡ unasked rounded }
+{
+    if rounded {
+        WriteError::Fraction
+    } else {
+        WriteError::ReadBack
+    }
+}
+
+// Returns whether a form is asked in a step.
+#[inline(always)]
+fn is_asked(radix: u32, integer: bool, step: u8, form: &Form) -> bool
+    ensures { result ≡ is_asked radix integer step form.now }
+{
+    is_turn(step, is_own(radix, integer, &form.syntax())) & !form.is_only_read()
+}
+
+// Returns whether a step is that of a number's own forms, or of the others.
+#[inline(always)]
+const fn is_turn(step: u8, own: bool) -> bool
+    ensures { result ≡ (if step == 0 then own else not own) }
+{
+    match step {
+        0 => own,
+        _ => !own,
+    }
+}
+
+// Returns whether a form with a syntax is one of a number's own.
+#[inline(always)]
+fn is_own(radix: u32, integer: bool, syntax: &Syntax) -> bool
+    ensures { result ≡ is_own radix integer syntax.now }
+{
+    (syntax.format().view().mantissa_radix() == radix) & takes(integer, syntax)
+}
+
+// Returns whether a syntax has floats, or the number is an integer.
+#[inline(always)]
+fn takes(integer: bool, syntax: &Syntax) -> bool
+    ensures { result ≡ (integer || not (lacks_options syntax.now.options)) }
+{
+    integer || syntax.options().is_some()
 }
 
 /// Returns how the first form of a list writes an integer, if this form is asked first, and its text is known to be read back.
@@ -739,12 +664,12 @@ pub fn lay_out_first(forms: &Forms, number: &Whole, style: Style) -> Option<Writ
     ensures back { IfSome result (λ it.
         IsReadBack forms.now (text_of (integer_literal it)) (IsWhole (with_sign number.now.negative number.now.size))) }
     ensures first { IfSome result (λ it. (form : Asked) × (slice_get forms.now.forms 0 ≡ Some form) × (form.only_read ≡ false)
-        × (turn 10 true form.syntax ≡ 0)
+        × (is_own 10 true form.syntax ≡ true)
         × (integer_literal it ≡ laid_out form.syntax style (number_of_size number.now.negative number.now.size))) }
 {
     let form = &forms.as_slice()[0];
     let syntax = form.syntax();
-    if form.is_only_read() || form.is_marked() || turn(10, true, &syntax) != 0 {
+    if form.is_only_read() || form.is_marked() || !is_own(10, true, &syntax) {
         return None;
     }
     let Ok(integer) = WrittenInteger::of_size(number.negative, number.size, &syntax, style) else {
@@ -756,65 +681,65 @@ pub fn lay_out_first(forms: &Forms, number: &Whole, style: Style) -> Option<Writ
     Some(integer)
 }
 
-// Returns the first of the reasons why forms do not write a number. `Fraction` gives way to another one.
-const fn first_reason(first: Option<WriteError>, error: WriteError) -> Option<WriteError>
-    ensures { result ≡ first_reason first error }
-{
-    match first {
-        None | Some(WriteError::Fraction) => Some(error),
-        Some(_) => first,
-    }
-}
-
-// Returns in which turn a form with a syntax is asked to write an integer, or another number, of a radix.
-fn turn(radix: u32, integer: bool, syntax: &Syntax) -> u8
-    ensures { result ≡ turn radix integer syntax.now }
-{
-    let own = syntax.format().view().mantissa_radix();
-    let late = delay(integer, syntax);
-    if own == radix {
-        late
-    } else if own == 10 {
-        late + 1
-    } else {
-        late + 2
-    }
-}
-
-// Returns 3 for a form of integers alone and a float, which all forms with floats write before, and 0 for others.
-#[inline(always)]
-fn delay(integer: bool, syntax: &Syntax) -> u8
-    ensures { result ≡ (if integer || not (lacks_options syntax.now.options) then 0 else 3) }
-{
-    if integer || syntax.options().is_some() {
-        0
-    } else {
-        3
-    }
-}
-
-// Writes a number by one form, with a word if `with` is true, or returns why it is not used.
-fn write_in<N: Writable>(
+// Writes a number by one form, without a word or else with one, or returns why it is not used.
+fn write_form<N: Writable>(
     forms: &Forms,
     index: usize,
     form: &Form,
-    with: bool,
     number: &N,
     style: Style,
     buffer: &mut [u8],
 ) -> Result<Chosen, WriteError>
     requires { slice_get forms.now.forms index ≡ Some form.now }
-    ensures value { IfOk result (λ it. IsReadWith forms.now it.word (take it.length buffer.new) (N.is number.now it.style)) }
     ensures length { IfOk result (λ it. it.length ≤ length buffer.new) }
     ensures room { length buffer.new ≡ length buffer.old }
     ensures form { IfOk result (λ it. it.form ≡ index) }
-    ensures style { IfOk result (λ it. IsStyleOf (N.integer number.now) style it.style) }
-    ensures error { with ≡ false → IfErr result (IsPassedOver (N.writes number.now)
-        (λ style. IsUnusable (N.keeps number.now style) (length buffer.old) forms.now.forms index) style form.now) }
+    ensures text { IfOk result (λ it. IsChosen (N.writes number.now) (N.keeps number.now) (length buffer.old) forms.now (N.integer number.now) style
+        index form.now (N.is number.now) it.style (bytes_of_word it.word) (take it.length buffer.new)) }
+    ensures passed { IfErr result (λ error. is_short error ≡ false
+        → IsPassedOver (N.writes number.now) (N.keeps number.now) (length buffer.old) forms.now (N.integer number.now) style index form.now error) }
+    ensures stopped { IfErr result (λ error. is_short error ≡ true
+        → IsStopped (N.writes number.now) (N.keeps number.now) (length buffer.old) forms.now (N.integer number.now) style index form.now error) }
 {
-    if with && number.is_integer() {
-        return write_words(forms, index, form, number, style, buffer);
+    let error = match write_in(forms, index, form, number, style, buffer) {
+        Ok(chosen) => return Ok(chosen),
+        Err(error) => error,
+    };
+    if is_short(error) {
+        return Err(error);
     }
+    if !number.is_integer() {
+        return Err(error);
+    }
+    match write_words(forms, index, form, number, style, buffer) {
+        Ok(chosen) => Ok(chosen),
+        Err(other) if is_short(other) => Err(other),
+        Err(_) => Err(error),
+    }
+}
+
+// Writes a number by one form, without a word, or returns why it is not used.
+fn write_in<N: Writable>(
+    forms: &Forms,
+    index: usize,
+    form: &Form,
+    number: &N,
+    style: Style,
+    buffer: &mut [u8],
+) -> Result<Chosen, WriteError>
+    requires { slice_get forms.now.forms index ≡ Some form.now }
+    ensures length { IfOk result (λ it. it.length ≤ length buffer.new) }
+    ensures room { length buffer.new ≡ length buffer.old }
+    ensures form { IfOk result (λ it. it.form ≡ index) }
+    ensures text { IfOk result (λ it. IsChosen (N.writes number.now) (N.keeps number.now) (length buffer.old) forms.now (N.integer number.now) style
+        index form.now (N.is number.now) it.style (bytes_of_word it.word) (take it.length buffer.new)) }
+    ensures passed { IfErr result (λ error. is_short error ≡ false
+        → ArePassed (N.writes number.now) (N.keeps number.now) (length buffer.old) forms.now (N.integer number.now) style index form.now 2
+        × IsRefused (N.writes number.now) (N.keeps number.now) (length buffer.old) forms.now index form.now
+        (unwished (N.integer number.now) style, None) error) }
+    ensures stopped { IfErr result (λ error. is_short error ≡ true
+        → IsStopped (N.writes number.now) (N.keeps number.now) (length buffer.old) forms.now (N.integer number.now) style index form.now error) }
+{
     let error = match write_by(forms, index, form, number, style, buffer) {
         Ok(length) => return Ok(Chosen {
             form: index,
@@ -824,26 +749,36 @@ fn write_in<N: Writable>(
         }),
         Err(error) => error,
     };
-    if is_short(error) || !number.is_integer() || !wants_exponent(style.exponent) {
+    let wished = number.is_integer() & wants_exponent(style.exponent);
+    if is_short(error) {
         return Err(error);
     }
-    let style = without_wish(style);
-    let length = write_by(forms, index, form, number, style, buffer)?;
-    Ok(Chosen {
-        form: index,
-        word: None,
-        length,
-        style,
-    })
+    if !wished {
+        return Err(error);
+    }
+    let plain = without_wish(style);
+    match write_by(forms, index, form, number, plain, buffer) {
+        Ok(length) => Ok(Chosen {
+            form: index,
+            word: None,
+            length,
+            style: plain,
+        }),
+        Err(error) => Err(error),
+    }
 }
 
-// Returns the style without a wish for an exponent.
+// Returns the style of an integer without a wish for an exponent.
 const fn without_wish(style: Style) -> Style
-    ensures { result ≡ record style { exponent = exponents.AsNumber } }
+    ensures { result ≡ unwished true style }
 {
-    Style {
-        exponent: ExponentStyle::AsNumber,
-        ..style
+    if wants_exponent(style.exponent) {
+        Style {
+            exponent: ExponentStyle::AsNumber,
+            ..style
+        }
+    } else {
+        style
     }
 }
 
@@ -857,24 +792,30 @@ fn write_words<N: Writable>(
     style: Style,
     buffer: &mut [u8],
 ) -> Result<Chosen, WriteError>
-    requires { N.integer number.now ≡ true }
-    ensures value { IfOk result (λ it. IsReadWith forms.now it.word (take it.length buffer.new) (N.is number.now it.style)) }
+    requires integer { N.integer number.now ≡ true }
+    requires passed { ArePassed (N.writes number.now) (N.keeps number.now) (length buffer.now) forms.now (N.integer number.now) style index form.now 2 }
     ensures length { IfOk result (λ it. it.length ≤ length buffer.new) }
     ensures room { length buffer.new ≡ length buffer.old }
     ensures form { IfOk result (λ it. it.form ≡ index) }
-    ensures style { IfOk result (λ it. IsStyleOf (N.integer number.now) style it.style) }
+    ensures text { IfOk result (λ it. IsChosen (N.writes number.now) (N.keeps number.now) (length buffer.old) forms.now (N.integer number.now) style
+        index form.now (N.is number.now) it.style (bytes_of_word it.word) (take it.length buffer.new)) }
+    ensures passed { IfErr result (λ error. is_short error ≡ false → ArePassed (N.writes number.now) (N.keeps number.now) (length buffer.old) forms.now
+        (N.integer number.now) style index form.now (length (ways (N.integer number.now) style form.now))) }
+    ensures stopped { IfErr result (λ error. is_short error ≡ true
+        → IsStopped (N.writes number.now) (N.keeps number.now) (length buffer.old) forms.now (N.integer number.now) style index form.now error) }
 {
     let Some(suffixes) = form.suffixes() else {
         return Err(WriteError::ReadBack);
     };
-    let style = without_wish(style);
-    for word in suffixes.written() {
-        match write_around(forms, form, number, style, Some(word), buffer) {
+    let plain = without_wish(style);
+    let words = suffixes.written();
+    for word in words {
+        match write_around(forms, form, number, plain, Some(word), buffer) {
             Ok(length) => return Ok(Chosen {
                 form: index,
                 word: Some(word),
                 length,
-                style,
+                style: plain,
             }),
             Err(error) if is_short(error) => return Err(error),
             Err(_) => {}
@@ -893,19 +834,16 @@ fn write_around<N: Writable>(
     word: Option<&'static &'static [u8]>,
     buffer: &mut [u8],
 ) -> Result<usize, WriteError>
-    ensures value { IfOk result (λ size. IsReadWith forms.now word.entry (take size buffer.new) (N.is number.now style)) }
+    requires { word ≡ None → is_marked form.now ≡ true }
     ensures length { IfOk result (λ size. size ≤ length buffer.new) }
     ensures room { length buffer.new ≡ length buffer.old }
+    ensures text { IfOk result (λ size. (l : Parts) × N.writes number.now style form.now.syntax (Ok l)
+        × (take size buffer.new ≡ text_by form.now (bytes_of_word word.entry) l)
+        × IsReadWith forms.now (bytes_of_word word.entry) (take size buffer.new) (N.is number.now style form.now.syntax l)) }
+    ensures error { (index : ℕ) → IfErr result (IsRefused (N.writes number.now) (N.keeps number.now) (length buffer.old) forms.now index form.now
+        (style, bytes_of_word word.entry)) }
 {
-    let (opening, closing) = (form.opening(), form.closing());
-    let start = put_at(buffer, 0, opening.as_bytes());
-    let least = start.min(buffer.len());
-    let (size, _) = number.write(&form.syntax(), style, &mut buffer[least..])?;
-    let end = put_at(buffer, start.saturating_add(size), closing.as_bytes());
-    let end = match word {
-        Some(word) => put_at(buffer, end, word),
-        None => end,
-    };
+    let end = put_text(form, number, style, word, buffer)?;
     // A text that is longer than a `usize` has the size `usize::MAX`.
     if end == usize::MAX || end > buffer.len() {
         return Err(WriteError::Buffer(end));
@@ -918,9 +856,53 @@ fn write_around<N: Writable>(
     Ok(end)
 }
 
+// Writes a number by one form with its opening and its closing, and a word behind it if there is one, to the beginning of a buffer, as far as
+// it has room, and returns the length of the text, or why there is none.
+fn put_text<N: Writable>(
+    form: &Form,
+    number: &N,
+    style: Style,
+    word: Option<&'static &'static [u8]>,
+    buffer: &mut [u8],
+) -> Result<usize, WriteError>
+    ensures room { length buffer.new ≡ length buffer.old }
+    ensures text { IfOk result (λ size. (l : Parts) × N.writes number.now style form.now.syntax (Ok l)
+        × IsPut (text_by form.now (bytes_of_word word.entry) l) buffer.new size) }
+    ensures error { IfErr result (λ error. N.writes number.now style form.now.syntax (Err error)) }
+{
+    let (opening, closing) = (form.opening(), form.closing());
+    let start = put_at(buffer, 0, opening.as_bytes());
+    let end = put_number(&form.syntax(), number, style, start, buffer)?;
+    let end = put_at(buffer, end, closing.as_bytes());
+    Ok(match word {
+        Some(word) => put_at(buffer, end, word),
+        None => end,
+    })
+}
+
+// Writes a number as a literal of a syntax to a buffer from an index on, as far as it has room, and returns the index behind it, or why there
+// is none.
+fn put_number<N: Writable>(
+    syntax: &Syntax,
+    number: &N,
+    style: Style,
+    start: usize,
+    buffer: &mut [u8],
+) -> Result<usize, WriteError>
+    ensures room { length buffer.new ≡ length buffer.old }
+    ensures text { (front : List ℕ) → start < 2 ^ 64 - 1 → IsPut front buffer.old start
+        → IfOk result (λ size. (l : Parts) × N.writes number.now style syntax.now (Ok l) × IsPut (front ++ text_of l) buffer.new size) }
+    ensures error { IfErr result (λ error. N.writes number.now style syntax.now (Err error)) }
+{
+    let least = start.min(buffer.len());
+    let (size, _) = number.write(syntax, style, &mut buffer[least..])?;
+    Ok(start.saturating_add(size))
+}
+
 // Writes bytes to a buffer from an index on, as far as it has room, and returns the index behind them.
 fn put_at(buffer: &mut [u8], index: usize, bytes: &[u8]) -> usize
-    ensures { length buffer.new ≡ length buffer.old }
+    ensures room { length buffer.new ≡ length buffer.old }
+    ensures text { (front : List ℕ) → IsPut front buffer.old index → IsPut (front ++ bytes.now) buffer.new result }
 {
     let end = index.saturating_add(bytes.len());
     if end <= buffer.len() {
@@ -936,7 +918,9 @@ fn read_alone<N: Writable>(
     style: Style,
     text: &[u8],
 ) -> Result<(), WriteError>
-    ensures { IfOk result (λ _. IsReadBack forms.now text.now (N.is number.now style)) }
+    ensures value { (g : Grammar) → (l : Parts) → IfOk result (λ _. IsReadBack forms.now text.now (N.is number.now style g l)) }
+    ensures error { IfErr result (λ error. IsReadElse (λ own. N.keeps number.now style false) forms.now.forms 0 text.now error
+        ⊎ (NoForm forms.now.forms text.now × (error ≡ errors.ReadBack))) }
 {
     let Some((_, literal)) = read_literal(forms, text) else {
         return Err(WriteError::ReadBack);
@@ -955,12 +939,20 @@ fn read_token<N: Writable>(
     word: &[u8],
     text: &[u8],
 ) -> Result<(), WriteError>
-    ensures { IfOk result (λ _. IsTokenOf forms.now word.now text.now (N.is number.now style)) }
+    ensures value { (g : Grammar) → (l : Parts) → IfOk result (λ _. IsTokenOf forms.now word.now text.now (N.is number.now style g l)) }
+    ensures error { IfErr result (IsNoToken (N.keeps number.now style) forms.now word.now text.now) }
 {
     let Ok(token) = forms.token(text) else {
         return Err(WriteError::ReadBack);
     };
-    if token.rest.is_empty() && token.suffix == word && number.is_worth(style, &token.literal) {
+    if !token.rest.is_empty() {
+        return Err(WriteError::ReadBack);
+    }
+    let same = token.suffix == word;
+    if !same {
+        return Err(WriteError::ReadBack);
+    }
+    if number.is_worth(style, &token.literal) {
         return Ok(());
     }
     Err(WriteError::ReadBack)
@@ -968,9 +960,9 @@ fn read_token<N: Writable>(
 
 // Returns whether a text needs a longer buffer.
 const fn is_short(error: WriteError) -> bool
-    ensures { result ≡ true → (n : ℕ) × (n ≤ 4096) × (error ≡ errors.Buffer n) }
+    ensures { result ≡ is_short error }
 {
-    matches!(error, WriteError::Buffer(length) if length <= LONGEST)
+    matches!(error, WriteError::Buffer(_))
 }
 
 // Writes a number by one form, and returns the length of the text, or why it is not used.
@@ -983,11 +975,11 @@ fn write_by<N: Writable>(
     buffer: &mut [u8],
 ) -> Result<usize, WriteError>
     requires { slice_get forms.now.forms index ≡ Some form.now }
-    ensures value { IfOk result (λ size. IsReadBack forms.now (take size buffer.new) (N.is number.now style)) }
     ensures length { IfOk result (λ size. size ≤ length buffer.new) }
     ensures room { length buffer.new ≡ length buffer.old }
-    ensures error { IfErr result (IsRefused (N.writes number.now)
-        (λ style. IsUnusable (N.keeps number.now style) (length buffer.old) forms.now.forms index) style form.now) }
+    ensures text { IfOk result (λ size. (l : Parts) × N.writes number.now style form.now.syntax (Ok l) × (take size buffer.new ≡ text_by form.now None l)
+        × IsReadBack forms.now (take size buffer.new) (N.is number.now style form.now.syntax l)) }
+    ensures error { IfErr result (IsRefused (N.writes number.now) (N.keeps number.now) (length buffer.old) forms.now index form.now (style, None)) }
 {
     if form.is_marked() {
         return write_around(forms, form, number, style, None, buffer);
@@ -1017,7 +1009,8 @@ fn read_written<N: Writable>(
     requires form { slice_get forms.now.forms index ≡ Some form.now }
     requires unmarked { (form.now.opening.size ≡ 0) × (form.now.closing.size ≡ 0) }
     requires written { (l : Parts) × Reads (notation_of form.now.syntax) l text.now × N.writes number.now style form.now.syntax (Ok l) × (float ≡ is_float l) }
-    ensures value { IfOk result (λ _. IsReadBack forms.now text.now (N.is number.now style)) }
+    ensures value { IfOk result (λ _. (l : Parts) × N.writes number.now style form.now.syntax (Ok l) × (text.now ≡ text_of l)
+        × IsReadBack forms.now text.now (N.is number.now style form.now.syntax l)) }
     ensures error { IfErr result (IsReadElse (N.keeps number.now style) forms.now.forms index text.now) }
 {
     let syntax = form.syntax();
@@ -1053,12 +1046,12 @@ fn mismatch(literal: &Literal) -> WriteError
     }
 }
 
-// Returns whether a literal is worth an integer or, with a decimal point or an exponent, an `f64`.
+// Returns whether a literal is worth an integer or, with a decimal point or an exponent, an `f64`, or if its radix has no floats.
 fn has_worth(literal: &Literal) -> bool
     ensures { result ≡ has_worth literal.now }
 {
     if literal.is_float() {
-        to_float::<f64>(literal).is_ok()
+        !supports_floats(literal.format()) || to_float::<f64>(literal).is_ok()
     } else {
         own_numeral(literal).is_ok()
     }

@@ -1,12 +1,12 @@
 //! Literals are written by the float that is nearest to them.
 
-ghost use Rattle.std.specs.Prelude.{◌≡◌, ◌⊎◌, ℕ, false, None, Some, Err, IfErr, IfOk};
+ghost use Rattle.std.specs.Prelude.{◌≡◌, ◌⊎◌, ℕ, false, None, Some, Err, IfErr, IfOk, Ok};
 ghost use Rattle.lexical_util.specs.Record.{bytes_of, raw};
 ghost use Rattle.lexical_literal.specs.Literal.{Reads, text_of};
 ghost use Rattle.lexical_literal.specs.Notation.{notation_of};
 ghost use Rattle.lexical_number.specs.Float.{format_of};
 ghost use Rattle.lexical_value.specs.Float.{nearest};
-ghost use Rattle.lexical_writer.specs.Conversion.{IsNear, IsWritten, SameFraction};
+ghost use Rattle.lexical_writer.specs.Conversion.{IsNear, IsWrittenAs, SameFraction};
 ghost use Rattle.lexical_writer.specs.Layout.{literal_of as written};
 ghost use Rattle.lexical_writer.specs.Rounded.{IsRounded, decimals_in};
 
@@ -33,6 +33,7 @@ pub fn float_instead<F: Float>(
 ) -> Result<F, WriteError>
     ensures nearest { IfOk result (λ value. F.value value ≡ nearest (format_of F.DOUBLE) (bytes_of literal.now.format) literal.now.literal) }
     ensures wish { style.nearest ≡ false → result ≡ Err error }
+    ensures error { IfErr result (λ it. it ≡ error) }
 {
     if !style.nearest || !matches!(error, WriteError::Radix | WriteError::Exponent) {
         return Err(error);
@@ -67,8 +68,9 @@ pub fn format_near<'a, F: Float>(
     // Without the wish, the value is the same.
     ensures exact { style.nearest ≡ false → IfOk result (λ layout.
         SameFraction (raw literal.now.format) literal.now.literal (raw syntax.now.word) (written layout)) }
-    // A literal that is not written has an error of `format_literal`.
-    ensures error { IfErr result (λ _. (error : WriteError) × IsWritten literal.now syntax.now style (Err error)) }
+    // What is written is what `format_literal` writes, or what `format_float` does, and so is the error.
+    ensures parts { IfOk result (λ layout. IsWrittenAs (format_of F.DOUBLE) literal.now syntax.now style (Ok (written layout))) }
+    ensures error { IfErr result (λ error. IsWrittenAs (format_of F.DOUBLE) literal.now syntax.now style (Err error)) }
 {
     match format_literal(literal, syntax, style) {
         Ok(layout) => Ok(layout),

@@ -295,7 +295,7 @@ impl<'a> Forms<'a> {
     ///
     /// Decimal forms are asked first, and then the others, each in the order of the list. The first is taken whose text is
     /// read, by all forms, as the same value: in C, 15 is not written as `17` of the octal form, which is decimal if it
-    /// begins with another digit than 0.
+    /// begins with another digit than 0. Each form is asked without a word, and then with its [words][super::Suffixes::written].
     ///
     /// ```
     /// use peltzivar::literal::{Language, Style, WriteError};
@@ -307,9 +307,9 @@ impl<'a> Forms<'a> {
     ///
     /// # Errors
     ///
-    /// If no form is taken, returns the error of the form that was asked first, but [`WriteError::Fraction`] gives way to
-    /// another one. It is [`WriteError::ReadBack`] if the text is read as another number, [`WriteError::TooLarge`] if it is too
-    /// large for its kind, and [`WriteError::Buffer`] for a text of more than 4,096 bytes, which is not read back.
+    /// If no form is taken, returns the error of the form that was asked first: [`WriteError::ReadBack`] if the text is read as
+    /// another number, and [`WriteError::TooLarge`] if it is too large for its kind. A text of more than 4,096 bytes ends the
+    /// search with [`WriteError::Buffer`].
     pub fn format_integer<T: WriteInteger>(&self, value: T, style: Style) -> Result<Written<'static>, WriteError> {
         let number = Whole::of(value);
         match lay_out_first(self, &number, style) {
@@ -321,8 +321,8 @@ impl<'a> Forms<'a> {
     /// Returns the value of a float as a number of one of these forms, or as one of the spellings of NaN and infinity.
     /// [Reading][Self::read] the text returns the same bits, but for a NaN.
     ///
-    /// Forms are asked as by [`format_integer`][Self::format_integer], but all that have floats before those of integers alone.
-    /// A float is rounded in the radix of the form that is asked first, and forms of other radixes do not write it.
+    /// Forms are asked as by [`format_integer`][Self::format_integer], but decimal forms of integers alone come behind those that
+    /// have floats. Decimal forms with floats alone write a float that is rounded.
     ///
     /// ```
     /// use peltzivar::literal::{Language, Style, WriteError};
@@ -334,7 +334,8 @@ impl<'a> Forms<'a> {
     ///
     /// # Errors
     ///
-    /// As [`format_integer`][Self::format_integer], and [`WriteError::Special`] for NaN and infinity without a spelling.
+    /// As [`format_integer`][Self::format_integer], [`WriteError::Special`] for NaN and infinity without a spelling, and
+    /// [`WriteError::Fraction`] for a float that is rounded if no decimal form has floats.
     pub fn format_float<T: WriteFloat>(&self, value: T, style: Style) -> Result<Written<'a>, WriteError> {
         match self.format_value(&Real { value }, Value::of_float(value), style) {
             Err(WriteError::Special) => {
@@ -349,8 +350,8 @@ impl<'a> Forms<'a> {
     /// Returns a literal, which may be of other forms, as a number of one of these forms. [Reading][Self::read] the text
     /// returns the same integer, also as a float, or the same bits of `f64` if the literal is a float.
     ///
-    /// Forms of the radix of the literal are asked first, then decimal ones, and then the others, each in the order of the
-    /// list. The first is taken whose text is read, by all forms, as the same number.
+    /// Forms of the radix of the literal are asked first and, if it has a point or an exponent, only those that have floats. Then
+    /// the others are asked. The first is taken whose text is read, by all forms, as the same number.
     ///
     /// ```
     /// use peltzivar::literal::{Language, Style, WriteError};

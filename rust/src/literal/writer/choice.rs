@@ -16,7 +16,7 @@ use crate::literal::value::number::numeral::Magnitude;
 use crate::literal::writer::float::{format_float, is_integer};
 use crate::literal::writer::float_digits::FloatDigits;
 use crate::literal::writer::integer::WrittenInteger;
-use crate::literal::writer::layout::{needs_exponent, wants_exponent, ExponentStyle, Layout, Style, WriteError};
+use crate::literal::writer::layout::{wants_exponent, ExponentStyle, Layout, Style, WriteError};
 use crate::literal::writer::near::format_near;
 
 /// A number that a list of forms is asked to write.
@@ -92,12 +92,8 @@ impl Writable for Whole {
         Ok((integer.write(buffer), integer.is_float()))
     }
 
-    fn is_plain(&self, syntax: &Syntax, kind: Kind, _: Style, float: bool) -> bool {
-        if float {
-            is_exact(kind) && !has_floats(syntax)
-        } else {
-            is_kept(kind.integers(), self.negative, self.size)
-        }
+    fn is_plain(&self, _syntax: &Syntax, kind: Kind, _: Style, float: bool) -> bool {
+        !float && is_kept(kind.integers(), self.negative, self.size)
     }
 
     fn is_read_as(&self, _: Style, _: &Literal, literal: &Literal) -> bool {
@@ -202,8 +198,8 @@ impl Writable for Literal<'_> {
         Ok(put(&format_near::<f64>(self, syntax, style, &mut digits)?, buffer))
     }
 
-    fn is_plain(&self, syntax: &Syntax, kind: Kind, _style: Style, float: bool) -> bool {
-        is_exact(self.kind()) & is_exact(kind) & (self.is_float() | !(float & has_floats(syntax)))
+    fn is_plain(&self, _syntax: &Syntax, kind: Kind, _style: Style, float: bool) -> bool {
+        is_exact(self.kind()) & is_exact(kind) & (self.is_float() | !float)
     }
 
     fn is_read_as(&self, style: Style, own: &Literal, literal: &Literal) -> bool {
@@ -356,115 +352,16 @@ pub struct Chosen {
     pub style: Style,
 }
 
-// How many steps there are in which forms are asked: three in each of the six turns.
-const STEPS: u8 = 18;
-
-// The order in which a list asks its forms to write a number: the number's radix, whether it is an integer, whether forms whose
-// literals all have an exponent are asked with the others, and of the form that is asked first, if the number is rounded, the radix,
-// and whether it has floats.
-#[derive(Clone, Copy)]
-struct Order {
-    radix: u32,
-    integer: bool,
-    all: bool,
-    first: Option<(u32, bool)>,
-}
-
-impl Order {
-    // Returns the order in which forms are asked to write a number in a style.
-    #[inline(always)]
-    fn of<N: Writable + ?Sized>(forms: &[Form], number: &N, style: Style) -> Order {
-        let integer = number.is_integer();
-        let order =
-            Order { radix: number.radix(), integer, all: !integer | wants_exponent(style.exponent), first: None };
-        if number.is_rounded(style) {
-            Order { first: order.first_of(forms), ..order }
-        } else {
-            order
-        }
-    }
-
-    // Returns the radix of the form that is asked first, if any is, and whether it has floats.
-    #[inline(always)]
-    fn first_of(&self, forms: &[Form]) -> Option<(u32, bool)> {
-        let mut step = 0;
-        while step < STEPS {
-            let mut index = 0;
-            while index < forms.len() {
-                let it = &forms[index];
-                if self.is_asked(step, it) {
-                    let syntax = it.syntax();
-                    return Some((syntax.format().view().mantissa_radix(), syntax.options().is_some()));
-                }
-                index += 1;
-            }
-            step += 1;
-        }
-        None
-    }
-
-    // Returns whether a form is asked in a step.
-    #[inline(always)]
-    fn is_asked(&self, step: u8, form: &Form) -> bool {
-        let syntax = form.syntax();
-        if turn(self.radix, self.integer, &syntax) != step / 3 {
-            return false;
-        }
-        self.takes_part(step % 3, needs_exponent(&syntax)) & !form.is_only_read() & self.is_radix(&syntax)
-    }
-
-    // Returns whether a form is asked in a part of its turn, where all of its literals may have an exponent.
-    #[inline(always)]
-    const fn takes_part(&self, part: u8, exponent: bool) -> bool {
-        match part {
-            0 => self.all || !exponent,
-            1 => self.integer && !exponent,
-            _ => !self.all && exponent,
-        }
-    }
-
-    // Returns whether a form with a syntax has the radix in which the number is rounded, if it is.
-    #[inline(always)]
-    fn is_radix(&self, syntax: &Syntax) -> bool {
-        match self.first {
-            Some((radix, _)) => syntax.format().view().mantissa_radix() == radix,
-            None => true,
-        }
-    }
-
-    // Returns the style in which a form with a syntax is asked to write the number.
-    #[inline(always)]
-    fn style(&self, syntax: &Syntax, style: Style) -> Style {
-        if self.is_unrounded(syntax, style.decimals) {
-            Style { decimals: None, ..style }
-        } else {
-            style
-        }
-    }
-
-    // Returns whether a form with a syntax writes the number without rounding it.
-    #[inline(always)]
-    fn is_unrounded(&self, syntax: &Syntax, decimals: Option<u8>) -> bool {
-        match (self.first, decimals) {
-            (Some((_, floats)), Some(count)) => floats && syntax.options().is_none() && count > 0,
-            _ => false,
-        }
-    }
-}
-
-/// Writes a number by the first form whose text the list reads as this number, to the beginning of a buffer, and returns the
-/// index of the form, the length of the text, and the style in which it is written. Forms of the number's radix are asked first,
-/// then decimal ones, and then the others, each in the order of the list, and all forms with floats write a float before those of
-/// integers alone. Of each of these turns, an integer is written without a word, if no form does so with one of its
-/// [words][Suffixes::written], with which its token is the number, and else as a float that is this integer.
-/// Where an exponent would make an integer another number, the wish for one is dropped. A float is rounded in the radix
-/// of the form that is asked first.
+/// Writes a number by the first form whose text the list reads as this number, to the beginning of a buffer. The number's own forms
+/// are asked first: those of its radix which, if it is no integer, have floats. No other form writes a float that is rounded. A form
+/// writes an integer with the first of its [words][Suffixes::written] with which its token is the number, if it does not without one.
 ///
 /// # Errors
 ///
-/// If there is no such form, returns the error of the form that is asked first, but [`WriteError::Fraction`] gives way to another one.
-/// It is [`WriteError::ReadBack`] if the text is read as another number, [`WriteError::TooLarge`] if it is too large for its kind,
-/// and [`WriteError::Buffer`] if it does not fit the buffer. With a text of up to 4,096 bytes that does not, the search ends.
+/// If there is no such form, returns the error of the form that is asked first. It is [`WriteError::ReadBack`] if the text is read as
+/// another number, and [`WriteError::TooLarge`] if it is too large for its kind. If no form is asked, it is
+/// [`WriteError::Fraction`] of a float that is rounded, and else `ReadBack`. If a text does not fit the buffer, the search ends with
+/// [`WriteError::Buffer`].
 pub fn choose<N: Writable + ?Sized>(
     forms: &Forms,
     number: &N,
@@ -472,26 +369,73 @@ pub fn choose<N: Writable + ?Sized>(
     buffer: &mut [u8],
 ) -> Result<Chosen, WriteError> {
     let list = forms.as_slice();
-    let order = Order::of(list, number, style);
+    let radix = number.radix();
+    let integer = number.is_integer();
+    let rounded = number.is_rounded(style);
+    let end = steps(rounded);
     let mut error = None;
     let mut step = 0;
-    while step < STEPS {
+    while step < end {
         let mut index = 0;
         while index < list.len() {
             let it = &list[index];
-            if order.is_asked(step, it) {
-                let own = order.style(&it.syntax(), style);
-                match write_in(forms, index, it, step % 3 == 1, number, own, buffer) {
+            if is_asked(radix, integer, step, it) {
+                match write_form(forms, index, it, number, style, buffer) {
                     Ok(chosen) => return Ok(chosen),
                     Err(other) if is_short(other) => return Err(other),
-                    Err(other) => error = first_reason(error, other),
+                    Err(other) => error = Some(error.unwrap_or(other)),
                 }
             }
             index += 1;
         }
         step += 1;
     }
-    Err(error.unwrap_or(WriteError::ReadBack))
+    Err(error.unwrap_or(unasked(rounded)))
+}
+
+// Returns how many steps there are: in the first one, a number's own forms are asked, and in the second one the others.
+const fn steps(rounded: bool) -> u8 {
+    if rounded {
+        1
+    } else {
+        2
+    }
+}
+
+// Returns the error if no form is asked.
+const fn unasked(rounded: bool) -> WriteError {
+    if rounded {
+        WriteError::Fraction
+    } else {
+        WriteError::ReadBack
+    }
+}
+
+// Returns whether a form is asked in a step.
+#[inline(always)]
+fn is_asked(radix: u32, integer: bool, step: u8, form: &Form) -> bool {
+    is_turn(step, is_own(radix, integer, &form.syntax())) & !form.is_only_read()
+}
+
+// Returns whether a step is that of a number's own forms, or of the others.
+#[inline(always)]
+const fn is_turn(step: u8, own: bool) -> bool {
+    match step {
+        0 => own,
+        _ => !own,
+    }
+}
+
+// Returns whether a form with a syntax is one of a number's own.
+#[inline(always)]
+fn is_own(radix: u32, integer: bool, syntax: &Syntax) -> bool {
+    (syntax.format().view().mantissa_radix() == radix) & takes(integer, syntax)
+}
+
+// Returns whether a syntax has floats, or the number is an integer.
+#[inline(always)]
+fn takes(integer: bool, syntax: &Syntax) -> bool {
+    integer || syntax.options().is_some()
 }
 
 /// Returns how the first form of a list writes an integer, if this form is asked first, and its text is known to be read back.
@@ -499,7 +443,7 @@ pub fn choose<N: Writable + ?Sized>(
 pub fn lay_out_first(forms: &Forms, number: &Whole, style: Style) -> Option<WrittenInteger> {
     let form = &forms.as_slice()[0];
     let syntax = form.syntax();
-    if form.is_only_read() || form.is_marked() || turn(10, true, &syntax) != 0 {
+    if form.is_only_read() || form.is_marked() || !is_own(10, true, &syntax) {
         return None;
     }
     let Ok(integer) = WrittenInteger::of_size(number.negative, number.size, &syntax, style) else {
@@ -511,65 +455,66 @@ pub fn lay_out_first(forms: &Forms, number: &Whole, style: Style) -> Option<Writ
     Some(integer)
 }
 
-// Returns the first of the reasons why forms do not write a number. `Fraction` gives way to another one.
-const fn first_reason(first: Option<WriteError>, error: WriteError) -> Option<WriteError> {
-    match first {
-        None | Some(WriteError::Fraction) => Some(error),
-        Some(_) => first,
-    }
-}
-
-// Returns in which turn a form with a syntax is asked to write an integer, or another number, of a radix.
-fn turn(radix: u32, integer: bool, syntax: &Syntax) -> u8 {
-    let own = syntax.format().view().mantissa_radix();
-    let late = delay(integer, syntax);
-    if own == radix {
-        late
-    } else if own == 10 {
-        late + 1
-    } else {
-        late + 2
-    }
-}
-
-// Returns 3 for a form of integers alone and a float, which all forms with floats write before, and 0 for others.
-#[inline(always)]
-fn delay(integer: bool, syntax: &Syntax) -> u8 {
-    if integer || syntax.options().is_some() {
-        0
-    } else {
-        3
-    }
-}
-
-// Writes a number by one form, with a word if `with` is true, or returns why it is not used.
-fn write_in<N: Writable + ?Sized>(
+// Writes a number by one form, without a word or else with one, or returns why it is not used.
+fn write_form<N: Writable + ?Sized>(
     forms: &Forms,
     index: usize,
     form: &Form,
-    with: bool,
     number: &N,
     style: Style,
     buffer: &mut [u8],
 ) -> Result<Chosen, WriteError> {
-    if with && number.is_integer() {
-        return write_words(forms, index, form, number, style, buffer);
+    let error = match write_in(forms, index, form, number, style, buffer) {
+        Ok(chosen) => return Ok(chosen),
+        Err(error) => error,
+    };
+    if is_short(error) {
+        return Err(error);
     }
+    if !number.is_integer() {
+        return Err(error);
+    }
+    match write_words(forms, index, form, number, style, buffer) {
+        Ok(chosen) => Ok(chosen),
+        Err(other) if is_short(other) => Err(other),
+        Err(_) => Err(error),
+    }
+}
+
+// Writes a number by one form, without a word, or returns why it is not used.
+fn write_in<N: Writable + ?Sized>(
+    forms: &Forms,
+    index: usize,
+    form: &Form,
+    number: &N,
+    style: Style,
+    buffer: &mut [u8],
+) -> Result<Chosen, WriteError> {
     let error = match write_by(forms, index, form, number, style, buffer) {
         Ok(length) => return Ok(Chosen { form: index, word: None, length, style }),
         Err(error) => error,
     };
-    if is_short(error) || !number.is_integer() || !wants_exponent(style.exponent) {
+    let wished = number.is_integer() & wants_exponent(style.exponent);
+    if is_short(error) {
         return Err(error);
     }
-    let style = without_wish(style);
-    let length = write_by(forms, index, form, number, style, buffer)?;
-    Ok(Chosen { form: index, word: None, length, style })
+    if !wished {
+        return Err(error);
+    }
+    let plain = without_wish(style);
+    match write_by(forms, index, form, number, plain, buffer) {
+        Ok(length) => Ok(Chosen { form: index, word: None, length, style: plain }),
+        Err(error) => Err(error),
+    }
 }
 
-// Returns the style without a wish for an exponent.
+// Returns the style of an integer without a wish for an exponent.
 const fn without_wish(style: Style) -> Style {
-    Style { exponent: ExponentStyle::AsNumber, ..style }
+    if wants_exponent(style.exponent) {
+        Style { exponent: ExponentStyle::AsNumber, ..style }
+    } else {
+        style
+    }
 }
 
 // Writes an integer by one form with the first of its words that makes its token this integer, or returns why there is none.
@@ -585,10 +530,11 @@ fn write_words<N: Writable + ?Sized>(
     let Some(suffixes) = form.suffixes() else {
         return Err(WriteError::ReadBack);
     };
-    let style = without_wish(style);
-    for word in suffixes.written() {
-        match write_around(forms, form, number, style, Some(word), buffer) {
-            Ok(length) => return Ok(Chosen { form: index, word: Some(word), length, style }),
+    let plain = without_wish(style);
+    let words = suffixes.written();
+    for word in words {
+        match write_around(forms, form, number, plain, Some(word), buffer) {
+            Ok(length) => return Ok(Chosen { form: index, word: Some(word), length, style: plain }),
             Err(error) if is_short(error) => return Err(error),
             Err(_) => {}
         }
@@ -606,15 +552,7 @@ fn write_around<N: Writable + ?Sized>(
     word: Option<&'static &'static [u8]>,
     buffer: &mut [u8],
 ) -> Result<usize, WriteError> {
-    let (opening, closing) = (form.opening(), form.closing());
-    let start = put_at(buffer, 0, opening.as_bytes());
-    let least = start.min(buffer.len());
-    let (size, _) = number.write(&form.syntax(), style, &mut buffer[least..])?;
-    let end = put_at(buffer, start.saturating_add(size), closing.as_bytes());
-    let end = match word {
-        Some(word) => put_at(buffer, end, word),
-        None => end,
-    };
+    let end = put_text(form, number, style, word, buffer)?;
     // A text that is longer than a `usize` has the size `usize::MAX`.
     if end == usize::MAX || end > buffer.len() {
         return Err(WriteError::Buffer(end));
@@ -625,6 +563,39 @@ fn write_around<N: Writable + ?Sized>(
         Some(word) => read_token(forms, number, style, word, text)?,
     }
     Ok(end)
+}
+
+// Writes a number by one form with its opening and its closing, and a word behind it if there is one, to the beginning of a buffer, as far as
+// it has room, and returns the length of the text, or why there is none.
+fn put_text<N: Writable + ?Sized>(
+    form: &Form,
+    number: &N,
+    style: Style,
+    word: Option<&'static &'static [u8]>,
+    buffer: &mut [u8],
+) -> Result<usize, WriteError> {
+    let (opening, closing) = (form.opening(), form.closing());
+    let start = put_at(buffer, 0, opening.as_bytes());
+    let end = put_number(&form.syntax(), number, style, start, buffer)?;
+    let end = put_at(buffer, end, closing.as_bytes());
+    Ok(match word {
+        Some(word) => put_at(buffer, end, word),
+        None => end,
+    })
+}
+
+// Writes a number as a literal of a syntax to a buffer from an index on, as far as it has room, and returns the index behind it, or why there
+// is none.
+fn put_number<N: Writable + ?Sized>(
+    syntax: &Syntax,
+    number: &N,
+    style: Style,
+    start: usize,
+    buffer: &mut [u8],
+) -> Result<usize, WriteError> {
+    let least = start.min(buffer.len());
+    let (size, _) = number.write(syntax, style, &mut buffer[least..])?;
+    Ok(start.saturating_add(size))
 }
 
 // Writes bytes to a buffer from an index on, as far as it has room, and returns the index behind them.
@@ -658,7 +629,14 @@ fn read_token<N: Writable + ?Sized>(
     let Some(token) = number.token(forms, text) else {
         return Err(WriteError::ReadBack);
     };
-    if token.rest.is_empty() && token.suffix == word && number.is_worth(style, &token.literal) {
+    if !token.rest.is_empty() {
+        return Err(WriteError::ReadBack);
+    }
+    let same = token.suffix == word;
+    if !same {
+        return Err(WriteError::ReadBack);
+    }
+    if number.is_worth(style, &token.literal) {
         return Ok(());
     }
     Err(WriteError::ReadBack)
@@ -666,7 +644,7 @@ fn read_token<N: Writable + ?Sized>(
 
 // Returns whether a text needs a longer buffer.
 const fn is_short(error: WriteError) -> bool {
-    matches!(error, WriteError::Buffer(length) if length <= LONGEST)
+    matches!(error, WriteError::Buffer(_))
 }
 
 // Writes a number by one form, and returns the length of the text, or why it is not used.
@@ -733,10 +711,10 @@ fn mismatch(literal: &Literal) -> WriteError {
     }
 }
 
-// Returns whether a literal is worth an integer or, with a decimal point or an exponent, an `f64`.
+// Returns whether a literal is worth an integer or, with a decimal point or an exponent, an `f64`, or if its radix has no floats.
 fn has_worth(literal: &Literal) -> bool {
     if literal.is_float() {
-        to_float::<f64>(literal).is_ok()
+        !supports_floats(literal.format()) || to_float::<f64>(literal).is_ok()
     } else {
         own_numeral(literal).is_ok()
     }

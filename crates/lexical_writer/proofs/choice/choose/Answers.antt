@@ -1,133 +1,119 @@
--- The form is asked in some step, and each form before it has a reason.
-use Rattle.lexical_writer.proofs.Common.{AreBefore, Form, IsReason, IsSearched, IsSomeAnd, IsStyleOf, ap, arith, asked_style, false≢true, inl, inr, is_asked}
-use Rattle.lexical_writer.proofs.Common.{length}
-use Rattle.lexical_writer.proofs.Common.{WriteError, refl, slice_get, slice_get_read, subst, sym, true, ℕ, ◌+◌, ◌∙◌, ◌≡◌}
-use Rattle.lexical_writer.proofs.OrderLemmas.{reason_is, searched_more, searched_next, searched_skip, searched_start, style_is}
+-- Each form before is passed over.
+use Rattle.lexical_writer.proofs.Common.{Form, IsChosen, IsPassedOver, IsSearched, IsStopped, ap, arith, bytes_of_word, false≢true, inl, inr}
+use Rattle.lexical_writer.proofs.Common.{Some, WriteError, is_asked, length, refl, slice_get, slice_get_read, steps, subst, sym, take, unasked, unwrap_or, ℕ, ◌+◌, ◌<◌, ◌∙◌, ◌≡◌, ◌≤◌}
+use Rattle.lexical_writer.proofs.OrderLemmas.{searched_more, searched_next, searched_skip, searched_start}
 use Rattle.lexical_writer.proofs.choice.choose.Goals as goal
 use Rattle.lexical_writer.proofs.choice.choose.Goals.{then-is_asked+in-Err-2, else-is_asked}
 
 pub loop-step-init : goal.loop-step-init
-loop-step-init g c = record { most = omega arith; room = refl; searched = searched_start _ c.of-order.result c.as_slice-list.result.now }
+loop-step-init g c = record { most = omega arith; room = refl; searched = searched_start _ _ _ }
 
 pub loop-index-init : goal.loop-index-init
-loop-index-init g c = record {
-  room = refl;
-  searched = subst (λ n. IsSearched (IsReason (g.N.Writable.writes c.args.number.now) (g.N.Writable.keeps c.args.number.now) n c.of-order.result
-      c.args.style c.as_slice-list.result.now) c.of-order.result c.as_slice-list.result.now c.loop-step.step 0 c.loop-step.error)
-      (sym c.loop-step.invariant.room) c.loop-step.invariant.searched;
-}
+loop-index-init g c = record { room = c.loop-step.invariant.room; searched = c.loop-step.invariant.searched }
 
 pub loop-index-preserved : goal.loop-index-preserved
 loop-index-preserved g c =
-    let list = c.as_slice-list.result.now in
-    let order = c.of-order.result in
+    let forms = c.args.forms.now.forms in
     let step = c.loop-step.step in
     let index = c.loop-index.index in
     let form = c.index-list-index.result in
-    let writes = g.N.Writable.writes c.args.number.now in
-    let keeps = g.N.Writable.keeps c.args.number.now in
-    let room = length c.loop-step.buffer in
-    let P = IsReason writes keeps room order c.args.style list in
-    let here = slice_get_read _ _ index form refl c.loop-index-test.true c.index-list-index.is in
+    let integer = g.N.Writable.integer c.args.number.now in
+    let P : ℕ → ℕ → Form → WriteError → Type 0 = λ n. IsPassedOver (g.N.Writable.writes c.args.number.now) (g.N.Writable.keeps c.args.number.now) n c.args.forms.now
+    integer c.args.style in
+    let asked = is_asked (g.N.Writable.base c.args.number.now) integer in
+    let room = length c.args.buffer.now in
+    let here : slice_get forms index ≡ Some form = subst (λ forms. slice_get forms index ≡ Some form) c.as_slice-list.ensures.list
+    (slice_get_read _ _ index form refl c.loop-index-test.true c.index-list-index.is) in
+    let now : c.is_asked.result ≡ asked step form = c.is_asked.ensures ∙ λ i. is_asked (c.radix-radix.ensures i) (c.is_integer-integer.ensures i) step form in
     elim c.if-is_asked.branch [
       | then-is_asked+in-Err-2 w ↦ record {
         room = ap length w.buffer-is ∙ w.in-Err.ensures.room ∙ c.loop-index.invariant.room;
-        searched = subst (λ reason. IsSearched P order list step (index + 1) reason) (sym (w.error-is ∙ w.first_reason-error.ensures))
-            (searched_more P order list step index c.loop-index.error c.loop-index.invariant.searched form here w.in-Err.other
-            (sym c.is_asked.ensures ∙ w.if-is_asked.true)
-            (reason_is writes keeps _ room order c.args.style w.style-own.result list _ step index form w.in-Err.other
-            (w.style-own.ensures ∙ ap (λ g. asked_style order.first g c.args.style) w.syntax.ensures) c.as_slice-list.ensures.list
-            c.loop-index.invariant.room w.in-Err.ensures.error));
+        searched = subst (IsSearched (P room) asked forms step (index + 1)) (sym (w.error-is ∙ ap Some w.unwrap_or.ensures))
+            (searched_more (P room) asked forms step index c.loop-index.error c.loop-index.invariant.searched form here w.in-Err.other
+            (sym now ∙ w.if-is_asked.true) (subst (λ n. P n index form w.in-Err.other) c.loop-index.invariant.room
+            (w.in-Err.ensures.passed (sym w.is_short.ensures ∙ w.if-is_short.false))));
       }
       | else-is_asked w ↦ record {
         room = ap length w.buffer-is ∙ c.loop-index.invariant.room;
-        searched = subst (λ reason. IsSearched P order list step (index + 1) reason) (sym w.error-is)
-            (searched_skip P order list step index c.loop-index.error c.loop-index.invariant.searched form here
-            (λ asked. false≢true (sym (sym c.is_asked.ensures ∙ w.if-is_asked.false) ∙ asked)));
+        searched = subst (IsSearched (P room) asked forms step (index + 1)) (sym w.error-is)
+            (searched_skip (P room) asked forms step index c.loop-index.error c.loop-index.invariant.searched form here
+            (λ is. false≢true (sym w.if-is_asked.false ∙ now ∙ is)));
       }
     ]
 
 pub loop-step-preserved : goal.loop-step-preserved
 loop-step-preserved g c = record {
   most = omega (arith, c.loop-step-test.true);
-  room = c.loop-index.invariant.room ∙ c.loop-step.invariant.room;
-  searched = subst (λ n. IsSearched (IsReason (g.N.Writable.writes c.args.number.now) (g.N.Writable.keeps c.args.number.now) n c.of-order.result
-      c.args.style c.as_slice-list.result.now) c.of-order.result c.as_slice-list.result.now (c.loop-step.step + 1) 0 c.loop-index.error)
-      c.loop-step.invariant.room (searched_next _ c.of-order.result c.as_slice-list.result.now c.loop-step.step c.loop-index.index c.loop-index.error
-      c.loop-index.invariant.searched c.loop-index-test.false);
+  room = c.loop-index.invariant.room;
+  searched = searched_next _ _ _ c.loop-step.step c.loop-index.index c.loop-index.error c.loop-index.invariant.searched
+      (subst (λ forms. length forms ≤ c.loop-index.index) c.as_slice-list.ensures.list c.loop-index-test.false);
 }
 
-pub write_in-requires : goal.write_in-requires
-write_in-requires g c = rw (← c.as_slice-list.ensures.list)
+pub write_form-requires : goal.write_form-requires
+write_form-requires g c = rw (← c.as_slice-list.ensures.list)
     (slice_get_read _ _ c.loop-index.index c.index-list-index.result refl c.loop-index-test.true c.index-list-index.is)
 
-pub returns-in-Ok-clause-form : goal.returns-in-Ok-clause-form
-returns-in-Ok-clause-form g c =
-    let list = c.as_slice-list.result.now in
-    let order = c.of-order.result in
+pub returns-in-Ok-clause-text : goal.returns-in-Ok-clause-text
+returns-in-Ok-clause-text g c =
+    let forms = c.args.forms.now.forms in
     let step = c.loop-step.step in
-    let P = λ (n before at : ℕ) (form : Form) (error : WriteError). IsReason (g.N.Writable.writes c.args.number.now) (g.N.Writable.keeps c.args.number.now)
-    n order c.args.style list before at form error in
-    let Q : ℕ → ℕ → Type 0 = λ n at. AreBefore (λ before at form. (error : WriteError) × P n before at form error) order list step at in
-    rw (← c.as_slice-list.ensures.list) (
-      order,
+    let index = c.loop-index.index in
+    let form = c.index-list-index.result in
+    let number = c.args.number.now in
+    let integer = g.N.Writable.integer number in
+    let chosen = c.in-Ok.chosen in
+    let here : slice_get forms index ≡ Some form = subst (λ forms. slice_get forms index ≡ Some form) c.as_slice-list.ensures.list
+    (slice_get_read _ _ index form refl c.loop-index-test.true c.index-list-index.is) in
+    let now : c.is_asked.result ≡ is_asked (g.N.Writable.base number) integer step form =
+    c.is_asked.ensures ∙ λ i. is_asked (c.radix-radix.ensures i) (c.is_integer-integer.ensures i) step form in (
       step,
-      c.of-order.ensures.order,
-      subst (λ at. IsSomeAnd (slice_get list at) (λ form. is_asked order step form ≡ true)) (sym c.in-Ok.ensures.form)
-          (rw (slice_get_read _ _ c.loop-index.index c.index-list-index.result refl c.loop-index-test.true c.index-list-index.is)
-          (sym c.is_asked.ensures ∙ c.if-is_asked.true)),
-      subst (Q (length c.args.buffer.now)) (sym c.in-Ok.ensures.form)
-          (subst (λ n. Q n c.loop-index.index) c.loop-step.invariant.room c.loop-index.invariant.searched.passed),
+      index,
+      subst (λ n. step < n) (c.steps-end.ensures ∙ ap steps c.is_rounded-rounded.ensures) c.loop-step-test.true,
+      c.loop-index.invariant.searched.passed,
+      rw here (
+        sym now ∙ c.if-is_asked.true,
+        (
+          sym c.in-Ok.ensures.form,
+          subst (λ n. IsChosen (g.N.Writable.writes number) (g.N.Writable.keeps number) n
+              c.args.forms.now integer c.args.style index form (g.N.Writable.is number) chosen.style (bytes_of_word chosen.word)
+              (take chosen.length c.write_form.new.buffer)) c.loop-index.invariant.room c.in-Ok.ensures.text,
+        ),
+      ),
     )
-
-pub returns-in-Ok-clause-style : goal.returns-in-Ok-clause-style
-returns-in-Ok-clause-style g c =
-    let whole = g.N.Writable.integer c.args.number.now in
-    style_is whole c.of-order.result.first c.syntax.result c.args.style c.in-Ok.chosen.style c.of-order.ensures.float
-    (subst (λ style. IsStyleOf whole style c.in-Ok.chosen.style) c.style-own.ensures c.in-Ok.ensures.style)
 
 pub returns-in-Err-clause-error : goal.returns-in-Err-clause-error
 returns-in-Err-clause-error g c =
-    let list = c.as_slice-list.result.now in
-    let order = c.of-order.result in
+    let forms = c.args.forms.now.forms in
     let step = c.loop-step.step in
     let index = c.loop-index.index in
-    let writes = g.N.Writable.writes c.args.number.now in
-    let keeps = g.N.Writable.keeps c.args.number.now in
-    let Q : ℕ → Type 0 = λ n. AreBefore (λ before at form. (error : WriteError) × IsReason writes keeps n order c.args.style list before at form error)
-    order list step index in
-    let short = c.is_short.ensures c.if-is_short.true in
-    rw (← c.as_slice-list.ensures.list) (
-      order,
-      c.of-order.ensures.order,
-      inl (
-        short.0,
-        short.1,
-        short.2,
-        step,
-        index,
-        subst Q c.loop-step.invariant.room c.loop-index.invariant.searched.passed,
-        rw (slice_get_read _ _ index c.index-list-index.result refl c.loop-index-test.true c.index-list-index.is) (
-          sym c.is_asked.ensures ∙ c.if-is_asked.true,
-          reason_is writes keeps _ _ order c.args.style c.style-own.result list _ step index c.index-list-index.result c.in-Err.other
-              (c.style-own.ensures ∙ ap (λ g. asked_style order.first g c.args.style) c.syntax.ensures) c.as_slice-list.ensures.list
-              (c.loop-index.invariant.room ∙ c.loop-step.invariant.room) c.in-Err.ensures.error,
-        ),
+    let form = c.index-list-index.result in
+    let number = c.args.number.now in
+    let integer = g.N.Writable.integer number in
+    let here : slice_get forms index ≡ Some form = subst (λ forms. slice_get forms index ≡ Some form) c.as_slice-list.ensures.list
+    (slice_get_read _ _ index form refl c.loop-index-test.true c.index-list-index.is) in
+    let now : c.is_asked.result ≡ is_asked (g.N.Writable.base number) integer step form =
+    c.is_asked.ensures ∙ λ i. is_asked (c.radix-radix.ensures i) (c.is_integer-integer.ensures i) step form in
+    inl (
+      step,
+      index,
+      subst (λ n. step < n) (c.steps-end.ensures ∙ ap steps c.is_rounded-rounded.ensures) c.loop-step-test.true,
+      c.loop-index.invariant.searched.passed,
+      rw here (
+        sym now ∙ c.if-is_asked.true,
+        subst (λ n. IsStopped (g.N.Writable.writes number) (g.N.Writable.keeps number) n c.args.forms.now integer
+            c.args.style index form c.in-Err.other) c.loop-index.invariant.room (c.in-Err.ensures.stopped (sym c.is_short.ensures ∙ c.if-is_short.true)),
       ),
     )
 
 pub returns-clause-error : goal.returns-clause-error
 returns-clause-error g c =
-    let list = c.as_slice-list.result.now in
-    let order = c.of-order.result in
-    let P = IsReason (g.N.Writable.writes c.args.number.now) (g.N.Writable.keeps c.args.number.now) (length c.args.buffer.now) order c.args.style list in
-    rw (← c.as_slice-list.ensures.list) (
-      order,
-      c.of-order.ensures.order,
-      inr (
-        c.loop-step.error,
-        subst (λ step. IsSearched P order list step 0 c.loop-step.error) {x = c.loop-step.step} {y = 18}
-            (omega (arith, c.loop-step-test.false, c.loop-step.invariant.most)) c.loop-step.invariant.searched,
-        c.unwrap_or.ensures,
-      ),
+    let number = c.args.number.now in
+    let integer = g.N.Writable.integer number in
+    let last : c.loop-step.step ≡ c.steps-end.result = omega (arith, c.loop-step-test.false, c.loop-step.invariant.most) in
+    inr (
+      c.loop-step.error,
+      subst (λ step. IsSearched (IsPassedOver (g.N.Writable.writes number) (g.N.Writable.keeps number) (length c.args.buffer.now) c.args.forms.now integer
+          c.args.style) (is_asked (g.N.Writable.base number) integer) c.args.forms.now.forms step 0 c.loop-step.error)
+          (last ∙ c.steps-end.ensures ∙ ap steps c.is_rounded-rounded.ensures) c.loop-step.invariant.searched,
+      c.unwrap_or-2.ensures ∙ ap (unwrap_or c.loop-step.error) (c.unasked.ensures ∙ ap unasked c.is_rounded-rounded.ensures),
     )

@@ -1,9 +1,8 @@
 -- The first form reads the text as the integer.
-use Rattle.lexical_writer.proofs.Common.{Form, Grammar, List, Reads, Some, ap, arith, get_or, integer_literal, laid_out, length, notation_of, number_of_size}
-use Rattle.lexical_writer.proofs.Common.{refl, slice_get, slice_get_read, subst, sym, text_of, true, turn, with_sign, ◌<◌, ◌∙◌, ◌≡◌}
+use Rattle.lexical_writer.proofs.Common.{Form, Grammar, List, Reads, Some, ap, get_or, integer_literal, laid_out, length, notation_of, number_of_size}
+use Rattle.lexical_writer.proofs.Common.{refl, slice_get, slice_get_read, subst, sym, text_of, true, is_own, with_sign, ◌<◌, ◌∙◌, ◌≡◌}
 use Rattle.lexical_forms.proofs.MarkLemmas.{no_marks}
 use Rattle.lexical_writer.proofs.ChoiceLemmas.{first_reads}
-use Rattle.lexical_writer.proofs.PlainLemmas.{has_value}
 use Rattle.lexical_writer.proofs.choice.lay_out_first.Goals as goal
 
 -- The form is the first of the list.
@@ -13,7 +12,6 @@ first list forms form same some is = rw (← same) (slice_get_read list (length 
 pub returns-clause-back : goal.returns-clause-back
 returns-clause-back c =
     let form = c.index-as_slice-0.result in
-    let syntax = c.syntax-syntax.result in
     let l = integer_literal c.in-Ok.integer in
     let written = c.in-Ok.ensures.written in
     let here = first _ _ form c.as_slice.ensures.list c.as_slice.ensures.some c.index-as_slice-0.is in
@@ -24,10 +22,8 @@ returns-clause-back c =
       0,
       read,
       c.is_plain.ensures.plain c.if-not-is_plain.false _ (sym c.kind.ensures) (ap (λ (g : Grammar). g.word) (sym c.syntax-syntax.ensures))
-          (sym c.is_float.ensures ∙ c.if-is_float.false) (
-            has_value syntax c.args.number.now.negative c.args.number.now.size _ refl c.in-Ok.ensures.lawful l written.1,
-            λ i. with_sign (sym written.1.sign i) (sym written.1.integer i),
-          ),
+          (sym c.is_float.ensures ∙ c.if-is_float.false)
+          (c.in-Ok.ensures.parts, λ i. with_sign (sym written.1.sign i) (sym written.1.integer i)),
     )
 
 pub returns-clause-first : goal.returns-clause-first
@@ -35,6 +31,6 @@ returns-clause-first c = (
   c.index-as_slice-0.result,
   first _ _ _ c.as_slice.ensures.list c.as_slice.ensures.some c.index-as_slice-0.is,
   sym c.is_only_read.ensures ∙ c.if-is_only_read.false,
-  sym (ap (turn 10 true) c.syntax-syntax.ensures) ∙ sym c.turn.ensures ∙ omega (arith, c.if-turn-ne0.false),
+  sym (ap (is_own 10 true) c.syntax-syntax.ensures) ∙ sym c.is_own.ensures ∙ c.if-not-is_own.false,
   c.in-Ok.ensures.parts ∙ ap (λ g. laid_out g c.args.style (number_of_size c.args.number.now.negative c.args.number.now.size)) c.syntax-syntax.ensures,
 )

@@ -1,9 +1,8 @@
 -- The list reads the text as the number.
-use Rattle.lexical_writer.proofs.Common.{Bool, Grammar, IsSomeAnd, IsSyntax, Ok, ReadsForm, Reads, ap, is_float, notation_of}
+use Rattle.lexical_writer.proofs.Common.{Bool, Grammar, IsSomeAnd, IsSyntax, Ok, Read, ReadsForm, Reads, ap, is_float, notation_of}
 use Rattle.lexical_writer.proofs.Common.{refl, rules, slice_get, true}
 use Rattle.lexical_writer.proofs.Common.{false, subst, sym, ◌&&◌, ◌==◌, ◌∙◌, ◌≡◌}
 use Rattle.lexical_writer.proofs.Common.{Some, eqb-true, false≢true}
-use Rattle.lexical_forms.specs.declared.form.Form.{Form}
 use Rattle.lexical_forms.proofs.MarkLemmas.{plain_of}
 use Rattle.lexical_writer.proofs.ChoiceLemmas.{first_reads, none_at}
 use Rattle.lexical_writer.proofs.choice.read_written.Goals as goal
@@ -20,12 +19,16 @@ pub returns-then-index-eq0-clause-value : goal.returns-then-index-eq0-clause-val
 returns-then-index-eq0-clause-value g c =
     let (l, reads, has, float) = c.requires.written in
     let form = c.args.form.now in
-    let first = first_reads c.args.forms.now.forms form c.args.text.now l c.args.index c.requires.form c.if-index-eq0.true c.requires.unmarked reads in (
-      record { format = form.syntax.word; literal = l; kind = form.kind },
-      c.args.index,
-      first,
-      c.is_plain-plain.ensures.plain c.if-plain.true _ (sym c.kind.ensures) (ap (λ (g : Grammar). g.word) (sym c.syntax-syntax.ensures)) (sym float)
-          (subst (λ s. g.N.Writable.writes c.args.number.now c.args.style s (Ok l)) (sym c.syntax-syntax.ensures) has),
+    let style = c.args.style in
+    let syntax = c.syntax-syntax.ensures in
+    let read : Read = record { format = form.syntax.word; literal = l; kind = form.kind } in
+    let first = first_reads c.args.forms.now.forms form c.args.text.now l c.args.index c.requires.form c.if-index-eq0.true c.requires.unmarked reads in
+    let plain = c.is_plain-plain.ensures.plain c.if-plain.true read (sym c.kind.ensures) (ap (λ (g : Grammar). g.word) (sym syntax)) (sym float)
+    (subst (λ s. g.N.Writable.writes c.args.number.now style s (Ok l)) (sym syntax) has) in (
+      l,
+      has,
+      reads.whole,
+      (read, c.args.index, first, subst (λ s. g.N.Writable.is c.args.number.now style s l read) syntax plain),
     )
 
 pub returns-then-plain-form-clause-value : goal.returns-then-plain-form-clause-value
@@ -33,38 +36,55 @@ returns-then-plain-form-clause-value g c =
     let (l, reads, has, float) = c.requires.written in
     let text = c.args.text.now in
     let form = c.args.form.now in
+    let style = c.args.style in
+    let syntax = c.syntax-syntax.ensures in
     let literal = c.in-Some.literal in
     let first = c.in-Some.ensures.some in
     let here = ap (slice_get c.args.forms.now.forms) (eqb-true c.in-Some.form c.args.index (and_right _ _ c.if-plain-form.true)) ∙ c.requires.form in
     let by : ReadsForm text literal form = subst (λ o. IsSomeAnd o (ReadsForm text literal)) here first.reads in
     let lawful : IsSyntax form.syntax = search rules in
     let same : l ≡ literal.literal = c.literal_facts.ensures.one_reading form.syntax lawful l literal.literal text reads
-    (plain_of form text c.requires.unmarked.0 c.requires.unmarked.1 literal.literal by.2) in (
-      literal,
-      c.in-Some.form,
-      first,
-      c.is_plain-plain.ensures.plain (and_first _ _ c.if-plain-form.true) literal
-          (by.1 ∙ sym c.kind.ensures)
-          (by.0 ∙ sym (ap (λ (g : Grammar). g.word) c.syntax-syntax.ensures)) (ap is_float (sym same) ∙ sym float)
-          (subst (λ l. g.N.Writable.writes c.args.number.now c.args.style c.syntax-syntax.result (Ok l)) same
-          (subst (λ s. g.N.Writable.writes c.args.number.now c.args.style s (Ok l)) (sym c.syntax-syntax.ensures) has)),
+    (plain_of form text c.requires.unmarked.0 c.requires.unmarked.1 literal.literal by.2) in
+    let plain = c.is_plain-plain.ensures.plain (and_first _ _ c.if-plain-form.true) literal (by.1 ∙ sym c.kind.ensures)
+    (by.0 ∙ sym (ap (λ (g : Grammar). g.word) syntax)) (ap is_float (sym same) ∙ sym float)
+    (subst (λ l. g.N.Writable.writes c.args.number.now style c.syntax-syntax.result (Ok l)) same
+    (subst (λ s. g.N.Writable.writes c.args.number.now style s (Ok l)) (sym syntax) has)) in (
+      l,
+      has,
+      reads.whole,
+      (
+        literal,
+        c.in-Some.form,
+        first,
+        subst (λ l. g.N.Writable.is c.args.number.now style form.syntax l literal) (sym same)
+            (subst (λ s. g.N.Writable.is c.args.number.now style s literal.literal literal) syntax plain),
+      ),
     )
 
 pub returns-then-is_read_as-clause-value : goal.returns-then-is_read_as-clause-value
 returns-then-is_read_as-clause-value g c =
     let (l, reads, has, float) = c.requires.written in
     let text = c.args.text.now in
+    let form = c.args.form.now in
+    let style = c.args.style in
+    let syntax = c.syntax-syntax.ensures in
     let own = c.in-Some-own_literal.own in
-    let first = c.in-Some.ensures.some in
     let lawful : IsSyntax c.syntax-syntax.result = search rules in
     let same : l ≡ own.literal = c.literal_facts.ensures.one_reading c.syntax-syntax.result lawful l own.literal text
-    (subst (λ (g : Grammar). Reads (notation_of g) l text) (sym c.syntax-syntax.ensures) reads) c.in-Some-own_literal.ensures.some.2 in (
-      c.in-Some.literal,
-      c.in-Some.form,
-      first,
-      c.is_read_as.ensures.same c.if-is_read_as.true c.in-Some-own_literal.ensures.some.0 c.syntax-syntax.result c.in-Some-own_literal.ensures.some.1
-          (subst (λ l. g.N.Writable.writes c.args.number.now c.args.style c.syntax-syntax.result (Ok l)) same
-          (subst (λ s. g.N.Writable.writes c.args.number.now c.args.style s (Ok l)) (sym c.syntax-syntax.ensures) has)),
+    (subst (λ (g : Grammar). Reads (notation_of g) l text) (sym syntax) reads) c.in-Some-own_literal.ensures.some.2 in
+    let read = c.is_read_as.ensures.same c.if-is_read_as.true c.in-Some-own_literal.ensures.some.0 c.syntax-syntax.result
+    c.in-Some-own_literal.ensures.some.1 (subst (λ l. g.N.Writable.writes c.args.number.now style c.syntax-syntax.result (Ok l)) same
+    (subst (λ s. g.N.Writable.writes c.args.number.now style s (Ok l)) (sym syntax) has)) in (
+      l,
+      has,
+      reads.whole,
+      (
+        c.in-Some.literal,
+        c.in-Some.form,
+        c.in-Some.ensures.some,
+        subst (λ l. g.N.Writable.is c.args.number.now style form.syntax l c.in-Some.literal) (sym same)
+            (subst (λ s. g.N.Writable.is c.args.number.now style s own.literal c.in-Some.literal) syntax read),
+      ),
     )
 
 and_left : (a b : Bool) → (a && b) ≡ false → b ≡ true → a ≡ false

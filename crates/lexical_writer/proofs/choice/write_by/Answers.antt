@@ -1,9 +1,10 @@
 -- What is written is in the buffer, and is not used for one of the errors.
-use Rattle.lexical_writer.proofs.Common.{Bool, Err, Grammar, IfErr, IsReadElse, IsRefused, IsTaken, IsUnusable, List, Literal, Ok, Reads, Result, WriteError}
-use Rattle.lexical_writer.proofs.Common.{ap, arith, inl, inr}
-use Rattle.lexical_writer.proofs.Common.{is_float, length, nat_tests, not, notation_of, subst, sym, take, text_of, true, ℕ, ◌-◌, ◌==◌, ◌^◌, ◌||◌}
+use Rattle.lexical_writer.proofs.Common.{Err, Grammar, IsReadElse, IsRefused, IsTaken, IsUnusable, List, Literal, None, Ok, Reads}
+use Rattle.lexical_writer.proofs.Common.{ap, arith, inl, inr, ◌&&◌}
+use Rattle.lexical_writer.proofs.Common.{is_float, length, not, notation_of, subst, sym, take, text_of, ℕ, ◌-◌, ◌^◌}
 use Rattle.lexical_writer.proofs.Common.{◌∙◌, ◌≡◌, ◌≤◌}
 use Rattle.lexical_forms.proofs.MarkLemmas.{no_marks}
+use Rattle.lexical_writer.proofs.BufferLemmas.{plain_by}
 use Rattle.lexical_writer.proofs.FloatLemmas.{residual}
 use Rattle.lexical_writer.specs.declared.layout.WriteError.TheVariants as errors
 use Rattle.lexical_writer.proofs.choice.write_by.Goals as goal
@@ -14,27 +15,19 @@ taken text old bytes size is fits short =
     let count : size ≡ length text = omega (arith, is.counted, short) in
     sym (ap (λ n. take n bytes) count ∙ is.begins (omega (arith, count, fits)))
 
-marks : (n m : ℕ) (marked : Bool) → marked ≡ (not (n == 0) || not (m == 0)) → marked ≡ true → n ≡ 0 → m ≡ 0 → ⊥
-marks n m marked is some none other = grind (arith, nat_tests)
-
-each_error : (result : Result ℕ WriteError) (P : WriteError → Type 0) → ((error : WriteError) → P error) → IfErr result P
-each_error (Ok size) P all = tt
-each_error (Err error) P all = all error
+pub write_around-requires : goal.write_around-requires
+write_around-requires g c _ = sym c.is_marked.ensures ∙ c.if-is_marked.true
 
 pub returns-then-is_marked-clause-error : goal.returns-then-is_marked-clause-error
-returns-then-is_marked-clause-error g c = each_error c.write_around.result (IsRefused (g.N.Writable.writes c.args.number.now)
-    (λ style. IsUnusable (g.N.Writable.keeps c.args.number.now style) (length c.args.buffer.now) c.args.forms.now.forms c.args.index)
-    c.args.style c.args.form.now)
-    (λ error opening closing. absurd (marks _ _ c.is_marked.result c.is_marked.ensures c.if-is_marked.true opening closing))
+returns-then-is_marked-clause-error g c = c.write_around.ensures.error c.args.index
 
 pub returns-in_err-size-clause-error : goal.returns-in_err-size-clause-error
 returns-in_err-size-clause-error g c =
-    let writes = g.N.Writable.writes c.args.number.now c.args.style in
-    residual c.from_residual.result _ (IsRefused (g.N.Writable.writes c.args.number.now)
-    (λ style. IsUnusable (g.N.Writable.keeps c.args.number.now style) (length c.args.buffer.now) c.args.forms.now.forms c.args.index)
-    c.args.style c.args.form.now) c.from_residual.ensures.1
-    (λ error same _ _. inl (subst (λ g. writes g (Err error)) c.syntax.ensures
-    (subst (λ error. writes c.syntax.result (Err error)) (sym same) c.in_err-size.ensures.error)))
+    let writes = g.N.Writable.writes c.args.number.now in
+    residual c.from_residual.result _ (IsRefused writes (g.N.Writable.keeps c.args.number.now) (length c.args.buffer.now) c.args.forms.now c.args.index
+    c.args.form.now (c.args.style, None)) c.from_residual.ensures.1
+    (λ error same. inl (subst (λ g. writes c.args.style g (Err error)) c.syntax.ensures
+    (subst (λ error. writes c.args.style c.syntax.result (Err error)) (sym same) c.in_err-size.ensures.error)))
 
 -- What is written is a literal of the form.
 of_form : (P : Literal → Type 0) (writes : Grammar → Literal → Type 0) (g h : Grammar) (l : Literal) → g ≡ h → Reads (notation_of g) l (text_of l)
@@ -43,24 +36,52 @@ of_form P writes g h l same reads has holds =
     (l, subst (λ (g : Grammar). Reads (notation_of g) l (text_of l)) same reads, subst (λ g. writes g l) same has, holds)
 
 pub returns-then-size-clause-error : goal.returns-then-size-clause-error
-returns-then-size-clause-error g c _ _ =
+returns-then-size-clause-error g c =
     let written = c.in_ok-size.ensures.text in
-    inr (of_form _ (λ s l. g.N.Writable.writes c.args.number.now c.args.style s (Ok l)) _ _ written.0 c.syntax.ensures written.1 written.2
-    (inl (
-      elim c.then-size.either [
-        | inl most ↦ inr (omega (arith, most, written.3.counted))
-        | inr over ↦ inl (omega (arith, over.1, written.3.counted, c.in_ok-size.ensures.room))
-      ],
-      ap errors.Buffer written.3.counted,
-    )))
+    let l = written.0 in
+    let none = no_marks _ _ c.is_marked.result c.is_marked.ensures c.if-is_marked.false in
+    let form = c.args.form.now in
+    inr (
+      l,
+      subst (λ s. g.N.Writable.writes c.args.number.now c.args.style s (Ok l)) c.syntax.ensures written.2,
+      subst (λ text. IsUnusable (g.N.Writable.writes c.args.number.now) (g.N.Writable.keeps c.args.number.now) (length c.args.buffer.now) c.args.forms.now
+          c.args.index form c.args.style None text (errors.Buffer c.in_ok-size.size)) (sym (plain_by form l none.0 none.1))
+          (inl (
+            elim c.then-size.either [
+              | inl most ↦ inr (omega (arith, most, written.3.counted))
+              | inr over ↦ inl (omega (arith, over.1, written.3.counted, c.in_ok-size.ensures.room))
+            ],
+            ap errors.Buffer written.3.counted,
+          )),
+    )
 
 pub returns-in-Err-clause-error : goal.returns-in-Err-clause-error
-returns-in-Err-clause-error g c _ _ =
+returns-in-Err-clause-error g c =
     let written = c.in_ok-size.ensures.text in
-    let whole = taken (text_of written.0) c.args.buffer.now c.write.new.buffer c.in_ok-size.size written.3 c.if-size-buffer.false c.if-size.false in
-    inr (of_form _ (λ s l. g.N.Writable.writes c.args.number.now c.args.style s (Ok l)) _ _ written.0 c.syntax.ensures written.1 written.2
-    (inr (subst (λ text. IsReadElse (g.N.Writable.keeps c.args.number.now c.args.style) c.args.forms.now.forms c.args.index text c.in-Err.error)
-    (sym whole) c.in-Err.ensures.error)))
+    let l = written.0 in
+    let none = no_marks _ _ c.is_marked.result c.is_marked.ensures c.if-is_marked.false in
+    let form = c.args.form.now in
+    let keeps = g.N.Writable.keeps c.args.number.now in
+    let whole = taken (text_of l) c.args.buffer.now c.write.new.buffer c.in_ok-size.size written.3 c.if-size-buffer.false c.if-size.false in
+    let error = c.in-Err.error in
+    inr (
+      l,
+      subst (λ s. g.N.Writable.writes c.args.number.now c.args.style s (Ok l)) c.syntax.ensures written.2,
+      subst (λ text. IsUnusable (g.N.Writable.writes c.args.number.now) keeps (length c.args.buffer.now) c.args.forms.now
+          c.args.index form c.args.style None text error) (sym (plain_by form l none.0 none.1))
+          (inr (
+            omega (arith, written.3.counted, c.if-size-buffer.false, c.if-size.false, c.in_ok-size.ensures.room),
+            inl (subst (λ b. IsReadElse (λ own. keeps c.args.style (not b && own)) c.args.forms.now.forms c.args.index (text_of l) error)
+                (sym (sym c.is_marked.ensures ∙ c.if-is_marked.false))
+                (subst (λ text. IsReadElse (keeps c.args.style) c.args.forms.now.forms c.args.index text error) (sym whole) c.in-Err.ensures.error)),
+          )),
+    )
+
+pub returns-in-Ok-clause-text : goal.returns-in-Ok-clause-text
+returns-in-Ok-clause-text g c =
+    let none = no_marks _ _ c.is_marked.result c.is_marked.ensures c.if-is_marked.false in
+    let written = c.in-Ok.ensures.value in
+    (written.0, written.1, written.2 ∙ sym (plain_by c.args.form.now written.0 none.0 none.1), written.3)
 
 pub read_written-requires-clause-unmarked : goal.read_written-requires-clause-unmarked
 read_written-requires-clause-unmarked g c = no_marks _ _ c.is_marked.result c.is_marked.ensures c.if-is_marked.false

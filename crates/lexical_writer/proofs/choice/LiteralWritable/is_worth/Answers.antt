@@ -3,7 +3,7 @@ use Rattle.lexical_writer.proofs.Common.{false≢true, inl, inr}
 use Rattle.lexical_writer.proofs.choice.LiteralWritable.is_worth.Goals as goal
 
 pub returns-then-is_near-clause-worth : goal.returns-then-is_near-clause-worth
-returns-then-is_near-clause-worth c equal =
+returns-then-is_near-clause-worth c equal g l =
     let same = c.is_same.ensures equal in
     inl (inr (inl (c.is_near.ensures c.if-is_near.true, same.0, same.1, same.2)))
 

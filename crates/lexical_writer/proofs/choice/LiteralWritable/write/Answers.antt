@@ -7,7 +7,7 @@ returns-clause-text c =
     let written = c.in_ok-format_near.ensures in (
       literal_of c.in_ok-format_near.field-0,
       written.literal,
-      record { near = written.near; rounded = written.rounded; exact = written.exact },
+      (written.parts, written.near, written.exact),
       c.put.ensures.text,
       c.put.ensures.float,
     )

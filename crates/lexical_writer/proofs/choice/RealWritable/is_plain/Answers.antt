@@ -1,5 +1,5 @@
 -- What is written is the float, or the float that is rounded.
-use Rattle.lexical_writer.proofs.Common.{ap, false≢true, format_of, inl, inr, is_binary, is_decimal, is_exact, raw, sym, within, ◌||◌, ◌∙◌}
+use Rattle.lexical_writer.proofs.Common.{ap, false≢true, format_of, has_floats, inl, inr, is_exact, sym, within, ◌||◌, ◌∙◌}
 use Rattle.lexical_literal.specs.declared.kind.Kind.{Kind}
 use Rattle.lexical_writer.proofs.ChoiceLemmas.{plain_real}
 use Rattle.lexical_writer.proofs.choice.RealWritable.is_plain.Goals as goal
@@ -11,11 +11,11 @@ returns-then-is_nearest-clause-plain g c equal read kind word float has =
     ((λ i. (kind i).floats) ∙ c.is_nearest.ensures.near c.if-is_nearest.true)
     (λ negative n near same. (λ i. within (kind i).limits negative n near) ∙ (λ i. within (sym c.limits.ensures i) negative n near)
     ∙ c.is_within.ensures.near equal negative n near same)
-    ((λ i. is_exact (kind i).integers || float i) ∙ c.is_nearest.ensures.plain c.if-is_nearest.true) has
+    ((λ i. is_exact (kind i).integers || float i) ∙ c.is_nearest.ensures.plain c.if-is_nearest.true) has.1
 
 pub returns-then-not-has_floats-clause-kept : goal.returns-then-not-has_floats-clause-kept
 returns-then-not-has_floats-clause-kept g c equal read kind word float keeps = absurd (false≢true (sym c.if-not-has_floats.true ∙ c.has_floats.ensures
-    ∙ sym (ap (λ w. is_decimal (raw w).byte || is_binary (raw w).byte) word) ∙ keeps.1.0))
+    ∙ sym (ap has_floats word) ∙ keeps.1.0))
 
 pub returns-then-is_nearest-clause-kept : goal.returns-then-is_nearest-clause-kept
 returns-then-is_nearest-clause-kept g c equal read kind word float keeps = absurd (c.is_within.ensures.kept equal (elim keeps.1.3 [
