@@ -21,7 +21,7 @@ returns-then-index-eq0-clause-value g c =
     let (l, reads, has, float) = c.requires.written in
     let form = c.args.form.now in
     let first = first_reads c.args.forms.now.forms form c.args.text.now l c.args.index c.requires.form c.if-index-eq0.true c.requires.unmarked reads in (
-      record { format = form.syntax.word; literal = l; kind = form.kind },
+      record { format = form.syntax.word; literal = l; kind = form.kind; opened = 0 },
       c.args.index,
       first,
       c.is_plain-plain.ensures.plain c.if-plain.true _ (sym c.kind.ensures) (ap (λ (g : Grammar). g.word) (sym c.syntax-syntax.ensures)) (sym float)
