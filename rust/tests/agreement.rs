@@ -290,7 +290,7 @@ fn token(case: &Case, text: &[u8]) -> Ended {
         right > end && !(*back != Back::Never && (right == end + 1 || name) && is_point(form, text, end))
     };
     let follows = word(behind, b"");
-    let may = *any_word_follows && !text[..end].ends_with(b".");
+    let may = *any_word_follows && !is_point(form, text, end.wrapping_sub(1));
     let stops = follows > 0 && (!may || behind[0].is_ascii_digit());
     if FOLLOWING.contains(&&behind[..follows]) || !(list.into_iter().any(goes_on) || stops) {
         Ok((index, size, end))
@@ -324,7 +324,8 @@ fn parses<T: FromLiteral, B: PartialEq + Debug>(forms: &Forms, text: &[u8], bits
     match (&own, &rule) {
         // An error of a special value that is parsed spans the text.
         (Err(ParseError::Value(own)), Err(ParseError::Value(rule))) => {
-            assert_eq!((own.kind(), own.to_string(), own.span()), (rule.kind(), rule.to_string(), 0..text.len()));
+            let span = if rule.span().is_empty() { 0..text.len() } else { rule.span() };
+            assert_eq!((own.kind(), own.to_string(), own.span()), (rule.kind(), rule.to_string(), span));
         }
         _ => same(own.map(bits), rule.map(bits), text),
     }

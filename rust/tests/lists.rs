@@ -4,7 +4,7 @@
 
 use peltzivar::literal::*;
 use peltzivar::{source::BuilderExpression, *};
-use std::fmt::Display;
+use std::{fmt::Display, num::NonZeroU8};
 
 /// Formats a value with a width in some ways.
 macro_rules! padded {
@@ -331,5 +331,42 @@ fn notations_show_each_byte_and_size() {
                 syntax.with_conditions(sizes.higher_group_size(Some(higher))).unwrap().sentence().to_string();
             assert!(sentence.contains(name) && sentence.contains(&format!("of {name} in the fraction")), "{sentence}");
         }
+    }
+}
+
+/// Each call that has a span counts it from the beginning of the text. That of a value ends with the literal.
+#[test]
+fn spans_begin_with_the_opening() {
+    let all = Language::ALL.iter().flat_map(|it| it.forms().into_iter().map(|form| (it.forms(), form)));
+    for (forms, form) in all.filter(|(_, form)| !form.opening().is_empty()) {
+        let (opening, closing, digits) = (form.opening(), form.closing(), "1".repeat(150));
+        let text = [opening.as_bytes(), digits.as_bytes(), closing.as_bytes()].concat();
+        let (number, front) = (forms.read(&text).unwrap(), forms.read_prefix(&text).unwrap().0);
+        let literal = number.literal().unwrap();
+        let values =
+            [number.value::<u8>(), front.value(), literal.try_into(), literal.to_scaled(0), number.to_scaled(2)];
+        let token = forms.token(&text).ok().map(|it| it.literal.try_into());
+        let parsed = [forms.parse(&text), forms.parse_prefix(&text).map(|it| it.0)];
+        let values = values.into_iter().chain(token).map(|it| it.map_err(ParseError::from)).chain(parsed);
+        let size = opening.as_bytes().len();
+        values.for_each(|it| assert_eq!(it.unwrap_err().span(), 0..size + 150, "{form:?}"));
+        // Without digits, the syntax refuses what is behind the opening.
+        let error = forms.read(&[opening.as_bytes(), closing.as_bytes()].concat()).unwrap_err();
+        let (inner, end) = (error.error().unwrap(), size + closing.as_bytes().len());
+        assert_eq!((inner.span(), inner.valid_up_to(), inner.code().index()), (size..end, size, Some(&size)));
+        assert_eq!((error.span(), error.valid_up_to()), (size..end, size));
+    }
+}
+
+/// Any word may follow a number that does not end in the decimal point of its form, whichever byte that is.
+#[test]
+fn no_word_follows_a_decimal_point() {
+    let tokens = &Tokens::new(&[], &[]).any_word_follows(true);
+    for (suffix, point, ends) in [(b'h', b'.', [0, 1]), (b'h', b',', [1, 0]), (b'.', b',', [2, 0])] {
+        let format = NumberFormatBuilder::new().base_suffix(NonZeroU8::new(suffix)).build_format_or_panic();
+        let forms = [Form::new("", Syntax::new_or_panic(format, b'e', point))];
+        let forms = Forms::new_or_panic(&forms).with_tokens(tokens);
+        let sizes = ["1.x", "1,x"].map(|text| forms.token(text).map_or(0, |it| text.len() - it.rest.len()));
+        assert_eq!(sizes, ends, "{forms:?}");
     }
 }

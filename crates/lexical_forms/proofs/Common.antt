@@ -11,12 +11,12 @@ pub use Rattle.lexical_forms.specs.Additions.Token.{is_in_word, suffixed, whole}
 pub use Rattle.lexical_forms.specs.FormList.{FormList, are_marked, have_marks}
 pub use Rattle.lexical_forms.specs.Forms.{Begins, HasFront, IsErrorIn, IsErrorOfForm, IsFirst, IsFormError, IsGreatest, IsReadByForms, KeepsError, NoForm}
 pub use Rattle.lexical_forms.specs.Affix.{is_free, spelling}
-pub use Rattle.lexical_forms.specs.Forms.{ReadsForm, ReadsIn, reach_in, refusal_in}
+pub use Rattle.lexical_forms.specs.Forms.{HasOpening, ReadsForm, ReadsIn, reach_in, refusal_in}
 pub use Rattle.lexical_forms.specs.Specials.{is_spelled, letter_of, signed, special_behind, special_of}
 pub use Rattle.lexical_forms.specs.Suffix.{begins, byte_before, is_followed, is_stopped, is_word_byte, kind_with, meets, more_of, stop_end, suffix_size}
 pub use Rattle.lexical_forms.specs.Suffix.{suffix_words, word_size}
 pub use Rattle.lexical_forms.specs.Token.{AllShorter, IsAhead, IsCandidate, IsChosen, IsCut, IsFollowed, IsOver, IsReadByTokens, IsRefused, IsToken}
-pub use Rattle.lexical_forms.specs.Token.{IsTokenError, NoCandidate, NoLonger, gives_back, is_alone, is_shorter, takes_point}
+pub use Rattle.lexical_forms.specs.Token.{IsTokenError, NoCandidate, NoLonger, gives_back, is_alone, is_shorter, lets_words, takes_point}
 pub use Rattle.lexical_forms.specs.declared.form.Form.{Form}
 pub use Rattle.lexical_forms.specs.declared.list.Furthest.{Furthest}
 pub use Rattle.lexical_forms.specs.declared.list.PointsBack.{PointsBack}

@@ -1,7 +1,7 @@
 -- Several forms: what has been found in the first of them, and what one form more adds.
 use Rattle.lexical_forms.proofs.Common.{All, All-more, AreBare, AreBelow, Bool, Bor, Form, FormList, Found, Furthest, GoesTo, HasFront, IsCountedFront}
 use Rattle.lexical_forms.proofs.Common.{IsErrorOfForm, IsFirst, IsFirstOf, IsFormError, IsFoundForm, IsFoundFrontForm, IsFrontIn, IsGreatest, IsLed, IsLeftOut}
-use Rattle.lexical_forms.proofs.Common.{IsLongestPast, IsLow, IsNearSign, IsReadByForms, IsRefusedAt, IsSomeAnd, Leads, List}
+use Rattle.lexical_forms.proofs.Common.{HasOpening, IsLongestPast, IsLow, IsNearSign, IsReadByForms, IsRefusedAt, IsSomeAnd, Leads, List}
 use Rattle.lexical_forms.proofs.Common.{NoForm, NoFrontBy, NoFrontPast, None, NonePast, Notation, Ok, Option, Reaches, Read, ReadsForm, ReadsIn, Some}
 use Rattle.lexical_forms.proofs.Common.{Stopped, Tokens, [], ap, are_marked, arith, behind, cases_lt, common_steps, false, false≢true, get_or, get_or-take}
 use Rattle.lexical_forms.proofs.Common.{further, have_marks, if◌then◌else◌, inl, inr, length, length-take-le, limit, nat_lt, nat_tests, not}
@@ -118,14 +118,15 @@ found_is forms text i d read inside is before = record {
 
 -- The number that has been found, with the kind of its form.
 pub number_is : (list : FormList) (text : List ℕ) (i : ℕ) (read own : Read) → IsFirstOf list.forms text i read → own.format ≡ read.format
-    → own.literal ≡ read.literal → IsSomeAnd (slice_get list.forms i) (λ form. own.kind ≡ form.kind)
+    → own.literal ≡ read.literal → IsSomeAnd (slice_get list.forms i) (λ form. own.kind ≡ form.kind) → HasOpening list.forms i own
     → IsReadByForms list text (Ok (numbers.Literal own i))
-number_is list text i read own is format same kind = go (slice_get list.forms i) is kind where
+number_is list text i read own is format same kind opened = (go (slice_get list.forms i) is kind, opened) where
   go : (o : Option Form) → IsSomeAnd o (λ form. IsFirst list.forms text i (record read { kind = form.kind })) → IsSomeAnd o (λ form. own.kind ≡ form.kind)
       → IsFirst list.forms text i own
   go None is kind = absurd is
-  go (Some form) is kind = subst (IsFirst list.forms text i)
-      (λ j. record { format = sym format j; literal = sym same j; kind = sym kind j }) is
+  go (Some form) is kind =
+      let first = subst (IsFirst list.forms text i) (λ j. record { format = sym format j; literal = sym same j; kind = sym kind j; opened = read.opened }) is in
+      record { reads = first.reads; before = first.before }
 
 -- A form of a list without marks has none.
 pub no_one : (a b : Bool) → (a || b) ≡ false → (a ≡ false) × (b ≡ false)

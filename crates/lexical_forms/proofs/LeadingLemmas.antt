@@ -3,7 +3,7 @@ use Rattle.lexical_forms.proofs.Common.{All, All-more, All-take, AreSums, Bool, 
 use Rattle.lexical_forms.proofs.Common.{HasLengths, HasSums, IsAhead, IsCandidate, IsLeading, IsMeasured, IsNear, IsPicked, IsSomeAnd, IsStopped, IsToken}
 use Rattle.lexical_forms.proofs.Common.{IsTrue, IsValidUpTo, IsWithin, List, Literal, NoFront, NoFrontPast, NoLiteral, None, Notation, Option, PlaysNoRole}
 use Rattle.lexical_forms.proofs.Common.{PointsBack, Reads, ReadsIn, IsCounted, HasFront, BeginsBy, IsFront, have_marks, Record, Some, Stopped, Token, Tokens}
-use Rattle.lexical_forms.proofs.Common.{[], ap, append-nil, arith, before_exponent}
+use Rattle.lexical_forms.proofs.Common.{[], ap, append-nil, arith, before_exponent, lets_words}
 use Rattle.lexical_forms.proofs.Common.{begins, byte_before, cases_lt, cond, cut, drop, drop-take, false, false≢true, filter, fold, get_or, gives_back}
 use Rattle.lexical_forms.proofs.Common.{go_on_with, goes, has, has_float, has_prefix, if◌then◌else◌, inl, inr, is_alone, is_ascii_digit, is_float, is_in}
 use Rattle.lexical_forms.proofs.Common.{is_in_word, is_shorter, is_stopped, is_word_byte, kind_with, length, length-append, length-take-le, list_any, map, max}
@@ -156,7 +156,7 @@ digit_of digit true stops less none = absurd (false≢true (sym none))
 
 stopped_less : (words : Bool) (suffixes : Option (Bor Suffixes)) (text : List ℕ) (end : ℕ) → is_stopped false suffixes text end ≡ false
     → is_stopped words suffixes text end ≡ false
-stopped_less words suffixes text end none = go (words && not (is_in (λ byte. byte == 46) (byte_before text end))) where
+stopped_less words suffixes text end none = go words where
   go : (b : Bool) → (is_in (if b then is_ascii_digit else is_word_byte) (slice_get text end)
       || list_any (meets text end) (unwrap_or (option_map (λ (it : Bor Suffixes). it.now.stops.now) suffixes) [])) ≡ false
   go true =
@@ -437,14 +437,16 @@ module _ (list : FormList) (t : Tokens) (text : List ℕ) (index : ℕ) (form : 
 
     pub leading_token : (token : Token) → token.form ≡ index → token.literal.format ≡ form.syntax.word
         → Reads (notation_of form.syntax) token.literal.literal (take size text)
-        → token.literal.kind ≡ kind_with form.suffixes token.suffix.now form.kind → token.suffix.now ≡ take more (drop size text)
+        → token.literal.kind ≡ kind_with form.suffixes token.suffix.now form.kind → token.literal.opened ≡ 0
+        → token.suffix.now ≡ take more (drop size text)
         → token.rest.now ≡ drop (size + more) text → IsToken list t text token
-    leading_token token same format reads kind suffix rest = token_is list t text index form found picked token same
+    leading_token token same format reads kind opened suffix rest = token_is list t text index form found picked token same
         (format, plain_in form (take size text) own_bare.0 own_bare.1 token.literal.literal reads) kind
+        (opened ∙ sym own_bare.0)
         (suffix ∙ ap (λ n. take n (drop size text)) (let sum : more ≡ size + more - size = omega arith in sum)) rest
         (inr (
           λ k d below. not_ahead (get_or list.forms k d) (bare k d below) (near k d below),
-          stopped_less t.any_word_follows form.suffixes text (size + more) ended,
+          stopped_less (lets_words t form text (size + more)) form.suffixes text (size + more) ended,
         ))
 
 -- The sums of the digits of a front are those of its parts in the text.

@@ -1,6 +1,6 @@
 -- Tokens: the best of the candidates of several forms.
 use Rattle.lexical_forms.proofs.Common.{All, All-more, AllShorter, Bool, Candidate, Form, FormList, Found, GoesTo, HasLengths, IfSome, IsAhead, IsBestMade}
-use Rattle.lexical_forms.proofs.Common.{IsBestOf}
+use Rattle.lexical_forms.proofs.Common.{IsBestOf, lets_words}
 use Rattle.lexical_forms.proofs.Common.{IsCandidate, IsChosen, IsCounted, IsCut, IsEnd, IsFirst, IsFirstOf, IsFollowed, IsFrontIn, IsMade, IsMeasured, IsNone}
 use Rattle.lexical_forms.proofs.Common.{IsOver}
 use Rattle.lexical_forms.proofs.Common.{IsOwn}
@@ -402,17 +402,18 @@ module _ (list : FormList) (t : Tokens) (text : List ℕ) where
   -- The token that was picked, or why there is none.
   module _ (index : ℕ) (form : Form) (c : Candidate) (is : IsPicked list t text index form c) where
     pub token_is : (token : Token) → token.form ≡ index → (token.literal.format ≡ form.syntax.word) × ReadsIn form token.literal.literal (take c.size text)
-        → token.literal.kind ≡ kind_with form.suffixes token.suffix.now form.kind → token.suffix.now ≡ take (c.end - c.size) (drop c.size text)
-        → token.rest.now ≡ drop c.end text
-        → IsFollowed list t text c.end ⊎ (IsOver list t text c.end × (is_stopped t.any_word_follows form.suffixes text c.end ≡ false))
+        → token.literal.kind ≡ kind_with form.suffixes token.suffix.now form.kind → token.literal.opened ≡ form.opening.size
+        → token.suffix.now ≡ take (c.end - c.size) (drop c.size text) → token.rest.now ≡ drop c.end text
+        → IsFollowed list t text c.end ⊎ (IsOver list t text c.end × (is_stopped (lets_words t form text c.end) form.suffixes text c.end ≡ false))
         → IsToken list t text token
-    token_is token same literal kind suffix rest ended = record {
+    token_is token same literal kind opened suffix rest ended = record {
       form = form;
       size = c.size;
       end = c.end;
       chosen = subst (λ n. IsChosen list t text n form c.size c.end) (sym same) is.chosen;
       literal = literal;
       kind = kind;
+      opened = opened;
       suffix = suffix;
       rest = rest;
       ended = ended;
@@ -422,7 +423,7 @@ module _ (list : FormList) (t : Tokens) (text : List ℕ) where
       pub gone_on : (i : ℕ) × IsSomeAnd (slice_get list.forms i) (IsAhead t.gives_points_back text c.end) → IsRefused list t text
       gone_on ahead = inr (index, form, c.size, c.end, inr (is.chosen, apart, ahead.0, ahead.1))
 
-      module _ (over : IsOver list t text c.end) (stopped : is_stopped t.any_word_follows form.suffixes text c.end ≡ true) where
+      module _ (over : IsOver list t text c.end) (stopped : is_stopped (lets_words t form text c.end) form.suffixes text c.end ≡ true) where
         cut : (digit : Bool) → ((c.size == c.end) && is_in is_ascii_digit (slice_get text c.size)) ≡ digit → IsCut list t text index form c.size c.end digit
         cut digit same = record { chosen = is.chosen; not_followed = apart; over = over; stopped = stopped; digit_is = same }
 

@@ -1,5 +1,5 @@
 -- Words behind a number: suffixes, which belong to it, words that may follow it, and bytes that may not.
-use Rattle.std.specs.Prelude.{ℕ, ◌+◌, ◌-◌, ◌==◌, ◌&&◌, ◌||◌, not, Bool, false, if◌then◌else◌, nat_le, nat_lt, List, [], Option, Some, None}
+use Rattle.std.specs.Prelude.{ℕ, ◌+◌, ◌-◌, ◌==◌, ◌&&◌, ◌||◌, Bool, false, if◌then◌else◌, nat_le, nat_lt, List, [], Option, Some, None}
 use Rattle.std.specs.Prelude.{drop, filter, fold, length, map, max, option_map, slice_get, unwrap_or}
 use Rattle.std.specs.Borrow.{Bor}
 use Rattle.std.specs.Char.{eq_ignore_ascii_case, is_ascii_alphanumeric, is_ascii_digit}
@@ -70,8 +70,8 @@ meets text end stop =
     admits stop.last.now (byte_before text end) && admits stop.next.now (slice_get text end) && admits stop.second.now (slice_get text (end + 1))
 
 -- `is_stopped words suffixes text end` is true if what is behind the number that ends at `end` of `text` may not follow it: a byte of a
--- word, or a digit alone if any word may follow, as `words` tells, a number that does not end in a point, or a stop of the form.
+-- word, or a digit alone if any word may follow, as `words` tells, or a stop of the form.
 abbrev pub is_stopped : Bool → Option (Bor Suffixes) → List ℕ → ℕ → Bool
 is_stopped words suffixes text end =
-    is_in (if words && not (is_in (λ byte. byte == 46) (byte_before text end)) then is_ascii_digit else is_word_byte) (slice_get text end)
+    is_in (if words then is_ascii_digit else is_word_byte) (slice_get text end)
     || list_any (meets text end) (unwrap_or (option_map (λ (it : Bor Suffixes). it.now.stops.now) suffixes) [])

@@ -1,6 +1,6 @@
 -- Tokens: numbers that a text begins with, each with its suffix, and whatever follows.
 use Rattle.std.specs.Prelude.{ℕ, ◌≡◌, ◌+◌, ◌-◌, ◌==◌, ◌&&◌, ◌||◌, ◌<◌, ◌⊎◌, Bool, true, false, if◌then◌else◌, nat_lt, IsTrue, IsSomeAnd, List, Option, Some}
-use Rattle.std.specs.Prelude.{[], None, All, Result, Ok, Err, drop, length, slice_get, take}
+use Rattle.std.specs.Prelude.{[], None, All, Result, Ok, Err, drop, length, not, slice_get, take}
 use Rattle.std.specs.Borrow.{Bor}
 use Rattle.std.specs.Char.{is_ascii_alphabetic, is_ascii_digit}
 use Rattle.lexical_util.specs.Ascii.{ByteSet}
@@ -81,6 +81,11 @@ pub record IsAhead (back : PointsBack) (text : List ℕ) (end : ℕ) (form : For
   pub further : end < size
   pub more : (is_alone back text end size && is_in (notation_of form.syntax).point (slice_get text end)) ≡ false
 
+-- `lets_words t form text end` is true if any word may follow the number of `form` that ends at `end`: where the list says so, and the number does not end
+-- in the decimal point of the form.
+abbrev pub lets_words : Tokens → Form → List ℕ → ℕ → Bool
+lets_words t form text end = t.any_word_follows && not (is_in (notation_of form.syntax).point (byte_before text end))
+
 -- Forms of a list, and those that need a suffix, whose indexes are behind.
 module _ (list : FormList) (t : Tokens) (text : List ℕ) where
   -- `IsChosen index form size end` holds if `form`, with this index, has the longest candidate: the best of the list, and no form that needs a suffix
@@ -100,8 +105,8 @@ module _ (list : FormList) (t : Tokens) (text : List ℕ) where
   abbrev pub IsOver : ℕ → Type 0
   IsOver end = All (λ form. IsAhead t.gives_points_back text end form → ⊥) list.forms
 
-  -- `IsToken token` holds if `token` has the longest candidate, its kind, its suffix and the rest of `text`, which a word may be that may follow; if not,
-  -- no literal goes on, and nothing follows that may not.
+  -- `IsToken token` holds if `token` has the longest candidate, its opening, kind and suffix, and the rest of `text`, which a word may be that may follow; if
+  -- not, no literal goes on, and nothing follows that may not.
   pub record IsToken (token : Token) : Type 0 where
     pub form : Form
     pub size : ℕ
@@ -109,9 +114,10 @@ module _ (list : FormList) (t : Tokens) (text : List ℕ) where
     pub chosen : IsChosen token.form form size end
     pub literal : (token.literal.format ≡ form.syntax.word) × ReadsIn form token.literal.literal (take size text)
     pub kind : token.literal.kind ≡ kind_with form.suffixes token.suffix.now form.kind
+    pub opened : token.literal.opened ≡ form.opening.size
     pub suffix : token.suffix.now ≡ take (end - size) (drop size text)
     pub rest : token.rest.now ≡ drop end text
-    pub ended : IsFollowed end ⊎ (IsOver end × (is_stopped t.any_word_follows form.suffixes text end ≡ false))
+    pub ended : IsFollowed end ⊎ (IsOver end × (is_stopped (lets_words t form text end) form.suffixes text end ≡ false))
 
   -- `IsCut index form size end digit` holds if `form`, with this index, has the longest candidate, no word that may follow is behind it and no literal
   -- goes on, and what follows may not: directly behind a literal without a suffix a digit, if `digit` is true, or something else.
@@ -119,7 +125,7 @@ module _ (list : FormList) (t : Tokens) (text : List ℕ) where
     pub chosen : IsChosen index form size end
     pub not_followed : IsFollowed end → ⊥
     pub over : IsOver end
-    pub stopped : is_stopped t.any_word_follows form.suffixes text end ≡ true
+    pub stopped : is_stopped (lets_words t form text end) form.suffixes text end ≡ true
     pub digit_is : ((size == end) && is_in is_ascii_digit (slice_get text size)) ≡ digit
 
   -- `HasNone` holds if no form has a candidate, and `IsRefused` if none has one, if a literal goes on behind the longest, or if a digit is directly

@@ -9,14 +9,14 @@ ghost use Rattle.lexical_forms.specs.Additions.Token.{IsBestOf, IsCounted, IsEnd
 ghost use Rattle.lexical_literal.specs.Cause.{is_in};
 ghost use Rattle.lexical_literal.specs.Notation.{notation_of};
 ghost use Rattle.lexical_forms.specs.Forms.{IsGreatest, ReadsIn};
-ghost use Rattle.lexical_forms.specs.Suffix.{kind_with, stop_end};
-ghost use Rattle.lexical_forms.specs.Token.{HasNone, IsAhead, IsReadByTokens, IsRefused, IsTokenError, NoCandidate, is_alone, is_shorter};
+ghost use Rattle.lexical_forms.specs.Suffix.{is_stopped, kind_with, stop_end};
+ghost use Rattle.lexical_forms.specs.Token.{HasNone, IsAhead, IsReadByTokens, IsRefused, IsTokenError, NoCandidate, is_alone, is_shorter, lets_words};
 
 use crate::form::Form;
 use crate::list::{Forms, PointsBack, Tokens};
 use crate::suffix::{
-    byte_after, has_digit_at, has_word_byte, is_followed, is_stopped, kind_with, more_of,
-    suffix_size, suffix_words, word_size,
+    byte_after, byte_before, has_digit_at, has_word_byte, is_followed, is_stopped, kind_with,
+    more_of, suffix_size, suffix_words, word_size,
 };
 use crate::token::{Token, TokenError, is_float, is_one};
 use lexical_literal::stop::{Found, byte_at};
@@ -53,7 +53,7 @@ impl<'a> Forms<'a> {
             if is_one_ahead(self.forms, back, text, end) {
                 return Err(self.fail(tokens, text));
             }
-            if is_stopped(tokens.any_word_follows, it.suffixes, text, end) {
+            if it.is_stopped(tokens, text, end) {
                 if has_digit(text, size, end) {
                     return Err(self.fail(tokens, text));
                 }
@@ -160,6 +160,14 @@ impl Form {
         }
     }
 
+    // Returns whether what is behind the number that ends at `end` may not follow it. No word may follow a decimal point.
+    fn is_stopped(&self, tokens: &Tokens, text: &[u8], end: usize) -> bool
+        ensures { result ≡ is_stopped (lets_words tokens.now self.now text.now end) self.now.suffixes text.now end }
+    {
+        let words = tokens.any_word_follows && !is_one(self.syntax, byte_before(text, end));
+        is_stopped(words, self.suffixes, text, end)
+    }
+
     // Returns the token with this candidate.
     #[inline(always)]
     fn made<'t>(&self, text: &'t [u8], form: usize, candidate: Candidate) -> Token<'t>
@@ -169,6 +177,7 @@ impl Form {
         ensures form { result.form ≡ form }
         ensures literal { (result.literal.format ≡ self.now.syntax.word) × ReadsIn self.now result.literal.literal (take candidate.size text.now) }
         ensures kind { result.literal.kind ≡ kind_with self.now.suffixes result.suffix.now self.now.kind }
+        ensures opened { result.literal.opened ≡ self.now.opening.size }
         ensures suffix { result.suffix.now ≡ take (candidate.end - candidate.size) (drop candidate.size text.now) }
         ensures rest { result.rest.now ≡ drop candidate.end text.now }
     {
@@ -179,7 +188,7 @@ impl Form {
         let kind = kind_with(self.suffixes, suffix, self.kind);
         let literal = self.syntax.summed(self.inner(front), counts);
         Token {
-            literal: literal.with_kind(kind).behind(self.opening.size()),
+            literal: literal.with_kind(kind).behind(self.opening.size),
             form,
             suffix,
             rest,

@@ -87,7 +87,7 @@ impl Tokens {
         }
     }
 
-    /// Sets whether any word that does not begin with a digit may follow a number directly that does not end in a point, as in `2x`, a
+    /// Sets whether any word that does not begin with a digit may follow a number directly that does not end in its decimal point, as in `2x`, a
     /// product in Julia.
     #[must_use]
     pub const fn any_word_follows(self, follows: bool) -> Tokens
@@ -385,9 +385,10 @@ impl<'a> Forms<'a> {
         ensures format { result.format ≡ literal.entry.format }
         ensures literal { result.literal ≡ literal.entry.literal }
         ensures kind { IsSomeAnd (slice_get self.now.forms form) (λ form. result.kind ≡ form.kind) }
+        ensures opened { IsSomeAnd (slice_get self.now.forms form) (λ form. result.opened ≡ form.opening.size) }
     {
         let it = &self.as_slice()[form];
-        literal.with_kind(it.kind).behind(it.opening.size())
+        literal.with_kind(it.kind).behind(it.opening.size)
     }
 
     // Returns the special value that `text` is, if it is one.

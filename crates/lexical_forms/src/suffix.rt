@@ -278,8 +278,7 @@ const fn kind_among(either: bool, kinds: &[(&[u8], Kind)], word: &[u8], kind: Ki
     }
 }
 
-// Returns whether what is behind the number that ends at `end` may not follow it, where any word may follow or none. None may follow a
-// point.
+// Returns whether what is behind the number that ends at `end` may not follow it, where any word may follow or none.
 #[inline(always)]
 pub(crate) const fn is_stopped(
     words: bool,
@@ -289,7 +288,7 @@ pub(crate) const fn is_stopped(
 ) -> bool
     ensures { result ≡ is_stopped words suffixes.entry text.now end }
 {
-    (if words && !has_point(byte_before(text, end)) {
+    (if words {
         has_digit_at(text, end)
     } else {
         has_word_byte(text, end)
@@ -328,16 +327,6 @@ pub(crate) const fn has_word_byte(text: &[u8], index: usize) -> bool
     match byte_at(text, index) {
         None => false,
         Some(byte) => is_word_byte(byte),
-    }
-}
-
-// Returns whether `byte` is a point.
-const fn has_point(byte: Option<u8>) -> bool
-    ensures { result ≡ is_in (λ byte. byte == 46) byte }
-{
-    match byte {
-        None => false,
-        Some(byte) => byte == b'.',
     }
 }
 

@@ -49,7 +49,7 @@ is_cut m text c l reads has = let same = sym (cut_is text c l reads.whole has) i
 
 -- `read_as g text c` is `text` as a literal of `g` whose parts have the lengths `c`.
 abbrev pub read_as : Grammar → List ℕ → List ℕ → Read
-read_as g text counts = record { format = g.word; literal = cut text (cuts_of counts); kind = exact }
+read_as g text counts = record { format = g.word; literal = cut text (cuts_of counts); kind = exact; opened = 0 }
 
 module _ (g : Grammar) (text counts : List ℕ) (is : IsMeasured (notation_of g) text counts) where
   pub measured_cut : IsCut (notation_of g) text (cuts_of counts)
@@ -65,6 +65,7 @@ module _ (g : Grammar) (text counts : List ℕ) (is : IsMeasured (notation_of g)
   is_read read same = record {
     found = whole_read read same;
     kind = ap (λ (r : Read). r.kind) same;
+    opened = ap (λ (r : Read). r.opened) same;
     only = λ l reads. ap (λ (r : Read). r.literal) same ∙ cut_is text (cuts_of counts) l reads.whole (is.counted l reads);
     error = tt;
   }

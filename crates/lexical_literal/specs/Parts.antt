@@ -28,8 +28,9 @@ literal_of parts = record {
 pub record IsRead (g : Grammar) (text : List ℕ) (result : Result Read Explained) : Type 0 where
   -- The text is a literal with the parts that are returned.
   pub found : IfOk result (λ read. (read.format ≡ g.word) × Reads (notation_of g) read.literal text)
-  -- It is worth the number that it represents.
+  -- It is worth the number that it represents, and no opening is before it.
   pub kind : IfOk result (λ read. read.kind ≡ exact)
+  pub opened : IfOk result (λ read. read.opened ≡ 0)
   -- A literal has no other parts, and they are returned.
   pub only : (l : Literal) → Reads (notation_of g) l text → IsOkAnd result (λ read. read.literal ≡ l)
   -- An error says how far the text is right, why it is not a literal, and which bytes to show.
@@ -41,6 +42,7 @@ pub record IsReadPrefix (g : Grammar) (text : List ℕ) (result : Result Front E
   -- A front of the text is a literal with the parts that are returned, and no longer front is a literal.
   pub found : IfOk result (λ front. (front.literal.format ≡ g.word) × ReadsFrontBy (Reads (notation_of g)) front.literal.literal text front.size)
   pub kind : IfOk result (λ front. front.literal.kind ≡ exact)
+  pub opened : IfOk result (λ front. front.literal.opened ≡ 0)
   -- If no front is a literal, an error says why the text is not one.
   pub none : IsErr result → NoFrontBy (Reads (notation_of g)) text
   pub error : IfErr result (λ error. IsRefusal (notation_of g) text error.refusal)

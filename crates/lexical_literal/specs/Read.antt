@@ -10,11 +10,12 @@ use Rattle.lexical_literal.specs.declared.kind.IntegerKind.TheVariants as intege
 use Rattle.lexical_literal.specs.declared.kind.Kind.{Kind}
 use Rattle.lexical_number.specs.Number.{number}
 
--- `Read` has the word of the format by which a literal was read, its parts, and its kind.
+-- `Read` has the word of the format by which a literal was read, its parts, its kind, and the number of bytes of the opening before it.
 pub record Read : Type 0 where
   pub format : ℕ
   pub literal : Literal
   pub kind : Kind
+  pub opened : ℕ
 
 -- `exact` is the kind of literals that are worth the number that they represent.
 abbrev pub exact : Kind

@@ -94,7 +94,7 @@ impl<'a> Model for Literal<'a> {
     ghost use Rattle.lexical_literal.specs.Additions.Literal.{IsMade, cut, given};
     ghost use Rattle.lexical_literal.specs.Additions.Step.{HasLengths, cuts_of};
 
-    ghost view = { λ it. record { format = it.view; literal = cut it.text.now (cuts_of it.counts); kind = it.kind } };
+    ghost view = { λ it. record { format = it.view; literal = cut it.text.now (cuts_of it.counts); kind = it.kind; opened = it.opened } };
 
     ghost invariant = { λ it. IsMade it.view it.text.now (cuts_of it.counts) it.mantissa it.places (given it.has_exponent it.exponent) };
 }
@@ -125,23 +125,22 @@ impl<'a> Literal<'a> {
         ensures format { result.format ≡ self.entry.format }
         ensures literal { result.literal ≡ self.entry.literal }
         ensures kind { result.kind ≡ kind }
+        ensures opened { result.opened ≡ self.entry.opened }
     {
         Literal { kind, ..self }
     }
 
-    // Returns the same literal behind an opening of `size` bytes, which are fewer than 256.
+    // Returns the same literal behind an opening of `opened` bytes.
     #[doc(hidden)]
     #[must_use]
     #[inline(always)]
-    pub const fn behind(self, size: usize) -> Literal<'a>
+    pub const fn behind(self, opened: u8) -> Literal<'a>
         ensures format { result.format ≡ self.entry.format }
         ensures literal { result.literal ≡ self.entry.literal }
         ensures kind { result.kind ≡ self.entry.kind }
+        ensures opened { result.opened ≡ opened }
     {
-        Literal {
-            opened: (size % 256) as u8,
-            ..self
-        }
+        Literal { opened, ..self }
     }
 
     /// Returns the parts.
@@ -241,7 +240,7 @@ impl Syntax {
     pub fn literal<'a>(&self, text: &'a [u8], counts: [usize; 9], sums: Sums) -> Literal<'a>
         requires cut { IsCut (notation_of self.now) text.now (cuts_of counts) }
         requires sums { AreSums (raw self.now.word) (cut text.now (cuts_of counts)) sums }
-        ensures { result ≡ record { format = self.now.word; literal = cut text.now (cuts_of counts); kind = exact } }
+        ensures { result ≡ record { format = self.now.word; literal = cut text.now (cuts_of counts); kind = exact; opened = 0 } }
     {
         let word = self.format().word();
         let Sums {
@@ -283,7 +282,7 @@ impl Syntax {
     #[cold]
     pub fn summed<'a>(&self, text: &'a [u8], counts: [usize; 9]) -> Literal<'a>
         requires { IsCut (notation_of self.now) text.now (cuts_of counts) }
-        ensures { result ≡ record { format = self.now.word; literal = cut text.now (cuts_of counts); kind = exact } }
+        ensures { result ≡ record { format = self.now.word; literal = cut text.now (cuts_of counts); kind = exact; opened = 0 } }
     {
         let view = self.format().view();
         let sums = sums_of(

@@ -124,9 +124,9 @@ kept_whole negative size g read word whole kept has =
 -- What is written by the first form of a list is its first literal.
 pub first_reads : (forms : List Form) (form : Form) (text : List ℕ) (l : Literal) (index : ℕ) → slice_get forms index ≡ Some form → index ≡ 0
     → (form.opening.size ≡ 0) × (form.closing.size ≡ 0) → Reads (notation_of form.syntax) l text
-    → IsFirst forms text index (record { format = form.syntax.word; literal = l; kind = form.kind })
+    → IsFirst forms text index (record { format = form.syntax.word; literal = l; kind = form.kind; opened = 0 })
 first_reads forms form text l index here first none reads =
-    let read : Read = record { format = form.syntax.word; literal = l; kind = form.kind } in record {
+    let read : Read = record { format = form.syntax.word; literal = l; kind = form.kind; opened = 0 } in record {
       reads = subst (λ o. IsSomeAnd o (ReadsForm text read)) (sym here) (refl, refl, plain_in form text none.0 none.1 l reads);
       before = subst (λ n. NoForm (take n forms) text) (sym first) (λ k d below. absurd (omega (arith, below, length-take-le 0 forms (omega arith))));
     }

@@ -6,8 +6,8 @@ use crate::literal::form::Form;
 use crate::literal::list::{Forms, PointsBack, Tokens};
 use crate::literal::stop::{byte_at, Found};
 use crate::literal::suffix::{
-    byte_after, has_digit_at, has_word_byte, is_followed, is_stopped, kind_with, more_of, suffix_size, suffix_words,
-    word_size,
+    byte_after, byte_before, has_digit_at, has_word_byte, is_followed, is_stopped, kind_with, more_of, suffix_size,
+    suffix_words, word_size,
 };
 use crate::literal::syntax::Syntax;
 use crate::literal::token::{is_float, is_one, Token, TokenError};
@@ -37,7 +37,7 @@ impl<'a> Forms<'a> {
             if is_one_ahead(self.forms, back, text, end) {
                 return Err(self.fail(tokens, text));
             }
-            if is_stopped(tokens.any_word_follows, it.suffixes, text, end) {
+            if it.is_stopped(tokens, text, end) {
                 if has_digit(text, size, end) {
                     return Err(self.fail(tokens, text));
                 }
@@ -128,6 +128,12 @@ impl Form {
         }
     }
 
+    // Returns whether what is behind the number that ends at `end` may not follow it. No word may follow a decimal point.
+    const fn is_stopped(&self, tokens: &Tokens, text: &[u8], end: usize) -> bool {
+        let words = tokens.any_word_follows && !is_one(self.syntax, byte_before(text, end));
+        is_stopped(words, self.suffixes, text, end)
+    }
+
     // Returns the token with this candidate.
     #[cfg_attr(not(peltzivar_small), inline(always))]
     const fn made<'t>(&self, text: &'t [u8], form: usize, candidate: Candidate) -> Token<'t> {
@@ -137,7 +143,7 @@ impl Form {
         let (_, rest) = text.split_at(end);
         let kind = kind_with(self.suffixes, suffix, self.kind);
         let literal = self.syntax.summed(self.inner(front), counts);
-        Token { literal: literal.with_kind(kind).behind(self.opening.size()), form, suffix, rest }
+        Token { literal: literal.with_kind(kind).behind(self.opening.size), form, suffix, rest }
     }
 }
 

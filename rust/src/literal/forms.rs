@@ -169,11 +169,13 @@ impl<'a> Forms<'a> {
     // Returns what `parse` returns in a list with openings or closings.
     #[cold]
     fn parse_marked<T: FromLiteral>(&self, text: &[u8]) -> Result<T, ParseError> {
-        let (value, kind) = match self.read_bytes(text)? {
-            Number::Special(special) => (T::from_special(special), IntegerKind::Exact),
-            Number::Literal { literal, .. } => (T::from_literal(literal), literal.integer_kind()),
+        let (value, size, kind) = match self.read_bytes(text)? {
+            Number::Special(special) => (T::from_special(special), text.len(), IntegerKind::Exact),
+            Number::Literal { literal, .. } => {
+                (T::from_literal(literal), literal.size_in_text(), literal.integer_kind())
+            }
         };
-        value.map_err(|error| ParseError::Value(ValueError::of::<T>(error, text.len(), kind)))
+        value.map_err(|error| ParseError::Value(ValueError::of::<T>(error, size, kind)))
     }
 
     // Returns the error of the form that goes furthest, made in its place. The list has neither openings nor closings.

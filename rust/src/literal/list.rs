@@ -54,7 +54,7 @@ impl Tokens {
         Tokens { gives_points_back: PointsBack::ToLetters, ..self }
     }
 
-    /// Sets whether any word that does not begin with a digit may follow a number directly that does not end in a point, as in `2x`, a
+    /// Sets whether any word that does not begin with a digit may follow a number directly that does not end in its decimal point, as in `2x`, a
     /// product in Julia.
     #[must_use]
     pub const fn any_word_follows(self, follows: bool) -> Tokens {
@@ -281,7 +281,7 @@ impl<'a> Forms<'a> {
     #[inline(always)]
     const fn of_form<'t>(&self, form: usize, literal: Literal<'t>) -> Literal<'t> {
         let it = &self.as_slice()[form];
-        literal.with_kind(it.kind).behind(it.opening.size())
+        literal.with_kind(it.kind).behind(it.opening.size)
     }
 
     // Returns the special value that `text` is, if it is one.

@@ -88,12 +88,12 @@ impl<'a> Literal<'a> {
         Literal { kind, ..self }
     }
 
-    // Returns the same literal behind an opening of `size` bytes, which are fewer than 256.
+    // Returns the same literal behind an opening of `opened` bytes.
     #[doc(hidden)]
     #[must_use]
     #[inline(always)]
-    pub const fn behind(self, size: usize) -> Literal<'a> {
-        Literal { opened: (size % 256) as u8, ..self }
+    pub const fn behind(self, opened: u8) -> Literal<'a> {
+        Literal { opened, ..self }
     }
 
     /// Returns the parts.

@@ -212,11 +212,10 @@ const fn kind_among(either: bool, kinds: &[(&[u8], Kind)], word: &[u8], kind: Ki
     }
 }
 
-// Returns whether what is behind the number that ends at `end` may not follow it, where any word may follow or none. None may follow a
-// point.
+// Returns whether what is behind the number that ends at `end` may not follow it, where any word may follow or none.
 #[cfg_attr(not(peltzivar_small), inline(always))]
 pub(crate) const fn is_stopped(words: bool, suffixes: Option<&'static Suffixes>, text: &[u8], end: usize) -> bool {
-    (if words && !has_point(byte_before(text, end)) { has_digit_at(text, end) } else { has_word_byte(text, end) })
+    (if words { has_digit_at(text, end) } else { has_word_byte(text, end) })
         || match suffixes {
             None => false,
             Some(suffixes) => is_one_met(suffixes.stops, text, end),
@@ -246,14 +245,6 @@ pub(crate) const fn has_word_byte(text: &[u8], index: usize) -> bool {
     match byte_at(text, index) {
         None => false,
         Some(byte) => is_word_byte(byte),
-    }
-}
-
-// Returns whether `byte` is a point.
-const fn has_point(byte: Option<u8>) -> bool {
-    match byte {
-        None => false,
-        Some(byte) => byte == b'.',
     }
 }
 

@@ -85,8 +85,9 @@ impl ValueError {
         self.target.name
     }
 
-    /// Returns the range of the bytes of the number: the whole text, or what of it is the literal. It is empty for NaN and
-    /// infinity that were not parsed in the same call, which have no text.
+    /// Returns the range of the bytes of the literal, from the [opening][crate::literal::Form::with_opening] before it on, and
+    /// without the closing behind it. Of NaN and infinity, it is the whole text, or empty if they were not parsed in the same
+    /// call.
     #[must_use]
     pub const fn span(&self) -> Range<usize> {
         0..self.size
@@ -146,7 +147,7 @@ pub enum ParseError {
 
 impl ParseError {
     /// Returns the range of the bytes to show, which may be empty: that of the [read error][ReadError::span], or the whole
-    /// [number][ValueError::span].
+    /// [literal][ValueError::span].
     #[must_use]
     pub const fn span(&self) -> Range<usize> {
         match self {
@@ -164,7 +165,8 @@ impl ParseError {
         }
     }
 
-    /// Returns the number of bytes at the beginning of the text that are right, which is all of a number.
+    /// Returns the number of bytes at the beginning of the text that are right: of a number, those of its
+    /// [span][ValueError::span].
     #[must_use]
     pub const fn valid_up_to(&self) -> usize {
         match self {

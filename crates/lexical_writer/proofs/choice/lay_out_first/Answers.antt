@@ -18,7 +18,7 @@ returns-clause-back c =
     let none = no_marks _ _ c.is_marked.result c.is_marked.ensures c.if-is_marked.false in
     let read = first_reads c.args.forms.now.forms form (text_of l) l 0 here refl none
     (subst (λ (g : Grammar). Reads (notation_of g) l (text_of l)) c.syntax-syntax.ensures written.0) in (
-      record { format = form.syntax.word; literal = l; kind = form.kind },
+      record { format = form.syntax.word; literal = l; kind = form.kind; opened = 0 },
       0,
       read,
       c.is_plain.ensures.plain c.if-not-is_plain.false _ (sym c.kind.ensures) (ap (λ (g : Grammar). g.word) (sym c.syntax-syntax.ensures))

@@ -4,7 +4,7 @@ use Rattle.lexical_writer.proofs.choice.read_literal.Goals as goal
 
 pub returns-in-Ok-Literal-clause-some : goal.returns-in-Ok-Literal-clause-some
 returns-in-Ok-Literal-clause-some c =
-    subst (λ number. IsReadByForms c.args.forms.now c.args.text.now (Ok number)) c.in-Ok-Literal.field-0-is c.in-Ok-Literal.ensures
+    (subst (λ number. IsReadByForms c.args.forms.now c.args.text.now (Ok number)) c.in-Ok-Literal.field-0-is c.in-Ok-Literal.ensures).0
 
 pub returns-in-Ok-Special-clause-none : goal.returns-in-Ok-Special-clause-none
 returns-in-Ok-Special-clause-none c _ =

@@ -21,7 +21,7 @@ returns-then-index-eq0-clause-value g c =
     let form = c.args.form.now in
     let style = c.args.style in
     let syntax = c.syntax-syntax.ensures in
-    let read : Read = record { format = form.syntax.word; literal = l; kind = form.kind } in
+    let read : Read = record { format = form.syntax.word; literal = l; kind = form.kind; opened = 0 } in
     let first = first_reads c.args.forms.now.forms form c.args.text.now l c.args.index c.requires.form c.if-index-eq0.true c.requires.unmarked reads in
     let plain = c.is_plain-plain.ensures.plain c.if-plain.true read (sym c.kind.ensures) (ap (λ (g : Grammar). g.word) (sym syntax)) (sym float)
     (subst (λ s. g.N.Writable.writes c.args.number.now style s (Ok l)) (sym syntax) has) in (

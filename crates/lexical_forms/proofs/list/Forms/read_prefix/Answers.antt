@@ -41,5 +41,6 @@ returns-in-Ok c =
         subst (λ o. IsSomeAnd o (λ (g : Form). own.kind ≡ g.kind)) form.0 c.of_form-literal.ensures.kind,
         subst (λ l. ReadsIn g l (take found.size text)) (sym c.of_form-literal.ensures.literal) (read_in g text found read.literal form.1 is.1).reads,
       ),
+      c.of_form-literal.ensures.opened,
       c.split_at.ensures.back,
     )

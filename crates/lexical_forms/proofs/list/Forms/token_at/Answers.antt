@@ -1,5 +1,5 @@
 -- The front has the parts and the sums that were counted, and is the literal of the token.
-use Rattle.lexical_forms.proofs.Common.{AreSums, IsMeasured, IsToken, Reads, ap, arith, cut, cuts_of, drop, drop-drop, go_on_with, is_in}
+use Rattle.lexical_forms.proofs.Common.{AreSums, IsMeasured, IsToken, Read, Reads, ap, arith, cut, cuts_of, drop, drop-drop, go_on_with, is_in}
 use Rattle.lexical_forms.proofs.Common.{measured_cut, notation_of, raw, refl, slice_get, subst, suffix_size, sym, take, whole_read, ◌+◌, ◌||◌, ◌∙◌}
 use Rattle.lexical_forms.proofs.FormLemmas.{no_one}
 use Rattle.lexical_forms.proofs.LeadingLemmas.{leading_token}
@@ -35,6 +35,6 @@ returns c =
     (kinded.ensures.format ∙ is.0)
     (subst (Reads (notation_of it.syntax) kinded.result.literal) front
     (subst (λ l. Reads (notation_of it.syntax) l c.split_at.result.0.now) (sym kinded.ensures.literal) is.1))
-    (kinded.ensures.kind ∙ c.kind_with-kind.ensures)
+    (kinded.ensures.kind ∙ c.kind_with-kind.ensures) (kinded.ensures.opened ∙ ap (λ (r : Read). r.opened) c.literal.ensures)
     (c.split_at-2.ensures.front ∙ ap (take more) back)
     (c.split_at-2.ensures.back ∙ ap (drop more) back ∙ drop-drop more size text))

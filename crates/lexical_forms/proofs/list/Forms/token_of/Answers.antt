@@ -53,7 +53,7 @@ returns c =
     let list = c.args.self.now in let t = c.args.tokens.now in let text = c.args.text.now in
     let form = c.in-Some.it.now in let best = c.in-Some.candidate in let made = c.made in
     let is = token_is list t text c.in-Some.form form best (c.in-Some.ensures.some _ refl) made.result made.ensures.form made.ensures.literal
-    made.ensures.kind made.ensures.suffix made.ensures.rest in
+    made.ensures.kind made.ensures.opened made.ensures.suffix made.ensures.rest in
     elim c.if-not-is_followed.branch [
       | then-not-is_followed+else-is_one_ahead+else-is_stopped w ↦ is (inr (
         subst (λ (l : FormList). All (λ form. IsAhead t.gives_points_back text best.end form → ⊥) l.forms) c.self.view_is

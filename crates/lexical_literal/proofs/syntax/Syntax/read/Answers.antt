@@ -8,7 +8,7 @@ use Rattle.lexical_literal.proofs.syntax.Syntax.read.Goals as goal
 refused : (g : Grammar) (text : List ℕ) (r : Result Read Explained) → NoLiteral (notation_of g) text
     → IsErrAnd r (λ error. IsRefusal (notation_of g) text error.refusal) → IsRead g text r
 refused g text (Ok _) none is = absurd is
-refused g text (Err _) none is = record { found = tt; kind = tt; only = λ l reads. absurd (none l reads); error = is }
+refused g text (Err _) none is = record { found = tt; kind = tt; opened = tt; only = λ l reads. absurd (none l reads); error = is }
 
 pub refuse-requires-clause-refused : goal.refuse-requires-clause-refused
 refuse-requires-clause-refused c =

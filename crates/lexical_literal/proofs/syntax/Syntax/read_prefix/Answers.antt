@@ -18,6 +18,7 @@ returns-in-Some c = record {
   found = front_read c.args.self.now c.args.text.now c.front_of.result.now c.in-Some.found.size c.in-Some.found.counts c.front_of.ensures
       (c.front-found.ensures.longest c.in-Some.found c.in-Some.is) c.summed-literal.result c.summed-literal.ensures;
   kind = ap (λ (r : Read). r.kind) c.summed-literal.ensures;
+  opened = ap (λ (r : Read). r.opened) c.summed-literal.ensures;
   none = λ err. absurd (false≢true err);
   error = tt;
 }
