@@ -339,7 +339,8 @@ PELTZIVAR_MUST_USE peltzivar_value_status peltzivar_to_i128(const peltzivar_lite
 /* Writes the exact value of an integer or a float times 10 to the power of `places` to *out and returns
  * PELTZIVAR_VALUE_OK: of `1.234,5` with 2, a price in cents, 123450. All digits of a float count. Of an integer, the
  * value is that of its kind. Otherwise, leaves *out unchanged and returns PELTZIVAR_VALUE_NOT_WHOLE, _TOO_LARGE,
- * _TOO_SMALL or _NO_LITERAL, or _RADIX for a float. */
+ * _TOO_SMALL or _NO_LITERAL, or _RADIX for a float. A product that is neither whole nor in range is _NOT_WHOLE, but
+ * from 2^90 on (28 digits), it may be _TOO_LARGE or _TOO_SMALL. */
 PELTZIVAR_MUST_USE peltzivar_value_status peltzivar_to_scaled_i64(
     const peltzivar_literal *literal, uint8_t places, int64_t *out);
 
@@ -634,9 +635,9 @@ typedef struct {
 /* The suffixes of a form, which only peltzivar_forms_token reads: words directly behind integers and behind floats, in
  * this case or, with either_case, in either one. With whole_words, a suffix is the whole word behind a number, and `1if`
  * has no suffix `i`. A string of words has spaces between them, as in "u8 u16". Words have letters, digits, `_`, bytes
- * from 128 up and those of the string `word_bytes`, such as "-" for `2n-1` of CSS, and others are never found, nor is
- * one that begins with a digit of its form. Any word that begins with a byte of the string `any` is a suffix, too, as
- * in `1_km`. A string may be null.
+ * from 128 up and those of the string `word_bytes`, such as "-" for `2n-1` of CSS, and others are never found. One that
+ * begins with a digit of its form is found only where the literal cannot go on with it, as behind a closing or a base
+ * suffix. Any word that begins with a byte of the string `any` is a suffix, too, as in `1_km`. A string may be null.
  *
  * The words of the string `written`, such as "L" for Java, may be written behind an integer that the forms do not have
  * without one: the first with which peltzivar_forms_token reads all of the text as the number. */
@@ -660,7 +661,8 @@ typedef struct {
  * A text is a literal of the form if it is the string `opening`, a literal of the syntax, and the string `closing`, as
  * in `16#FF#`. A string that is null is empty. Each has at most 8 bytes, all ASCII, whose letters are in either case
  * unless it is case-sensitive. The first byte of a closing has no role in the syntax, nor has its other case. A list
- * with another opening or closing is refused. Nothing is written by a form that is `only_read`. */
+ * with another opening or closing is refused. Nothing is written by a form that is `only_read`. Several forms of a
+ * language can have one name, such as `radix in front` in ADA. */
 typedef struct {
     const char *name;
     peltzivar_syntax syntax;

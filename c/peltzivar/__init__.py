@@ -1027,7 +1027,8 @@ class _Reader(_peltzivar.Reader):
         A cell that is missing or wrong has the value `fill`, which is NaN if it is None, and which integers need. With
         the `errors` "raise", a wrong cell raises ColumnError after the whole column is read.
         With a `scale` from 0 to 255, `type` is `int`, and the values are those of `scaled(scale)` of literals: with 2,
-        prices in cents.
+        prices in cents. A product that is neither whole nor of 64 bits is not whole, but from 2^90 on (28 digits), it
+        may be too large or too small.
         """
         kind = _format(float if type is Decimal and out is None else type, out)
         if scale is not None and kind != "q":
@@ -1565,10 +1566,11 @@ class Suffixes(metaclass=_Class):
     """The suffixes of a form, which only `token` reads: words directly behind `integers` and `floats`, with spaces
     between them, in this case or in either one, and with `whole_words` a suffix is the whole word behind a number, so
     that `1if` has no suffix `i`. Words have letters, digits, `_`, characters that are not ASCII, and those of
-    `word_bytes`, such as `-` for `2n-1` of CSS. One that begins with a digit of the form, such as `5k`, is never found.
-    Any word that begins with a character of `any` is a suffix, too, as in `1_km`. `kinds` has the kinds of numbers by
-    their suffixes, a dict or pairs. A number is not a token if it is at one of the `stops`: if it ends in a character
-    of the first string, one of the second follows, and then one of the third. An empty string asks for nothing.
+    `word_bytes`, such as `-` for `2n-1` of CSS. One that begins with a digit of the form, such as `5k`, is found only
+    where the literal cannot go on with it, as behind a closing or a base suffix. Any word that begins with a character
+    of `any` is a suffix, too, as in `1_km`. `kinds` has the kinds of numbers by their suffixes, a dict or pairs. A
+    number is not a token if it is at one of the `stops`: if it ends in a character of the first string, one of the
+    second follows, and then one of the third. An empty string asks for nothing.
     `written` has the words that `format_number` may write behind an integer: the first with which `token` reads all of
     the text as the number. Raises ValueError for another character in a word, and for a null character.
 

@@ -88,6 +88,8 @@ class Columns(unittest.TestCase):
         self.assertEqual((values.typecode, values.tolist(), missing), ("q", [123450, -7, -1, -1, -1, -1, -1, -(2**63)], (2,)))
         self.assertEqual([str(it)[:10] for it in wrong], ["not whole ", "unexpected", "unexpected", "above the "])
         self.assertRegex(str(Language.TOML.column(["inf"], int, errors="coerce", fill=0, scale=2).wrong[0]), "^NaN or infinity")
+        long = ["9" * digits + ",5" for digits in range(1, 28)]
+        self.assertEqual({str(it)[:9] for it in german.column(long, int, errors="coerce", fill=0, scale=0).wrong}, {"not whole"})
         data, offsets = b"1,5-7x9", array("i", [0, 3, 5, 6, 99, 6, 7])
         self.assertEqual(german.column((data, offsets), int, errors="coerce", fill=0, scale=1).values.tolist(), [15, -70, 0, 0, 0, 90])
         self.assertEqual(german.forms["decimal"].column(["1,5"], "q", scale=3, out=array("l", [0])).values, array("l", [1500]))

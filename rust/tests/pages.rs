@@ -4,13 +4,13 @@
 use std::path::Path;
 use std::process::{Command, Output};
 
-/// Runs `cargo run` in the top folder, and returns its status and what it prints.
-fn cargo_run(arguments: &[&str]) -> (Option<i32>, String) {
+/// Runs `cargo run` in the top folder, and returns its status, its standard output and its standard error.
+fn cargo_run(arguments: &[&str]) -> (Option<i32>, [String; 2]) {
     let mut command = Command::new(env!("CARGO"));
     let command = command.current_dir(Path::new(env!("CARGO_MANIFEST_DIR")).parent().unwrap());
     let command = command.args(["run", "--quiet", "--offline"]).args(arguments);
     let Output { status, stdout, stderr } = command.output().expect("cargo");
-    (status.code(), String::from_utf8([stdout, stderr].concat()).unwrap())
+    (status.code(), [stdout, stderr].map(|it| String::from_utf8(it).unwrap()))
 }
 
 /// Returns the words of a command.
@@ -30,7 +30,8 @@ fn commands_print_what_pages_show() {
             let Some(arguments) = command.strip_prefix("    $ cargo run ") else { continue };
             let is_shown = |line: &&str| line.starts_with("    ") && !line.starts_with("    $");
             let shown: Vec<&str> = std::iter::from_fn(|| lines.next_if(is_shown)).map(|line| &line[4..]).collect();
-            let (_, printed) = cargo_run(&words(arguments));
+            // The standard error may have a warning of the compiler.
+            let (_, [printed, _]) = cargo_run(&words(arguments));
             assert_eq!(printed, shown.join("\n") + "\n", "{name}: {line}");
             count += 1;
         }
@@ -60,7 +61,7 @@ fn examples_end_as_their_comments_state() {
     ];
     for (example, wanted, part) in rows {
         let (status, printed) = cargo_run(&[&["--example"], &words(example)[..]].concat());
-        assert!(status == Some(wanted) && printed.contains(part), "{example}: {printed}");
+        assert!(status == Some(wanted) && printed.concat().contains(part), "{example}: {printed:?}");
     }
 }
 

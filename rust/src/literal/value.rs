@@ -95,7 +95,8 @@ impl<'a> Literal<'a> {
     ///
     /// If the product is [not whole][ValueErrorKind::NotWhole], if it is out of the range of the type, if an integer is too large
     /// for its kind, or if the mantissa radix and the exponent base of a float are neither both 10 nor both powers of two, returns
-    /// which. A float as an `i128` or `u128` may also be [too long][ValueErrorKind::TooLong].
+    /// which. A product that is neither whole nor in the range is not whole, but from 2^90 on (28 digits), it may be out of the
+    /// range. There, a float as an `i128` or `u128` may also be [too long][ValueErrorKind::TooLong].
     ///
     /// ```
     /// use peltzivar::literal::{FromLiteral, Language, Literal, Target, ValueErrorKind};
