@@ -204,11 +204,4 @@ fn values_are_written() {
         let written = target.forms()[0].syntax().format_literal(&literal(source, text), Style::PLAIN);
         assert_eq!(written.map(|it| it.to_string()), wanted.map(str::to_string), "{source}: {text}");
     }
-    let json = Language::JSON.forms();
-    for (source, text, wanted) in FLOATS.iter().filter(|it| it.2.is_finite()) {
-        let (literal, style) = (literal(*source, text), Style::PLAIN.nearest());
-        for written in [json[0].syntax().format_literal(&literal, style), json.format_literal(&literal, style)] {
-            assert_eq!(json.parse(written.unwrap().to_string()), Ok(*wanted), "{source}: {text}");
-        }
-    }
 }

@@ -24,7 +24,7 @@ use Rattle.lexical_number.specs.Float.{is_zero}
 use Rattle.lexical_number.specs.Numeral.{with_sign}
 use Rattle.lexical_value.specs.Float.{is_binary, is_decimal, nearest}
 use Rattle.lexical_value.specs.Kind.{IsWorth, float_worth, integer_worth, is_exact}
-use Rattle.lexical_writer.specs.Conversion.{IsNear, SameFraction}
+use Rattle.lexical_writer.specs.Conversion.{SameFraction}
 use Rattle.lexical_writer.specs.Layout.{wants_exponent}
 use Rattle.lexical_writer.specs.Rounded.{IsRounded, decimals_in}
 use Rattle.lexical_writer.specs.declared.layout.ExponentStyle.TheVariants as exponents
@@ -231,34 +231,20 @@ IsAmount f value None read = IsReal f value read
 IsAmount f value (Some n) read = (g : Grammar) × (l : Literal) × IsRounded value (raw g.word) l (decimals_in g n)
     × IsReal f (nearest f (bytes_of g.word) l) read
 
--- `IsSameNumber near a b` holds if `a` and `b` are worth the same integer or, if `a` has a decimal point or an exponent, or `near` is
--- true, the same `f64`, by their kinds. Or they are of the exact kind, and have the same value as fractions with a sign, and `b` has
--- neither a decimal point nor an exponent unless `a` has one.
-abbrev pub IsSameNumber : Bool → Read → Read → Type 0
-IsSameNumber near a b = ((z : ℤ) × IsWhole z a × IsWhole z b)
-    ⊎ ((((is_float a.literal ≡ true) ⊎ (near ≡ true)) × (value : Float) × IsReal binary64 value a × IsReal binary64 value b)
+-- `IsSameNumber a b` holds if `a` and `b` are worth the same integer or, if `a` has a decimal point or an exponent, the same `f64`, by their kinds.
+-- Or they are of the exact kind, and have the same value as fractions with a sign, and `b` has neither a decimal point nor an exponent
+-- unless `a` has one.
+abbrev pub IsSameNumber : Read → Read → Type 0
+IsSameNumber a b = ((z : ℤ) × IsWhole z a × IsWhole z b)
+    ⊎ (((is_float a.literal ≡ true) × (value : Float) × IsReal binary64 value a × IsReal binary64 value b)
     ⊎ ((a.kind ≡ exact) × (b.kind ≡ exact) × ((is_float a.literal ≡ true) ⊎ (is_float b.literal ≡ false))
     × SameFraction (raw a.format) a.literal (raw b.format) b.literal))
-
--- `IsWrittenNumber read style g l` holds if the literal `l` of `g` has the value of `read` or, by a style that wishes so, that of the
--- `f64` that is nearest to it, which has the decimals of the style, if it has any.
-pub record IsWrittenNumber (read : Read) (style : Style) (g : Grammar) (l : Literal) : Type 0 where
-  pub near : style.decimals ≡ None → IsNear binary64 (raw read.format) read.literal (raw g.word) l
-  pub rounded : (n : ℕ) → style.decimals ≡ Some n → SameFraction (raw read.format) read.literal (raw g.word) l
-      ⊎ IsRounded (nearest binary64 (bytes_of read.format) read.literal) (raw g.word) l (decimals_in g n)
-  pub exact : style.nearest ≡ false → SameFraction (raw read.format) read.literal (raw g.word) l
 
 -- `IsKeptNumber a own b` holds if `a` and `b` are worth the same integer of at most 128 bits or, if `own` is true, if both are of the exact kind, and
 -- `b` has neither a decimal point nor an exponent unless `a` has one.
 abbrev pub IsKeptNumber : Read → Bool → Read → Type 0
 IsKeptNumber a own b = ((w : Bool × ℕ) × (w.1 < 2 ^ 128) × (whole_of a ≡ Some w) × (whole_of b ≡ Some w))
     ⊎ ((own ≡ true) × (a.kind ≡ exact) × (b.kind ≡ exact) × ((is_float a.literal ≡ true) ⊎ (is_float b.literal ≡ false)))
-
--- `IsInStyle a style b` holds if `a` and `b` are the same number or, if the style wishes for the nearest float and for decimals, if `b`
--- is worth the `f64` that is nearest to a literal that is written for `a`.
-abbrev pub IsInStyle : Read → Style → Read → Type 0
-IsInStyle a style b = IsSameNumber style.nearest a b ⊎ ((style.nearest ≡ true) × (is_some style.decimals ≡ true) × (g : Grammar) × (l : Literal)
-    × IsWrittenNumber a style g l × IsReal binary64 (nearest binary64 (bytes_of g.word) l) b)
 
 -- `IsReadBack list text P` holds if `text` is a literal of some form of the list, and if `P` holds of the literal that it is in the
 -- first such form, with the kind of this form.

@@ -3,7 +3,6 @@ use Rattle.lexical_writer.proofs.Common.{Form, Grammar, List, Reads, Some, ap, g
 use Rattle.lexical_writer.proofs.Common.{refl, slice_get, slice_get_read, subst, sym, text_of, true, is_own, with_sign, ◌<◌, ◌∙◌, ◌≡◌}
 use Rattle.lexical_forms.proofs.MarkLemmas.{no_marks}
 use Rattle.lexical_writer.proofs.ChoiceLemmas.{first_reads}
-use Rattle.lexical_writer.proofs.PlainLemmas.{has_value}
 use Rattle.lexical_writer.proofs.choice.lay_out_first.Goals as goal
 
 -- The form is the first of the list.
@@ -24,10 +23,7 @@ returns-clause-back c =
       0,
       read,
       c.is_plain.ensures.plain c.if-not-is_plain.false _ (sym c.kind.ensures) (ap (λ (g : Grammar). g.word) (sym c.syntax-syntax.ensures))
-          (sym c.is_float.ensures ∙ c.if-is_float.false) (c.in-Ok.ensures.parts, (
-            has_value syntax c.args.number.now.negative c.args.number.now.size _ refl c.in-Ok.ensures.lawful l written.1,
-            λ i. with_sign (sym written.1.sign i) (sym written.1.integer i),
-          )),
+          (sym c.is_float.ensures ∙ c.if-is_float.false) (c.in-Ok.ensures.parts, λ i. with_sign (sym written.1.sign i) (sym written.1.integer i)),
     )
 
 pub returns-clause-first : goal.returns-clause-first

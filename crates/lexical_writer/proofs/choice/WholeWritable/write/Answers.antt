@@ -1,6 +1,5 @@
 -- What is written has the value.
-use Rattle.lexical_writer.proofs.Common.{integer_literal, refl, sym, with_sign}
-use Rattle.lexical_writer.proofs.PlainLemmas.{has_value}
+use Rattle.lexical_writer.proofs.Common.{integer_literal, sym, with_sign}
 use Rattle.lexical_writer.proofs.choice.WholeWritable.write.Goals as goal
 
 pub returns-clause-text : goal.returns-clause-text
@@ -10,10 +9,7 @@ returns-clause-text c =
     let number = written.written.1 in (
       l,
       written.written.0,
-      (written.parts, (
-        has_value c.args.syntax.now c.args.self.now.negative c.args.self.now.size _ refl written.lawful l number,
-        λ i. with_sign (sym number.sign i) (sym number.integer i),
-      )),
+      (written.parts, λ i. with_sign (sym number.sign i) (sym number.integer i)),
       c.write.ensures,
       c.is_float.ensures,
     )
