@@ -23,7 +23,6 @@ texts! {
         1 => b"the number has other digits in this radix or without its exponent, and not few",
         2 => b"no literal has the sign '-'",
         3 => b"literals are integers, and the number is not whole",
-        5 => b"each literal has an exponent, and an integer has none",
         6 => b"no literal is NaN or infinity, and no spelling is read back as it",
         7 => b"the buffer is too short",
         8 => b"the syntax, the forms, the style, the spellings or the special value is refused, or no call has made the literal",
@@ -64,9 +63,8 @@ impl Style {
             _ => Grouping::Of(size.into()),
         };
         let mut style = literal::Style::PLAIN.min_digits(self.min_digits);
-        (style.group, style.fraction_group) = (group(self.group), group(self.fraction_group));
-        (style.prefix, style.suffix) = (self.without_base == 0, self.without_base == 0);
-        style.lowercase = self.lowercase != 0;
+        style.group = group(self.group);
+        (style.base, style.lowercase) = (self.without_base == 0, self.lowercase != 0);
         style.point = self.point != 0;
         style.decimals = (self.has_decimals != 0).then_some(self.decimals);
         let exponent = match self.exponent {
@@ -76,7 +74,7 @@ impl Style {
             3 => ExponentStyle::From(self.exponent_from),
             _ => return None,
         };
-        (self.reserved == [0; 9]).then_some(style.exponent(exponent))
+        (self.reserved == [0; 9] && self.fraction_group == 0).then_some(style.exponent(exponent))
     }
 }
 
@@ -111,7 +109,6 @@ fn status_of(error: WriteError) -> WriteStatus {
         WriteError::Radix => 1,
         WriteError::Negative => 2,
         WriteError::Fraction => 3,
-        WriteError::Float => 5,
         WriteError::Long | WriteError::Buffer(_) => 9,
         WriteError::ReadBack => 10,
         WriteError::TooLarge => 11,

@@ -62,18 +62,10 @@ impl Style {
         self
     }
 
-    /// Writes the fraction digits in groups of `size` digits, counted from the left, under the same rules as
-    /// [`group`][Self::group].
-    #[must_use]
-    pub const fn fraction_group(mut self, size: usize) -> Style {
-        self.fraction_group = Grouping::Of(size);
-        self
-    }
-
     /// Leaves out the base prefix and the base suffix, unless a condition of the syntax requires them.
     #[must_use]
     pub const fn without_base(mut self) -> Style {
-        (self.prefix, self.suffix) = (false, false);
+        self.base = false;
         self
     }
 
@@ -105,7 +97,7 @@ impl Style {
     ///     syntax.format_literal(&literal, Style::PLAIN.exponent(exponent)).unwrap().to_string()
     /// };
     /// assert_eq!(write("1.5e3", ExponentStyle::Never), "1500.0");
-    /// assert_eq!(write("1.5", ExponentStyle::Always), "1.5e0");
+    /// assert_eq!(write("1.5", ExponentStyle::Always), "1.5");
     /// assert_eq!(write("1.5e3", ExponentStyle::AsNumber), "1.5e3");
     /// ```
     #[must_use]
@@ -186,8 +178,7 @@ impl Syntax {
     ///
     /// # Errors
     ///
-    /// [`WriteError::Negative`] if the value is below 0 and the syntax forbids `-`, and [`WriteError::Float`] if each literal
-    /// has an exponent.
+    /// [`WriteError::Negative`] if the value is below 0 and the syntax forbids `-`.
     #[inline(always)]
     pub fn format_integer<T: WriteInteger>(&self, value: T, style: Style) -> Result<Written<'static>, WriteError> {
         integer::format_integer(self, value, style).map(|integer| Written::of(Text::Integer(integer)))
@@ -492,7 +483,6 @@ impl fmt::Display for WriteError {
             WriteError::TooLarge => "the literal is too large for its kind",
             WriteError::Negative => "no literal has the sign '-'",
             WriteError::Fraction => "literals are integers, and the number is not whole",
-            WriteError::Float => "each literal has an exponent, and an integer of Rust has none",
             WriteError::Special => "no literal is NaN or infinity, and no spelling is read back as it",
             WriteError::Long => "without an exponent, the text has more than 800 bytes",
             WriteError::Buffer(length) => return write!(f, "the text has {length} bytes"),
