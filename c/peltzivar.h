@@ -423,8 +423,7 @@ typedef uint8_t peltzivar_exponent_style;
 enum {
     PELTZIVAR_STYLE_AS_NUMBER = 0, /* A literal keeps its exponent, and an integer has none. */
     PELTZIVAR_STYLE_NEVER = 1, /* The point moves in its place, if it moves by whole digits and fits 800 bytes. */
-    PELTZIVAR_STYLE_ALWAYS = 2, /* A number without an exponent has the exponent 0. */
-    PELTZIVAR_STYLE_FROM = 3 /* The point moves if the exponent is between -exponent_from and exponent_from. */
+    PELTZIVAR_STYLE_ALWAYS = 2 /* A number without an exponent has the exponent 0. */
 };
 
 /* As a group of a style, no separators. */
@@ -434,21 +433,20 @@ enum {
  * What the syntax forbids is not done, and what it requires is. `group` and `fraction_group` are how many digits a
  * group of the integer and the fraction has, unless the syntax has a size. With 0, there are groups only where it has
  * one. `without_base` leaves out the base prefix and the base suffix. `lowercase` writes digits in lowercase.
- * `min_digits` is how many integer digits there are at least, with zeros before the others. `exponent_from` is the
- * number of PELTZIVAR_STYLE_FROM. With `point`, a float has a point with a digit behind it, also before an exponent.
- * With `has_decimals`, a float is rounded to as many digits behind the point as `decimals`, to the nearest, or to the
- * even one if two are as near, and has no exponent that neither the syntax nor the style requires. With `nearest`, a
- * literal of another radix or base that cannot be written exactly is written by the nearest double. */
+ * `min_digits` is how many integer digits there are at least, with zeros before the others. With `has_decimals`, a
+ * float is rounded in decimal floats to as many digits behind the point as `decimals`, to the nearest, or to the even
+ * one if two are as near, and has no exponent that neither the syntax nor the style requires. In integers alone, and in
+ * another radix than 10, it has no effect. With `nearest`, a literal of another radix or base that cannot be written
+ * exactly is written by the nearest double. */
 typedef struct {
     uint8_t group, fraction_group;
     bool without_base, lowercase;
     uint8_t min_digits;
     peltzivar_exponent_style exponent;
-    uint32_t exponent_from;
-    bool point, has_decimals;
+    bool has_decimals;
     uint8_t decimals;
     bool nearest;
-    uint8_t reserved[8];
+    uint8_t reserved[15];
 } peltzivar_style;
 
 /* The sizes of buffers for any number that a list writes, unless a spelling has more than 4095 bytes, for any integer

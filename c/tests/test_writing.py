@@ -13,8 +13,8 @@ from peltzivar import Part, Syntax
 from test_notations import random_syntax
 
 # These are values of the arguments of format_number that leave the value as it is.
-WISHES = {"group": range(5), "fraction_group": range(5), "min_digits": range(12), "exponent": ("never", "always", 1, 3)}
-WISHES |= {it: (True,) for it in ("without_base", "lowercase", "point")}
+WISHES = {"group": range(5), "fraction_group": range(5), "min_digits": range(12), "exponent": ("never", "always")}
+WISHES |= {it: (True,) for it in ("without_base", "lowercase")}
 RADIX, NEGATIVE = "the digits or the exponent have another radix or base", "no literal has the sign '-'"
 FRACTION = "literals are integers, and the number is not whole"
 EXPONENT = "no literal has an exponent, and this one does not move the point by whole digits"

@@ -39,11 +39,9 @@ fn style_of(wishes: &str) -> Style {
             ("lowercase", "true") => style.lowercase(),
             ("without_base", "true") => style.without_base(),
             ("nearest", "true") => style.nearest(),
-            ("point", "true") => style.point(),
             ("decimals", _) => style.decimals(number.unwrap()),
             ("exponent", "never") => style.exponent(ExponentStyle::Never),
             ("exponent", "always") => style.exponent(ExponentStyle::Always),
-            ("exponent", _) => style.exponent(ExponentStyle::From(number.unwrap().into())),
             _ => panic!("{wish}"),
         }
     })

@@ -2,11 +2,12 @@
 use Rattle.lexical_writer.proofs.Common.{Bool, Form, Grammar, HasValue, IsFirst, IsRounded, IsSomeAnd, IsWhole, Kind, List, Literal, NoForm, None, Ok}
 use Rattle.lexical_writer.proofs.Common.{Option, Read, Reads, ReadsForm, Record, SameFraction, Some, Style, ap, arith, decimals_in, exact, false, false≢true}
 use Rattle.lexical_writer.proofs.Common.{float_worth, format_by, if◌then◌else◌, inl, inr, integer_worth, is_binary, is_decimal, is_exact, is_float, is_minus}
-use Rattle.lexical_writer.proofs.Common.{is_some, length-take-le}
+use Rattle.lexical_writer.proofs.Common.{is_some, lacks_options, length-take-le, not}
 use Rattle.lexical_writer.proofs.Common.{mantissa, nearest, negsuc, notation_of, pos, raw, refl, slice_get, subst, suc, sym, take, true, with_sign, within}
-use Rattle.lexical_writer.proofs.Common.{whole_of, worth, zero, ℕ, ℤ, ◌&&◌, ◌||◌, ◌<◌, ◌∙◌, ◌≡◌, ◌⊎◌}
+use Rattle.lexical_writer.proofs.Common.{whole_of, worth, zero, ℕ, ℤ, ◌&&◌, ◌||◌, ◌<◌, ◌==◌, ◌∙◌, ◌≡◌, ◌⊎◌}
 use Rattle.std.proofs.lemmas.Option.{get_or_from_slice_get, slice_get_within}
 use Rattle.std.specs.Float.{Float, Format, binary64}
+use Rattle.lexical_util.specs.Layout as layouts
 use Rattle.lexical_forms.specs.Forms.{ReadsIn}
 use Rattle.lexical_literal.specs.Front.{NoneBy}
 use Rattle.std.specs.Prelude.{Err, IsFalse, MatchOption, MatchResult, Result, is_ok}
@@ -31,7 +32,7 @@ nearest_is f x read kind real = elim real [
 
 -- What is written for a float has its value or, with decimals, is the float, rounded to these.
 pub written_real : (f : Format) (x : Float) (decimals : Option ℕ) (g : Grammar) (l : Literal)
-    → (decimals ≡ None → x ≡ nearest f (raw g.word).byte l) → ((n : ℕ) → decimals ≡ Some n → IsRounded x (raw g.word) l (decimals_in g n))
+    → (decimals ≡ None → x ≡ nearest f (raw g.word).byte l) → ((n : ℕ) → decimals ≡ Some n → IsRounded x (raw g.word) l n)
     → IsWrittenReal f x decimals g l
 written_real f x None g l near rounded = near refl
 written_real f x (Some n) g l near rounded = rounded n refl
@@ -43,42 +44,53 @@ worth_nearest : (f : Format) (kind : Kind) (r : Record) (l : Literal) → (is_de
 worth_nearest f kind r l known near fits plain = limited_worth f kind r l (Ok (nearest f r.byte l)) known plain
     ((λ i. within kind.limits (is_minus l.sign) (mantissa r.byte l) (nearest (format_by (near i) f) r.byte l)) ∙ fits)
 
+same_if : (test : Bool) (o : Option ℕ) → (if test then o else o) ≡ o
+same_if true o = refl
+same_if false o = refl
+
+none_in : (g : Grammar) → decimals_in g None ≡ None
+none_in g = same_if (lacks_options g.options || not ((raw g.word).byte layouts.mantissa_radix == 10)) None
+
+-- If a number of decimals has effect, there is one.
+some_in : (g : Grammar) (o : Option ℕ) (n : ℕ) → decimals_in g o ≡ Some n → is_some o ≡ true
+some_in g None n is = absurd (false≢true (sym (ap is_some (none_in g)) ∙ ap is_some is))
+some_in g (Some m) n is = refl
+
 -- What is written for a float without a number of decimals has it as its nearest float.
-near_of : (f : Format) (x : Float) (decimals : Option ℕ) (g : Grammar) (l : Literal) → IsWrittenReal f x decimals g l → decimals ≡ None
+near_of : (f : Format) (x : Float) (decimals : Option ℕ) (g : Grammar) (l : Literal) → IsWrittenReal f x (decimals_in g decimals) g l → decimals ≡ None
     → x ≡ nearest f (raw g.word).byte l
-near_of f x None g l has none = has
-near_of f x (Some n) g l has none = absurd (false≢true (ap is_some (sym none)))
+near_of f x decimals g l has none = subst (λ o. IsWrittenReal f x o g l) (ap (decimals_in g) none ∙ none_in g) has
 
 -- What is worth the float that is nearest to a literal that is written for a float is this float in the style.
-amount_is : (f : Format) (x : Float) (decimals : Option ℕ) (g : Grammar) (l : Literal) (read : Read) → IsWrittenReal f x decimals g l
+amount_is : (f : Format) (x : Float) (decimals : Option ℕ) (g : Grammar) (l : Literal) (read : Read) → IsWrittenReal f x (decimals_in g decimals) g l
     → IsReal f (nearest f (raw g.word).byte l) read → IsAmount f x decimals read
-amount_is f x None g l read has worth = subst (λ y. IsReal f y read) (sym has) worth
+amount_is f x None g l read has worth = subst (λ y. IsReal f y read) (sym (near_of f x None g l has refl)) worth
 amount_is f x (Some n) g l read has worth = (g, l, has, worth)
 
 -- If a literal is written for a float, and worth the nearest one, it is this float in the style.
 pub plain_real : (f : Format) (x : Float) (decimals : Option ℕ) (g : Grammar) (read : Read) → read.format ≡ g.word
     → (is_decimal (raw g.word).byte || is_binary (raw g.word).byte) ≡ true → read.kind.floats ≡ floats.Nearest
     → ((negative : Bool) → (n : ℕ) → (y : Float) → (decimals ≡ None → x ≡ y) → within read.kind.limits negative n y ≡ Ok y)
-    → (is_exact read.kind.integers || is_float read.literal) ≡ true → IsWrittenReal f x decimals g read.literal → IsAmount f x decimals read
+    → (is_exact read.kind.integers || is_float read.literal) ≡ true → IsWrittenReal f x (decimals_in g decimals) g read.literal → IsAmount f x decimals read
 plain_real f x decimals g read word known near fits plain has = amount_is f x decimals g read.literal read has
     (inl (subst (λ w. float_worth read.kind f (raw w).byte read.literal ≡ Ok (nearest f (raw g.word).byte read.literal)) (sym word)
     (worth_nearest f read.kind (raw g.word) read.literal known near (fits _ _ _ (near_of f x decimals g read.literal has)) plain)))
 
 -- What is worth the same float as a literal of the exact kind that is written for a float is this float in the style.
 pub same_real : (f : Format) (x : Float) (decimals : Option ℕ) (g : Grammar) (own read : Read) → own.kind ≡ exact → own.format ≡ g.word
-    → IsWrittenReal f x decimals g own.literal → (y : Float) → IsReal f y own → IsReal f y read → IsAmount f x decimals read
+    → IsWrittenReal f x (decimals_in g decimals) g own.literal → (y : Float) → IsReal f y own → IsReal f y read → IsAmount f x decimals read
 same_real f x decimals g own read kind word has y same real = amount_is f x decimals g own.literal read has
     (subst (λ z. IsReal f z read) (subst (λ w. y ≡ nearest f (raw w).byte own.literal) word (nearest_is f y own kind same)) real)
 
 -- If a literal of the exact kind is written for a number of the exact kind, it is this number in the style, unless an integer is written as a float.
 pub plain_number : (a : Read) (style : Style) (g : Grammar) (b : Read) → a.kind ≡ exact → b.kind ≡ exact → b.format ≡ g.word
     → (is_float a.literal ≡ true) ⊎ (has_float b ≡ false) → IsWrittenNumber a style g b.literal → IsInStyle a style b
-plain_number a style g b own kind word whole has = go style.nearest style.decimals refl refl
+plain_number a style g b own kind word whole has = go style.nearest (decimals_in g style.decimals) refl refl
   where
     fraction : SameFraction (raw a.format) a.literal (raw g.word) b.literal → IsInStyle a style b
     fraction same = inl (inr (inr (own, kind, whole, subst (λ w. SameFraction (raw a.format) a.literal (raw w) b.literal) (sym word) same)))
 
-    go : (near : Bool) (decimals : Option ℕ) → style.nearest ≡ near → style.decimals ≡ decimals → IsInStyle a style b
+    go : (near : Bool) (decimals : Option ℕ) → style.nearest ≡ near → decimals_in g style.decimals ≡ decimals → IsInStyle a style b
     go false decimals wish places = fraction (has.exact wish)
     go true None wish places = elim (has.near places) [
       | inl same ↦ fraction same
@@ -93,7 +105,7 @@ plain_number a style g b own kind word whole has = go style.nearest style.decima
       | inl same ↦ fraction same
       | inr float ↦ inr (
         wish,
-        subst (λ o. is_some o ≡ true) (sym places) refl,
+        some_in g style.decimals n places,
         g,
         b.literal,
         has,

@@ -27,7 +27,8 @@ use Rattle.lexical_value.specs.Integer.{integer_size}
 use Rattle.lexical_value.specs.Kind.{IsWorth, float_worth, integer_worth, is_exact}
 use Rattle.lexical_writer.specs.Conversion.{IsNear, SameFraction}
 use Rattle.lexical_writer.specs.Layout.{HasValue, laid_out, number_of_size, refusal, wants_exponent}
-use Rattle.lexical_writer.specs.Rounded.{IsRounded, decimals_in}
+use Rattle.lexical_writer.specs.Amount.{decimals_in}
+use Rattle.lexical_writer.specs.Rounded.{IsRounded}
 use Rattle.lexical_writer.specs.declared.layout.ExponentStyle.TheVariants as exponents
 use Rattle.lexical_writer.specs.declared.layout.Style.{Style}
 use Rattle.lexical_writer.specs.declared.layout.WriteError.{WriteError}
@@ -218,7 +219,7 @@ IsReal f value read = (float_worth read.kind f (bytes_of read.format) read.liter
 -- decimals, if `l` is `value`, rounded to these.
 abbrev pub IsWrittenReal : Format → Float → Option ℕ → Grammar → Literal → Type 0
 IsWrittenReal f value None g l = value ≡ nearest f (bytes_of g.word) l
-IsWrittenReal f value (Some n) g l = IsRounded value (raw g.word) l (decimals_in g n)
+IsWrittenReal f value (Some n) g l = IsRounded value (raw g.word) l n
 
 -- `IsKept value decimals read` holds if `read` is worth the nearest float, and if its limits, if there are any, take the float `value`, which is not rounded.
 abbrev pub IsKept : Float → Option ℕ → Read → Type 0
@@ -227,10 +228,10 @@ IsKept value decimals read = ((is_decimal (bytes_of read.format) || is_binary (b
     × ((read.kind.limits ≡ limits.None) ⊎ ((decimals ≡ None) × (float_is_infinite value ≡ false) × (is_zero value ≡ false)))
 
 -- `IsAmount f value decimals read` holds if `read` is worth the float `value` of `f` or, with a number of decimals, the float that is
--- nearest to a literal that is `value`, rounded to these.
+-- nearest to a literal that is written for `value`.
 abbrev pub IsAmount : Format → Float → Option ℕ → Read → Type 0
 IsAmount f value None read = IsReal f value read
-IsAmount f value (Some n) read = (g : Grammar) × (l : Literal) × IsRounded value (raw g.word) l (decimals_in g n)
+IsAmount f value (Some n) read = (g : Grammar) × (l : Literal) × IsWrittenReal f value (decimals_in g (Some n)) g l
     × IsReal f (nearest f (bytes_of g.word) l) read
 
 -- `IsSameNumber near a b` holds if `a` and `b` are worth the same integer or, if `a` has a decimal point or an exponent, or `near` is
@@ -245,9 +246,9 @@ IsSameNumber near a b = ((z : ℤ) × IsWhole z a × IsWhole z b)
 -- `IsWrittenNumber read style g l` holds if the literal `l` of `g` has the value of `read` or, by a style that wishes so, that of the
 -- `f64` that is nearest to it, which has the decimals of the style, if it has any.
 pub record IsWrittenNumber (read : Read) (style : Style) (g : Grammar) (l : Literal) : Type 0 where
-  pub near : style.decimals ≡ None → IsNear binary64 (raw read.format) read.literal (raw g.word) l
-  pub rounded : (n : ℕ) → style.decimals ≡ Some n → SameFraction (raw read.format) read.literal (raw g.word) l
-      ⊎ IsRounded (nearest binary64 (bytes_of read.format) read.literal) (raw g.word) l (decimals_in g n)
+  pub near : decimals_in g style.decimals ≡ None → IsNear binary64 (raw read.format) read.literal (raw g.word) l
+  pub rounded : (n : ℕ) → decimals_in g style.decimals ≡ Some n → SameFraction (raw read.format) read.literal (raw g.word) l
+      ⊎ IsRounded (nearest binary64 (bytes_of read.format) read.literal) (raw g.word) l n
   pub exact : style.nearest ≡ false → SameFraction (raw read.format) read.literal (raw g.word) l
 
 -- `IsKeptNumber a own b` holds if `a` and `b` are worth the same integer of at most 128 bits or, if `own` is true, if both are of the exact kind, and

@@ -89,16 +89,14 @@ is_kept r parts g =
     if has_power parts then allows_exponent g && effective_exponent_base r == effective_exponent_base (raw g.word)
     else not (lacks_options g.options && is_some (fraction_of parts))
 
--- `is_unwanted wish size` is true if the point is to move in place of an exponent of this size.
-abbrev pub is_unwanted : ExponentStyle → ℕ → Bool
-is_unwanted exponents.Never size = true
-is_unwanted (exponents.From least) size = nat_lt size least
-is_unwanted _ size = false
+-- `is_unwanted wish` is true if the point is to move in place of an exponent.
+abbrev pub is_unwanted : ExponentStyle → Bool
+is_unwanted exponents.Never = true
+is_unwanted _ = false
 
 -- `is_wish r parts g style` is true if `parts` has an exponent that is unwanted, literals of `g` need none, and the point can move.
 abbrev pub is_wish : Record → Parts → Grammar → Style → Bool
-is_wish r parts g style = (has_power parts && not (needs_exponent g) && can_move r parts)
-    && is_unwanted style.exponent (number (effective_exponent_radix r) parts.exponent.now)
+is_wish r parts g style = (has_power parts && not (needs_exponent g) && can_move r parts) && is_unwanted style.exponent
 
 -- `IsKept r parts g style result` holds if `result` is what is written for `parts`, or why it cannot be written, where the point stays.
 abbrev pub IsKept : Record → Parts → Grammar → Style → Result Layout WriteError → Type 0
@@ -160,4 +158,4 @@ IsWrittenAs f read g style (Ok l) = ((layout : Layout) × (written layout ≡ l)
     × IsFloatOf f (nearest f (raw read.format).byte read.literal) g style l)
 IsWrittenAs f read g style (Err error) = IsWritten read g style (Err error)
     ⊎ ((style.nearest ≡ true) × (first : WriteError) × IsWritten read g style (Err first)
-    × IsFloatError (nearest f (raw read.format).byte read.literal) g style error)
+    × IsFloatError (nearest f (raw read.format).byte read.literal) g error)

@@ -113,7 +113,6 @@ plain_style = record {
   min_digits = 0;
   exponent = exponents.AsNumber;
   decimals = None;
-  point = false;
   nearest = false;
 }
 

@@ -203,7 +203,7 @@ pub struct Real<F> {
 impl<F: Float> Writable for Real<F> {
     ghost use Rattle.std.specs.Prelude.{◌≡◌, MatchResult, false, is_some, true};
     ghost use Rattle.lexical_number.specs.Float.{format_of};
-    ghost use Rattle.lexical_writer.specs.Amount.{IsFloatError, IsFloatOf};
+    ghost use Rattle.lexical_writer.specs.Amount.{IsFloatError, IsFloatOf, decimals_in};
     ghost use Rattle.lexical_writer.specs.Choice.{IsAmount, IsKept, IsWrittenReal};
 
     ghost base = { λ number. 10 };
@@ -213,7 +213,7 @@ impl<F: Float> Writable for Real<F> {
     ghost rounded = { λ number style. is_some style.decimals };
 
     ghost writes = { λ number style g result. MatchResult result (λ l. IsFloatOf (format_of F.DOUBLE) (F.value number.value) g style l
-        × IsWrittenReal (format_of F.DOUBLE) (F.value number.value) style.decimals g l) (IsFloatError (F.value number.value) g style) };
+        × IsWrittenReal (format_of F.DOUBLE) (F.value number.value) (decimals_in g style.decimals) g l) (IsFloatError (F.value number.value) g) };
 
     ghost is = { λ number style read. IsAmount (format_of F.DOUBLE) (F.value number.value) style.decimals read };
 

@@ -43,9 +43,6 @@ pub enum ExponentStyle {
     Never,
     /// With one. A number without an exponent has the exponent 0.
     Always,
-    /// If it has one that is at least this number, or at most minus this number. The point moves in the place of another one,
-    /// as for `Never`.
-    From(u32),
 }
 
 /// How numbers are written where a syntax leaves a choice. Each field is a wish: what the syntax forbids is not done, and what
@@ -75,10 +72,8 @@ pub struct Style {
     pub min_digits: u8,
     /// Whether there is an exponent.
     pub exponent: ExponentStyle,
-    /// How many digits the fraction of a float has, to which it is rounded. For `None`, as many as its value needs.
+    /// How many digits the fraction of a float has in decimal floats, to which it is rounded. For `None`, as many as its value needs.
     pub decimals: Option<u8>,
-    /// Whether a float has a point with a digit behind it, also before an exponent, as in `1.0e16`.
-    pub point: bool,
     /// Whether a literal of another radix or base that cannot be written exactly is written by the nearest `f64`.
     pub nearest: bool,
 }
@@ -95,7 +90,6 @@ impl Style {
         min_digits: 0,
         exponent: ExponentStyle::AsNumber,
         decimals: None,
-        point: false,
         nearest: false,
     };
 }

@@ -17,7 +17,7 @@ use crate::layout::{
     Amount, ExponentStyle, Layout, Power, Style, WriteError, allows_exponent, forbids_minus,
     is_whole, needs_exponent,
 };
-use crate::moved::{can_move, exponent_of, places_of, too_far, whole_size, without_exponent};
+use crate::moved::{can_move, places_of, too_far, whole_size, without_exponent};
 use crate::run::Source;
 use lexical_literal::literal::{Literal, Parts};
 use lexical_literal::syntax::Syntax;
@@ -108,20 +108,14 @@ fn is_wish(format: NumberFormat, parts: &Parts, syntax: &Syntax, style: Style) -
     has_power(parts)
         && !needs_exponent(syntax)
         && can_move(format, parts)
-        && is_unwanted(style.exponent, &exponent_of(format, parts))
+        && is_unwanted(style.exponent)
 }
 
 // Returns whether the point is to move in place of an exponent.
-fn is_unwanted(wish: ExponentStyle, exponent: &Numeral) -> bool
-    requires { exponent.now.negative ≡ false }
-    ensures { result ≡ is_unwanted wish (numeral_size exponent.now) }
+const fn is_unwanted(wish: ExponentStyle) -> bool
+    ensures { result ≡ is_unwanted wish }
 {
-    match wish {
-        ExponentStyle::Never => true,
-        ExponentStyle::From(least) =>
-            matches!(exponent.as_u64(), Some(size) if size < least as u64),
-        ExponentStyle::AsNumber | ExponentStyle::Always => false,
-    }
+    matches!(wish, ExponentStyle::Never)
 }
 
 // Returns how a literal is written whose point stays where it is, or why it cannot be.

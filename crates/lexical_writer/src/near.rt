@@ -6,9 +6,10 @@ ghost use Rattle.lexical_literal.specs.Literal.{Reads, text_of};
 ghost use Rattle.lexical_literal.specs.Notation.{notation_of};
 ghost use Rattle.lexical_number.specs.Float.{format_of};
 ghost use Rattle.lexical_value.specs.Float.{nearest};
+ghost use Rattle.lexical_writer.specs.Amount.{decimals_in};
 ghost use Rattle.lexical_writer.specs.Conversion.{IsNear, IsWrittenAs, SameFraction};
 ghost use Rattle.lexical_writer.specs.Layout.{literal_of as written};
-ghost use Rattle.lexical_writer.specs.Rounded.{IsRounded, decimals_in};
+ghost use Rattle.lexical_writer.specs.Rounded.{IsRounded};
 
 use crate::float::{format_float, sign_and_size};
 use crate::float_digits::FloatDigits;
@@ -58,13 +59,12 @@ pub fn format_near<'a, F: Float>(
 ) -> Result<Layout<'a>, WriteError>
     // What is written is a literal, with the same nearest float as the one that was given.
     ensures literal { IfOk result (λ layout. Reads (notation_of syntax.now) (written layout) (text_of (written layout))) }
-    ensures near { style.decimals ≡ None → IfOk result (λ layout.
+    ensures near { decimals_in syntax.now style.decimals ≡ None → IfOk result (λ layout.
         IsNear (format_of F.DOUBLE) (raw literal.now.format) literal.now.literal (raw syntax.now.word) (written layout)) }
     // Or this float is rounded to a number of digits behind the point.
-    ensures rounded { (n : ℕ) → style.decimals ≡ Some n → IfOk result (λ layout.
+    ensures rounded { (n : ℕ) → decimals_in syntax.now style.decimals ≡ Some n → IfOk result (λ layout.
         SameFraction (raw literal.now.format) literal.now.literal (raw syntax.now.word) (written layout)
-        ⊎ IsRounded (nearest (format_of F.DOUBLE) (bytes_of literal.now.format) literal.now.literal) (raw syntax.now.word) (written layout)
-        (decimals_in syntax.now n)) }
+        ⊎ IsRounded (nearest (format_of F.DOUBLE) (bytes_of literal.now.format) literal.now.literal) (raw syntax.now.word) (written layout) n) }
     // Without the wish, the value is the same.
     ensures exact { style.nearest ≡ false → IfOk result (λ layout.
         SameFraction (raw literal.now.format) literal.now.literal (raw syntax.now.word) (written layout)) }

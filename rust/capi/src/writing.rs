@@ -44,12 +44,10 @@ pub struct Style {
     lowercase: u8,
     min_digits: u8,
     exponent: u8,
-    exponent_from: u32,
-    point: u8,
     has_decimals: u8,
     decimals: u8,
     nearest: u8,
-    reserved: [u8; 8],
+    reserved: [u8; 15],
 }
 
 const _: () = assert!(size_of::<Style>() == 24, "the size in the header");
@@ -69,16 +67,15 @@ impl Style {
         (style.group, style.fraction_group) = (group(self.group), group(self.fraction_group));
         (style.prefix, style.suffix) = (self.without_base == 0, self.without_base == 0);
         style.lowercase = self.lowercase != 0;
-        (style.point, style.nearest) = (self.point != 0, self.nearest != 0);
+        style.nearest = self.nearest != 0;
         style.decimals = (self.has_decimals != 0).then_some(self.decimals);
         let exponent = match self.exponent {
             0 => ExponentStyle::AsNumber,
             1 => ExponentStyle::Never,
             2 => ExponentStyle::Always,
-            3 => ExponentStyle::From(self.exponent_from),
             _ => return None,
         };
-        (self.reserved == [0; 8]).then_some(style.exponent(exponent))
+        (self.reserved == [0; 15]).then_some(style.exponent(exponent))
     }
 }
 

@@ -108,8 +108,6 @@ impl Style {
     /// };
     /// assert_eq!(write("1.5e3", ExponentStyle::Never), "1500");
     /// assert_eq!(write("1.5", ExponentStyle::Always), "1.5e0");
-    /// assert_eq!(write("1.5e3", ExponentStyle::From(4)), "1500");
-    /// assert_eq!(write("1.5e-4", ExponentStyle::From(4)), "1.5e-4");
     /// ```
     #[must_use]
     pub const fn exponent(mut self, wish: ExponentStyle) -> Style {
@@ -119,8 +117,8 @@ impl Style {
 
     /// Rounds a float to `count` digits behind the point, as `{:.2}` of std does: to the nearest, or to the even one if two
     /// are as near. The sign of a number that becomes 0 is kept. There is no exponent, or 0 where the syntax requires one, unless
-    /// the style has [`ExponentStyle::Always`] or [`ExponentStyle::From`]. Then one digit is before the point. In a syntax of
-    /// integers alone, no digit is behind it.
+    /// the style has [`ExponentStyle::Always`]. Then one digit is before the point. In integers alone, and in another radix than
+    /// 10, this wish has no effect.
     ///
     /// ```
     /// use peltzivar::literal::{ExponentStyle, Language, Style};
@@ -136,21 +134,6 @@ impl Style {
     #[must_use]
     pub const fn decimals(mut self, count: u8) -> Style {
         self.decimals = Some(count);
-        self
-    }
-
-    /// Writes a float with a point and a digit behind it, also before an exponent: `1.0e16`. With
-    /// [`decimals(0)`][Self::decimals], there is no point.
-    ///
-    /// ```
-    /// use peltzivar::literal::{Language, Style};
-    ///
-    /// let ada = Language::ADA.forms()[0].syntax();
-    /// assert_eq!(ada.format_float(1e16, Style::PLAIN.point()).unwrap().to_string(), "1.0e16");
-    /// ```
-    #[must_use]
-    pub const fn point(mut self) -> Style {
-        self.point = true;
         self
     }
 

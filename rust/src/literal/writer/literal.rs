@@ -8,7 +8,7 @@ use crate::literal::value::number::numeral::{Magnitude, Numeral};
 use crate::literal::writer::layout::{
     allows_exponent, forbids_minus, is_whole, needs_exponent, Amount, ExponentStyle, Layout, Power, Style, WriteError,
 };
-use crate::literal::writer::moved::{can_move, exponent_of, places_of, too_far, whole_size, without_exponent};
+use crate::literal::writer::moved::{can_move, places_of, too_far, whole_size, without_exponent};
 use crate::literal::writer::run::Source;
 use crate::word::FormatView;
 
@@ -68,19 +68,12 @@ fn is_kept(format: FormatView, parts: &Parts, syntax: &Syntax) -> bool {
 
 // Returns whether the point of a literal of `format` is to move in place of its exponent.
 fn is_wish(format: FormatView, parts: &Parts, syntax: &Syntax, style: Style) -> bool {
-    has_power(parts)
-        && !needs_exponent(syntax)
-        && can_move(format, parts)
-        && is_unwanted(style.exponent, &exponent_of(format, parts))
+    has_power(parts) && !needs_exponent(syntax) && can_move(format, parts) && is_unwanted(style.exponent)
 }
 
 // Returns whether the point is to move in place of an exponent.
-fn is_unwanted(wish: ExponentStyle, exponent: &Numeral) -> bool {
-    match wish {
-        ExponentStyle::Never => true,
-        ExponentStyle::From(least) => matches!(exponent.as_u64(), Some(size) if size < least as u64),
-        ExponentStyle::AsNumber | ExponentStyle::Always => false,
-    }
+const fn is_unwanted(wish: ExponentStyle) -> bool {
+    matches!(wish, ExponentStyle::Never)
 }
 
 // Returns how a literal is written whose point stays where it is, or why it cannot be.

@@ -3,7 +3,7 @@ use Rattle.std.proofs.Common.{is_ok}
 use Rattle.std.proofs.lemmas.Result.{IfErr-weaker}
 use Rattle.lexical_writer.specs.Amount.{IsFloatError}
 use Rattle.lexical_writer.specs.Conversion.{IsWritten, IsWrittenAs}
-use Rattle.lexical_writer.proofs.Common.{Bool, IsFloatOf, ap, false, false≢true, inl, refl, sym, true, ◌∙◌, ◌≡◌, Err, IfErr, IfOk-weaker, IsRounded, Ok, Result, SameFraction, WriteError, decimals_in, format_of, inr, literal_of}
+use Rattle.lexical_writer.proofs.Common.{Bool, IsFloatOf, ap, false, false≢true, inl, refl, sym, true, ◌∙◌, ◌≡◌, Err, IfErr, IfOk-weaker, IsRounded, Ok, Result, SameFraction, WriteError, format_of, inr, literal_of}
 use Rattle.lexical_writer.proofs.Common.{nearest, raw, subst, ◌⊎◌}
 use Rattle.lexical_writer.proofs.near.format_near.Goals as goal
 
@@ -37,13 +37,13 @@ returns-in-Ok-float_instead-clause-error g c =
     let f = format_of g.F.Float.DOUBLE in
     let read = c.args.literal.now in
     let to = c.args.syntax.now in
-    IfErr-weaker c.format_float.result (IsFloatError (g.F.Float.value c.in-Ok-float_instead.value) to c.args.style)
+    IfErr-weaker c.format_float.result (IsFloatError (g.F.Float.value c.in-Ok-float_instead.value) to)
     (λ error. IsWrittenAs f read to c.args.style (Err error))
     (λ error is. inr (
       by_wish c.args.style.nearest (λ none. not_both _ _ _ c.in-Ok-float_instead.is (c.float_instead.ensures.wish none)),
       c.in-Err.error,
       c.in-Err.ensures.parts,
-      subst (λ x. IsFloatError x to c.args.style error) c.in-Ok-float_instead.ensures.nearest is,
+      subst (λ x. IsFloatError x to error) c.in-Ok-float_instead.ensures.nearest is,
     )) c.format_float.ensures.error
 
 pub returns-in-Err-float_instead-clause-error : goal.returns-in-Err-float_instead-clause-error
@@ -55,8 +55,7 @@ returns-in-Ok-float_instead-clause-rounded g c n some =
     let from = raw c.args.literal.now.format in
     let to = raw c.args.syntax.now.word in
     let value = nearest (format_of g.F.Float.DOUBLE) from.byte c.args.literal.now.literal in
-    let places = decimals_in c.args.syntax.now n in
-    IfOk-weaker c.format_float.result (λ layout. IsRounded (g.F.Float.value c.in-Ok-float_instead.value) to (literal_of layout) places)
-    (λ layout. SameFraction from c.args.literal.now.literal to (literal_of layout) ⊎ IsRounded value to (literal_of layout) places)
-    (λ layout is. inr (subst (λ x. IsRounded x to (literal_of layout) places) c.in-Ok-float_instead.ensures.nearest is))
+    IfOk-weaker c.format_float.result (λ layout. IsRounded (g.F.Float.value c.in-Ok-float_instead.value) to (literal_of layout) n)
+    (λ layout. SameFraction from c.args.literal.now.literal to (literal_of layout) ⊎ IsRounded value to (literal_of layout) n)
+    (λ layout is. inr (subst (λ x. IsRounded x to (literal_of layout) n) c.in-Ok-float_instead.ensures.nearest is))
     (c.format_float.ensures.rounded n some)

@@ -1,5 +1,5 @@
 -- What is written has the value.
-use Rattle.lexical_writer.proofs.Common.{format_of, literal_of}
+use Rattle.lexical_writer.proofs.Common.{decimals_in, format_of, literal_of}
 use Rattle.lexical_writer.proofs.ChoiceLemmas.{written_real}
 use Rattle.lexical_writer.proofs.choice.RealWritable.write.Goals as goal
 
@@ -9,7 +9,7 @@ returns-clause-text g c =
     let l = literal_of c.in_ok-format_float.field-0 in (
       l,
       written.literal,
-      (written.amount, written_real (format_of g.F.Float.DOUBLE) (g.F.Float.value c.args.self.now.value) c.args.style.decimals c.args.syntax.now l
+      (written.amount, written_real (format_of g.F.Float.DOUBLE) (g.F.Float.value c.args.self.now.value) (decimals_in c.args.syntax.now c.args.style.decimals) c.args.syntax.now l
           written.value written.rounded),
       c.put.ensures.text,
       c.put.ensures.float,
