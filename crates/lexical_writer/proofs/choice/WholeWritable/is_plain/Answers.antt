@@ -5,6 +5,7 @@ use Rattle.lexical_writer.proofs.choice.WholeWritable.is_plain.Goals as goal
 
 pub returns-then-not-float-clause-plain : goal.returns-then-not-float-clause-plain
 returns-then-not-float-clause-plain c equal read kind word float has =
-    kept_whole c.args.self.now.negative c.args.self.now.size c.args._syntax.now read word (float ∙ c.if-not-float.true)
-    (λ negative. ap (λ (k : Kind). worth k.integers negative c.args.self.now.size) kind
-    ∙ ap (λ k. worth k negative c.args.self.now.size) (sym c.integers.ensures) ∙ c.is_kept.ensures equal negative) has.1
+    let negative = c.args.self.now.negative in
+    let size = c.args.self.now.size in
+    kept_whole negative size c.args._syntax.now _ read word (float ∙ c.if-not-float.true)
+    (ap (λ (k : Kind). worth k.integers negative size) kind ∙ ap (λ k. worth k negative size) (sym c.integers.ensures) ∙ c.is_kept.ensures equal) has.0 has.1
