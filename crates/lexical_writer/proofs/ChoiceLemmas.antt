@@ -18,7 +18,7 @@ use Rattle.lexical_value.specs.declared.integer.ValueErrorKind.{ValueErrorKind}
 use Rattle.lexical_value.specs.declared.integer.ValueErrorKind.TheVariants as kinds
 use Rattle.lexical_writer.specs.Choice.{IsAmount, IsInStyle, IsReal, has_floats, has_worth}
 use Rattle.lexical_writer.specs.Conversion.{IsNear}
-use Rattle.lexical_writer.specs.Layout.{laid_out, number_of_size, sign_of}
+use Rattle.lexical_writer.specs.Layout.{sign_of}
 use Rattle.lexical_forms.proofs.MarkLemmas.{plain_in}
 use Rattle.lexical_value.proofs.KindLemmas.{exact_float, limited_worth}
 use Rattle.lexical_literal.specs.declared.kind.FloatKind.TheVariants as floats
@@ -107,25 +107,24 @@ size_with true zero = refl
 size_with true (suc n) = refl
 
 -- Only a negative number has a minus sign.
-minus : (negative required : Bool) → is_minus (option_to_list (sign_of negative required)) ≡ negative
+pub minus : (negative required : Bool) → is_minus (option_to_list (sign_of negative required)) ≡ negative
 minus negative required = grind arith
 
 -- An integer literal that is written for an integer is worth it by a kind that keeps its size.
-pub kept_whole : (negative : Bool) (size : ℕ) (g : Grammar) (style : Style) (read : Read) → read.format ≡ g.word → is_float read.literal ≡ false
+pub kept_whole : (negative : Bool) (size : ℕ) (g : Grammar) (read : Read) → read.format ≡ g.word → is_float read.literal ≡ false
     → worth read.kind.integers negative size ≡ Some (negative, size)
-    → read.literal ≡ laid_out g style (number_of_size negative size)
+    → is_minus read.literal.sign ≡ negative
     → with_sign negative size ≡ with_sign (is_minus read.literal.sign) (integer_size (raw g.word).byte read.literal)
     → IsWhole (with_sign negative size) read
-kept_whole negative size g style read word whole kept written has =
+kept_whole negative size g read word whole kept sign has =
     let is : with_sign negative size ≡ with_sign (is_minus read.literal.sign) (integer_size (raw read.format).byte read.literal) =
     subst (λ w. with_sign negative size ≡ with_sign (is_minus read.literal.sign) (integer_size (raw w).byte read.literal)) (sym word) has in
     let same = sym (size_with negative size) ∙ ap size_without is ∙ size_with (is_minus read.literal.sign) (integer_size (raw read.format).byte read.literal) in
-    let sign : negative ≡ is_minus read.literal.sign = sym (ap (λ (l : Literal). is_minus l.sign) written ∙ minus negative _) in
     inl (
       whole,
       subst (λ o. IsSomeAnd o (λ w. with_sign negative size ≡ with_sign w.0 w.1))
           (sym (subst (λ n. worth read.kind.integers (is_minus read.literal.sign) n ≡ Some (is_minus read.literal.sign, n)) same
-          (subst (λ b. worth read.kind.integers b size ≡ Some (b, size)) sign kept))) is,
+          (subst (λ b. worth read.kind.integers b size ≡ Some (b, size)) (sym sign) kept))) is,
     )
 
 -- What is written by the first form of a list is its first literal.

@@ -94,9 +94,18 @@ impl KindNumbers {
             (4, bits) => IntegerKind::Unsigned(bits),
             _ => return None,
         };
-        let floats = [FloatKind::Nearest, FloatKind::Single].get(usize::from(self.floats))?;
-        let limits = [FloatLimits::None, FloatLimits::Largest, FloatLimits::Both].get(usize::from(self.limits))?;
-        Some(Kind::new(integers, *floats)?.with_limits(*limits))
+        let floats = match self.floats {
+            0 => FloatKind::Nearest,
+            1 => FloatKind::Single,
+            _ => return None,
+        };
+        let limits = match self.limits {
+            0 => FloatLimits::None,
+            1 => FloatLimits::Largest,
+            2 => FloatLimits::Both,
+            _ => return None,
+        };
+        Some(Kind::new(integers, floats)?.with_limits(limits))
     }
 }
 

@@ -216,15 +216,14 @@ impl<'a> Token<'a> {
 #[cold]
 #[inline(never)]
 fn error_of(why: TokenError) -> ReadError {
-    match why {
-        TokenError::Literal(why) => ReadError::of(why),
-        TokenError::UnknownSuffix { form, start, end, .. } => {
-            ReadError::at(start, form, Refusal::Suffix { start, end })
-        }
-        TokenError::Stopped { form, start, end } => ReadError::at(start, form, Refusal::Stop { start, end }),
-        TokenError::NotAToken { end } => ReadError::at(end, 0, Refusal::Point { end }),
-        _ => ReadError::at(0, 0, Refusal::Argument("these forms have no tokens")),
-    }
+    let (at, form, refusal) = match why {
+        TokenError::Literal(why) => return ReadError::of(why),
+        TokenError::UnknownSuffix { form, start, end, .. } => (start, form, Refusal::Suffix { start, end }),
+        TokenError::Stopped { form, start, end } => (start, form, Refusal::Stop { start, end }),
+        TokenError::NotAToken { end } => (end, 0, Refusal::Point { end }),
+        _ => (0, 0, Refusal::Argument("these forms have no tokens")),
+    };
+    ReadError::at(at, form, refusal)
 }
 
 calls! {
