@@ -1,6 +1,6 @@
-//! What literals are worth by the kind of their form and of their suffix. Expected values are those of gcc and g++ with
-//! `-pedantic-errors`, rustc with its lint of overflowing literals, javac, OCaml, NASM, Lua, Nim and gfortran. Those of
-//! recorded texts are in `literals.rs`. `c/tests/test_python.py` has the limits of kinds of integers in each radix.
+//! What literals are worth by the kind of their form and of their suffix. Expected values are those of the languages'
+//! tools. Those of recorded texts are in `literals.rs`. `c/tests/test_python.py` has the limits of kinds of integers in
+//! each radix.
 
 #[path = "known/limits.rs"]
 mod limits;
@@ -12,89 +12,27 @@ use peltzivar::literal::{
 };
 use std::collections::{BTreeSet, HashMap};
 
-/// A language, a token, and the integer that it is, or none if it is too large, beside what the tools answered.
-const INTEGERS: &[(Language, &str, Option<i128>)] = &[
-    (Language::JAVA, "3000000000", None),
-    (Language::JAVA, "3000000000L", Some(3000000000)),
-    (Language::JAVA, "9223372036854775807l", Some(9223372036854775807)),
-    (Language::JAVA, "9223372036854775808L", None),
-    (Language::JAVA, "0x7fffffff", Some(2147483647)),
-    (Language::JAVA, "0xffff_ffff", Some(-1)),
-    (Language::JAVA, "0x00000000ffffffff", Some(-1)),
-    (Language::JAVA, "0xffffffffL", Some(4294967295)),
-    (Language::JAVA, "0x8000000000000000L", Some(-9223372036854775808)),
-    (Language::JAVA, "0xffffffffffffffffL", Some(-1)),
-    (Language::JAVA, "0x10000000000000000L", None),
-    (Language::JAVA, "0b11111111111111111111111111111110", Some(-2)),
-    (Language::OCAML, "4611686018427387903", Some(4611686018427387903)),
-    (Language::OCAML, "4611686018427387905", None),
-    (Language::OCAML, "0x3fffffffffffffff", Some(4611686018427387903)),
-    (Language::OCAML, "0x7fffffffffffffff", Some(-1)),
-    (Language::OCAML, "0x8000000000000000", None),
-    (Language::OCAML, "0xffffffffl", Some(-1)),
-    (Language::OCAML, "0xffffffffL", Some(4294967295)),
-    (Language::OCAML, "2147483647l", Some(2147483647)),
-    (Language::OCAML, "9223372036854775807L", Some(9223372036854775807)),
-    (Language::OCAML, "0xffffffffffffffffL", Some(-1)),
-    (Language::OCAML, "9223372036854775807n", Some(9223372036854775807)),
-    (Language::OCAML, "0xffffffffffffffffn", Some(-1)),
-    (Language::NASM, "0ffffffffffffffffh", Some(-1)),
-    (Language::NASM, "18446744073709551616", Some(0)),
-    (Language::LUA, "0xffffffffffffffff", Some(-1)),
-    (Language::LUA, "0x100080000000000001", Some(36028797018963969)),
-    (Language::LUA, "9223372036854775808", Some(9223372036854775808)),
-    (Language::JAVASCRIPT, "9007199254740993", Some(9007199254740993)),
-    (Language::RUST, "0xffffffffffffffff", Some(18446744073709551615)),
-    (Language::RUST, "170141183460469231731687303715884105727u128", Some(i128::MAX)),
-    (Language::RUST, "170141183460469231731687303715884105728i128", None),
-    (Language::RUST, "255u8", Some(255)),
-    (Language::RUST, "300u8", None),
-    (Language::RUST, "0xffi8", None),
-    (Language::RUST, "127i8", Some(127)),
-    (Language::RUST, "128i8", None),
-    (Language::RUST, "18446744073709551616usize", None),
-    (Language::C, "9223372036854775807LL", Some(9223372036854775807)),
-    (Language::C, "9223372036854775808u", Some(9223372036854775808)),
-    (Language::C, "18446744073709551615ULL", Some(18446744073709551615)),
-    (Language::C, "18446744073709551616ULL", None),
-    (Language::C, "0xffffffffffffffffLL", Some(18446744073709551615)),
-    (Language::C, "0x10000000000000000", None),
-    (Language::C_PLUS_PLUS, "01777777777777777777777", Some(18446744073709551615)),
-    (Language::C_PLUS_PLUS, "02000000000000000000000", None),
-    (Language::C_PLUS_PLUS, "9223372036854775808ms", None),
-    (Language::C_PLUS_PLUS, "9223372036854775808i", Some(9223372036854775808)),
-    (Language::KOTLIN, "0xFFFFFFFFFFFFFFFFu", Some(18446744073709551615)),
-    (Language::FORTRAN, "-2147483648", Some(-2147483648)),
-    (Language::FORTRAN, "-128_1", Some(-128)),
-    (Language::NIM, "-128i8", Some(-128)),
+/// A language, a token, and the integer that it is.
+const INTEGERS: &[(Language, &str, i128)] = &[
+    (Language::JAVA, "0x00000000ffffffff", -1),
+    (Language::LUA, "0x100080000000000001", 36028797018963969),
+    (Language::LUA, "9223372036854775808", 9223372036854775808),
+    (Language::JAVASCRIPT, "9007199254740993", 9007199254740993),
 ];
 
 /// A language, a token, and the float that it is.
 const FLOATS: &[(Language, &str, f64)] = &[
-    (Language::JAVA, "0.1d", 0.1),
-    (Language::JAVA, "0.1f", 0.1_f32 as f64),
     (Language::JAVA, "16777217f", 16777216.0),
-    (Language::JAVA, "3000000000d", 3e9),
-    (Language::JAVA, "9223372036854775809f", 9223372036854775808.0),
-    (Language::JAVA, "16777217d", 16777217.0),
-    (Language::JAVA, "9223372036854775809d", 9223372036854775808.0),
     (Language::JAVA, "08f", 8.0),
     (Language::KOTLIN, "016777217f", 16777216.0),
     // Rounded to a double first, it would be between two singles, and then the lower one.
     (Language::JAVA, "1.000000059604644775390626f", 1.0000001_f32 as f64),
     (Language::JAVA, "0x1.0000010000000000000001p0f", 1.0000001_f32 as f64),
     (Language::JAVA, "0xffffffff", -1.0),
-    (Language::OCAML, "0x7fffffffffffffff", -1.0),
     (Language::LUA, "9223372036854775808", 9223372036854775808.0),
     (Language::LUA, "0x1p64", 18446744073709551616.0),
-    (Language::FORTRAN, "0.1", 0.1_f32 as f64),
     (Language::FORTRAN, "1.000000059604644775390626", 1.0000001_f32 as f64),
-    (Language::FORTRAN, "16777217", 16777217.0),
-    (Language::FORTRAN, "0.1d0", 0.1),
     (Language::JULIA, "0.1f0", 0.1_f32 as f64),
-    (Language::C, "0.1F", 0.1_f32 as f64),
-    (Language::RUST, "0.1f32", 0.1_f32 as f64),
-    (Language::KOTLIN, "16777217f", 16777216.0),
     (Language::C, "1e400", f64::INFINITY),
     (Language::C, "1e-400", 0.0),
     (Language::RUST, "1e-400", 0.0),
@@ -104,16 +42,10 @@ const FLOATS: &[(Language, &str, f64)] = &[
 
 /// A language, and a token that its tool refuses for its value, which is too large, too small, or 0 for digits that are not.
 const BEYOND: &[(Language, &str, ValueErrorKind)] = &[
-    (Language::JAVA, "1e400", ValueErrorKind::TooLarge),
     (Language::JAVA, "1e-400", ValueErrorKind::Vanishes),
-    (Language::JAVA, "1e39f", ValueErrorKind::TooLarge),
     (Language::JAVA, "1e-46f", ValueErrorKind::Vanishes),
     (Language::JAVA, "2e-324d", ValueErrorKind::Vanishes),
-    (Language::JAVA, "0x1p2000", ValueErrorKind::TooLarge),
     (Language::JAVA, "0x1p-2000", ValueErrorKind::Vanishes),
-    (Language::RUST, "1e400", ValueErrorKind::TooLarge),
-    (Language::RUST, "3.5e38f32", ValueErrorKind::TooLarge),
-    (Language::RUST, "340282366920938463463374607431768211456f32", ValueErrorKind::TooLarge),
     (Language::FORTRAN, "-1.5e39", ValueErrorKind::TooSmall),
     (Language::FORTRAN, "1d400", ValueErrorKind::TooLarge),
 ];
@@ -130,9 +62,8 @@ fn literal(language: Language, text: &str) -> Literal<'_> {
 fn values_are_those_of_the_language() {
     for (language, text, wanted) in INTEGERS {
         let literal = literal(*language, text);
-        assert_eq!(literal.to_i128().ok(), *wanted, "{language}: {text}");
-        assert_eq!(i128::try_from(literal).map_err(|it| it.kind()), wanted.ok_or(ValueErrorKind::TooLarge), "{text}");
-        assert_eq!(literal.to_f64().ok(), wanted.map(|it| it as f64), "{language}: {text}");
+        assert_eq!(literal.to_i128(), Ok(*wanted), "{language}: {text}");
+        assert_eq!(literal.to_f64(), Ok(*wanted as f64), "{language}: {text}");
     }
     for (language, text, wanted) in FLOATS {
         let literal = literal(*language, text);
@@ -258,6 +189,8 @@ fn has_limits(language: Language, form: &Form, one: &str, suffix: &str, known: &
         let found = literal.to_u128().map(|it| (false, it)).or_else(|_| below());
         let error = if sign == "-" { ValueErrorKind::TooSmall } else { ValueErrorKind::TooLarge };
         assert_eq!(found.map_err(|it| it.kind()), wanted.ok_or(error), "{language}: {text}");
+        assert_eq!(i128::try_from(literal), literal.to_i128(), "{language}: {text}");
+        assert!(wanted.is_some() || literal.to_f64().is_err(), "{language}: {text}");
     }
     let has_floats = form.syntax().supports_floats() && (is_float || limits.integers.is_none());
     for (number, wanted) in floats(&limits).into_iter().filter(|_| has_floats) {
