@@ -346,8 +346,10 @@ fn spans_begin_with_the_opening() {
         let values =
             [number.value::<u8>(), front.value(), literal.try_into(), literal.to_scaled(0), number.to_scaled(2)];
         let token = forms.token(&text).ok().map(|it| it.literal.try_into());
+        let constant = literal.to_u64().err().map(Err);
         let parsed = [forms.parse(&text), forms.parse_prefix(&text).map(|it| it.0)];
-        let values = values.into_iter().chain(token).map(|it| it.map_err(ParseError::from)).chain(parsed);
+        let values =
+            values.into_iter().chain(token).chain(constant).map(|it| it.map_err(ParseError::from)).chain(parsed);
         let size = opening.as_bytes().len();
         values.for_each(|it| assert_eq!(it.unwrap_err().span(), 0..size + 150, "{form:?}"));
         // Without digits, the syntax refuses what is behind the opening.
@@ -355,6 +357,12 @@ fn spans_begin_with_the_opening() {
         let (inner, end) = (error.error().unwrap(), size + closing.as_bytes().len());
         assert_eq!((inner.span(), inner.valid_up_to(), inner.code().index()), (size..end, size, Some(&size)));
         assert_eq!((error.span(), error.valid_up_to()), (size..end, size));
+        for wrong in ["1__1", "_1", "1_", "1.", "1e", "1e__1", "!", "é"] {
+            let error = forms.read(&[opening.as_bytes(), wrong.as_bytes(), closing.as_bytes()].concat()).err();
+            if let Some((error, inner)) = error.and_then(|it| Some((it, it.error()?))) {
+                assert_eq!(error.span(), inner.span(), "{wrong} in {form:?}");
+            }
+        }
     }
 }
 
