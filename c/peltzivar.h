@@ -402,18 +402,18 @@ size_t peltzivar_token_error_text(const peltzivar_forms *forms, const char *text
 typedef uint8_t peltzivar_write_status;
 enum {
     PELTZIVAR_WRITE_OK = 0,
-    /* Radixes or bases differ, and the number is not whole or has over 128 bits, or no float has a value in them. */
+    /* Radixes, bases or exponents differ, and the value is not known to have 27 digits or, of an integer, 128 bits; or no
+     * float has a value in them. */
     PELTZIVAR_WRITE_RADIX = 1,
     PELTZIVAR_WRITE_NEGATIVE = 2, /* No literal has the sign `-`. */
     PELTZIVAR_WRITE_FRACTION = 3, /* Literals are integers, and the number is not whole. */
-    PELTZIVAR_WRITE_EXPONENT = 4, /* No literal has the exponent, which does not move the point by whole digits. */
     PELTZIVAR_WRITE_FLOAT = 5, /* Each literal has an exponent, and the number is of an integer type. */
     PELTZIVAR_WRITE_SPECIAL = 6, /* The number is NaN or infinity, and no spelling is read back as it. */
     PELTZIVAR_WRITE_BUFFER = 7, /* The buffer is too short. */
     /* The syntax, the list, the literal or the spellings are null, one of them, the style or the special value is
      * refused, or no call has made the literal. */
     PELTZIVAR_WRITE_ARGUMENT = 8,
-    /* Without an exponent, which no literal has, the text has more than 800 bytes, or by a list more than 4096. */
+    /* Without an exponent, which no literal has, a float has more than 800 digits, or a text by a list 4096 bytes. */
     PELTZIVAR_WRITE_LONG = 9,
     PELTZIVAR_WRITE_READ_BACK = 10, /* The forms read the text as another number. */
     PELTZIVAR_WRITE_TOO_LARGE = 11 /* The literal, or the one that the forms read, is too large for its kind. */
@@ -423,9 +423,9 @@ enum {
 typedef uint8_t peltzivar_exponent_style;
 enum {
     PELTZIVAR_STYLE_AS_NUMBER = 0, /* A literal keeps its exponent, and an integer has none. */
-    PELTZIVAR_STYLE_NEVER = 1, /* The point moves in its place, if it moves by whole digits and fits 800 bytes. */
+    PELTZIVAR_STYLE_NEVER = 1, /* A literal is written by its value, if it is known. */
     PELTZIVAR_STYLE_ALWAYS = 2, /* A number without an exponent has the exponent 0. */
-    PELTZIVAR_STYLE_FROM = 3 /* The point moves if the exponent is between -exponent_from and exponent_from. */
+    PELTZIVAR_STYLE_FROM = 3 /* A float has none between -exponent_from and exponent_from. */
 };
 
 /* As a group of a style, no separators. */
@@ -438,8 +438,7 @@ enum {
  * `min_digits` is how many integer digits there are at least, with zeros before the others. `exponent_from` is the
  * number of PELTZIVAR_STYLE_FROM. With `point`, a float has a point with a digit behind it, also before an exponent.
  * With `has_decimals`, a float is rounded to as many digits behind the point as `decimals`, to the nearest, or to the
- * even one if two are as near, and has no exponent that neither the syntax nor the style requires. With `nearest`, a
- * literal of another radix or base that cannot be written exactly is written by the nearest double. */
+ * even one if two are as near, and has no exponent that neither the syntax nor the style requires. */
 typedef struct {
     uint8_t group, fraction_group;
     bool without_base, lowercase;
@@ -448,8 +447,7 @@ typedef struct {
     uint32_t exponent_from;
     bool point, has_decimals;
     uint8_t decimals;
-    bool nearest;
-    uint8_t reserved[8];
+    uint8_t reserved[9];
 } peltzivar_style;
 
 /* The sizes of buffers for any number that a list writes, unless a spelling has more than 4095 bytes, for any integer

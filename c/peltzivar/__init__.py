@@ -940,7 +940,7 @@ class _Reader(_peltzivar.Reader):
         self, value: Union[SupportsIndex, SupportsFloat, Special], *, group: Optional[int] = None,
         fraction_group: Optional[int] = None, without_base: bool = False, lowercase: bool = False, min_digits: int = 0,
         exponent: Union[int, typing.Literal["never", "always"], None] = None, point: bool = False,
-        decimals: Optional[int] = None, nearest: bool = False
+        decimals: Optional[int] = None
     ) -> str:
         """Returns a number as a literal, or as NaN or infinity of several forms. Reading the text returns the same
         value.
@@ -951,19 +951,18 @@ class _Reader(_peltzivar.Reader):
 
         Takes an int, a float, a Decimal, a Fraction, a `Literal`, a `Special`, or an object with `__index__` or
         `__float__`, as numpy has, but no bool. Without `decimals`, the digits of a float are those of `repr` or, if two
-        texts are as near to it, those of the upper one. A `Literal` keeps its exponent, and a Decimal has one from
-        1E+401 on and below 1E-400. Where no exponent is allowed, the point moves, and the text has at most 800 bytes.
+        texts are as near to it, those of the upper one. A `Literal` keeps its digits and its exponent, and a Decimal has
+        one from 1E+401 on and below 1E-400. Where no exponent is allowed, and in another radix or base, a `Literal` is
+        written by its value.
 
         The other arguments are wishes: what the syntax forbids is not done, and what it requires is. `group` and
         `fraction_group` (0 to 254) are the digits in a group of the integer, from the right, and of the fraction. 0 is
         no groups, and None those of the size of the syntax, if it has one. `without_base` leaves out the base prefix
         and suffix. `lowercase` writes digits in lowercase, and `min_digits` (0 to 255) at least so many integer digits.
-        `exponent` is "never", for a point that moves instead, "always", or a number n: an exponent that is at least n
-        or at most -n is kept. With `point`, a float has a point with a digit behind it. `decimals` (0 to 255) rounds to
+        `exponent` is "never", for a value without one, "always", or a number n: a float has an exponent that is at least n
+        or at most -n. With `point`, a float has a point with a digit behind it. `decimals` (0 to 255) rounds to
         so many digits behind the point, as `format(value, ".2f")` does: to the nearest, or to the even one if two are
         as near. In radix 10, it does so with each number, a `Literal` by its `value`, and otherwise with floats alone.
-        With `nearest`, a `Literal` of another radix or base that cannot be written exactly is written by the nearest
-        float.
 
         Of several forms, as those of a Language, the first is taken whose text all of them read as the same integer, as
         a float that is equal to it, or as the same float. Forms of the radix of a `Literal`, or else decimal ones, are
@@ -973,12 +972,12 @@ class _Reader(_peltzivar.Reader):
 
         Raises ValueError for NaN and infinity without a spelling that is read as them, for a Fraction that no decimal
         number is equal to, for a sign `-` if no literal has one, for a number that is not whole if literals are
-        integers, for an int of more than 4300 digits in radix 10, as `str` does, for another mantissa radix than that
-        of the syntax, which is 10 for a float and a Decimal, if the number is not whole or has more than 128 bits, and,
-        of a float, for another exponent base.
+        integers, for an int of more than 4300 digits in radix 10, as `str` does, for a value that is not known to have
+        27 digits or, of an int, 128 bits, of a number of another radix than that of the syntax, which is 10 for a float
+        and a Decimal, and, of a float, for another exponent base.
         """
         wishes = group, fraction_group, without_base, lowercase, min_digits, exponent, point
-        return self._text_of(value, _style(*wishes, decimals, nearest))
+        return self._text_of(value, _style(*wishes, decimals))
 
     def format_column(self, numbers: Iterable[Any], *, fill: Optional[str] = None, **wishes: Any) -> List[str]:
         """Returns a list, or an array of numpy, as texts, as `format_number` does with the same wishes, several times
@@ -1118,7 +1117,7 @@ def _texts_of(cells: Any) -> Tuple[Tuple[Any, ...], bytes, Any]:
 def _style(
     group: Any = None, fraction_group: Any = None, without_base: Any = False, lowercase: Any = False,
     min_digits: Any = 0, exponent: Any = None, point: Any = False,
-    decimals: Any = None, nearest: Any = False
+    decimals: Any = None
 ) -> Tuple[int, ...]:
     """Returns wishes as the members of a style."""
     sizes = ("group", group), ("fraction_group", fraction_group)
@@ -1130,7 +1129,7 @@ def _style(
     wanted = '"never", "always" or a number from 0 to 4294967295'
     power = 0 if is_name else _number("exponent", exponent, 1 << 32, wanted)
     places = 0 if decimals is None else _number("decimals", decimals)
-    last = _typed("point", point, bool), decimals is not None, places, _typed("nearest", nearest, bool)
+    last = _typed("point", point, bool), decimals is not None, places
     return *groups, *flags_of, least, wish, power, *last
 
 
@@ -1299,7 +1298,7 @@ class Syntax(_Reader, metaclass=_Class):
 def _writable(value: Any, radix: int, syntax: Syntax, style: Tuple[int, ...]) -> Any:
     """Returns a number as what C writes: a float, or a literal. A float is rounded by C, and any other number here. An
     int of more than 128 bits is a literal of the radix."""
-    kind, (*_, wish, least, _, has_decimals, places, _) = type(value), style
+    kind, (*_, wish, least, _, has_decimals, places) = type(value), style
     # numpy has a bool of its own, with one name or the other.
     if kind.__name__ in ("bool", "bool_") or not (hasattr(kind, "__float__") or hasattr(kind, "__index__")):
         raise TypeError(f"value must be a number or a Literal, not {kind.__name__}")

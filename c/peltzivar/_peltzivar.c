@@ -74,7 +74,7 @@ IS(tokens) ARRAY(tokens, forms, count, form) S(tokens, following) B(tokens, give
 IS(forms) ARRAY(forms, forms, count, form) OF('>', forms, specials, specials) OF('*', forms, tokens, tokens) }};
 IS(style) B(style, group) B(style, fraction_group) B(style, without_base) B(style, lowercase)
     B(style, min_digits) B(style, exponent) M('4', style, exponent_from) B(style, point)
-    B(style, has_decimals) B(style, decimals) B(style, nearest) }};
+    B(style, has_decimals) B(style, decimals) }};
 IS(fields) M('8', fields, flags) B(fields, digit_separator) B(fields, base_prefix) B(fields, base_suffix)
     B(fields, mantissa_radix) B(fields, exponent_base) B(fields, exponent_radix) }};
 IS(edit) B(edit, setter) B(edit, value) }};
@@ -542,7 +542,7 @@ static const struct {
     {"fraction_group", 'g', AT(style, fraction_group)}, {"without_base", 'b', AT(style, without_base)},
     {"lowercase", 'b', AT(style, lowercase)},
     {"min_digits", 'd', AT(style, min_digits)},
-    {"point", 'b', AT(style, point)}, {"nearest", 'b', AT(style, nearest)}};
+    {"point", 'b', AT(style, point)}};
 
 /* Finds a wish. Returns false for one that is left to Python. */
 static bool wished(PyObject *name, PyObject *value, peltzivar_style *style) {

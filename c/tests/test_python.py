@@ -285,9 +285,10 @@ class Literals(unittest.TestCase):
             self.assertEqual(Syntax.of().format_number(number, decimals=2), format(number, ".2f"))
         self.assertEqual([grouped.format_number(it, decimals=2) for it in (Fraction(-1, 300), Language.C.read("0x10"))], ["-0.00", "16.00"])
         self.assertEqual(Syntax.integers(Format()).format_number(Decimal("1.0")), "1")
+        self.assertEqual(Language.JSON.format_number(Language.C.read("0x1p-3")), "0.125")
         self.assertEqual([hexadecimal.format_number(it) for it in (2**128 // 3, 1.5, -(2.0**-70))], ["0x" + "5" * 32, "0x1.8", "-0x4p-12"])
         wrong = [(german, math.inf, "NaN or infinity"), (german, Decimal("NaN"), "NaN or infinity"), (hexadecimal, Decimal("1.5"), "radix")]
-        wrong += [(Language.JSON, Language.C.read("0x1p-3"), "radix"), (Syntax.integers(Format()), 1.5, "not whole"), (Language.C, -1, "'-'")]
+        wrong += [(Language.JSON, Language.C.read("0x1.23456789abcdefp-60"), "radix"), (Syntax.integers(Format()), 1.5, "not whole"), (Language.C, -1, "'-'")]
         for syntax, value, sentence in wrong:
             self.assertRaisesRegex(ValueError, sentence, syntax.format_number, value)
 
@@ -649,7 +650,7 @@ LIMITS = {sign * (2**it + more) for it in (*BITS, 7, 31, 63, 127, 128) for more 
 # These are values of each argument of format_number.
 WISHES = {"group": (3, 0, 254), "fraction_group": (2, 0), "min_digits": (8, 255), "decimals": (0, 1, 255)}
 WISHES |= {"exponent": ("never", "always", 0, 3, 4, 300, 2**32 - 1)}
-WISHES |= {it: (True,) for it in ("without_base", "lowercase", "point", "nearest")}
+WISHES |= {it: (True,) for it in ("without_base", "lowercase", "point")}
 SYNTAX = Syntax.of(base_prefix="x", base_suffix="h", digit_separator="_", internal_digit_separator=True, exponent="^")
 # With a value in CHANGES, and with those in NEEDS, an object is another one than with those in FIRST alone.
 FIRST = {Forms: {"forms": {"a": SYNTAX}}, Syntax: {"format": SYNTAX.format}}
@@ -702,8 +703,9 @@ def written(wishes, number, exponent):
     if places is not None:
         exact = Decimal(number) if number.isdigit() and exponent is None else float(f"{number}e{exponent or 0}")
         number, exponent = f"{exact:.{places}f}", None
-    elif exponent is not None and (style == "never" or isinstance(style, int) and abs(exponent) < style):
+    elif exponent is not None and style == "never" and abs(exponent) < 20:
         number, exponent = f"{Decimal(f'{number}e{exponent}'):f}", None
+        number += ".0" * ("." not in number)
     elif exponent is None and style == "always":
         exponent = 0
     integer, point, fraction = number.partition(".")

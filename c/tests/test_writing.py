@@ -15,10 +15,11 @@ from test_notations import random_syntax
 # These are values of the arguments of format_number that leave the value as it is.
 WISHES = {"group": range(5), "fraction_group": range(5), "min_digits": range(12), "exponent": ("never", "always", 1, 3)}
 WISHES |= {it: (True,) for it in ("without_base", "lowercase", "point")}
-RADIX, NEGATIVE = "the digits or the exponent have another radix or base", "no literal has the sign '-'"
+RADIX = "in this radix or without an exponent, the number has too many digits, or none that are known"
+NEGATIVE = "no literal has the sign '-'"
 FRACTION = "literals are integers, and the number is not whole"
-EXPONENT = "no literal has an exponent, and this one does not move the point by whole digits"
 LONG = "without an exponent, the text has more than 800 bytes"
+POWERS = {2, 4, 8, 16, 32}
 SPECIAL = "no literal is NaN or infinity, and no spelling is read back as it"
 
 
@@ -61,6 +62,25 @@ def exact(literal):
     return number * Fraction(of.exponent_base) ** power, parts.sign == "-"
 
 
+def is_kept(literal, target):
+    """Returns whether a literal is written by its own digits and its exponent."""
+    of, to, parts = literal.syntax.format, target.format, literal.parts
+    has_exponents = target.exponent is not None and not to.no_exponent_notation
+    same = [of.exponent_base, of.exponent_radix] == [to.exponent_base, to.exponent_radix]
+    is_shown = not parts.point or target.point is not None
+    return of.mantissa_radix == to.mantissa_radix and is_shown and (not parts.exponent_character or has_exponents and same)
+
+
+def is_known(literal, value, target):
+    """Returns whether a value surely is known, in units of the last digit behind the point."""
+    if not literal.parts.point and not literal.parts.exponent_character:
+        return value < 2**128
+    radixes = {literal.syntax.format.mantissa_radix, literal.syntax.format.exponent_base}
+    most = 255 if target.point is not None and target.format.mantissa_radix == 10 else 0
+    units = next((value * 10**n for n in range(most + 1) if (value * 10**n).denominator == 1), 2**90)
+    return (radixes == {10} or radixes <= POWERS) and units < 2**90
+
+
 class Writing(unittest.TestCase):
     def test_numbers_are_read_back_or_refused_in_any_syntax(self):
         at = random.Random(1)
@@ -68,17 +88,10 @@ class Writing(unittest.TestCase):
             whole = at.randrange(-(2**63), 2**63) >> at.randrange(64)
             given = whole if index % 4 == 0 else random_literal(at, target)
             value, is_negative = (Fraction(abs(whole)), whole < 0) if given is whole else exact(given)
-            source = target.format if given is whole else given.syntax.format
-            radix, base, is_whole = source.mantissa_radix, source.exponent_base, value.denominator == 1
-            is_fraction = target.point is None and not is_whole
-            is_number = is_fraction or is_whole and value < 2**128
-            has_exponents = target.exponent is not None and not target.format.no_exponent_notation
             reasons = {
                 NEGATIVE: is_negative and target.no_negative_mantissa_sign,
-                FRACTION: is_fraction,
-                RADIX: radix != target.format.mantissa_radix and not is_number,
-                EXPONENT: base != radix and not is_number,
-                LONG: not has_exponents or base != target.format.exponent_base,
+                FRACTION: target.point is None and value.denominator != 1,
+                RADIX: given is not whole and not is_kept(given, target) and not is_known(given, value, target),
             }
             try:
                 found = exact(target.read(target.format_number(given, **wishes)))
@@ -88,13 +101,13 @@ class Writing(unittest.TestCase):
                 self.assertEqual(found, (value, is_negative), (given, target, wishes))
 
     def test_floats_are_read_back_or_refused_in_any_syntax(self):
-        at, powers = random.Random(2), {2, 4, 8, 16, 32}
+        at = random.Random(2)
         for target, wishes in drawn(at, 12_000):
             value, of = random_float(at), target.format
             radixes = {of.mantissa_radix, of.exponent_base}
             reasons = {
                 SPECIAL: not math.isfinite(value),
-                RADIX: radixes != {10} and not radixes <= powers,
+                RADIX: radixes != {10} and not radixes <= POWERS,
                 NEGATIVE: math.copysign(1, value) < 0 and target.no_negative_mantissa_sign,
                 FRACTION: target.point is None,
                 LONG: target.point is None or of.no_exponent_notation or wishes.get("exponent") == "never",

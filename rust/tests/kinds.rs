@@ -279,8 +279,8 @@ fn values_are_written() {
     }
     let json = Language::JSON.forms();
     for (source, text, wanted) in FLOATS.iter().filter(|it| it.2.is_finite()) {
-        let (literal, style) = (literal(*source, text), Style::PLAIN.nearest());
-        for written in [json[0].syntax().format_literal(&literal, style), json.format_literal(&literal, style)] {
+        let (value, style) = (literal(*source, text).to_f64().unwrap(), Style::PLAIN);
+        for written in [json[0].syntax().format_float(value, style), json.format_float(value, style)] {
             assert_eq!(json.parse(written.unwrap().to_string()), Ok(*wanted), "{source}: {text}");
         }
     }

@@ -38,7 +38,6 @@ fn style_of(wishes: &str) -> Style {
             ("min_digits", _) => style.min_digits(number.unwrap()),
             ("lowercase", "true") => style.lowercase(),
             ("without_base", "true") => style.without_base(),
-            ("nearest", "true") => style.nearest(),
             ("point", "true") => style.point(),
             ("decimals", _) => style.decimals(number.unwrap()),
             ("exponent", "never") => style.exponent(ExponentStyle::Never),
@@ -81,25 +80,30 @@ fn literals_are_written_as_the_rows_say() {
     }
 }
 
+/// The value of a float is known if it has at most 27 digits and 255 of them behind the point, and it may be up to 2^128 of the last.
+/// An exponent in the syntax that has read it has any length.
 #[test]
-fn numbers_are_as_long_as_the_limits() {
-    let (large, small) = (format!("1{}", "0".repeat(799)), format!("0.{}1", "0".repeat(797)));
+fn values_are_known_up_to_the_limits() {
     let long = format!("5e{}", "9".repeat(40));
-    let (far, tiny) = (format!("1e{}", "9".repeat(40)), format!("1e-{}", "9".repeat(40)));
-    let near = format!("0.{}1e1000", "0".repeat(999));
+    let (far, tiny) = (format!("1e{}", "9".repeat(40)), format!("-1e-{}", "9".repeat(40)));
+    let (near, least) = (format!("0.{}1e1000", "0".repeat(999)), format!("0.{}1", "0".repeat(254)));
+    let large = format!("1{}", "0".repeat(38));
     for (text, wanted, whole) in [
-        ("1e799", &*large, &*large),
-        ("1e800", "!Long", "!Long"),
-        ("1e-798", &*small, "!Fraction"),
-        ("1e-799", "!Long", "!Fraction"),
-        (&*near, "1", "1"),
-        (&*far, "!Long", "!Long"),
-        (&*tiny, "!Long", "!Fraction"),
+        ("1e38", &*format!("{large}.0"), &*large),
+        ("1e39", "!Radix", "!Radix"),
+        ("1e-255", &*least, "!Fraction"),
+        ("1e-256", "!Radix", "!Fraction"),
+        ("1234567890123456789012345.67e-1", "123456789012345678901234.567", "!Fraction"),
+        ("123456789012345678901234567.891e-1", "!Radix", "!Fraction"),
+        (&*near, "1.0", "1"),
+        (&*far, "!Radix", "!Radix"),
+        (&*tiny, "!Radix", "!Fraction"),
     ] {
         assert_eq!(convert(text, "", "no_exponent_notation=true", ""), wanted, "{text}");
         assert_eq!(convert(text, "", "exponent=none point=none", ""), whole, "{text}");
     }
     assert_eq!(convert(&long, "", "", ""), long);
+    assert_eq!(convert(&long, "", "", "exponent=never"), long);
     assert_eq!(convert(&long, "", "exponent_radix=2", ""), "!Radix");
 }
 
@@ -111,10 +115,11 @@ fn chosen(source: Language, text: &str, target: &Forms<'_>) -> String {
 #[test]
 fn forms_write_what_they_read_as_the_same_number() {
     for (source, text, target, wanted) in [
-        (Language::C, "0x1p3", Language::PYTHON, "8"),
+        (Language::C, "0x1p3", Language::PYTHON, "8.0"),
         (Language::C, "0x1.8p1", Language::JAVA, "0x1.8p1"),
-        (Language::C, "0x1p-3", Language::JSON, "!Radix"),
-        (Language::C, "0x1.8p0", Language::PYTHON, "!Radix"),
+        (Language::C, "0x1p-3", Language::JSON, "0.125"),
+        (Language::C, "0x1.8p0", Language::PYTHON, "1.5"),
+        (Language::C, "0x1.23456789abcdefp-60", Language::JSON, "!Radix"),
         (Language::C, "0xffffffff", Language::JAVA, "0xFFFFFFFFL"),
         (Language::C, "017", Language::PYTHON, "0o17"),
         (Language::C, "017", Language::JSON, "15"),
@@ -130,6 +135,7 @@ fn forms_write_what_they_read_as_the_same_number() {
         (Language::PYTHON, "0xFF", Language::JSON, "255"),
         (Language::TOML, "-0", Language::JSON, "-0"),
         (Language::JSON, "1e400", Language::JSON, "1e400"),
+        (Language::JSON, "1e99999999999999999999", Language::JSON, "1e99999999999999999999"),
     ] {
         assert_eq!(chosen(source, text, target.forms()), wanted, "{source} {text} in {target}");
     }

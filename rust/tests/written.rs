@@ -11,7 +11,7 @@ use peltzivar::Part;
 use random::Random;
 use std::collections::BTreeSet;
 
-/// Styles that do not round. Each is also tried with the wish `nearest`.
+/// Styles that do not round.
 const STYLES: [Style; 5] = [
     Style::PLAIN,
     Style::PLAIN.group(3).fraction_group(2).lowercase(),
@@ -21,7 +21,8 @@ const STYLES: [Style; 5] = [
 ];
 
 /// A literal and its exact number: the sign, and the size of a whole number of up to 128 bits, or else the radix, the digits
-/// without zeros at both ends, and the exponent of the last one. Digits of a radix that is a power of two are bits.
+/// without zeros at both ends, and the exponent of the last one. Digits of a radix that is a power of two are bits or, if these
+/// are a number of up to 128 bits in units of the last one, decimal.
 type Given<'a> = (Literal<'a>, (bool, Result<u128, (u32, Vec<u32>, i128)>));
 
 /// Returns the literal of a language that a text is.
@@ -41,17 +42,23 @@ fn read(language: Language, text: &str) -> Option<Given<'_>> {
     let last = if digits.is_empty() { 0 } else { power + zeros as i128 - places * i128::from(width) };
     let unit = u32::try_from(last).ok().and_then(|last| u128::from(radix).checked_pow(last));
     let add = |size: u128, digit: &u32| size.checked_mul(radix.into())?.checked_add((*digit).into());
-    let whole = digits.iter().try_fold(0, add).and_then(|size| size.checked_mul(unit?));
+    let size = digits.iter().try_fold(0, add);
+    let fives = u32::try_from(-last).ok().filter(|_| radix == 2).and_then(|places| 5_u128.checked_pow(places));
+    let (radix, digits) = match size.and_then(|size| size.checked_mul(fives?)) {
+        Some(units) => (10, units.to_string().bytes().map(|digit| u32::from(digit - b'0')).collect()),
+        None => (radix, digits),
+    };
+    let whole = size.and_then(|size| size.checked_mul(unit?));
     Some((literal, (literal.is_negative(), whole.ok_or((radix, digits, last)))))
 }
 
-/// Returns whether a literal that is written for another one is the same number: exactly, or as its nearest `f64` with the wish
-/// `nearest`, and if its kind makes it another number. The kinds of both count.
-fn is_same((own, number): &Given, (back, other): &Given, nearest: bool) -> bool {
+/// Returns whether a literal that is written for another one is the same number: exactly, or as its `f64` if its kind makes it
+/// another number. The kinds of both count.
+fn is_same((own, number): &Given, (back, other): &Given) -> bool {
     let float = |literal: Literal| literal.to_f64().map(f64::to_bits).map_err(|error| error.kind());
     let floats = [float(*own), float(*back)];
     if floats[0].is_ok() && floats[0] == floats[1] {
-        number == other || nearest || float(own.with_kind(Kind::EXACT)) != floats[0]
+        number == other || float(own.with_kind(Kind::EXACT)) != floats[0]
     } else {
         number == other && floats.contains(&Err(ValueErrorKind::UnsupportedRadix))
     }
@@ -69,11 +76,11 @@ fn faults(given: &Given, language: Language) -> Vec<String> {
     let fault = |style: Style| {
         let written = language.forms().format_literal(&given.0, style).ok()?;
         let text = written.to_string();
-        let is_same = read(language, &text).is_some_and(|back| is_same(given, &back, style.nearest));
+        let is_same = read(language, &text).is_some_and(|back| is_same(given, &back));
         let is_right = is_same && format!("{written:>40}") == format!("{text:>40}") && fits(&written, text.as_bytes());
         (!is_right).then(|| format!("{:?} is {text} in {language}, by {style:?}", given.0))
     };
-    STYLES.into_iter().chain(STYLES.map(Style::nearest)).filter_map(fault).collect()
+    STYLES.into_iter().filter_map(fault).collect()
 }
 
 /// Returns the recorded texts.

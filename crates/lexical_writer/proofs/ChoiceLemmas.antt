@@ -16,8 +16,7 @@ use Rattle.lexical_value.specs.Integer.{integer_size}
 use Rattle.lexical_value.specs.Kind.{IsNotWorth}
 use Rattle.lexical_value.specs.declared.integer.ValueErrorKind.{ValueErrorKind}
 use Rattle.lexical_value.specs.declared.integer.ValueErrorKind.TheVariants as kinds
-use Rattle.lexical_writer.specs.Choice.{IsAmount, IsInStyle, IsReal, has_floats, has_worth}
-use Rattle.lexical_writer.specs.Conversion.{IsNear}
+use Rattle.lexical_writer.specs.Choice.{IsAmount, IsReal, IsSameNumber, has_floats, has_worth}
 use Rattle.lexical_writer.specs.Layout.{sign_of}
 use Rattle.lexical_forms.proofs.MarkLemmas.{plain_in}
 use Rattle.lexical_value.proofs.KindLemmas.{exact_float, limited_worth}
@@ -61,41 +60,11 @@ pub same_real : (f : Format) (x : Float) (decimals : Option ℕ) (g : Grammar) (
 same_real f x decimals g own read kind word has y same real = amount_is f x decimals g own.literal read has
     (subst (λ z. IsReal f z read) (subst (λ w. y ≡ nearest f (raw w).byte own.literal) word (nearest_is f y own kind same)) real)
 
--- If a literal of the exact kind is written for a number of the exact kind, it is this number in the style, unless an integer is written as a float.
-pub plain_number : (a : Read) (style : Style) (g : Grammar) (b : Read) → a.kind ≡ exact → b.kind ≡ exact → b.format ≡ g.word
-    → (is_float a.literal ≡ true) ⊎ (is_float b.literal ≡ false)
-    → (style.decimals ≡ None → IsNear binary64 (raw a.format) a.literal (raw g.word) b.literal)
-    → (style.nearest ≡ false → SameFraction (raw a.format) a.literal (raw g.word) b.literal) → IsInStyle a style g b.literal b
-plain_number a style g b own kind word whole near exact = go style.nearest style.decimals refl refl
-  where
-    fraction : SameFraction (raw a.format) a.literal (raw g.word) b.literal → IsInStyle a style g b.literal b
-    fraction same = inl (inr (inr (own, kind, whole, subst (λ w. SameFraction (raw a.format) a.literal (raw w) b.literal) (sym word) same)))
-
-    go : (wish : Bool) (decimals : Option ℕ) → style.nearest ≡ wish → style.decimals ≡ decimals → IsInStyle a style g b.literal b
-    go false decimals wish places = fraction (exact wish)
-    go true None wish places = elim (near places) [
-      | inl same ↦ fraction same
-      | inr float ↦ inl (inr (inl (
-        inr wish,
-        nearest binary64 (raw a.format).byte a.literal,
-        inr (own, refl),
-        inr (kind, subst (λ w. nearest binary64 (raw a.format).byte a.literal ≡ nearest binary64 (raw w).byte b.literal) (sym word) float),
-      )))
-    ]
-    go true (Some n) wish places = inr (
-      wish,
-      subst (λ o. is_some o ≡ true) (sym places) refl,
-      inr (kind, subst (λ w. nearest binary64 (raw g.word).byte b.literal ≡ nearest binary64 (raw w).byte b.literal) (sym word) refl),
-    )
-
--- A number that is rounded is read as what is written for it is.
-pub rounded_number : (a : Read) (style : Style) (g : Grammar) (own read : Read) → style.nearest ≡ true → is_some style.decimals ≡ true → own.kind ≡ exact
-    → own.format ≡ g.word → (y : Float) → IsReal binary64 y own → IsReal binary64 y read → IsInStyle a style g own.literal read
-rounded_number a style g own read wish some kind word y same real = inr (
-  wish,
-  some,
-  subst (λ z. IsReal binary64 z read) (subst (λ w. y ≡ nearest binary64 (raw w).byte own.literal) word (nearest_is binary64 y own kind same)) real,
-)
+-- If a literal of the exact kind is written for a number of the exact kind, it is this number, unless an integer is written as a float.
+pub plain_number : (a : Read) (g : Grammar) (b : Read) → a.kind ≡ exact → b.kind ≡ exact → b.format ≡ g.word
+    → (is_float a.literal ≡ true) ⊎ (is_float b.literal ≡ false) → SameFraction (raw a.format) a.literal (raw g.word) b.literal → IsSameNumber a b
+plain_number a g b own kind word whole same =
+    inr (inr (own, kind, whole, subst (λ w. SameFraction (raw a.format) a.literal (raw w) b.literal) (sym word) same))
 
 abbrev size_without : ℤ → ℕ
 size_without (pos n) = n

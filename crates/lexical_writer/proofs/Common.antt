@@ -33,19 +33,17 @@ pub use Rattle.lexical_writer.specs.Choice.{AreBefore, ArePassed, IsChosen, IsFo
 pub use Rattle.lexical_writer.specs.Choice.{IsRefused, IsSearched, IsStopped, IsUnusable, IsWhole, bytes_of_word, has_floats, is_asked, is_marked, is_own}
 pub use Rattle.lexical_writer.specs.Choice.{is_short, steps, text_by, unasked, unwished, ways, whole_of, words_of}
 pub use Rattle.lexical_writer.specs.Private.{IsPut}
-pub use Rattle.lexical_writer.specs.Conversion.{SameFraction, amount_of, fraction_of, or_limit, source_of}
+pub use Rattle.lexical_writer.specs.Conversion.{SameFraction, own_amount}
 pub use Rattle.lexical_writer.specs.Digits.{at_least, begins_decimal, character, ends_group, grouped, grouped_front, no_groups, only_if, padded_values}
 pub use Rattle.lexical_writer.specs.Digits.{separated, size_of, values_of}
 pub use Rattle.lexical_writer.specs.Layout.{HasNumber, HasValue, IsLaidOut, allows_exponent, first_error, given_fraction, given_power, has_exponent, has_point}
 pub use Rattle.lexical_writer.specs.Layout.{integer_literal, laid_out, literal_of, needs_exponent, no_power, number_of_size, one_if, refusal}
-pub use Rattle.lexical_writer.specs.Moved.{IsEnding, IsMoved, IsOver, IsSize, can_move, down_of, is_unknown, places_of, trimmed, up_of}
 pub use Rattle.lexical_writer.specs.Rounded.{IsRounded, decimals_in, rounded}
 pub use Rattle.lexical_writer.specs.declared.layout.Amount.{Amount}
 pub use Rattle.lexical_writer.specs.declared.layout.Layout.{Layout}
 pub use Rattle.lexical_writer.specs.declared.layout.Power.{Power}
 pub use Rattle.lexical_writer.specs.declared.layout.Style.{Style}
 pub use Rattle.lexical_writer.specs.declared.layout.WriteError.{WriteError}
-pub use Rattle.lexical_writer.specs.declared.moved.Ending.{Ending}
 pub use Rattle.lexical_writer.specs.declared.run.Pattern.{Pattern}
 pub use Rattle.lexical_writer.specs.declared.run.Source.{Source}
 pub use Rattle.std.proofs.Common.{Bool, Err, IfErr, IfOk, IsFalse, IsSomeAnd, IsTrue, List, None, Ok, Option, Result, Some, [], add-one, ap, append-nil, arith}

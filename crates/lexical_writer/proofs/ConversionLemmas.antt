@@ -1,15 +1,16 @@
 -- What is written of a literal has its value.
-use Rattle.lexical_writer.proofs.Common.{Amount, Bool, Grammar, HasNumber, List, Literal, None, Ok, Parts, Record, SameFraction, Some, Source, [], amount_of}
-use Rattle.lexical_writer.proofs.Common.{ap, arith, at_least, denominator, digits_in, effective_exponent_base, effective_exponent_radix, false}
-use Rattle.lexical_writer.proofs.Common.{filter_map-append, fraction_of, given_fraction, given_power, if◌then◌else◌, inl, inr, is_absent, is_minus, is_present}
-use Rattle.lexical_writer.proofs.Common.{length, mantissa, nat_tests, number, number_after_append, number_digits_of, number_from_digits}
-use Rattle.lexical_writer.proofs.Common.{number_from_digits_after, numerator, one_if, pow-suc, pow-zero, raised_down, raised_up, raw, refl, scale, size_of}
-use Rattle.lexical_writer.proofs.Common.{source_of, sym, true, unwrap_or, values_of, ℕ, ◌&&◌, ◌*◌, ◌++◌, ◌^◌, ◌||◌, ◌∙◌, ◌∷◌, ◌≡◌, ◌≤◌, ◌⊎◌}
+use Rattle.lexical_writer.proofs.Common.{Amount, Bool, Grammar, HasNumber, List, Literal, None, Parts, Power, Record, SameFraction, Some, Source, [], allows_exponent}
+use Rattle.lexical_writer.proofs.Common.{and_parts, ap, arith, at_least, denominator, digits_in, digits_of, effective_exponent_base, effective_exponent_radix}
+use Rattle.lexical_writer.proofs.Common.{eqb-true, false, filter_map-append, given_fraction, given_power, if◌then◌else◌, is_minus, is_present, length, mantissa}
+use Rattle.lexical_writer.proofs.Common.{nat_tests, no_power, not, number, number_after_append, number_digits_of, number_from_digits, number_from_digits_after}
+use Rattle.lexical_writer.proofs.Common.{numerator, one_if, own_amount, pow-suc, pow-zero, raised_down, raised_up, raw, refl, scale, size_of, sym, true, unwrap_or}
+use Rattle.lexical_writer.proofs.Common.{values_of, ℕ, ◌&&◌, ◌*◌, ◌++◌, ◌==◌, ◌^◌, ◌||◌, ◌∙◌, ◌∷◌, ◌≡◌, ◌≤◌}
 use Rattle.std.specs.Borrow.{Bor}
 use Rattle.lexical_literal.specs.Parts.{literal_of}
 use Rattle.lexical_util.specs.Layout as layout
+use Rattle.lexical_writer.specs.Conversion.{has_power, keeps}
 use Rattle.lexical_writer.specs.declared.run.Source.TheVariants as sources
-use Rattle.lexical_writer.proofs.DigitLemmas.{enough}
+use Rattle.lexical_writer.proofs.DigitLemmas.{enough, least_number}
 
 -- A 0 that stands for absent digits makes the number and the scale larger by the same factor.
 pub zero_scaled : (radix n : ℕ) (none : Bool) (digits : List ℕ) → (q : ℕ) × (number_from_digits_after radix n
@@ -26,6 +27,7 @@ zero_scaled radix n none (d ∷ digits) =
 pub size_values : (radix : ℕ) (source : Source) → 2 ≤ radix → size_of radix source ≡ number_from_digits radix (values_of radix source)
 size_values radix (sources.Bytes bytes) two = refl
 size_values radix (sources.Number n) two = sym (number_digits_of radix n two)
+size_values radix (sources.Least n least) two = sym (least_number radix least (digits_of radix n) ∙ number_digits_of radix n two)
 size_values radix (sources.Padded padded) two = refl
 
 -- What has the digits and the exponent of an amount has its value.
@@ -55,70 +57,80 @@ same_value g amount l num den two has up down ups downs worth =
     let down_is = (λ j. raised_down (has.exponent_sign j) b (has.exponent j)) ∙ downs in
     (λ j. num * (scale_is j * down_is j)) ∙ omega (arith, ap (λ m. m * factor.0) worth) ∙ sym (λ j. (mantissa_is j * up_is j) * den)
 
--- The digits of the exponent represent the number that they represent in the literal.
-source_is : (bytes : Bor (List ℕ)) (from to : ℕ) (source : Source) → source_of bytes from to ≡ Ok source → size_of to source ≡ number from bytes.now
-source_is bytes from to source is = grind (arith, nat_tests)
-
-fraction_is : (radix : ℕ) (a : Bool) (bytes : Bor (List ℕ))
-    → values_of radix (unwrap_or (if a && is_absent bytes.now then None else Some (sources.Bytes bytes)) (sources.Number 0))
-    ≡ digits_in radix bytes.now
-fraction_is radix a bytes = grind arith
-
 no_number : (radix : ℕ) (bytes : List ℕ) (a : Bool) → (a || is_present bytes) ≡ false → number radix bytes ≡ 0
 no_number radix bytes a none = grind arith
 
-module _ (r : Record) (parts : Parts) (s : Record) where
-  -- `IsAmount amount` holds if `amount` has the signs and the digits of `parts`. An exponent that it lacks is 0.
-  record IsAmount (amount : Amount) : Type 0 where
-    negative : amount.negative ≡ is_minus parts.sign.now
-    integer : values_of (s.byte layout.mantissa_radix) amount.integer ≡ digits_in (s.byte layout.mantissa_radix) parts.integer.now
-    fraction : values_of (s.byte layout.mantissa_radix) (given_fraction amount) ≡ digits_in (s.byte layout.mantissa_radix) parts.fraction.now
-    exponent : size_of (effective_exponent_radix s) (given_power amount).source ≡ number (effective_exponent_radix r) parts.exponent.now
-    power : (((given_power amount).negative ≡ is_minus parts.exponent_sign.now) × (effective_exponent_base r ≡ effective_exponent_base s))
-        ⊎ (number (effective_exponent_radix r) parts.exponent.now ≡ 0)
+fraction_is : (radix : ℕ) (a : Bool) (bytes : Bor (List ℕ))
+    → values_of radix (unwrap_or (if a || is_present bytes.now then Some (sources.Bytes bytes) else None) (sources.Number 0))
+    ≡ digits_in radix bytes.now
+fraction_is radix a bytes = grind arith
 
-  is_amount : (amount : Amount) → amount_of r parts s ≡ Ok amount → IsAmount amount
-  is_amount amount is = record {
-    negative = grind (arith, nat_tests);
-    integer = grind (arith, nat_tests);
-    fraction =
-        let given : amount.fraction ≡ fraction_of parts = grind (arith, nat_tests) in
-        rw given (fraction_is (s.byte layout.mantissa_radix) (is_absent parts.point.now) parts.fraction);
-    exponent = grind (arith, nat_tests, source_is, no_number);
-    power = grind (arith, nat_tests, no_number);
-  }
+-- The factors by which a number is multiplied and divided, with an exponent and without one.
+module _ (r s : Record) (parts : Parts) where
+  abbrev e : ℕ
+  e = number (effective_exponent_radix r) parts.exponent.now
 
--- The factors by which the number is multiplied and divided.
-same_powers : (given negative : Bool) (b c n : ℕ) → ((negative ≡ given) × (b ≡ c)) ⊎ (n ≡ 0)
-    → (raised_up negative c n ≡ raised_up given b n) × (raised_down negative c n ≡ raised_down given b n)
-same_powers given negative b c n (inl same) = ((λ j. raised_up (same.0 j) (sym same.1 j) n), (λ j. raised_down (same.0 j) (sym same.1 j) n))
-same_powers given negative b c n (inr none) =
-    let one : b ^ n ≡ 1 = rw none (pow-zero b) in
-    let other : c ^ n ≡ 1 = rw none (pow-zero c) in
-    (grind arith, grind arith)
+  abbrev minus : Bool
+  minus = is_minus parts.exponent_sign.now
 
--- What has the digits of the amount of a literal has its value.
-pub same_fraction : (r : Record) (parts : Parts) (g : Grammar) (amount : Amount) → r.byte layout.mantissa_radix ≡ (raw g.word).byte layout.mantissa_radix
-    → 2 ≤ (raw g.word).byte layout.mantissa_radix
-    → amount_of r parts (raw g.word) ≡ Ok amount → (l : Literal) → HasNumber g amount l → SameFraction r (literal_of parts) (raw g.word) l
-same_fraction r parts g amount same two is l has =
-    let a = is_amount r parts (raw g.word) amount is in
+  abbrev own : Power
+  own = given_power (own_amount parts)
+
+  pub own_powers : (power : Bool) → has_power parts ≡ power
+      → (not power || (effective_exponent_base r == effective_exponent_base s && effective_exponent_radix r == effective_exponent_radix s)) ≡ true
+      → (raised_up own.negative (effective_exponent_base s) (size_of (effective_exponent_radix s) own.source) ≡ raised_up minus (effective_exponent_base r) e)
+      × (raised_down own.negative (effective_exponent_base s) (size_of (effective_exponent_radix s) own.source) ≡ raised_down minus (effective_exponent_base r) e)
+  own_powers true some same =
+      let both = and_parts _ _ same in
+      let base = sym (eqb-true _ _ both.0) in
+      let radix = sym (eqb-true _ _ both.1) in
+      let given : own ≡ record { negative = minus; source = sources.Bytes parts.exponent } =
+      ap (λ some. unwrap_or (if some then Some (record { negative = minus; source = sources.Bytes parts.exponent }) else None) no_power) some in (
+        (λ j. raised_up (given j).negative (base j) (size_of (radix j) (given j).source)),
+        (λ j. raised_down (given j).negative (base j) (size_of (radix j) (given j).source)),
+      )
+  own_powers false none same =
+      let given : own ≡ no_power =
+      ap (λ some. unwrap_or (if some then Some (record { negative = minus; source = sources.Bytes parts.exponent }) else None) no_power) none in
+      let zero : e ≡ 0 = no_number (effective_exponent_radix r) parts.exponent.now (is_present parts.exponent_character.now) none in
+      let one = ap (λ k. effective_exponent_base r ^ k) zero ∙ pow-zero (effective_exponent_base r) in
+      let other = pow-zero (effective_exponent_base s) in (
+        (λ j. raised_up (given j).negative (effective_exponent_base s) (size_of (effective_exponent_radix s) (given j).source)) ∙ up minus one other,
+        (λ j. raised_down (given j).negative (effective_exponent_base s) (size_of (effective_exponent_radix s) (given j).source)) ∙ down minus one other,
+      )
+    where
+      up : (minus : Bool) → effective_exponent_base r ^ e ≡ 1 → effective_exponent_base s ^ 0 ≡ 1
+          → raised_up false (effective_exponent_base s) 0 ≡ raised_up minus (effective_exponent_base r) e
+      up minus one other = grind arith
+
+      down : (minus : Bool) → effective_exponent_base r ^ e ≡ 1 → effective_exponent_base s ^ 0 ≡ 1
+          → raised_down false (effective_exponent_base s) 0 ≡ raised_down minus (effective_exponent_base r) e
+      down minus one other = grind arith
+
+-- What has the own digits of a literal has its value.
+pub same_own : (r : Record) (parts : Parts) (g : Grammar) → keeps r parts g ≡ true → 2 ≤ (raw g.word).byte layout.mantissa_radix
+    → (l : Literal) → HasNumber g (own_amount parts) l → SameFraction r (literal_of parts) (raw g.word) l
+same_own r parts g keep two l has =
     let s = raw g.word in
     let radix = s.byte layout.mantissa_radix in
-    let powers = same_powers (is_minus parts.exponent_sign.now) (given_power amount).negative (effective_exponent_base r) (effective_exponent_base s)
-    (number (effective_exponent_radix r) parts.exponent.now) a.power in
+    let all = and_parts _ _ keep in
+    let same : r.byte layout.mantissa_radix ≡ radix = eqb-true _ _ (and_parts _ _ all.1).0 in
+    let powers = own_powers r s parts (has_power parts) refl (kept (has_power parts) (allows_exponent g) _ all.0) in
+    let fraction = fraction_is radix (is_present parts.point.now) parts.fraction in
     let mantissa_is : mantissa r.byte (literal_of parts)
-    ≡ number_from_digits radix (values_of radix amount.integer ++ values_of radix (given_fraction amount)) =
+    ≡ number_from_digits radix (digits_in radix parts.integer.now ++ values_of radix (given_fraction (own_amount parts))) =
     ap (λ b. number b (parts.integer.now ++ parts.fraction.now)) same ∙ ap (number_from_digits radix) (filter_map-append _ parts.integer.now parts.fraction.now)
-    ∙ sym (λ j. number_from_digits radix (a.integer j ++ a.fraction j)) in
-    let scale_is : scale r.byte (literal_of parts) ≡ radix ^ length (values_of radix (given_fraction amount)) =
-    ap (λ b. b ^ length (digits_in b parts.fraction.now)) same ∙ sym (ap (λ (ds : List ℕ). radix ^ length ds) a.fraction) in
+    ∙ sym (λ j. number_from_digits radix (digits_in radix parts.integer.now ++ fraction j)) in
+    let scale_is : scale r.byte (literal_of parts) ≡ radix ^ length (values_of radix (given_fraction (own_amount parts))) =
+    ap (λ b. b ^ length (digits_in b parts.fraction.now)) same ∙ sym (ap (λ (ds : List ℕ). radix ^ length ds) fraction) in
     record {
-      sign = sym (has.sign ∙ a.negative);
-      fraction = same_value g amount l (numerator r.byte (literal_of parts)) (denominator r.byte (literal_of parts)) two has _ _
-          (ap (raised_up (given_power amount).negative (effective_exponent_base s)) a.exponent ∙ powers.0)
-          (ap (raised_down (given_power amount).negative (effective_exponent_base s)) a.exponent ∙ powers.1)
+      sign = sym has.sign;
+      fraction = same_value g (own_amount parts) l (numerator r.byte (literal_of parts)) (denominator r.byte (literal_of parts)) two has _ _
+          powers.0 powers.1
           (λ j. (sym mantissa_is j * raised_up (is_minus parts.exponent_sign.now) (effective_exponent_base r)
           (number (effective_exponent_radix r) parts.exponent.now))
           * (scale_is j * raised_down (is_minus parts.exponent_sign.now) (effective_exponent_base r) (number (effective_exponent_radix r) parts.exponent.now)));
     }
+  where
+    kept : (power allowed same : Bool) → (not power || (allowed && same)) ≡ true → (not power || same) ≡ true
+    kept power allowed same is = grind arith

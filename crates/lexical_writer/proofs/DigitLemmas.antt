@@ -4,9 +4,9 @@ use Rattle.lexical_writer.proofs.Common.{append-nil, append_assoc, arith, at_lea
 use Rattle.lexical_writer.proofs.Common.{cons_option, digit_characters, digit_of, digits_in, digits_of, digits_of_step, div-div-eq-div-mul, div-mul-add, drop}
 use Rattle.lexical_writer.proofs.Common.{drop-cons, drop-set, ends_group, false, false≢true, get_or, get_or_from_slice_get, grouped, grouped_front, inl, inr}
 use Rattle.lexical_writer.proofs.Common.{is_present, length, length-append, length-digits_of_step, length-map, length-replicate, length-set, ltb-true, map}
-use Rattle.lexical_writer.proofs.Common.{map_push, mod-mul-add, nat_lt, nat_tests, no_groups, number, number_after_append, number_from_digits}
-use Rattle.lexical_writer.proofs.Common.{number_from_digits_after, only_if, option_to_list, padded_values, refl, replicate, separated, set, slice_get, subst}
-use Rattle.lexical_writer.proofs.Common.{suc, sym, true, values_of, zero, ℕ, ◌%◌, ◌*◌, ◌++◌, ◌+◌, ◌-◌, ◌/◌, ◌<◌, ◌||◌, ◌∙◌, ◌∷◌, ◌≡◌, ◌≤◌}
+use Rattle.lexical_writer.proofs.Common.{map_push, max, mod-mul-add, nat_lt, nat_tests, no_groups, number, number_after_append, number_from_digits}
+use Rattle.lexical_writer.proofs.Common.{number_from_digits_after, only_if, option_to_list, padded_values, pow-suc, pow-zero, refl, replicate, replicate-append-replicate, separated, set, slice_get, subst}
+use Rattle.lexical_writer.proofs.Common.{suc, sym, true, values_of, zero, ℕ, ◌%◌, ◌*◌, ◌++◌, ◌+◌, ◌-◌, ◌/◌, ◌<◌, ◌^◌, ◌||◌, ◌∙◌, ◌∷◌, ◌≡◌, ◌≤◌}
 use Rattle.lexical_writer.specs.declared.run.Padded.{Padded}
 use Rattle.lexical_base.proofs.ValueLemmas.{byte_value-digit_character, same_at}
 use Rattle.lexical_writer.specs.declared.run.Source.TheVariants as sources
@@ -38,6 +38,8 @@ padded_below radix padded two =
 pub values_below : (radix : ℕ) (source : Source) → 2 ≤ radix → AllBelowBase radix (values_of radix source)
 values_below radix (sources.Bytes bytes) two = below radix bytes.now
 values_below radix (sources.Number n) two = all_below_base_digits_of radix n two
+values_below radix (sources.Least n least) two =
+    both_below radix _ _ (zeros_below radix (least - length (digits_of radix n)) two) (all_below_base_digits_of radix n two)
 values_below radix (sources.Padded padded) two = padded_below radix padded two
 
 -- Digits that follow those of a number, and do not begin the whole with a zero, are digits of the whole.
@@ -164,6 +166,33 @@ as_many bytes digits is = sym (ap length is ∙ length-map digits (character fal
 pub enough : (least : ℕ) (digits : List ℕ) → least ≤ length digits → at_least least digits ≡ digits
 enough least digits most = ap (λ k. replicate k 0 ++ digits) {x = least - length digits} {y = 0} (omega (arith, most))
 
+-- Digits with zeros before them, and more of them.
+pub least_length : (least : ℕ) (digits : List ℕ) → length (at_least least digits) ≡ max least (length digits)
+least_length least digits =
+    let all = length-append {A = ℕ} (replicate (least - length digits) 0) digits in
+    omega (arith, all, length-replicate {A = ℕ} (least - length digits) 0)
+
+pub least_of : (more least : ℕ) (digits : List ℕ) → at_least (max more least) digits ≡ at_least more (at_least least digits)
+least_of more least digits =
+    let zeros : List ℕ = replicate (least - length digits) 0 in
+    let count = least_length least digits in
+    ap (λ k. replicate k 0 ++ digits) {x = max more least - length digits} {y = (more - length (at_least least digits)) + (least - length digits)}
+    (omega (arith, count))
+    ∙ ap (λ zeros. zeros ++ digits) (sym (replicate-append-replicate (more - length (at_least least digits)) (least - length digits) 0))
+    ∙ append_assoc (replicate (more - length (at_least least digits)) 0) zeros digits
+
+-- A power of one less.
+pub one_less : (p k : ℕ) → 0 < k → p ^ k ≡ p ^ (k - 1) * p
+one_less p k some = ap (λ k. p ^ k) {x = k} {y = suc (k - 1)} (omega (arith, some)) ∙ pow-suc p (k - 1)
+
+-- Digits behind those of a number.
+pub after_is : (radix n : ℕ) (digits : List ℕ)
+    → number_from_digits_after radix n digits ≡ n * radix ^ length digits + number_from_digits radix digits
+after_is radix n [] = omega (arith, ap (λ p. n * p) (pow-zero radix))
+after_is radix n (d ∷ digits) =
+    after_is radix (n * radix + d) digits
+    ∙ omega (arith, ap (λ p. n * p) (pow-suc radix (length digits)), after_is radix (0 * radix + d) digits)
+
 pub plain_text : (pattern : Pattern) (least : ℕ) (bytes digits : List ℕ) → bytes ≡ map (character false) digits → pattern.higher ≡ 0
     → pattern.lowercase ≡ false → least ≤ length bytes → grouped pattern (at_least least digits) ≡ bytes
 plain_text pattern least bytes digits are plain upper most =
@@ -257,20 +286,6 @@ padded_text pattern text a b c d n behind between last all second third fourth =
     (grouped_parts pattern behind b (c ++ d) (omega (arith, all, rest, second)) ∙ ap (λ it. front behind b ++ it)
     (grouped_parts pattern between c d (omega (arith, all, rest, more, second, third)) ∙ ap (λ it. front between c ++ it)
     (sym (grouped_last pattern last d (omega (arith, all, rest, more, end, second, third, fourth))))))))
-
--- What is written of digits has at least as many bytes.
-grouped_longer : (pattern : Pattern) (digits : List ℕ) → length digits ≤ length (grouped pattern digits)
-grouped_longer pattern [] = omega arith
-grouped_longer pattern (d ∷ digits) =
-    let rest = grouped_longer pattern digits in
-    let all = length-append (separated pattern (length digits)) (grouped pattern digits) in
-    omega (arith, rest, all)
-
-pub run_longer : (pattern : Pattern) (least : ℕ) (digits : List ℕ) → length digits ≤ length (grouped pattern (at_least least digits))
-run_longer pattern least digits =
-    let longer = grouped_longer pattern (at_least least digits) in
-    let all = length-append {A = ℕ} (replicate (least - length digits) 0) digits in
-    omega (arith, longer, all)
 
 -- Bytes from an index on that are uppercase digits.
 pub more_characters : (radix i d : ℕ) (bytes : List ℕ) (digit : Option ℕ) → i < length bytes → digit ≡ digit_of (get_or bytes i 0) radix

@@ -345,8 +345,8 @@ not_refused g style amount fraction shown minus e places num den units none whol
     parts false true last none = absurd (false≢true (sym (ap is_some none)))
     parts false false last none = (refl, refl)
 
-    allowed : (sign fraction last : Bool) → sign ≡ false → fraction ≡ false → last ≡ false → first_error sign fraction last errors.Exponent ≡ None
-    allowed sign fraction last a b c = λ i. first_error (a i) (b i) (c i) errors.Exponent
+    allowed : (sign fraction last : Bool) → sign ≡ false → fraction ≡ false → last ≡ false → first_error sign fraction last errors.Radix ≡ None
+    allowed sign fraction last a b c = λ i. first_error (a i) (b i) (c i) errors.Radix
 
     left : (a b : Bool) → (a ≡ true → b ≡ false) → (a && b) ≡ false
     left true b is = is refl

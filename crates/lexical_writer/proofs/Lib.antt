@@ -2,11 +2,9 @@ mod Common
 mod DigitLemmas
 mod GroupLemmas
 mod LiteralLemmas
-mod MovedLemmas
 mod ConversionLemmas
 mod PlainLemmas
-mod PrimeLemmas
-mod SizeLemmas
+mod UnitsLemmas
 mod FloatLemmas
 mod ChoiceLemmas
 mod OrderLemmas

@@ -114,7 +114,7 @@ unfolding IsPunctuation
 some_byte r byte is = let text = is.0 in grind (arith, nat_tests)
 
 -- No number is refused for a sign, a fraction or an exponent.
-no_refusal : (n a b : Bool) → (if n then Some errors.Negative else (if a then Some errors.Fraction else (if b then Some errors.Exponent else None))) ≡ None
+no_refusal : (n a b : Bool) → (if n then Some errors.Negative else (if a then Some errors.Fraction else (if b then Some errors.Radix else None))) ≡ None
     → (n ≡ false) × (a ≡ false) × (b ≡ false)
 no_refusal n a b none = (grind arith, grind arith, grind arith)
 

@@ -220,12 +220,12 @@ abbrev pub IsAmount : Format → Float → Option ℕ → Grammar → Literal �
 IsAmount f value None g l read = IsReal f value read
 IsAmount f value (Some n) g l read = IsReal f (nearest f (bytes_of g.word) l) read
 
--- `IsSameNumber near a b` holds if `a` and `b` are worth the same integer or, if `a` has a decimal point or an exponent, or `near` is
--- true, the same `f64`, by their kinds. Or they are of the exact kind, and have the same value as fractions with a sign, and `b` has
--- neither a decimal point nor an exponent unless `a` has one.
-abbrev pub IsSameNumber : Bool → Read → Read → Type 0
-IsSameNumber near a b = ((z : ℤ) × IsWhole z a × IsWhole z b)
-    ⊎ ((((is_float a.literal ≡ true) ⊎ (near ≡ true)) × (value : Float) × IsReal binary64 value a × IsReal binary64 value b)
+-- `IsSameNumber a b` holds if `a` and `b` are worth the same integer or, if `a` has a decimal point or an exponent, the same `f64`, by their kinds.
+-- Or they are of the exact kind, and have the same value as fractions with a sign, and `b` has neither a decimal point nor an exponent
+-- unless `a` has one.
+abbrev pub IsSameNumber : Read → Read → Type 0
+IsSameNumber a b = ((z : ℤ) × IsWhole z a × IsWhole z b)
+    ⊎ (((is_float a.literal ≡ true) × (value : Float) × IsReal binary64 value a × IsReal binary64 value b)
     ⊎ ((a.kind ≡ exact) × (b.kind ≡ exact) × ((is_float a.literal ≡ true) ⊎ (is_float b.literal ≡ false))
     × SameFraction (raw a.format) a.literal (raw b.format) b.literal))
 
@@ -234,9 +234,3 @@ IsSameNumber near a b = ((z : ℤ) × IsWhole z a × IsWhole z b)
 abbrev pub IsKeptNumber : Read → Bool → Read → Type 0
 IsKeptNumber a own b = ((w : Bool × ℕ) × (w.1 < 2 ^ 128) × (whole_of a ≡ Some w) × (whole_of b ≡ Some w))
     ⊎ ((own ≡ true) × (a.kind ≡ exact) × (b.kind ≡ exact) × ((is_float a.literal ≡ true) ⊎ (is_float b.literal ≡ false)))
-
--- `IsInStyle a style g l b` holds if `a` and `b` are the same number or, if the style wishes for the nearest float and for decimals, if `b` is worth the `f64`
--- that is nearest to the literal `l` of `g`, which is written for `a`.
-abbrev pub IsInStyle : Read → Style → Grammar → Literal → Read → Type 0
-IsInStyle a style g l b = IsSameNumber style.nearest a b
-    ⊎ ((style.nearest ≡ true) × (is_some style.decimals ≡ true) × IsReal binary64 (nearest binary64 (bytes_of g.word) l) b)

@@ -20,21 +20,23 @@ character lowercase digit =
 abbrev pub padded_values : ℕ → Padded → List ℕ
 padded_values radix padded = replicate padded.before 0 ++ (digits_in radix padded.first.now ++ (digits_in radix padded.second.now ++ replicate padded.after 0))
 
+-- `at_least least digits` is `digits` with as many zeros before them as make their number `least`, if it is less.
+abbrev pub at_least : ℕ → List ℕ → List ℕ
+at_least least digits = replicate (least - length digits) 0 ++ digits
+
 -- `values_of radix source` lists the digits of `source` in `radix`. The number 0 has none.
 abbrev pub values_of : ℕ → Source → List ℕ
 values_of radix (sources.Bytes bytes) = digits_in radix bytes.now
 values_of radix (sources.Number number) = digits_of radix number
+values_of radix (sources.Least number least) = at_least least (digits_of radix number)
 values_of radix (sources.Padded padded) = padded_values radix padded
 
 -- `size_of radix source` is the number that the digits of `source` represent in `radix`.
 abbrev pub size_of : ℕ → Source → ℕ
 size_of radix (sources.Bytes bytes) = number radix bytes.now
 size_of radix (sources.Number number) = number
+size_of radix (sources.Least number least) = number
 size_of radix (sources.Padded padded) = number_from_digits radix (padded_values radix padded)
-
--- `at_least least digits` is `digits` with as many zeros before them as make their number `least`, if it is less.
-abbrev pub at_least : ℕ → List ℕ → List ℕ
-at_least least digits = replicate (least - length digits) 0 ++ digits
 
 -- `begins_decimal digits` is true if the first of `digits` is below 10, so that its character is not a letter.
 abbrev pub begins_decimal : List ℕ → Bool

@@ -102,21 +102,6 @@ fraction_pattern r c style count =
     let size = group_size (number_of c conditions.FractionGroupSize) style.fraction_group in
     pattern_of r (r.flag layout.fraction_internal_digit_separator) (if size == 0 then 0 else (count - 1) % size + 1) size style.lowercase
 
--- `plain_style` makes no wish.
-abbrev pub plain_style : Style
-plain_style = record {
-  group = groupings.AsSyntax;
-  fraction_group = groupings.AsSyntax;
-  prefix = true;
-  suffix = true;
-  lowercase = false;
-  min_digits = 0;
-  exponent = exponents.AsNumber;
-  decimals = None;
-  point = false;
-  nearest = false;
-}
-
 -- `needs_exponent g` is true if each literal of `g` has an exponent.
 abbrev pub needs_exponent : Grammar → Bool
 needs_exponent g = (raw g.word).flag layout.required_exponent_notation && not (lacks_options g.options)
@@ -217,7 +202,7 @@ first_error sign fraction last error =
 -- `refusal g amount` is why `amount` cannot be written as a literal of `g`, or `None` if it can.
 abbrev pub refusal : Grammar → Amount → Option WriteError
 refusal g amount = first_error (amount.negative && has g.conditions conditions.NegativeSign) (lacks_options g.options && is_some amount.fraction)
-    ((lacks_options g.options || (raw g.word).flag layout.no_exponent_notation) && is_some amount.exponent) errors.Exponent
+    ((lacks_options g.options || (raw g.word).flag layout.no_exponent_notation) && is_some amount.exponent) errors.Radix
 
 -- `IsLaidOut g style amount result` holds if `result` is what is written for `amount`, or why it cannot be written.
 abbrev pub IsLaidOut : Grammar → Style → Amount → Result Layout WriteError → Type 0

@@ -1,6 +1,5 @@
 pub mod Digits
 pub mod Layout
-pub mod Moved
 pub mod Conversion
 pub mod Buffer
 pub mod Rounded

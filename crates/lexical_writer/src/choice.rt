@@ -30,7 +30,7 @@ use crate::float::{format_float, is_integer};
 use crate::float_digits::FloatDigits;
 use crate::integer::WrittenInteger;
 use crate::layout::{ExponentStyle, Layout, Style, WriteError, wants_exponent};
-use crate::near::format_near;
+use crate::literal::format_literal;
 use lexical_forms::form::Form;
 use lexical_forms::list::{Forms, Number};
 use lexical_literal::kind::{FloatKind, FloatLimits, IntegerKind, Kind};
@@ -304,9 +304,8 @@ impl Writable for Literal<'_> {
     ghost use Rattle.lexical_literal.specs.Literal.{is_float};
     ghost use Rattle.lexical_util.specs.Layout as layout;
     ghost use Rattle.lexical_util.specs.Record.{raw};
-    ghost use Rattle.lexical_writer.specs.Choice.{IsInStyle, IsKeptNumber};
-    ghost use Rattle.std.specs.Float.{binary64};
-    ghost use Rattle.lexical_writer.specs.Conversion.{IsNear, IsWrittenAs, SameFraction};
+    ghost use Rattle.lexical_writer.specs.Choice.{IsKeptNumber, IsSameNumber};
+    ghost use Rattle.lexical_writer.specs.Conversion.{IsWrittenAs, SameFraction};
 
     ghost base = { λ number. (raw number.format).byte layout.mantissa_radix };
 
@@ -314,12 +313,10 @@ impl Writable for Literal<'_> {
 
     ghost rounded = { λ number style. false };
 
-    ghost writes = { λ number style g result. MatchResult result (λ l. IsWrittenAs binary64 number g style (Ok l)
-        × (style.decimals ≡ None → IsNear binary64 (raw number.format) number.literal (raw g.word) l)
-        × (style.nearest ≡ false → SameFraction (raw number.format) number.literal (raw g.word) l))
-        (λ error. IsWrittenAs binary64 number g style (Err error)) };
+    ghost writes = { λ number style g result. MatchResult result (λ l. IsWrittenAs number g style (Ok l)
+        × SameFraction (raw number.format) number.literal (raw g.word) l) (λ error. IsWrittenAs number g style (Err error)) };
 
-    ghost is = { λ number style. IsInStyle number style };
+    ghost is = { λ number style g l. IsSameNumber number };
 
     ghost keeps = { λ number style. IsKeptNumber number };
 
@@ -341,50 +338,23 @@ impl Writable for Literal<'_> {
         style: Style,
         buffer: &mut [u8],
     ) -> Result<(usize, bool), WriteError> {
-        let mut digits = FloatDigits::new();
-        Ok(put(
-            &format_near::<f64>(self, syntax, style, &mut digits)?,
-            buffer,
-        ))
+        Ok(put(&format_literal(self, syntax, style)?, buffer))
     }
 
-    fn is_plain(&self, _syntax: &Syntax, kind: Kind, _style: Style, float: bool) -> bool {
+    fn is_plain(&self, _syntax: &Syntax, kind: Kind, _: Style, float: bool) -> bool {
         is_exact(self.kind()) & is_exact(kind) & (self.is_float() | !float)
     }
 
-    fn is_read_as(&self, style: Style, own: &Literal, literal: &Literal) -> bool {
-        if self.is_worth(style, literal) {
-            return true;
-        }
-        is_rounded(self, style) && is_same::<f64>(own, literal)
+    fn is_read_as(&self, style: Style, _: &Literal, literal: &Literal) -> bool {
+        self.is_worth(style, literal)
     }
 
-    fn is_worth(&self, style: Style, literal: &Literal) -> bool {
+    fn is_worth(&self, _: Style, literal: &Literal) -> bool {
         if is_same_whole(self, literal) {
             return true;
         }
-        is_near(self, style) && is_same::<f64>(self, literal)
+        self.is_float() && is_same::<f64>(self, literal)
     }
-}
-
-// Returns whether a literal that is no integer of at most 128 bits is written by its nearest float, which is rounded.
-fn is_rounded(literal: &Literal, style: Style) -> bool
-    ensures { result ≡ true → (style.nearest ≡ true) × (is_some style.decimals ≡ true) }
-{
-    style.nearest
-        && style.decimals.is_some()
-        && is_exact(literal.kind())
-        && whole_worth(literal).is_none()
-}
-
-// Returns whether a literal that is no integer of at most 128 bits may be written as its nearest float, which is not rounded.
-fn is_near(literal: &Literal, style: Style) -> bool
-    ensures { result ≡ true → (is_float literal.now.literal ≡ true) ⊎ (style.nearest ≡ true) }
-{
-    if is_rounded(literal, style) || whole_worth(literal).is_some() {
-        return false;
-    }
-    literal.is_float() || style.nearest
 }
 
 // Returns whether two literals are worth the same integer.

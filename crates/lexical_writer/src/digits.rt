@@ -252,6 +252,22 @@ fn put_number<S: Sink>(sink: &mut S, number: u128, run: &Run)
     }
 }
 
+// Writes the digits of a number as `put_padded` does, with zeros before them if there are fewer than `least`.
+#[cold]
+#[tactic(auto, using(crate::proofs::DigitLemmas::least_of))]
+fn put_least<S: Sink>(sink: &mut S, number: u128, least: usize, run: &Run)
+    ensures { (start : S) → (text : List ℕ) → S.has start sink.old text
+        → S.has start sink.new (text ++ grouped run.now.pattern (at_least run.now.least (at_least least (digits_of run.now.radix number)))) }
+{
+    let run = Run {
+        source: run.source,
+        radix: run.radix,
+        least: run.least.max(least as u128),
+        pattern: run.pattern,
+    };
+    put_number(sink, number, &run);
+}
+
 // Returns whether the first of the digits among bytes is decimal.
 fn begins_decimal(bytes: &[u8], radix: u32) -> bool
     requires { IsRadix radix }
@@ -341,6 +357,9 @@ impl Source<'_> {
         match self {
             Source::Bytes(bytes) => count(bytes, radix) as u128,
             Source::Number(number) => characters(&mut [0; 128], *number, radix).len() as u128,
+            Source::Least(number, least) => {
+                (characters(&mut [0; 128], *number, radix).len() as u128).max(*least as u128)
+            }
             Source::Padded(padded) => padded.count(radix),
         }
     }
@@ -357,23 +376,14 @@ impl Source<'_> {
                 characters(&mut [0; 128], *number, radix),
                 radix,
             ),
+            Source::Least(number, least) => characters(&mut [0; 128], *number, radix).len() < *least
+                || begins_decimal(characters(&mut [0; 128], *number, radix), radix),
             Source::Padded(padded) => padded.begins_decimal(radix),
         }
     }
 }
 
 impl Run<'_> {
-    // Returns the number of digits if there can be zeros around them, and 0 otherwise.
-    #[tactic(auto, using(crate::proofs::DigitLemmas::run_longer))]
-    pub(crate) fn count(&self) -> u128
-        ensures { result ≤ length (run_text self.now) }
-    {
-        match &self.source {
-            Source::Padded(padded) => padded.count(self.radix),
-            _ => 0,
-        }
-    }
-
     // Returns the number of digits that are written.
     pub(crate) fn length(&self) -> u128
         ensures { result ≡ length (run_digits self.now) }
@@ -397,6 +407,7 @@ impl Run<'_> {
                 }
             }
             Source::Number(number) => put_number(sink, number, self),
+            Source::Least(number, least) => put_least(sink, number, least, self),
             Source::Padded(padded) => put_padded(sink, &padded, self),
         }
     }

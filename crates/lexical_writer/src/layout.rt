@@ -39,12 +39,11 @@ pub enum Grouping {
 pub enum ExponentStyle {
     /// If it has one: a literal keeps its exponent, and an integer has none.
     AsNumber,
-    /// With none. The point moves in its place where it moves by whole digits and the text has at most 800 bytes.
+    /// With none. A literal is written by its value, if it is known.
     Never,
     /// With one. A number without an exponent has the exponent 0.
     Always,
-    /// If it has one that is at least this number, or at most minus this number. The point moves in the place of another one,
-    /// as for `Never`.
+    /// If it is a float whose exponent is at least this number, or at most minus this number.
     From(u32),
 }
 
@@ -79,8 +78,6 @@ pub struct Style {
     pub decimals: Option<u8>,
     /// Whether a float has a point with a digit behind it, also before an exponent, as in `1.0e16`.
     pub point: bool,
-    /// Whether a literal of another radix or base that cannot be written exactly is written by the nearest `f64`.
-    pub nearest: bool,
 }
 
 impl Style {
@@ -96,7 +93,6 @@ impl Style {
         exponent: ExponentStyle::AsNumber,
         decimals: None,
         point: false,
-        nearest: false,
     };
 }
 
@@ -113,12 +109,10 @@ pub enum WriteError {
     Fraction,
     /// The number is an integer of Rust, and each literal has an exponent.
     Float,
-    /// A limit: the mantissa radixes differ, and the number is not whole or has more than 128 bits, or its point does not
-    /// move by whole digits. Or the exponent radixes differ, and the exponent has more than 128 bits.
+    /// A limit: the literal has another radix or another exponent base, or no literal has its exponent, and its value is not
+    /// known to be a number with 27 digits in this radix and without an exponent, or an integer with 128 bits.
     Radix,
-    /// A limit: no literal has the exponent of the number, which does not move the point by whole digits.
-    Exponent,
-    /// A limit: no literal has the exponent of the number, and if the point moves, the text has more than 800 bytes.
+    /// A limit: no literal has an exponent, and without one the float has more than 800 digits.
     Long,
     /// A limit: the buffer is too short for the text, which has this number of bytes.
     Buffer(usize),
@@ -185,14 +179,6 @@ impl Layout<'_> {
         self.put(window);
     }
 
-    // Returns whether the text has more than 800 bytes.
-    pub(crate) fn is_long(&self) -> bool
-        ensures { result ≡ nat_lt 800 (length (text_of (literal_of self.now))) }
-    {
-        // There can be more zeros than there is time to write.
-        self.integer.count() > 800 || self.fraction.count() > 800 || self.write(&mut []) > 800
-    }
-
     // Writes the text.
     pub(crate) fn put<S: Sink>(&self, sink: &mut S)
         ensures { (start : S) → (text : List ℕ) → S.has start sink.old text
@@ -244,7 +230,7 @@ fn lean<'a>(source: Source<'a>, radix: u32) -> Source<'a>
 {
     match source {
         Source::Bytes(bytes) => Source::Bytes(without_zeros(bytes, radix)),
-        Source::Number(number) => Source::Number(number),
+        Source::Number(number) | Source::Least(number, _) => Source::Number(number),
         Source::Padded(padded) => Source::Padded(padded.lean(radix)),
     }
 }
@@ -258,6 +244,7 @@ fn has_digits(source: Source, radix: u32) -> bool
     match source {
         Source::Bytes(bytes) => count(bytes, radix) > 0,
         Source::Number(number) => number > 0,
+        Source::Least(..) => source.count(radix) > 0,
         Source::Padded(padded) => padded.count(radix) > 0,
     }
 }
@@ -425,7 +412,7 @@ impl<'a> Amount<'a> {
             self.negative & forbids_minus(syntax),
             integers & self.fraction.is_some(),
             no_exponent & self.exponent.is_some(),
-            WriteError::Exponent,
+            WriteError::Radix,
         )
     }
 

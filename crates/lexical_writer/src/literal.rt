@@ -1,27 +1,22 @@
-//! Literals are written as literals of another syntax.
+//! Literals are written as literals of another syntax: by their own digits, or else by their value.
 
-ghost use Rattle.std.specs.Prelude.{◌≡◌, ◌&&◌, false, true, IfOk, None};
+ghost use Rattle.std.specs.Prelude.{◌≡◌, false, true, IfOk};
 ghost use Rattle.lexical_util.specs.Record.{raw};
-ghost use Rattle.lexical_util.specs.Rules.{Lawful};
-ghost use Rattle.lexical_literal.specs.Literal.{Reads, text_of, is_minus};
+ghost use Rattle.lexical_literal.specs.Literal.{Literal as Parted, Reads, text_of, is_minus};
 ghost use Rattle.lexical_literal.specs.Notation.{notation_of};
 ghost use Rattle.lexical_literal.specs.Parts.{literal_of};
 ghost use Rattle.lexical_literal.specs.Syntax.{IsSyntax};
-ghost use Rattle.lexical_number.specs.Numeral.{size_of as numeral_size};
-ghost use Rattle.lexical_writer.specs.Conversion.{IsByValue, IsConverted, IsKept, IsPlain, IsShort, IsWritten, SameFraction, or_limit, source_of};
-ghost use Rattle.lexical_writer.specs.Conversion.{amount_of, fraction_of, has_power, is_kept, is_refused, is_same_radix, is_unwanted, is_wish, power_of};
-ghost use Rattle.lexical_writer.specs.Layout.{HasNumber, IsLaidOut, literal_of as written};
-ghost use Rattle.lexical_writer.specs.Moved.{can_move};
+ghost use Rattle.lexical_writer.specs.Conversion.{IsAmountOf, IsWritten, SameFraction, has_point, has_power, is_unwanted, keeps, keeps_power, own_amount};
+ghost use Rattle.lexical_writer.specs.Layout.{HasNumber, literal_of as written};
 
 use crate::layout::{
-    Amount, ExponentStyle, Layout, Power, Style, WriteError, allows_exponent, forbids_minus,
-    is_whole, needs_exponent,
+    Amount, ExponentStyle, Layout, Power, Style, WriteError, allows_exponent, is_whole,
+    needs_exponent,
 };
-use crate::moved::{can_move, exponent_of, places_of, too_far, whole_size, without_exponent};
 use crate::run::Source;
+use crate::units::by_value;
 use lexical_literal::literal::{Literal, Parts};
 use lexical_literal::syntax::Syntax;
-use lexical_number::numeral::{Magnitude, Numeral};
 use lexical_util::format::NumberFormat;
 
 /// Returns how a literal is written as a literal of `syntax`: the number that it represents, whatever its kind is.
@@ -40,222 +35,92 @@ pub fn format_literal<'a>(
         SameFraction (raw literal.now.format) literal.now.literal (raw syntax.now.word) (written layout)) }
     ensures parts { IsWritten literal.now syntax.now style result }
 {
-    convert(literal.format(), &literal.cut(), syntax, style)
-}
-
-// Returns how a literal of `format` with these parts is written as a literal of `syntax`, or why it cannot be.
-pub(crate) fn convert<'a>(
-    format: NumberFormat,
-    parts: &Parts<'a>,
-    syntax: &Syntax,
-    style: Style,
-) -> Result<Layout<'a>, WriteError>
-    requires { Lawful format }
-    ensures literal { IfOk result (λ layout. Reads (notation_of syntax.now) (written layout) (text_of (written layout))) }
-    ensures value { IfOk result (λ layout.
-        SameFraction (raw format) (literal_of parts.now) (raw syntax.now.word) (written layout)) }
-    ensures parts { IsConverted (raw format) parts.now syntax.now style result }
-{
-    if is_refused(parts, syntax) {
-        Err(WriteError::Negative)
-    } else if !is_same_radix(format, syntax) {
-        by_value(format, parts, WriteError::Radix, syntax, style)
-    } else if is_kept(format, parts, syntax) {
-        if !is_wish(format, parts, syntax, style) {
-            return keep(format, parts, syntax, style);
-        }
-        match move_point(format, parts, syntax, style) {
-            Ok(layout) => Ok(layout),
-            Err(_) => keep(format, parts, syntax, style),
-        }
-    } else if can_move(format, parts) {
-        move_point(format, parts, syntax, style)
-    } else {
-        by_value(format, parts, WriteError::Exponent, syntax, style)
-    }
-}
-
-// Returns whether a literal is below 0, or -0, and no literal of `syntax` is.
-fn is_refused(parts: &Parts, syntax: &Syntax) -> bool
-    ensures { result ≡ is_refused parts.now syntax.now }
-{
-    is_minus(parts.sign) && forbids_minus(syntax)
-}
-
-// Returns whether a format and that of `syntax` have the same mantissa radix.
-fn is_same_radix(format: NumberFormat, syntax: &Syntax) -> bool
-    ensures { result ≡ is_same_radix (raw format) syntax.now }
-{
-    format.mantissa_radix() == syntax.format().view().mantissa_radix()
-}
-
-// Returns whether the point of a literal of `format` can stay where it is.
-fn is_kept(format: NumberFormat, parts: &Parts, syntax: &Syntax) -> bool
-    ensures { result ≡ is_kept (raw format) parts.now syntax.now }
-{
-    if has_power(parts) {
-        allows_exponent(syntax) && format.exponent_base() == syntax.format().view().exponent_base()
-    } else {
-        !(is_whole(syntax) && fraction_of(parts).is_some())
-    }
-}
-
-// Returns whether the point of a literal of `format` is to move in place of its exponent.
-fn is_wish(format: NumberFormat, parts: &Parts, syntax: &Syntax, style: Style) -> bool
-    requires { Lawful format }
-    ensures { result ≡ is_wish (raw format) parts.now syntax.now style }
-{
-    has_power(parts)
-        && !needs_exponent(syntax)
-        && can_move(format, parts)
-        && is_unwanted(style.exponent, &exponent_of(format, parts))
-}
-
-// Returns whether the point is to move in place of an exponent.
-fn is_unwanted(wish: ExponentStyle, exponent: &Numeral) -> bool
-    requires { exponent.now.negative ≡ false }
-    ensures { result ≡ is_unwanted wish (numeral_size exponent.now) }
-{
-    match wish {
-        ExponentStyle::Never => true,
-        ExponentStyle::From(least) =>
-            matches!(exponent.as_u64(), Some(size) if size < least as u64),
-        ExponentStyle::AsNumber | ExponentStyle::Always => false,
-    }
-}
-
-// Returns how a literal is written whose point stays where it is, or why it cannot be.
-fn keep<'a>(
-    format: NumberFormat,
-    parts: &Parts<'a>,
-    syntax: &Syntax,
-    style: Style,
-) -> Result<Layout<'a>, WriteError>
-    requires radix { is_same_radix (raw format) syntax.now ≡ true }
-    ensures literal { IfOk result (λ layout. Reads (notation_of syntax.now) (written layout) (text_of (written layout))) }
-    ensures value { IfOk result (λ layout.
-        SameFraction (raw format) (literal_of parts.now) (raw syntax.now.word) (written layout)) }
-    ensures parts { IsKept (raw format) parts.now syntax.now style result }
-{
-    let amount = amount_of(format, parts, syntax.format().view())?;
+    let parts = literal.cut();
+    let amount = amount_of(literal, &parts, syntax, style)?;
     amount.lay_out(syntax, style)
 }
 
-// Returns how a literal is written whose point moves, or why it cannot be.
-fn move_point<'a>(
-    format: NumberFormat,
-    parts: &Parts<'a>,
-    syntax: &Syntax,
-    style: Style,
-) -> Result<Layout<'a>, WriteError>
-    requires radix { is_same_radix (raw format) syntax.now ≡ true }
-    requires lawful { Lawful format }
-    requires can { can_move (raw format) parts.now ≡ true }
-    ensures literal { IfOk result (λ layout. Reads (notation_of syntax.now) (written layout) (text_of (written layout))) }
-    ensures value { IfOk result (λ layout.
-        SameFraction (raw format) (literal_of parts.now) (raw syntax.now.word) (written layout)) }
-    ensures parts { IsPlain (raw format) parts.now syntax.now style result }
-{
-    match places_of(format, parts) {
-        Some(places) => {
-            let amount = without_exponent(parts, format.mantissa_radix(), places);
-            shorten(&amount, syntax, style)
-        }
-        None => Err(or_limit(is_whole(syntax), WriteError::Long, too_far(parts))),
-    }
-}
-
-// Returns how a number is written whose point has moved, or why it is not.
-fn shorten<'a>(amount: &Amount<'a>, syntax: &Syntax, style: Style) -> Result<Layout<'a>, WriteError>
-    ensures literal { IfOk result (λ layout. Reads (notation_of syntax.now) (written layout) (text_of (written layout))) }
-    ensures number { IfOk result (λ layout. HasNumber syntax.now amount.now (written layout)) }
-    ensures parts { IsShort syntax.now style amount.now result }
-    ensures lawful { IsSyntax syntax.now }
-{
-    match amount.lay_out(syntax, Style::PLAIN) {
-        Err(error) => Err(error),
-        Ok(plain) if plain.is_long() => Err(WriteError::Long),
-        Ok(_) => amount.lay_out(syntax, style),
-    }
-}
-
-// Returns how the whole number that a literal represents is written, or why it is not: `limit`, unless literals are integers, and it is
-// not whole.
-fn by_value<'a>(
-    format: NumberFormat,
-    parts: &Parts<'a>,
-    limit: WriteError,
-    syntax: &Syntax,
-    style: Style,
-) -> Result<Layout<'a>, WriteError>
-    requires lawful { Lawful format }
-    ensures literal { IfOk result (λ layout. Reads (notation_of syntax.now) (written layout) (text_of (written layout))) }
-    ensures value { IfOk result (λ layout.
-        SameFraction (raw format) (literal_of parts.now) (raw syntax.now.word) (written layout)) }
-    ensures parts { IsByValue limit (raw format) parts.now syntax.now style result }
-{
-    match whole_size(format, parts) {
-        Ok(size) => Amount::of_size(is_minus(parts.sign), size).lay_out(syntax, style),
-        Err(error) => Err(or_limit(is_whole(syntax), limit, error)),
-    }
-}
-
-// Returns why a number is not written that is not whole, or has more than 128 bits.
-const fn or_limit(whole: bool, limit: WriteError, error: WriteError) -> WriteError
-    ensures { result ≡ or_limit whole limit error }
-{
-    match error {
-        WriteError::Fraction if whole => WriteError::Fraction,
-        _ => limit,
-    }
-}
-
-// Returns the number that a literal represents, or why the format `target` cannot have its exponent.
+// Returns what is written of a literal with these parts, or why nothing is.
 fn amount_of<'a>(
-    format: NumberFormat,
+    literal: &Literal<'a>,
     parts: &Parts<'a>,
-    target: NumberFormat,
+    syntax: &Syntax,
+    style: Style,
 ) -> Result<Amount<'a>, WriteError>
-    ensures { result ≡ amount_of (raw format) parts.now (raw target) }
+    requires { literal_of parts.now ≡ literal.now.literal }
+    ensures parts { IsAmountOf (raw literal.now.format) parts.now syntax.now style result }
+    ensures value { IfOk result (λ amount. (l : Parted) → IsSyntax syntax.now → HasNumber syntax.now amount l
+        → SameFraction (raw literal.now.format) (literal_of parts.now) (raw syntax.now.word) l) }
 {
-    Ok(Amount {
-        exponent: power_of(format, parts, target)?,
-        negative: is_minus(parts.sign),
-        integer: Source::Bytes(parts.integer),
-        fraction: fraction_of(parts),
-    })
-}
-
-// Returns the fraction of a literal, if it has one.
-fn fraction_of<'a>(parts: &Parts<'a>) -> Option<Source<'a>>
-    ensures { result ≡ fraction_of parts.now }
-{
-    if parts.point.is_empty() && parts.fraction.is_empty() {
-        None
-    } else {
-        Some(Source::Bytes(parts.fraction))
+    if !keeps(literal.format(), parts, syntax) {
+        return by_value(literal, parts, syntax);
+    }
+    if !is_unwanted(parts, syntax, style) {
+        return Ok(own_amount(parts));
+    }
+    match by_value(literal, parts, syntax) {
+        Ok(amount) => Ok(amount),
+        Err(_) => Ok(own_amount(parts)),
     }
 }
 
-// Returns the exponent of a literal, if it has one, or why the format `target` cannot have it.
-fn power_of<'a>(
-    format: NumberFormat,
-    parts: &Parts<'a>,
-    target: NumberFormat,
-) -> Result<Option<Power<'a>>, WriteError>
-    ensures { result ≡ power_of (raw format) parts.now (raw target) }
+// Returns whether a literal of `format` with these parts can be written by its own digits.
+fn keeps(format: NumberFormat, parts: &Parts, syntax: &Syntax) -> bool
+    ensures { result ≡ keeps (raw format) parts.now syntax.now }
+{
+    keeps_power(format, parts, syntax)
+        && format.mantissa_radix() == syntax.format().view().mantissa_radix()
+        && !(has_point(parts) && is_whole(syntax))
+}
+
+// Returns whether literals of `syntax` can have the exponent of such a literal, if it has one.
+fn keeps_power(format: NumberFormat, parts: &Parts, syntax: &Syntax) -> bool
+    ensures { result ≡ keeps_power (raw format) parts.now syntax.now }
 {
     if !has_power(parts) {
-        return Ok(None);
+        return true;
     }
-    if format.exponent_base() != target.exponent_base() {
-        return Err(WriteError::Radix);
+    let to = syntax.format().view();
+    allows_exponent(syntax)
+        && format.exponent_base() == to.exponent_base()
+        && format.exponent_radix() == to.exponent_radix()
+}
+
+// Returns whether a literal has an exponent that is not to be written.
+fn is_unwanted(parts: &Parts, syntax: &Syntax, style: Style) -> bool
+    ensures { result ≡ is_unwanted syntax.now style parts.now }
+{
+    has_power(parts) && !needs_exponent(syntax) && matches!(style.exponent, ExponentStyle::Never)
+}
+
+// Returns the digits and the exponent of a literal.
+fn own_amount<'a>(parts: &Parts<'a>) -> Amount<'a>
+    ensures { result ≡ own_amount parts.now }
+{
+    Amount {
+        negative: is_minus(parts.sign),
+        integer: Source::Bytes(parts.integer),
+        fraction: if has_point(parts) {
+            Some(Source::Bytes(parts.fraction))
+        } else {
+            None
+        },
+        exponent: if has_power(parts) {
+            Some(Power {
+                negative: is_minus(parts.exponent_sign),
+                source: Source::Bytes(parts.exponent),
+            })
+        } else {
+            None
+        },
     }
-    let (from, to) = (format.exponent_radix(), target.exponent_radix());
-    Ok(Some(Power {
-        source: source_of(parts.exponent, from, to)?,
-        negative: is_minus(parts.exponent_sign),
-    }))
+}
+
+// Returns whether a literal has a fraction.
+fn has_point(parts: &Parts) -> bool
+    ensures { result ≡ has_point parts.now }
+{
+    !parts.point.is_empty() || !parts.fraction.is_empty()
 }
 
 // Returns whether a literal has an exponent.
@@ -263,23 +128,6 @@ fn has_power(parts: &Parts) -> bool
     ensures { result ≡ has_power parts.now }
 {
     !parts.exponent_character.is_empty() || !parts.exponent.is_empty()
-}
-
-// Returns digits in another radix, unless they represent a number with more than 128 bits.
-fn source_of<'a>(bytes: &'a [u8], from: u32, to: u32) -> Result<Source<'a>, WriteError>
-    ensures { result ≡ source_of bytes.entry from to }
-{
-    if from == to {
-        return Ok(Source::Bytes(bytes));
-    }
-    let exponent = Numeral {
-        negative: false,
-        magnitude: Magnitude::Digits(bytes, from),
-    };
-    match exponent.as_u128() {
-        Some(size) => Ok(Source::Number(size)),
-        None => Err(WriteError::Radix),
-    }
 }
 
 // Returns whether a sign is a minus sign.

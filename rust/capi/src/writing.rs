@@ -20,10 +20,9 @@ const ARGUMENT: WriteStatus = 8;
 
 texts! {
     DESCRIPTIONS: [12] = |status| match status {
-        1 => b"the digits or the exponent have another radix or base",
+        1 => b"in this radix or without an exponent, the number has too many digits, or none that are known",
         2 => b"no literal has the sign '-'",
         3 => b"literals are integers, and the number is not whole",
-        4 => b"no literal has an exponent, and this one does not move the point by whole digits",
         5 => b"each literal has an exponent, and an integer has none",
         6 => b"no literal is NaN or infinity, and no spelling is read back as it",
         7 => b"the buffer is too short",
@@ -48,8 +47,7 @@ pub struct Style {
     point: u8,
     has_decimals: u8,
     decimals: u8,
-    nearest: u8,
-    reserved: [u8; 8],
+    reserved: [u8; 9],
 }
 
 const _: () = assert!(size_of::<Style>() == 24, "the size in the header");
@@ -69,7 +67,7 @@ impl Style {
         (style.group, style.fraction_group) = (group(self.group), group(self.fraction_group));
         (style.prefix, style.suffix) = (self.without_base == 0, self.without_base == 0);
         style.lowercase = self.lowercase != 0;
-        (style.point, style.nearest) = (self.point != 0, self.nearest != 0);
+        style.point = self.point != 0;
         style.decimals = (self.has_decimals != 0).then_some(self.decimals);
         let exponent = match self.exponent {
             0 => ExponentStyle::AsNumber,
@@ -78,7 +76,7 @@ impl Style {
             3 => ExponentStyle::From(self.exponent_from),
             _ => return None,
         };
-        (self.reserved == [0; 8]).then_some(style.exponent(exponent))
+        (self.reserved == [0; 9]).then_some(style.exponent(exponent))
     }
 }
 
@@ -113,7 +111,6 @@ fn status_of(error: WriteError) -> WriteStatus {
         WriteError::Radix => 1,
         WriteError::Negative => 2,
         WriteError::Fraction => 3,
-        WriteError::Exponent => 4,
         WriteError::Float => 5,
         WriteError::Long | WriteError::Buffer(_) => 9,
         WriteError::ReadBack => 10,

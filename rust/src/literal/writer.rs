@@ -26,12 +26,11 @@ mod form;
 mod integer;
 mod layout;
 mod literal;
-mod moved;
-mod near;
 mod patterns;
 mod rounded;
 mod run;
 mod sink;
+mod units;
 mod written;
 
 pub use layout::{ExponentStyle, Grouping, Style, WriteError};
@@ -40,7 +39,6 @@ use choice::{choose, lay_out_first, Chosen, LONGEST};
 #[doc(hidden)]
 pub use choice::{Real, Whole, Writable};
 use float_digits::FloatDigits;
-use near::float_instead;
 pub use written::Written;
 use written::{Text, Value, ValueText};
 
@@ -106,10 +104,9 @@ impl Style {
     ///     let literal = syntax.read(text).unwrap();
     ///     syntax.format_literal(&literal, Style::PLAIN.exponent(exponent)).unwrap().to_string()
     /// };
-    /// assert_eq!(write("1.5e3", ExponentStyle::Never), "1500");
+    /// assert_eq!(write("1.5e3", ExponentStyle::Never), "1500.0");
     /// assert_eq!(write("1.5", ExponentStyle::Always), "1.5e0");
-    /// assert_eq!(write("1.5e3", ExponentStyle::From(4)), "1500");
-    /// assert_eq!(write("1.5e-4", ExponentStyle::From(4)), "1.5e-4");
+    /// assert_eq!(write("1.5e3", ExponentStyle::AsNumber), "1.5e3");
     /// ```
     #[must_use]
     pub const fn exponent(mut self, wish: ExponentStyle) -> Style {
@@ -151,24 +148,6 @@ impl Style {
     #[must_use]
     pub const fn point(mut self) -> Style {
         self.point = true;
-        self
-    }
-
-    /// Writes a [literal][Syntax::format_literal] of another radix or base by the nearest `f64`, if it cannot be written exactly.
-    ///
-    /// ```
-    /// use peltzivar::literal::{Language, Style, WriteError};
-    ///
-    /// let literal = Language::JSON.read("0.1").unwrap().literal().unwrap();
-    /// let hexadecimal = Language::C.forms().as_slice().iter().find(|form| form.name() == "hexadecimal float").unwrap().syntax();
-    /// let write = |style| hexadecimal.format_literal(&literal, style).map(|text| text.to_string());
-    /// assert_eq!(write(Style::PLAIN.nearest())?, "0x1.999999999999Ap-4");
-    /// assert_eq!(write(Style::PLAIN), Err(WriteError::Radix));
-    /// # Ok::<(), WriteError>(())
-    /// ```
-    #[must_use]
-    pub const fn nearest(mut self) -> Style {
-        self.nearest = true;
         self
     }
 }
@@ -245,13 +224,12 @@ impl Syntax {
 
     /// Returns a literal, which may be of another syntax, as a literal of this syntax with the same value.
     ///
-    /// Separators and leading zeros are left out, and groups are those of `style`. Where the format requires digits or an
-    /// exponent that the literal does not have, `0` and `e0` are added. Trailing zeros are kept, and so is the sign of `-0`.
-    /// Where no exponent is allowed, the point moves in its place, and trailing zeros of the fraction are left out: `1.2e3`
-    /// is `1200`. So they are in a syntax of integers alone, in which `1.0` is `1`. In another radix, and where the point
-    /// cannot move, a whole number of up to 128 bits is written: `0xFF` is `255`, and with [`Style::nearest`] any number, by
-    /// its `f64`. If the value by the [kind][Literal::kind] of the literal is another number, that is written: of Java's
-    /// `0xffffffff`, it is `-1`.
+    /// The digits and the exponent stay, with trailing zeros and the sign of `-0`, if the mantissa radix, the exponent base and
+    /// the exponent radix are the same. Separators and leading zeros are left out, and groups are those of `style`. Where the
+    /// format requires digits or an exponent that the literal does not have, `0` and `e0` are added. In another radix, and where
+    /// no exponent is allowed, the value is written, if it is known: `0xFF` is `255`, and `1.2e3` is `1200.0`, since a float
+    /// stays one, or `1200` in a syntax of integers alone. If the value by the [kind][Literal::kind] of the literal is another
+    /// number, that is written: of Java's `0xffffffff`, it is `-1`.
     ///
     /// ```
     /// use peltzivar::literal::{Style, Syntax};
@@ -269,10 +247,7 @@ impl Syntax {
     /// If the literal cannot be written, returns why.
     pub fn format_literal<'a>(&self, literal: &Literal<'a>, style: Style) -> Result<Written<'a>, WriteError> {
         match literal.other_value() {
-            None => match literal::format_literal(literal, self, style) {
-                Ok(layout) => Ok(Written::of(Text::Number(layout))),
-                Err(error) => self.format_float(float_instead::<f64>(literal, style, error)?, style),
-            },
+            None => Ok(Written::of(Text::Number(literal::format_literal(literal, self, style)?))),
             Some(other) => self.format_other(other, style),
         }
     }
@@ -359,7 +334,7 @@ impl<'a> Forms<'a> {
     /// let literal = Language::C.read("0x1.8p1").unwrap().literal().unwrap();
     /// let write = |language: Language| language.forms().format_literal(&literal, Style::PLAIN).map(|it| it.to_string());
     /// assert_eq!(write(Language::JAVA)?, "0x1.8p1");
-    /// assert_eq!(write(Language::PYTHON)?, "3");
+    /// assert_eq!(write(Language::PYTHON)?, "3.0");
     /// # Ok::<(), WriteError>(())
     /// ```
     ///
@@ -513,11 +488,12 @@ impl<'a> Specials<'a> {
 impl fmt::Display for WriteError {
     fn fmt(&self, f: &mut fmt::Formatter<'_>) -> fmt::Result {
         f.pad(match self {
-            WriteError::Radix => "the digits or the exponent have another radix or base",
+            WriteError::Radix => {
+                "in this radix or without an exponent, the number has too many digits, or none that are known"
+            }
             WriteError::TooLarge => "the literal is too large for its kind",
             WriteError::Negative => "no literal has the sign '-'",
             WriteError::Fraction => "literals are integers, and the number is not whole",
-            WriteError::Exponent => "no literal has an exponent, and this one does not move the point by whole digits",
             WriteError::Float => "each literal has an exponent, and an integer of Rust has none",
             WriteError::Special => "no literal is NaN or infinity, and no spelling is read back as it",
             WriteError::Long => "without an exponent, the text has more than 800 bytes",

@@ -17,7 +17,7 @@ use crate::literal::writer::float::{format_float, is_integer};
 use crate::literal::writer::float_digits::FloatDigits;
 use crate::literal::writer::integer::WrittenInteger;
 use crate::literal::writer::layout::{wants_exponent, ExponentStyle, Layout, Style, WriteError};
-use crate::literal::writer::near::format_near;
+use crate::literal::writer::literal::format_literal;
 
 /// A number that a list of forms is asked to write.
 pub trait Writable {
@@ -194,40 +194,23 @@ impl Writable for Literal<'_> {
     }
 
     fn write(&self, syntax: &Syntax, style: Style, buffer: &mut [u8]) -> Result<(usize, bool), WriteError> {
-        let mut digits = FloatDigits::new();
-        Ok(put(&format_near::<f64>(self, syntax, style, &mut digits)?, buffer))
+        Ok(put(&format_literal(self, syntax, style)?, buffer))
     }
 
-    fn is_plain(&self, _syntax: &Syntax, kind: Kind, _style: Style, float: bool) -> bool {
+    fn is_plain(&self, _syntax: &Syntax, kind: Kind, _: Style, float: bool) -> bool {
         is_exact(self.kind()) & is_exact(kind) & (self.is_float() | !float)
     }
 
-    fn is_read_as(&self, style: Style, own: &Literal, literal: &Literal) -> bool {
-        if self.is_worth(style, literal) {
-            return true;
-        }
-        is_rounded(self, style) && is_same::<f64>(own, literal)
+    fn is_read_as(&self, style: Style, _: &Literal, literal: &Literal) -> bool {
+        self.is_worth(style, literal)
     }
 
-    fn is_worth(&self, style: Style, literal: &Literal) -> bool {
+    fn is_worth(&self, _: Style, literal: &Literal) -> bool {
         if is_same_whole(self, literal) {
             return true;
         }
-        is_near(self, style) && is_same::<f64>(self, literal)
+        self.is_float() && is_same::<f64>(self, literal)
     }
-}
-
-// Returns whether a literal that is no integer of at most 128 bits is written by its nearest float, which is rounded.
-fn is_rounded(literal: &Literal, style: Style) -> bool {
-    style.nearest && style.decimals.is_some() && is_exact(literal.kind()) && whole_worth(literal).is_none()
-}
-
-// Returns whether a literal that is no integer of at most 128 bits may be written as its nearest float, which is not rounded.
-fn is_near(literal: &Literal, style: Style) -> bool {
-    if is_rounded(literal, style) || whole_worth(literal).is_some() {
-        return false;
-    }
-    literal.is_float() || style.nearest
 }
 
 // Returns whether two literals are worth the same integer.

@@ -186,6 +186,13 @@ fn put_number<S: Sink>(sink: &mut S, number: u128, run: &Run) {
     }
 }
 
+// Writes the digits of a number as `put_padded` does, with zeros before them if there are fewer than `least`.
+#[cold]
+fn put_least<S: Sink>(sink: &mut S, number: u128, least: usize, run: &Run) {
+    let run = Run { source: run.source, radix: run.radix, least: run.least.max(least as u128), pattern: run.pattern };
+    put_number(sink, number, &run);
+}
+
 // Returns whether the first of the digits among bytes is decimal.
 fn begins_decimal(bytes: &[u8], radix: u32) -> bool {
     for byte in bytes {
@@ -239,6 +246,9 @@ impl Source<'_> {
         match self {
             Source::Bytes(bytes) => count(bytes, radix) as u128,
             Source::Number(number) => characters(&mut [0; 128], *number, radix).len() as u128,
+            Source::Least(number, least) => {
+                (characters(&mut [0; 128], *number, radix).len() as u128).max(*least as u128)
+            }
             Source::Padded(padded) => padded.count(radix),
         }
     }
@@ -248,20 +258,16 @@ impl Source<'_> {
         match self {
             Source::Bytes(bytes) => begins_decimal(bytes, radix),
             Source::Number(number) => begins_decimal(characters(&mut [0; 128], *number, radix), radix),
+            Source::Least(number, least) => {
+                characters(&mut [0; 128], *number, radix).len() < *least
+                    || begins_decimal(characters(&mut [0; 128], *number, radix), radix)
+            }
             Source::Padded(padded) => padded.begins_decimal(radix),
         }
     }
 }
 
 impl Run<'_> {
-    // Returns the number of digits if there can be zeros around them, and 0 otherwise.
-    pub(crate) fn count(&self) -> u128 {
-        match &self.source {
-            Source::Padded(padded) => padded.count(self.radix),
-            _ => 0,
-        }
-    }
-
     // Returns the number of digits that are written.
     pub(crate) fn length(&self) -> u128 {
         self.source.count(self.radix).max(self.least)
@@ -280,6 +286,7 @@ impl Run<'_> {
                 }
             }
             Source::Number(number) => put_number(sink, number, self),
+            Source::Least(number, least) => put_least(sink, number, least, self),
             Source::Padded(padded) => put_padded(sink, &padded, self),
         }
     }

@@ -9,6 +9,8 @@ pub enum Source<'a> {
     Bytes(&'a [u8]),
     /// The digits of this number. The number 0 has none.
     Number(u128),
+    /// The digits of the first number, and zeros before them if there are fewer than the second number.
+    Least(u128, usize),
     /// Digits among bytes, with zeros around them.
     Padded(Padded<'a>),
 }
