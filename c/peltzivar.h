@@ -413,8 +413,7 @@ enum {
     /* The syntax, the list, the literal or the spellings are null, one of them, the style or the special value is
      * refused, or no call has made the literal. */
     PELTZIVAR_WRITE_ARGUMENT = 8,
-    /* Without an exponent, which no literal has, a float has more than 800 digits, or a text by a list 4096 bytes. */
-    PELTZIVAR_WRITE_LONG = 9,
+    PELTZIVAR_WRITE_LONG = 9, /* The text that the forms are to read has more than 4096 bytes. */
     PELTZIVAR_WRITE_READ_BACK = 10, /* The forms read the text as another number. */
     PELTZIVAR_WRITE_TOO_LARGE = 11 /* The literal, or the one that the forms read, is too large for its kind. */
 };
@@ -424,8 +423,7 @@ typedef uint8_t peltzivar_exponent_style;
 enum {
     PELTZIVAR_STYLE_AS_NUMBER = 0, /* A literal keeps its exponent, and an integer has none. */
     PELTZIVAR_STYLE_NEVER = 1, /* A literal is written by its value, if it is known. */
-    PELTZIVAR_STYLE_ALWAYS = 2, /* A number without an exponent has the exponent 0. */
-    PELTZIVAR_STYLE_FROM = 3 /* A float has none between -exponent_from and exponent_from. */
+    PELTZIVAR_STYLE_ALWAYS = 2 /* A number without an exponent has the exponent 0. */
 };
 
 /* As a group of a style, no separators. */
@@ -435,17 +433,17 @@ enum {
  * What the syntax forbids is not done, and what it requires is. `group` and `fraction_group` are how many digits a
  * group of the integer and the fraction has, unless the syntax has a size. With 0, there are groups only where it has
  * one. `without_base` leaves out the base prefix and the base suffix. `lowercase` writes digits in lowercase.
- * `min_digits` is how many integer digits there are at least, with zeros before the others. `exponent_from` is the
- * number of PELTZIVAR_STYLE_FROM. With `point`, a float has a point with a digit behind it, also before an exponent.
- * With `has_decimals`, a float is rounded to as many digits behind the point as `decimals`, to the nearest, or to the
- * even one if two are as near, and has no exponent that neither the syntax nor the style requires. */
+ * `min_digits` is how many integer digits there are at least, with zeros before the others. With `has_decimals`, a
+ * float is rounded in decimal floats to as many digits behind the point as `decimals`, to the nearest, or to the even
+ * one if two are as near, and has no exponent that neither the syntax nor the style requires. In integers alone, and in
+ * another radix than 10, it has no effect. */
 typedef struct {
     uint8_t group, fraction_group;
     bool without_base, lowercase;
     uint8_t min_digits;
     peltzivar_exponent_style exponent;
-    uint32_t exponent_from;
-    bool point, has_decimals;
+    uint8_t reserved_wishes[7];
+    bool has_decimals;
     uint8_t decimals;
     uint8_t reserved[9];
 } peltzivar_style;
@@ -454,7 +452,7 @@ typedef struct {
  * by a syntax, and for any float of peltzivar_format_f64. A literal by a syntax can be of any length. */
 #define PELTZIVAR_FORMS_SIZE 4097
 #define PELTZIVAR_INTEGER_SIZE 519
-#define PELTZIVAR_FLOAT_SIZE 2112
+#define PELTZIVAR_FLOAT_SIZE 2662
 
 /* Write an integer by the first form whose text all forms read as the same integer, or as a double that is exactly this
  * integer, or by the first of its words of peltzivar_suffixes, which peltzivar_forms_token reads and the other calls

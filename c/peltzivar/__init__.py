@@ -939,8 +939,7 @@ class _Reader(_peltzivar.Reader):
     def format_number(
         self, value: Union[SupportsIndex, SupportsFloat, Special], *, group: Optional[int] = None,
         fraction_group: Optional[int] = None, without_base: bool = False, lowercase: bool = False, min_digits: int = 0,
-        exponent: Union[int, typing.Literal["never", "always"], None] = None, point: bool = False,
-        decimals: Optional[int] = None
+        exponent: Optional[typing.Literal["never", "always"]] = None, decimals: Optional[int] = None
     ) -> str:
         """Returns a number as a literal, or as NaN or infinity of several forms. Reading the text returns the same
         value.
@@ -959,10 +958,9 @@ class _Reader(_peltzivar.Reader):
         `fraction_group` (0 to 254) are the digits in a group of the integer, from the right, and of the fraction. 0 is
         no groups, and None those of the size of the syntax, if it has one. `without_base` leaves out the base prefix
         and suffix. `lowercase` writes digits in lowercase, and `min_digits` (0 to 255) at least so many integer digits.
-        `exponent` is "never", for a value without one, "always", or a number n: a float has an exponent that is at least n
-        or at most -n. With `point`, a float has a point with a digit behind it. `decimals` (0 to 255) rounds to
-        so many digits behind the point, as `format(value, ".2f")` does: to the nearest, or to the even one if two are
-        as near. In radix 10, it does so with each number, a `Literal` by its `value`, and otherwise with floats alone.
+        `exponent` is "never", for a value without one, or "always". `decimals` (0 to 255) rounds each number, a
+        `Literal` by its `value`, to so many digits behind the point, as `format(value, ".2f")` does: to the nearest, or
+        to the even one if two are as near. In integers alone, and in another radix than 10, it has no effect.
 
         Of several forms, as those of a Language, the first is taken whose text all of them read as the same integer, as
         a float that is equal to it, or as the same float. Forms of the radix of a `Literal`, or else decimal ones, are
@@ -976,8 +974,8 @@ class _Reader(_peltzivar.Reader):
         27 digits or, of an int, 128 bits, of a number of another radix than that of the syntax, which is 10 for a float
         and a Decimal, and, of a float, for another exponent base.
         """
-        wishes = group, fraction_group, without_base, lowercase, min_digits, exponent, point
-        return self._text_of(value, _style(*wishes, decimals))
+        wishes = group, fraction_group, without_base, lowercase, min_digits, exponent, decimals
+        return self._text_of(value, _style(*wishes))
 
     def format_column(self, numbers: Iterable[Any], *, fill: Optional[str] = None, **wishes: Any) -> List[str]:
         """Returns a list, or an array of numpy, as texts, as `format_number` does with the same wishes, several times
@@ -1116,21 +1114,17 @@ def _texts_of(cells: Any) -> Tuple[Tuple[Any, ...], bytes, Any]:
 
 def _style(
     group: Any = None, fraction_group: Any = None, without_base: Any = False, lowercase: Any = False,
-    min_digits: Any = 0, exponent: Any = None, point: Any = False,
-    decimals: Any = None
+    min_digits: Any = 0, exponent: Any = None, decimals: Any = None
 ) -> Tuple[int, ...]:
     """Returns wishes as the members of a style."""
     sizes = ("group", group), ("fraction_group", fraction_group)
     groups = [0 if it is None else _number(name, it, 255, "a number from 0 to 254") or 255 for name, it in sizes]
     flags = ("without_base", without_base), ("lowercase", lowercase)
     flags_of, least = [_typed(name, it, bool) for name, it in flags], _number("min_digits", min_digits)
-    is_name = exponent is None or isinstance(exponent, str) and exponent in ("never", "always")
-    wish = (None, "never", "always").index(exponent) if is_name else 3
-    wanted = '"never", "always" or a number from 0 to 4294967295'
-    power = 0 if is_name else _number("exponent", exponent, 1 << 32, wanted)
+    if exponent not in (None, "never", "always"):
+        raise ValueError(f'exponent must be "never" or "always", not {exponent!r}')
     places = 0 if decimals is None else _number("decimals", decimals)
-    last = _typed("point", point, bool), decimals is not None, places
-    return *groups, *flags_of, least, wish, power, *last
+    return *groups, *flags_of, least, (None, "never", "always").index(exponent), decimals is not None, places
 
 
 # An error names the method whose wishes are passed on.
@@ -1298,11 +1292,11 @@ class Syntax(_Reader, metaclass=_Class):
 def _writable(value: Any, radix: int, syntax: Syntax, style: Tuple[int, ...]) -> Any:
     """Returns a number as what C writes: a float, or a literal. A float is rounded by C, and any other number here. An
     int of more than 128 bits is a literal of the radix."""
-    kind, (*_, wish, least, _, has_decimals, places) = type(value), style
+    kind, (*_, wish, has_decimals, places) = type(value), style
     # numpy has a bool of its own, with one name or the other.
     if kind.__name__ in ("bool", "bool_") or not (hasattr(kind, "__float__") or hasattr(kind, "__index__")):
         raise TypeError(f"value must be a number or a Literal, not {kind.__name__}")
-    is_rounded = has_decimals and radix == 10
+    is_rounded = has_decimals and radix == 10 and syntax.point is not None
     is_literal = isinstance(value, _peltzivar.Found)
     if is_literal and not is_rounded:
         return value
@@ -1324,10 +1318,9 @@ def _writable(value: Any, radix: int, syntax: Syntax, style: Tuple[int, ...]) ->
         return float(value)
     if not is_rounded:
         return _DECIMALS.read(str(value) if abs(value.adjusted()) > 400 else f"{value:f}")
-    has_exponent = value and (wish == 2 or wish == 3 and abs(value.adjusted()) >= least)
-    if not syntax.point or syntax.format.no_exponent_notation or not has_exponent:
+    if syntax.format.no_exponent_notation or not value or wish != 2:
         exact = Context(_MOST_DIGITS, ROUND_HALF_EVEN, MIN_EMIN, MAX_EMAX, traps=[InvalidOperation])
-        return _DECIMALS.read(f"{exact.quantize(value, Decimal(1).scaleb(-places if syntax.point else 0)):f}")
+        return _DECIMALS.read(f"{exact.quantize(value, Decimal(1).scaleb(-places)):f}")
     return _DECIMALS.read(f"{Context(places + 1, ROUND_HALF_EVEN, MIN_EMIN, MAX_EMAX).plus(value):.{places}E}")
 
 

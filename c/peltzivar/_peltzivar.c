@@ -73,8 +73,7 @@ IS(tokens) ARRAY(tokens, forms, count, form) S(tokens, following) B(tokens, give
     B(tokens, gives_points_to_letters) B(tokens, any_word_follows) }};
 IS(forms) ARRAY(forms, forms, count, form) OF('>', forms, specials, specials) OF('*', forms, tokens, tokens) }};
 IS(style) B(style, group) B(style, fraction_group) B(style, without_base) B(style, lowercase)
-    B(style, min_digits) B(style, exponent) M('4', style, exponent_from) B(style, point)
-    B(style, has_decimals) B(style, decimals) }};
+    B(style, min_digits) B(style, exponent) B(style, has_decimals) B(style, decimals) }};
 IS(fields) M('8', fields, flags) B(fields, digit_separator) B(fields, base_prefix) B(fields, base_suffix)
     B(fields, mantissa_radix) B(fields, exponent_base) B(fields, exponent_radix) }};
 IS(edit) B(edit, setter) B(edit, value) }};
@@ -104,10 +103,9 @@ static bool packed(const Structure *as, PyObject *from, char *to, PyObject *kept
         Py_ssize_t size;
         if (!value) return false;
         if (kind == '1') *(uint8_t *)at = (uint8_t)PyLong_AsUnsignedLong(value);
-        if (kind == '4') *(uint32_t *)at = (uint32_t)PyLong_AsUnsignedLong(value);
         if (kind == '8') *(uint64_t *)at = PyLong_AsUnsignedLongLong(value);
         if (kind == '>') packed(as->members[i].of, value, at, kept);
-        if (value == Py_None || strchr("148>", kind)) continue;
+        if (value == Py_None || strchr("18>", kind)) continue;
         if (kind == 's') *(char **)at = PyBytes_AsString(value);
         if (kind == '*') *(char **)at = packed_array(as->members[i].of, value, 1, true, kept);
         if (kind != '[' || (size = PyTuple_Size(value)) <= 0) continue;
@@ -541,8 +539,7 @@ static const struct {
 } WISHES[] = {{"decimals", 'd', AT(style, decimals)}, {"group", 'g', AT(style, group)},
     {"fraction_group", 'g', AT(style, fraction_group)}, {"without_base", 'b', AT(style, without_base)},
     {"lowercase", 'b', AT(style, lowercase)},
-    {"min_digits", 'd', AT(style, min_digits)},
-    {"point", 'b', AT(style, point)}};
+    {"min_digits", 'd', AT(style, min_digits)}};
 
 /* Finds a wish. Returns false for one that is left to Python. */
 static bool wished(PyObject *name, PyObject *value, peltzivar_style *style) {

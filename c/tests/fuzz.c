@@ -173,7 +173,7 @@ static void test_written(const peltzivar_syntax *syntax, bool is_lawful, const p
 /* A list of forms reads a text alike by all calls, and reads what it writes. A token is all of a text only if its literal is one. */
 static void test_list(const peltzivar_forms *forms, const char *from, size_t len, bool is_lawful) {
     const int64_t offsets[] = {0, (int64_t)len, (int64_t)len};
-    const peltzivar_style style = {.group = (uint8_t)(draw() % 4), .exponent = (uint8_t)(draw() % 5), .exponent_from = 9, .point = draw() % 2};
+    const peltzivar_style style = {.group = (uint8_t)(draw() % 4), .exponent = (uint8_t)(draw() % 4)};
     const peltzivar_i128 wide = {draw(), (int64_t)draw() >> draw() % 64};
     const double real = draw() % 9 ? (double)wide.high * 1e-9 : draw() % 2 ? HUGE_VAL : NAN;
     peltzivar_literal literal, again;

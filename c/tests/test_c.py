@@ -218,7 +218,7 @@ class Header(unittest.TestCase):
         self.assertIn(f'version = "{version}"\n', (C / "pyproject.toml").read_text())
         self.assertEqual(run(sys.executable, "-c", "import peltzivar; print(peltzivar.__version__)", cwd=C), (f"{version}\n", 0))
         self.assertIn(f"libpeltzivar_c.so.{number >> 16}]", run("readelf", "-d", SHARED)[0])
-        self.assertRegex((TOP / "CHANGELOG.md").read_text(), rf"\A# Changelog\n\n## {re.escape(version)}\b")
+        self.assertRegex((TOP / "CHANGELOG.md").read_text(), rf"\A# Changelog\n\n(## Unreleased\n\n(?:[- ] .*\n)+\n)?## {re.escape(version)}\b")
 
 
 if __name__ == "__main__":

@@ -649,8 +649,7 @@ KINDS = [
 LIMITS = {sign * (2**it + more) for it in (*BITS, 7, 31, 63, 127, 128) for more in (-1, 0, 1) for sign in (1, -1)}
 # These are values of each argument of format_number.
 WISHES = {"group": (3, 0, 254), "fraction_group": (2, 0), "min_digits": (8, 255), "decimals": (0, 1, 255)}
-WISHES |= {"exponent": ("never", "always", 0, 3, 4, 300, 2**32 - 1)}
-WISHES |= {it: (True,) for it in ("without_base", "lowercase", "point")}
+WISHES |= {"exponent": ("never", "always"), "without_base": (True,), "lowercase": (True,)}
 SYNTAX = Syntax.of(base_prefix="x", base_suffix="h", digit_separator="_", internal_digit_separator=True, exponent="^")
 # With a value in CHANGES, and with those in NEEDS, an object is another one than with those in FIRST alone.
 FIRST = {Forms: {"forms": {"a": SYNTAX}}, Syntax: {"format": SYNTAX.format}}
@@ -792,17 +791,16 @@ class Lists(unittest.TestCase):
             # A list may drop the wish for an exponent, since a float is not 2^53 + 1.
             is_float = "exponent" not in wishes or literal[0] != str(whole)
             for by in (syntax, *[Forms({"": syntax})] * is_float):
-                # Only floats are rounded in radix 16, and only they have one digit before the point with an exponent.
-                if "decimals" not in wishes or syntax is not hexadecimal and "exponent" not in wishes:
-                    text = written(wishes | own, *literal)
+                # Nothing is rounded in radix 16, and only floats have one digit before the point with an exponent.
+                rounded = {it: wishes[it] for it in wishes if it != "decimals" or syntax is not hexadecimal}
+                if not {"decimals", "exponent"} <= {*rounded}:
+                    text = written(rounded | own, *literal)
                     for it in given + floats * ("exponent" not in wishes):
                         self.assertEqual(by.format_number(it, **wishes), text, (it, wishes))
                 for it in floats:
                     shown, is_kept = by.format_number(it, **wishes), "decimals" not in wishes
                     self.assertEqual(shown, by.format_number(part, **wishes), (it, wishes))
                     self.assertTrue(not is_kept or by.read(shown).value == part, (it, wishes))
-                    if "point" in wishes and is_kept:
-                        self.assertRegex(by.format_number(1e16, **wishes), r"\.0", wishes)
 
     def test_each_argument_changes_what_is_equal_and_its_hash(self):
         for kind, changes in CHANGES.items():

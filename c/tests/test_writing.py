@@ -13,12 +13,11 @@ from peltzivar import Part, Syntax
 from test_notations import random_syntax
 
 # These are values of the arguments of format_number that leave the value as it is.
-WISHES = {"group": range(5), "fraction_group": range(5), "min_digits": range(12), "exponent": ("never", "always", 1, 3)}
-WISHES |= {it: (True,) for it in ("without_base", "lowercase", "point")}
+WISHES = {"group": range(5), "fraction_group": range(5), "min_digits": range(12), "exponent": ("never", "always")}
+WISHES |= {it: (True,) for it in ("without_base", "lowercase")}
 RADIX = "in this radix or without an exponent, the number has too many digits, or none that are known"
 NEGATIVE = "no literal has the sign '-'"
 FRACTION = "literals are integers, and the number is not whole"
-LONG = "without an exponent, the text has more than 800 bytes"
 POWERS = {2, 4, 8, 16, 32}
 SPECIAL = "no literal is NaN or infinity, and no spelling is read back as it"
 
@@ -110,7 +109,6 @@ class Writing(unittest.TestCase):
                 RADIX: radixes != {10} and not radixes <= POWERS,
                 NEGATIVE: math.copysign(1, value) < 0 and target.no_negative_mantissa_sign,
                 FRACTION: target.point is None,
-                LONG: target.point is None or of.no_exponent_notation or wishes.get("exponent") == "never",
             }
             try:
                 literal = target.read(target.format_number(value, **wishes))

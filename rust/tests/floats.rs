@@ -120,17 +120,14 @@ fn floats_are_rounded_as_std_rounds_them() {
 }
 
 #[test]
-fn rounded_floats_without_an_exponent_have_up_to_800_digits() {
+fn floats_have_all_their_digits() {
     let json = Language::JSON.forms()[0].syntax();
-    let binary = Format::new(0xC | 1 << 6 | 2 << 104).unwrap();
-    let binary = Syntax::new(binary, b'e', b'.').unwrap();
-    let text = |value: f64, places| binary.format_float(value, Style::PLAIN.decimals(places)).map(|it| it.to_string());
-    assert_eq!(text(2_f64.powi(600), 199), Ok(format!("1{:0<600}.{:0<199}", "", "")));
-    assert_eq!(text(2_f64.powi(600), 200), Err(WriteError::Long));
-    assert_eq!(
-        json.format_float(f64::MAX, Style::PLAIN.decimals(255)).unwrap().to_string(),
-        format!("{:.255}", f64::MAX)
-    );
+    let max = json.format_float(f64::MAX, Style::PLAIN.decimals(255)).unwrap();
+    assert_eq!(max.to_string(), format!("{:.255}", f64::MAX));
+    let binary = Syntax::new(Format::new(0xC | 1 << 6 | 2 << 104).unwrap(), b'e', b'.').unwrap();
+    for (value, wanted) in [(2_f64.powi(1023), format!("1{:0<1023}.0", "")), (5e-324, format!("0.{:0>1074}", 1))] {
+        assert_eq!(binary.format_float(value, Style::PLAIN.decimals(2)).unwrap().to_string(), wanted);
+    }
 }
 
 /// In the radixes and bases that are powers of two. `c/tests/test_writing.py` writes floats in any syntax.

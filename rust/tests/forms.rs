@@ -156,7 +156,7 @@ fn an_integer_never_becomes_another_number() {
         let (forms, value) = (language.forms(), if state.one_in(2) { value } else { -value });
         let digits = value.to_string();
         let literal = Language::YAML.read(&digits).unwrap().literal().unwrap();
-        for wish in [ExponentStyle::AsNumber, ExponentStyle::Always, ExponentStyle::Never, ExponentStyle::From(0)] {
+        for wish in [ExponentStyle::AsNumber, ExponentStyle::Always, ExponentStyle::Never] {
             let style = Style::PLAIN.exponent(wish);
             let wanted = integer_in(*language, &literal, value, style).ok_or_else(|| match forms.read(&digits) {
                 Ok(Number::Literal { literal, .. }) if literal.to_i128().is_err() => WriteError::TooLarge,

@@ -38,11 +38,9 @@ fn style_of(wishes: &str) -> Style {
             ("min_digits", _) => style.min_digits(number.unwrap()),
             ("lowercase", "true") => style.lowercase(),
             ("without_base", "true") => style.without_base(),
-            ("point", "true") => style.point(),
             ("decimals", _) => style.decimals(number.unwrap()),
             ("exponent", "never") => style.exponent(ExponentStyle::Never),
             ("exponent", "always") => style.exponent(ExponentStyle::Always),
-            ("exponent", _) => style.exponent(ExponentStyle::From(number.unwrap().into())),
             _ => panic!("{wish}"),
         }
     })

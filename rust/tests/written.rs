@@ -17,7 +17,7 @@ const STYLES: [Style; 5] = [
     Style::PLAIN.group(3).fraction_group(2).lowercase(),
     Style::PLAIN.without_base().min_digits(5),
     Style::PLAIN.exponent(ExponentStyle::Never),
-    Style::PLAIN.exponent(ExponentStyle::Always).point(),
+    Style::PLAIN.exponent(ExponentStyle::Always),
 ];
 
 /// A literal and its exact number: the sign, and the size of a whole number of up to 128 bits, or else the radix, the digits

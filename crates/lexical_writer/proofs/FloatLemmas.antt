@@ -1,16 +1,16 @@
 -- Digits with a point, zeros around them and an exponent have the value of the literal that is written.
-use Rattle.lexical_writer.proofs.Common.{Amount, Bool, Err, Float, Grammar, HasNumber, HasShape, IfErr, IfOk, IsCutTo, IsErrAnd, IsFinite, IsFloatOf, IsLaidOut}
-use Rattle.lexical_writer.proofs.Common.{IsRounded, IsTextOf, IsWorth, Layout, List, Literal, None, Ok, Option, Power, Record, Result, Some, Style, WriteError}
-use Rattle.lexical_writer.proofs.Common.{[], allows_exponent, ap, append_assoc, arith, cond, cons_option, decimals_in, denominator, digit_of, digits_in}
-use Rattle.lexical_writer.proofs.Common.{div-add-mod', drop, dvd-mul_right, effective_exponent_base, effective_exponent_radix, eq-eqb, eq-zero-or-pos}
-use Rattle.lexical_writer.proofs.Common.{eq_of_mul-eq-mul_right, exponent, false, false≢true, filter_map-append, first_error, float_error, given_fraction}
-use Rattle.lexical_writer.proofs.Common.{if◌then◌else◌, inl, inr, is_binary, is_decimal, is_minus, is_power_of_two, is_present, is_some, is_whole}
-use Rattle.lexical_writer.proofs.Common.{lacks_options, laid_out, le-ltb, least_places, length, length-append, literal_of, low, lt-leb, mantissa, mod-eq_of_lt}
-use Rattle.lexical_writer.proofs.Common.{mod-lt, mod-mod_of_dvd, mul-le-mul_right, mul-mod_left, mul-pos, nat_lt, nat_tests, ne_eqb, nearest, no_power, not}
-use Rattle.lexical_writer.proofs.Common.{number, number_after_append, number_from_digits, number_from_digits_after, numerator, one-le-pow, pow-add}
-use Rattle.lexical_writer.proofs.Common.{pow-le-pow_right, pow-suc, pow-zero, power, power_if, prec, raised_down, raised_up, raw, refl, refusal, replicate}
-use Rattle.lexical_writer.proofs.Common.{round, round_same, rounded, scale, size_of, subst, suc, sym, take, take-append-drop, true, unwrap_or, values_of}
-use Rattle.lexical_writer.proofs.Common.{wished_places, with_minus, zero, ℕ, ◌%◌, ◌&&◌, ◌*◌, ◌++◌, ◌+◌, ◌-◌, ◌/◌, ◌<◌, ◌==◌, ◌^◌, ◌||◌, ◌∙◌, ◌∷◌, ◌≡◌, ◌≢◌, ◌≤◌}
+use Rattle.lexical_writer.proofs.Common.{Amount, Bool, Err, Float, Grammar, HasNumber, IfErr, IfOk, IsAmountOf, IsCutTo, IsErrAnd, IsFinite, IsFloatOf, IsLaidOut}
+use Rattle.lexical_writer.proofs.Common.{IsRounded, IsWorth, Layout, List, Literal, None, Ok, Option, Power, Record, Result, Some, Style, WriteError, [], allows_exponent}
+use Rattle.lexical_writer.proofs.Common.{ap, append_assoc, arith, cond, cons_option, decimals_in, denominator, digit_of, digits_in, div-add-mod', drop, dvd-mul_right}
+use Rattle.lexical_writer.proofs.Common.{effective_exponent_base, effective_exponent_radix, eq-eqb, eq-zero-or-pos, eq_of_mul-eq-mul_right, exponent, false}
+use Rattle.lexical_writer.proofs.Common.{false≢true, filter_map-append, first_error, float_error, given_fraction, if◌then◌else◌, inl, inr, is_binary, is_decimal}
+use Rattle.lexical_writer.proofs.Common.{is_minus, is_power_of_two, is_present, is_some, is_whole, lacks_options, laid_out, le-ltb, length, length-append}
+use Rattle.lexical_writer.proofs.Common.{literal_of, low, lt-leb, mantissa, mod-eq_of_lt, mod-lt, mod-mod_of_dvd, mul-le-mul_right, mul-mod_left, mul-pos, nat_lt}
+use Rattle.lexical_writer.proofs.Common.{nat_tests, ne_eqb, nearest, no_power, not, number, number_after_append, number_from_digits, number_from_digits_after}
+use Rattle.lexical_writer.proofs.Common.{numerator, one-le-pow, one_if, pow-add, pow-le-pow_right, pow-suc, pow-zero, power_in, prec, raised_down, raised_up}
+use Rattle.lexical_writer.proofs.Common.{raw, refl, refusal, replicate, round, round_same, rounded, scale, size_of, subst, suc, sym, take, take-append-drop, true}
+use Rattle.lexical_writer.proofs.Common.{unwrap_or, values_of, with_minus, zero, ℕ, ◌%◌, ◌&&◌, ◌*◌, ◌++◌, ◌+◌, ◌-◌, ◌/◌, ◌<◌, ◌==◌, ◌^◌, ◌||◌, ◌∙◌, ◌∷◌}
+use Rattle.lexical_writer.proofs.Common.{IsDigitsOf, places as digit_count, ◌≡◌, ◌≢◌, ◌≤◌}
 use Rattle.std.proofs.Math.Nat.{div-eq_of_lt-le, div-lt_iff_lt-mul, mod-eq-sub-div-mul}
 use lib.Ieee.{Format, fin, hid, inf, is_nan, nan, neg, odd, of_bits, of_fields, ones, top}
 use lib.Ieee.Exact.{HasValue, odd_sign}
@@ -132,18 +132,18 @@ pub some_down : (negative : Bool) (b e : ℕ) → 0 < b → 0 < raised_down nega
 some_down true b e some = one-le-pow e b some
 some_down false b e some = omega arith
 
--- The power of an exponent that is shown, or of none.
-powers_of : (base radix e : ℕ) (shown negative : Bool) (power : Option Power) → power ≡ power_if shown negative e → (shown ≡ false → e ≡ 0)
-    → (raised_up (unwrap_or power no_power).negative base (size_of radix (unwrap_or power no_power).source) ≡ raised_up negative base e)
-    × (raised_down (unwrap_or power no_power).negative base (size_of radix (unwrap_or power no_power).source) ≡ raised_down negative base e)
-powers_of base radix e true negative power is hidden = rw is (refl, refl)
-powers_of base radix e false true power is hidden = rw (is, hidden refl) (pow-zero base, sym (pow-zero base))
-powers_of base radix e false false power is hidden = rw (is, hidden refl) (refl, refl)
+-- The power of an exponent, or of none.
+powers_of : (base radix : ℕ) (exponent : Option (Bool × ℕ)) (power : Option Power) → power ≡ power_in exponent
+    → let e = unwrap_or exponent (false, 0) in
+    (raised_up (unwrap_or power no_power).negative base (size_of radix (unwrap_or power no_power).source) ≡ raised_up e.0 base e.1)
+    × (raised_down (unwrap_or power no_power).negative base (size_of radix (unwrap_or power no_power).source) ≡ raised_down e.0 base e.1)
+powers_of base radix (Some e) power is = rw is (refl, refl)
+powers_of base radix None power is = rw is (refl, refl)
 
 -- The parts of a literal that is written for an amount.
-parts_of : (g : Grammar) (style : Style) (negative : Bool) (num den : ℕ) (l : Literal) → 2 ≤ (raw g.word).byte layout.mantissa_radix
-    → (it : IsTextOf g style negative num den l) → HasParts (raw g.word) l it.is.units it.is.places it.is.negative it.is.e
-parts_of g style negative num den l two it =
+parts_of : (f : Format) (x : Float) (g : Grammar) (style : Style) (l : Literal) → 2 ≤ (raw g.word).byte layout.mantissa_radix → (it : IsFloatOf f x g style l)
+    → let e = unwrap_or it.is.exponent (false, 0) in HasParts (raw g.word) l it.is.units it.is.places e.0 e.1
+parts_of f x g style l two it =
     let s = raw g.word in
     let radix = s.byte layout.mantissa_radix in
     let b = effective_exponent_base s in
@@ -151,7 +151,7 @@ parts_of g style negative num den l two it =
     let front = values_of radix it.amount.integer in
     let factor = zero_scaled radix (number_from_digits radix front) has.zero (values_of radix (given_fraction it.amount)) in
     let integer : number radix l.integer ≡ number_from_digits radix front = has.integer ∙ size_values radix it.amount.integer two in
-    let powers = powers_of b (effective_exponent_radix s) it.is.e it.is.shown it.is.negative it.amount.exponent it.is.power it.is.hidden in
+    let powers = powers_of b (effective_exponent_radix s) it.is.exponent it.amount.exponent it.is.power in
     record {
       factor = factor.0;
       mantissa = ap (number_from_digits radix) (filter_map-append _ l.integer l.fraction)
@@ -165,58 +165,46 @@ parts_of g style negative num den l two it =
 
 -- A literal that is written for a float that is not rounded is read as this float.
 pub amount_nearest : (f : Format) (x : Float) (g : Grammar) (style : Style) (l : Literal) → (is_decimal (raw g.word).byte || is_binary (raw g.word).byte) ≡ true
-    → style.decimals ≡ None → IsFloatOf f x g style l → x ≡ nearest f (raw g.word).byte l
-amount_nearest f x g style l supported plain is =
+    → decimals_in g style.decimals ≡ None → IsFloatOf f x g style l → x ≡ nearest f (raw g.word).byte l
+amount_nearest f x g style l supported plain it =
     let r = raw g.word in
-    let it = is.4 in
-    let p = parts_of g style is.0 is.1 is.2 l (some_radixes r supported).0 it in
-    let exact = it.is.form.0.exact plain in
-    let above : numerator r.byte l ≡ it.is.units * p.factor * raised_up it.is.negative (effective_exponent_base r) it.is.e = (λ i. p.mantissa i * p.up i) in
-    let below : denominator r.byte l ≡ r.byte layout.mantissa_radix ^ it.is.places * p.factor * raised_down it.is.negative (effective_exponent_base r) it.is.e =
-    (λ i. p.scale i * p.down i) in
+    let B = effective_exponent_base r in
+    let e = unwrap_or it.is.exponent (false, 0) in
     let radixes = some_radixes r supported in
+    let p = parts_of f x g style l radixes.0 it in
+    let above : numerator r.byte l ≡ it.is.units * p.factor * raised_up e.0 B e.1 = (λ i. p.mantissa i * p.up i) in
+    let below : denominator r.byte l ≡ r.byte layout.mantissa_radix ^ it.is.places * p.factor * raised_down e.0 B e.1 = (λ i. p.scale i * p.down i) in
     let some = some_denominator r l (let two = radixes.0 in omega (arith, two)) radixes.1 in
-    is.3.near plain
-    ∙ round_same f is.0 is.1 is.2 (numerator r.byte l) (denominator r.byte l) is.3.some some
-    (omega (arith, ap (λ n. is.1 * n) below, ap (λ n. n * p.factor) exact, ap (λ n. n * is.2) above))
-    ∙ ap (λ sign. round f sign (numerator r.byte l) (denominator r.byte l)) (sym (it.number.sign ∙ it.sign))
-
--- The number of decimals is that of the style.
-pub decimals_are : (g : Grammar) (style : Style) (shown : Bool) (n : ℕ) → style.decimals ≡ Some n → least_places g style shown ≡ decimals_in g n
-decimals_are g style shown n wished = ap (λ o. if lacks_options g.options then 0 else wished_places o (style.point || not shown)) wished
-
-pub all_decimals : (g : Grammar) (n : ℕ) → allows_exponent g ≡ true → decimals_in g n ≡ n
-all_decimals g n allows = go (lacks_options g.options) _ allows
-  where
-    go : (absent never : Bool) → not (absent || never) ≡ true → (if absent then 0 else n) ≡ n
-    go true never is = absurd (false≢true is)
-    go false never is = refl
+    it.worth.near plain
+    ∙ round_same f it.amount.negative it.num it.den (numerator r.byte l) (denominator r.byte l) it.worth.some some
+    (omega (arith, ap (λ n. it.num * n) below, ap (λ n. n * p.factor) (it.is.shape.exact plain), ap (λ n. n * it.den) above))
+    ∙ ap (λ sign. round f sign (numerator r.byte l) (denominator r.byte l)) (sym it.number.sign)
 
 -- A literal that is written for a float that is rounded is rounded.
 pub amount_rounded : (f : Format) (x : Float) (g : Grammar) (style : Style) (n : ℕ) (l : Literal)
-    → (is_decimal (raw g.word).byte || is_binary (raw g.word).byte) ≡ true → style.decimals ≡ Some n → IsFloatOf f x g style l
-    → IsRounded x (raw g.word) l (decimals_in g n)
-amount_rounded f x g style n l supported wished is =
+    → (is_decimal (raw g.word).byte || is_binary (raw g.word).byte) ≡ true → decimals_in g style.decimals ≡ Some n → IsFloatOf f x g style l
+    → IsRounded x (raw g.word) l n
+amount_rounded f x g style n l supported wished it =
     let r = raw g.word in
-    let it = is.4 in
-    let p = parts_of g style is.0 is.1 is.2 l (some_radixes r supported).0 it in
+    let shape = it.is.shape in
+    let p = parts_of f x g style l (some_radixes r supported).0 it in
     let unit = r.byte layout.mantissa_radix ^ it.is.places in
-    let places : it.is.places ≡ decimals_in g n = elim it.is.form.0.last [
-      | inl same ↦ same ∙ decimals_are g style it.is.shown n wished
+    let places : it.is.places ≡ n = elim shape.last [
+      | inl same ↦ same ∙ ap (λ o. unwrap_or o (one_if (not (is_some it.is.exponent || lacks_options g.options)))) wished
       | inr other ↦ absurd (false≢true (sym (ap is_some other.0) ∙ ap is_some wished))
     ] in
-    let rounded_to : HasDecimals r l it.is.places is.1 is.2 =
-    omega (arith, ap (λ m. m * unit) p.mantissa, ap (λ m. m * (unit * p.factor)) (it.is.form.0.rounded (ap is_some wished)))
-    ∙ sym (λ j. rounded (is.1 * unit * p.down j) (is.2 * p.up j) * p.scale j) in
+    let rounded_to : HasDecimals r l it.is.places it.num it.den =
+    omega (arith, ap (λ m. m * unit) p.mantissa, ap (λ m. m * (unit * p.factor)) shape.rounded)
+    ∙ sym (λ j. rounded (it.num * unit * p.down j) (it.den * p.up j) * p.scale j) in
     record {
-      num = is.1;
-      den = is.2;
-      some = is.3.some;
-      value = subst (λ sign. HasValue x sign is.1 is.2) (sym (it.number.sign ∙ it.sign)) (elim is.3.exact [
+      num = it.num;
+      den = it.den;
+      some = it.worth.some;
+      value = subst (λ sign. HasValue x sign it.num it.den) (sym it.number.sign) (elim it.worth.exact [
         | inl value ↦ value
         | inr other ↦ absurd (false≢true (sym (ap is_some other.0) ∙ ap is_some wished))
       ]);
-      decimals = subst (λ k. HasDecimals r l k is.1 is.2) places rounded_to;
+      decimals = subst (λ k. HasDecimals r l k it.num it.den) places rounded_to;
     }
 
 -- What follows from an error that is passed on.
@@ -328,17 +316,39 @@ minus_worth f x g style s num den it = record {
     near true is = ap neg is ∙ neg-round f num den
     near false is = is
 
+-- Digits of a float are an amount.
+pub amount_of_digits : (f : Format) (x : Float) (g : Grammar) (style : Style) (bytes : List ℕ) (after places : ℕ) (exponent : Option (Bool × ℕ)) (amount : Amount)
+    → 2 ≤ (raw g.word).byte layout.mantissa_radix → (it : IsDigitsOf f x g style bytes after exponent places)
+    → ((radix : ℕ) → 2 ≤ radix → digit_count radix bytes ≡ length bytes
+    → number_from_digits radix (values_of radix amount.integer ++ values_of radix (given_fraction amount)) ≡ number radix bytes * radix ^ after)
+    → ((radix : ℕ) → digit_count radix bytes ≡ length bytes → length (values_of radix (given_fraction amount)) ≡ places)
+    → is_some amount.fraction ≡ nat_lt 0 places
+    → ((radix : ℕ) → 2 ≤ radix → digit_count radix bytes ≡ length bytes → is_present (values_of radix amount.integer) ≡ true)
+    → amount.exponent ≡ power_in exponent → IsAmountOf g style it.0 it.1 amount
+amount_of_digits f x g style bytes after places exponent amount two it number count some integer power = record {
+  exponent = exponent;
+  places = places;
+  units = _;
+  shape = it.3;
+  number = number _ two it.4;
+  count = count _ it.4;
+  some = some;
+  integer = integer _ two it.4;
+  power = power;
+}
+
 -- A float that is not refused has no sign, no fraction and no exponent that is refused.
-pub not_refused : (g : Grammar) (style : Style) (amount : Amount) (fraction shown minus : Bool) (e places num den units : ℕ)
-    → float_error g style amount.negative fraction ≡ None → (fraction ≡ false → num % den ≡ 0) → 0 < den
-    → HasShape g style num den shown minus e places units → (shown ≡ false → e ≡ 0) → is_some amount.fraction ≡ nat_lt 0 places
-    → amount.exponent ≡ power_if shown minus e → refusal g amount ≡ None
-not_refused g style amount fraction shown minus e places num den units none whole some form hidden digits power =
+pub not_refused : (g : Grammar) (style : Style) (amount : Amount) (fraction : Bool) (num den : ℕ) → float_error g amount.negative fraction ≡ None
+    → (fraction ≡ false → num % den ≡ 0) → 0 < den → IsAmountOf g style num den amount → refusal g amount ≡ None
+not_refused g style amount fraction num den none whole some is =
     allowed _ _ _ (parts _ _ _ none).0 (left (lacks_options g.options) (is_some amount.fraction) no_fraction)
     (left (lacks_options g.options || (raw g.word).flag layout.no_exponent_notation) (is_some amount.exponent) no_exponent)
   where
     R : ℕ
     R = (raw g.word).byte layout.mantissa_radix
+
+    B : ℕ
+    B = effective_exponent_base (raw g.word)
 
     parts : (sign fraction last : Bool) → first_error sign fraction last errors.Radix ≡ None → (sign ≡ false) × (fraction ≡ false)
     parts true fraction last none = absurd (false≢true (sym (ap is_some none)))
@@ -355,38 +365,44 @@ not_refused g style amount fraction shown minus e places num den units none whol
     never : (a b s : Bool) → s ≡ (a && b) → a ≡ false → s ≡ false
     never a b s is off = is ∙ ap (λ a. a && b) off
 
-    unshown : (lacks_options g.options || (raw g.word).flag layout.no_exponent_notation) ≡ true → shown ≡ false
-    unshown is = never (allows_exponent g) _ shown form.1.decided (ap not is)
+    hidden : (exponent : Option (Bool × ℕ)) → is_some exponent ≡ false → exponent ≡ None
+    hidden None none = refl
+    hidden (Some e) none = absurd (false≢true (sym none))
+
+    unshown : (lacks_options g.options || (raw g.word).flag layout.no_exponent_notation) ≡ true → is.exponent ≡ None
+    unshown it = hidden is.exponent (never (allows_exponent g) _ _ is.shape.shown (ap not it))
 
     no_exponent : (lacks_options g.options || (raw g.word).flag layout.no_exponent_notation) ≡ true → is_some amount.exponent ≡ false
-    no_exponent is = ap is_some power ∙ ap (λ s. is_some (power_if s minus e)) (unshown is)
+    no_exponent it = ap is_some (is.power ∙ ap power_in (unshown it))
 
-    one : (s : Bool) (B : ℕ) → (raised_up s B 0 ≡ 1) × (raised_down s B 0 ≡ 1)
-    one true B = (refl, pow-zero B)
-    one false B = (pow-zero B, refl)
-
-    no_places : lacks_options g.options ≡ true → places ≡ 0
-    no_places is = elim form.0.last [
-      | inl same ↦ same ∙ ap (λ l. if l then 0 else wished_places style.decimals (style.point || not shown)) is
-      | inr other ↦
-          let whole_fraction = (λ i. (sym is i && not (is_some (sym other.0 i))) && fraction) ∙ (parts _ _ _ none).1 in
-          let zero = hidden (unshown (ap (λ l. l || (raw g.word).flag layout.no_exponent_notation) is)) in
-          let n = num / den in
-          let number : num ≡ n * den = omega (arith, div-add-mod' num den, whole whole_fraction) in
-          let B = effective_exponent_base (raw g.word) in
-          let exact : units * (den * 1) ≡ num * R ^ places * 1 = subst (λ u. units * (den * u) ≡ num * R ^ places * 1) (one minus B).0
-          (subst (λ d. units * (den * raised_up minus B 0) ≡ num * R ^ places * d) (one minus B).1
-          (subst (λ e. units * (den * raised_up minus B e) ≡ num * R ^ places * raised_down minus B e) zero (form.0.exact other.0))) in
-          let value : units ≡ n * R ^ places = eq_of_mul-eq-mul_right den some units (n * R ^ places) (omega (arith, exact, ap (λ m. m * R ^ places) number)) in
-          elim (eq-zero-or-pos places) [
-            | inl none ↦ none
-            | inr more ↦
-                let last : n * R ^ places ≡ n * R ^ (places - 1) * R =
-                omega (arith, ap (λ p. n * p) (ap (λ k. R ^ k) {x = places} {y = suc (places - 1)} (omega (arith, more)) ∙ pow-suc R (places - 1))) in
-                let rest : units % R ≡ 0 = ap (λ u. u % R) (value ∙ last) ∙ mul-mod_left (n * R ^ (places - 1)) R in
-                absurd (omega (arith, other.2, rest))
-          ]
-    ]
+    no_places : lacks_options g.options ≡ true → is.places ≡ 0
+    no_places integers =
+        let none_shown = unshown (ap (λ l. l || (raw g.word).flag layout.no_exponent_notation) integers) in
+        elim is.shape.last [
+          | inl same ↦ same ∙ (λ i. unwrap_or (if integers i || not (R == 10) then None else style.decimals) (one_if (not (is_some (none_shown i) || integers i))))
+          | inr other ↦
+              let whole_fraction = (λ i. sym integers i && fraction) ∙ (parts _ _ _ none).1 in
+              let n = num / den in
+              let number : num ≡ n * den = omega (arith, div-add-mod' num den, whole whole_fraction) in
+              let exact : is.units * (den * B ^ 0) ≡ num * R ^ is.places * 1 =
+              subst (λ (o : Option (Bool × ℕ)). let e = unwrap_or o (false, 0) in
+              is.units * (den * raised_up e.0 B e.1) ≡ num * R ^ is.places * raised_down e.0 B e.1) none_shown (is.shape.exact other.0) in
+              let value : is.units ≡ n * R ^ is.places = eq_of_mul-eq-mul_right den some is.units (n * R ^ is.places)
+              (omega (
+                arith,
+                exact,
+                ap (λ m. m * R ^ is.places) number,
+                ap (λ p. is.units * (den * p)) (pow-zero B),
+              )) in
+              elim (eq-zero-or-pos is.places) [
+                | inl none ↦ none
+                | inr more ↦
+                    let last : n * R ^ is.places ≡ n * R ^ (is.places - 1) * R =
+                    omega (arith, ap (λ p. n * p) (ap (λ k. R ^ k) {x = is.places} {y = suc (is.places - 1)} (omega (arith, more)) ∙ pow-suc R (is.places - 1))) in
+                    let rest : is.units % R ≡ 0 = ap (λ u. u % R) (value ∙ last) ∙ mul-mod_left (n * R ^ (is.places - 1)) R in
+                    absurd (omega (arith, other.2, rest))
+              ]
+        ]
 
     no_fraction : lacks_options g.options ≡ true → is_some amount.fraction ≡ false
-    no_fraction is = digits ∙ le-ltb 0 places (let zero = no_places is in omega (arith, zero))
+    no_fraction integers = is.some ∙ le-ltb 0 is.places (let zero = no_places integers in omega (arith, zero))

@@ -1,19 +1,15 @@
 //! How a float is written in a radix that is a power of two.
 
-ghost use Rattle.std.specs.Prelude.{◌≡◌, suc, ◌+◌, ◌-◌, ◌*◌, ◌/◌, ◌%◌, ◌^◌, ◌<◌, ◌≤◌, ◌&&◌, ◌||◌, if◌then◌else◌, nat_le, nat_lt, true, is_some};
-ghost use Rattle.std.specs.Prelude.{None, IfErr, IfOk};
+ghost use Rattle.std.specs.Prelude.{◌≡◌, suc, ◌+◌, ◌*◌, ◌%◌, ◌^◌, ◌<◌, ◌≤◌, ◌⊎◌, true};
 ghost use Rattle.std.specs.Float.Ieee.{hid, ones};
 ghost use Rattle.lexical_number.specs.Float.{format_of, is_power_of_two};
 ghost use Rattle.lexical_number.specs.Shortest.{HasSize};
 ghost use Rattle.lexical_util.specs.Layout as layout;
 ghost use Rattle.lexical_util.specs.Record.{effective_exponent_base, raw};
-ghost use Rattle.lexical_writer.specs.Amount.{HasShape, HasUnits, IsLong};
-ghost use Rattle.lexical_writer.specs.Rounded.{rounded};
-ghost use Rattle.lexical_writer.specs.declared.layout.WriteError.TheVariants as errors;
+ghost use Rattle.lexical_writer.specs.Amount.{IsShape};
 
-use crate::form::{Shape, is_shown, least_places};
-use crate::layout::{Style, WriteError, allows_exponent};
-use crate::rounded::over_power;
+use crate::form::{Shape, is_shown};
+use crate::layout::{Style, is_whole};
 use lexical_literal::syntax::Syntax;
 use lexical_number::shortest::units_of;
 
@@ -81,43 +77,6 @@ impl Binary {
         }
     }
 
-    // Returns the number over a power of two, in units of the last of so many digits behind the point, as a number with zeros behind its
-    // digits.
-    fn units(&self, places: u64, low: u64) -> (u64, u64)
-        requires { (places ≤ 4069) × (low ≤ 4069) }
-        ensures value { result.0 * (2 ^ self.now.bits) ^ result.1
-            ≡ rounded (self.now.number * 2 ^ self.now.power * (2 ^ self.now.bits) ^ places) (2 ^ low) }
-        ensures exact { low ≤ self.now.power + self.now.bits * places → result.0 * (2 ^ self.now.bits) ^ result.1 * 2 ^ low
-            ≡ self.now.number * 2 ^ self.now.power * (2 ^ self.now.bits) ^ places }
-        ensures last { low ≤ self.now.power + self.now.bits * places → self.now.power + self.now.bits * places < low + self.now.bits
-            → self.now.number % 2 ≡ 1 → 0 < result.0 * (2 ^ self.now.bits) ^ result.1 % 2 ^ self.now.bits }
-        ensures limit { result.1 < 30000 }
-    {
-        let power = self.power + self.bits * places;
-        if power < low {
-            return (over_power(self.number as u128, low - power) as u64, 0);
-        }
-        let up = power - low;
-        (self.number << (up % self.bits), up / self.bits)
-    }
-
-    // Returns how many digits are behind the point of the number over a power of two, if at least so many are wished.
-    fn places(&self, style: Style, least: usize, low: u64) -> u64
-        requires { (least ≤ 255) × (low ≤ 4069) }
-        ensures least { least ≤ result }
-        ensures rounded { is_some style.decimals ≡ true → result ≡ least }
-        ensures exact { style.decimals ≡ None → low ≤ self.now.power + self.now.bits * result }
-        ensures last { least < result → self.now.power + self.now.bits * result < low + self.now.bits }
-        ensures limit { result ≤ 4069 }
-    {
-        let needed = low.saturating_sub(self.power).div_ceil(self.bits);
-        if style.decimals.is_some() {
-            least as u64
-        } else {
-            needed.max(least as u64)
-        }
-    }
-
     // Returns the exponent of two of the first bit.
     fn top(&self) -> u64
         ensures first { 0 < self.now.number → (2 ^ result ≤ self.now.number * 2 ^ self.now.power) × (self.now.number * 2 ^ self.now.power < 2 ^ suc result) }
@@ -131,93 +90,40 @@ impl Binary {
         }
     }
 
-    // Returns whether a number with zeros behind its digits has more than so many bits.
-    fn reaches(&self, number: u64, after: u64, bits: u64) -> bool
-        requires { after < 30000 }
-        ensures { result ≡ nat_le (2 ^ bits) (number * (2 ^ self.now.bits) ^ after) }
+    // Returns the digits of the number over a power of two, and their shape with an exponent and at least so many digits behind the point.
+    fn over(&self, low: u64, least: u64, exponent: Option<(bool, u64)>) -> (u64, Shape)
+        requires { (least ≤ 1) × (low ≤ 4069) × (self.now.number ≡ 0 → low ≤ 1200) }
+        ensures exact { result.0 * (2 ^ self.now.bits) ^ result.1.after * 2 ^ low
+            ≡ self.now.number * 2 ^ self.now.power * (2 ^ self.now.bits) ^ result.1.places }
+        ensures last { (result.1.places ≡ least)
+            ⊎ ((least ≤ result.1.places) × (0 < result.0 * (2 ^ self.now.bits) ^ result.1.after % 2 ^ self.now.bits)) }
+        ensures exponent { result.1.exponent ≡ exponent }
     {
-        (number > 0) & (63 - number.leading_zeros() as u64 % 64 + self.bits * after >= bits)
+        let places = low.saturating_sub(self.power).div_ceil(self.bits).max(least);
+        let up = self.power + self.bits * places - low;
+        let shape = Shape {
+            after: (up / self.bits) as usize,
+            places: places as usize,
+            exponent,
+        };
+        (self.number << (up % self.bits), shape)
     }
 
-    // Returns the exponent, plus that of which `RAISED` is the power of two.
-    fn exponent(&self, style: Style, places: u64) -> u64
-        requires { places ≤ 255 }
-        ensures limit { result * self.now.base_bits ≤ 4069 }
-        ensures zero { self.now.number ≡ 0 → result * self.now.base_bits ≡ 1200 }
-        ensures plain { style.decimals ≡ None → 0 < self.now.number → (2 ^ (result * self.now.base_bits) ≤ self.now.number * 2 ^ self.now.power)
-            × (self.now.number * 2 ^ self.now.power < 2 ^ (result * self.now.base_bits) * 2 ^ self.now.base_bits) }
-        ensures below { is_some style.decimals ≡ true → rounded (self.now.number * 2 ^ self.now.power * (2 ^ self.now.bits) ^ places)
-            (2 ^ (result * self.now.base_bits)) < 2 ^ self.now.base_bits * (2 ^ self.now.bits) ^ places }
-        ensures least { is_some style.decimals ≡ true → 0 < self.now.number → 2 ^ self.now.base_bits * (2 ^ self.now.bits) ^ places
-            ≤ rounded (self.now.number * 2 ^ self.now.power * 2 ^ self.now.base_bits * (2 ^ self.now.bits) ^ places) (2 ^ (result * self.now.base_bits)) }
-    {
-        let exponent = self.top() / self.base_bits;
-        if self.number == 0 {
-            return exponent;
-        }
-        if style.decimals.is_none() {
-            return exponent;
-        }
-        let (units, after) = self.units(places, exponent * self.base_bits);
-        // The number can be rounded up to the base.
-        exponent + self.reaches(units, after, self.base_bits + self.bits * places) as u64
-    }
-
-    // Returns whether the number is not 0, and below the radix to the power of -4, or at least that to the power of 16.
-    #[tactic(auto, using(crate::proofs::BinaryLemmas::far_bits))]
-    fn is_far(&self) -> bool
-        ensures { result ≡ (nat_lt 0 (self.now.number * 2 ^ self.now.power)
-            && (nat_lt (self.now.number * 2 ^ self.now.power * (2 ^ self.now.bits) ^ 4) (2 ^ 1200)
-            || nat_le (2 ^ 1200 * (2 ^ self.now.bits) ^ 16) (self.now.number * 2 ^ self.now.power))) }
+    // Returns the digits of the number, and their shape. It is far from 1 if it is below the radix to the power of -4, or at least
+    // that to the power of 16.
+    pub(crate) fn digits(&self, syntax: &Syntax, style: Style) -> (u64, Shape)
+        requires radix { (raw syntax.now.word).byte layout.mantissa_radix ≡ 2 ^ self.now.bits }
+        requires base { effective_exponent_base (raw syntax.now.word) ≡ 2 ^ self.now.base_bits }
+        ensures { IsShape syntax.now style (self.now.number * 2 ^ self.now.power) (2 ^ 1200) result.1.exponent result.1.places
+            (result.0 * (raw syntax.now.word).byte layout.mantissa_radix ^ result.1.after) }
     {
         let top = self.top();
-        (top + 4 * self.bits < RAISED) | (top >= RAISED + 16 * self.bits)
-    }
-
-    // Returns the digits of the number, and how they are written with an exponent, or without one.
-    fn form(&self, syntax: &Syntax, style: Style, shown: bool, exponent: u64) -> (u64, Shape)
-        requires radix { (raw syntax.now.word).byte layout.mantissa_radix ≡ 2 ^ self.now.bits }
-        requires base { effective_exponent_base (raw syntax.now.word) ≡ 2 ^ self.now.base_bits }
-        requires exponent { exponent * self.now.base_bits ≤ 4069 }
-        requires zero { self.now.number ≡ 0 → exponent * self.now.base_bits ≤ 1200 }
-        ensures units { HasUnits syntax.now style shown (self.now.number * 2 ^ self.now.power) (2 ^ 1200) result.1.negative result.1.exponent
-            result.1.places (result.0 * (raw syntax.now.word).byte layout.mantissa_radix ^ result.1.after) }
-        ensures shown { result.1.shown ≡ shown }
-        ensures sign { result.1.negative ≡ (shown && nat_lt exponent (1200 / self.now.base_bits)) }
-        ensures size { result.1.exponent ≡ (if shown then exponent - 1200 / self.now.base_bits + (1200 / self.now.base_bits - exponent) else 0) }
-        ensures after { result.1.after < 30000 }
-    {
-        let zero = RAISED / self.base_bits;
-        let power = if shown { exponent } else { zero };
-        let low = power * self.base_bits;
-        let places = self.places(style, least_places(syntax, style, shown), low);
-        let (number, after) = self.units(places, low);
-        let form = Shape {
-            after: after as usize,
-            places: places as usize,
-            negative: power < zero,
-            exponent: power.abs_diff(zero),
-            shown,
-        };
-        (number, form)
-    }
-
-    // Returns the digits of a float, and how they are written.
-    pub(crate) fn digits(&self, syntax: &Syntax, style: Style) -> Result<(u64, Shape), WriteError>
-        requires radix { (raw syntax.now.word).byte layout.mantissa_radix ≡ 2 ^ self.now.bits }
-        requires base { effective_exponent_base (raw syntax.now.word) ≡ 2 ^ self.now.base_bits }
-        ensures form { IfOk result (λ it. HasShape syntax.now style (self.now.number * 2 ^ self.now.power) (2 ^ 1200) it.1.shown it.1.negative it.1.exponent
-            it.1.places (it.0 * (raw syntax.now.word).byte layout.mantissa_radix ^ it.1.after)) }
-        ensures long { IfErr result (λ error. (error ≡ errors.Long) × IsLong syntax.now style (self.now.number * 2 ^ self.now.power) (2 ^ 1200)) }
-    {
-        let (number, plain) = self.form(syntax, style, false, 0);
-        let long = (plain.places > 799) | self.reaches(number, plain.after as u64, 800 * self.bits);
-        if long & !allows_exponent(syntax) {
-            return Err(WriteError::Long);
+        let far = (top + 4 * self.bits < RAISED) | (top >= RAISED + 16 * self.bits);
+        if !is_shown(syntax, style, far) {
+            return self.over(RAISED, !is_whole(syntax) as u64, None);
         }
-        let exponent = self.exponent(style, least_places(syntax, style, true) as u64);
-        let size = exponent.abs_diff(RAISED / self.base_bits);
-        let shown = is_shown(syntax, style, size, self.is_far(), long);
-        Ok(self.form(syntax, style, shown, exponent))
+        let (exponent, zero) = (top / self.base_bits, RAISED / self.base_bits);
+        let power = Some((exponent < zero, exponent.abs_diff(zero)));
+        self.over(exponent * self.base_bits, 0, power)
     }
 }

@@ -211,7 +211,7 @@ impl<F: Float> Writable for Real<F> {
 
     ghost writes = { λ number style g result. MatchResult result (λ l. IsFloatOf (format_of F.DOUBLE) (F.value number.value) g style l
         × (style.decimals ≡ None → F.value number.value ≡ nearest (format_of F.DOUBLE) (raw g.word).byte l))
-        (IsFloatError (F.value number.value) g style) };
+        (IsFloatError (F.value number.value) g) };
 
     ghost is = { λ number style. IsAmount (format_of F.DOUBLE) (F.value number.value) style.decimals };
 

@@ -1,6 +1,6 @@
 //! How the digits of a float are written.
 
-ghost use Rattle.std.specs.Prelude.{◌≡◌, ◌+◌, ◌*◌, ◌%◌, ◌^◌, ◌<◌, ◌≤◌, ◌++◌, ◌⊎◌, ℕ, false, true, is_some, length, length as count, None, nat_lt, unwrap_or};
+ghost use Rattle.std.specs.Prelude.{◌≡◌, ◌*◌, ◌%◌, ◌^◌, ◌<◌, ◌≤◌, ◌++◌, ◌⊎◌, ℕ, true, is_some, length, length as count, None, nat_lt, unwrap_or};
 ghost use Rattle.std.specs.Int.Digits.{digits_of, number_from_digits};
 ghost use Rattle.lexical_util.specs.Layout as layout;
 ghost use Rattle.lexical_util.specs.Record.{effective_exponent_base, raw};
@@ -8,7 +8,7 @@ ghost use Rattle.lexical_literal.specs.Literal.{is_present};
 ghost use Rattle.lexical_number.specs.Float.{raised_down, raised_up};
 ghost use Rattle.lexical_number.specs.Number.{number, places as digit_count};
 ghost use Rattle.lexical_writer.specs.Digits.{values_of};
-ghost use Rattle.lexical_writer.specs.Amount.{HasShape, is_shown, is_wanted, least_places, power_if};
+ghost use Rattle.lexical_writer.specs.Amount.{IsShape, decimals_in, is_shown, is_wanted, power_in};
 ghost use Rattle.lexical_writer.specs.Layout.{given_fraction};
 ghost use Rattle.lexical_writer.specs.declared.run.Source.TheVariants as sources;
 
@@ -21,17 +21,12 @@ use lexical_literal::syntax::Syntax;
 use lexical_number::shortest::Decimal;
 
 // How the digits of a number are written: with zeros behind them, with a point before the last of all these digits, and with an
-// exponent, if it is shown.
+// exponent, whether its sign is `-` and its size, if there is one.
 #[derive(Debug, Clone, Copy)]
 pub(crate) struct Shape {
     pub(crate) after: usize,
     pub(crate) places: usize,
-    // Whether the sign of the exponent is `-`.
-    pub(crate) negative: bool,
-    pub(crate) exponent: u64,
-    pub(crate) shown: bool,
-    ghost limit: { places < 4096 },
-    ghost hidden: { shown ≡ false → exponent ≡ 0 },
+    pub(crate) exponent: Option<(bool, u64)>,
 }
 
 // Returns a fraction, if it has digits, of which there are as many as `places`.
@@ -44,81 +39,75 @@ pub(crate) const fn fraction_in<'a>(places: u128, fraction: Source<'a>) -> Optio
     if places > 0 { Some(fraction) } else { None }
 }
 
-// Returns the exponent of a form, if it is shown.
+// Returns the exponent of a shape.
 #[inline(always)]
-const fn power_in(form: Shape) -> Option<Power<'static>>
-    ensures power { result ≡ power_if form.shown form.negative form.exponent }
+const fn power_in(exponent: Option<(bool, u64)>) -> Option<Power<'static>>
+    ensures { result ≡ power_in exponent }
 {
-    if !form.shown {
-        return None;
+    match exponent {
+        Some((negative, size)) => Some(Power {
+            negative,
+            source: Source::Number(size as u128),
+        }),
+        None => None,
     }
-    Some(Power {
-        negative: form.negative,
-        source: Source::Number(form.exponent as u128),
-    })
 }
 
-// Returns digits in a form, as a number that is to be written.
+// Returns digits in a shape, as a number that is to be written.
 #[inline(always)]
-pub(crate) fn amount_in<'a>(negative: bool, digits: &'a [u8], form: Shape) -> Amount<'a>
+pub(crate) fn amount_in<'a>(negative: bool, digits: &'a [u8], shape: Shape) -> Amount<'a>
     ensures sign { result.negative ≡ negative }
     ensures number { (radix : ℕ) → 2 ≤ radix → digit_count radix digits.entry.now ≡ length digits.entry.now
         → number_from_digits radix (values_of radix result.integer ++ values_of radix (given_fraction result))
-        ≡ number radix digits.entry.now * radix ^ form.after }
+        ≡ number radix digits.entry.now * radix ^ shape.after }
     ensures places { (radix : ℕ) → digit_count radix digits.entry.now ≡ length digits.entry.now
-        → length (values_of radix (given_fraction result)) ≡ form.places }
-    ensures some { is_some result.fraction ≡ nat_lt 0 form.places }
+        → length (values_of radix (given_fraction result)) ≡ shape.places }
+    ensures some { is_some result.fraction ≡ nat_lt 0 shape.places }
     ensures integer { (radix : ℕ) → 2 ≤ radix → digit_count radix digits.entry.now ≡ length digits.entry.now
         → is_present (values_of radix result.integer) ≡ true }
-    ensures power { result.exponent ≡ power_if form.shown form.negative form.exponent }
+    ensures power { result.exponent ≡ power_in shape.exponent }
 {
-    let (integer, fraction) = split(digits, form.after, form.places);
+    let (integer, fraction) = split(digits, shape.after, shape.places);
     Amount {
         negative,
         integer,
-        fraction: fraction_in(form.places as u128, fraction),
-        exponent: power_in(form),
+        fraction: fraction_in(shape.places as u128, fraction),
+        exponent: power_in(shape.exponent),
     }
 }
 
-// Returns whether an exponent of this size is shown, of a float that is far from 1 or not, and long without an exponent or not.
+// Returns to how many digits behind the point a float is rounded in a syntax.
 #[inline(always)]
-pub(crate) fn is_shown(syntax: &Syntax, style: Style, size: u64, far: bool, long: bool) -> bool
-    ensures { result ≡ is_shown syntax.now style size far long }
+pub(crate) fn decimals_in(syntax: &Syntax, style: Style) -> Option<u8>
+    ensures { result ≡ decimals_in syntax.now style.decimals }
 {
-    let plain = style.decimals.is_none();
-    allows_exponent(syntax)
-        && (long
-            || (plain && needs_exponent(syntax))
-            || is_wanted(style.exponent, size, plain && far))
+    if is_whole(syntax) || syntax.format().view().mantissa_radix() != 10 {
+        None
+    } else {
+        style.decimals
+    }
 }
 
-// Returns whether an exponent is written by a wish.
+// Returns whether an exponent is written by a wish, of a float that is far from 1 or not.
 #[inline(always)]
-const fn is_wanted(wish: ExponentStyle, size: u64, far: bool) -> bool
-    ensures { result ≡ is_wanted wish far size }
+const fn is_wanted(wish: ExponentStyle, far: bool) -> bool
+    ensures { result ≡ is_wanted wish far }
 {
     match wish {
         ExponentStyle::AsNumber => far,
         ExponentStyle::Never => false,
         ExponentStyle::Always => true,
-        ExponentStyle::From(least) => size >= least as u64,
     }
 }
 
-// Returns how many digits are behind the point at least, where an exponent is shown or not.
+// Returns whether a float that is far from 1 or not has an exponent.
 #[inline(always)]
-pub(crate) fn least_places(syntax: &Syntax, style: Style, shown: bool) -> usize
-    ensures value { result ≡ least_places syntax.now style shown }
-    ensures limit { result ≤ 255 }
+pub(crate) fn is_shown(syntax: &Syntax, style: Style, far: bool) -> bool
+    ensures { result ≡ is_shown syntax.now style far }
 {
-    if is_whole(syntax) {
-        return 0;
-    }
-    match style.decimals {
-        Some(decimals) => decimals as usize,
-        None => (style.point || !shown) as usize,
-    }
+    let plain = decimals_in(syntax, style).is_none();
+    allows_exponent(syntax)
+        && ((plain && needs_exponent(syntax)) || is_wanted(style.exponent, plain && far))
 }
 
 // Returns the exponents of ten above and below the line of a decimal number.
@@ -138,38 +127,32 @@ const fn tens_of(decimal: Decimal) -> (usize, usize)
     }
 }
 
-// Returns the form of a decimal number of so many digits, times ten to an exponent.
+// Returns the shape of a decimal number of so many digits, times ten to an exponent.
 #[inline(always)]
-pub(crate) fn decimal_form(length: usize, decimal: Decimal, syntax: &Syntax, style: Style) -> Shape
+pub(crate) fn decimal_shape(length: usize, decimal: Decimal, syntax: &Syntax, style: Style) -> Shape
     requires length { length ≡ count (digits_of 10 decimal.digits) }
     requires limits { (length ≤ 64) × (decimal.exponent ≤ 340) }
     requires last { ((decimal.digits ≡ 0) × (decimal.exponent ≡ 0)) ⊎ (0 < decimal.digits % 10) }
     requires radix { ((raw syntax.now.word).byte layout.mantissa_radix ≡ 10) × (effective_exponent_base (raw syntax.now.word) ≡ 10) }
-    requires plain { style.decimals ≡ None }
-    ensures { HasShape syntax.now style (decimal.digits * raised_up decimal.negative 10 decimal.exponent)
-        (raised_down decimal.negative 10 decimal.exponent) result.shown result.negative result.exponent result.places
-        (decimal.digits * 10 ^ result.after) }
+    requires plain { decimals_in syntax.now style.decimals ≡ None }
+    ensures { IsShape syntax.now style (decimal.digits * raised_up decimal.negative 10 decimal.exponent)
+        (raised_down decimal.negative 10 decimal.exponent) result.exponent result.places (decimal.digits * 10 ^ result.after) }
 {
     let (up, down) = tens_of(decimal);
     let last = length.saturating_sub(1);
-    let (negative, exponent) = (up + last < down, (up + last).abs_diff(down) as u64);
-    let far = exponent > if negative { 4 } else { 15 };
-    if is_shown(syntax, style, exponent, far, false) {
-        let places = last.max(least_places(syntax, style, true));
+    let (negative, size) = (up + last < down, (up + last).abs_diff(down) as u64);
+    let far = size > if negative { 4 } else { 15 };
+    if is_shown(syntax, style, far) {
         return Shape {
-            after: places - last,
-            places,
-            negative,
-            exponent,
-            shown: true,
+            after: 0,
+            places: last,
+            exponent: Some((negative, size)),
         };
     }
-    let places = down.max(least_places(syntax, style, false));
+    let places = down.max(!is_whole(syntax) as usize);
     Shape {
         after: up + places - down,
         places,
-        negative: false,
-        exponent: 0,
-        shown: false,
+        exponent: None,
     }
 }

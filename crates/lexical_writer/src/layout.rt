@@ -43,8 +43,6 @@ pub enum ExponentStyle {
     Never,
     /// With one. A number without an exponent has the exponent 0.
     Always,
-    /// If it is a float whose exponent is at least this number, or at most minus this number.
-    From(u32),
 }
 
 /// How numbers are written where a syntax leaves a choice. Each field is a wish: what the syntax forbids is not done, and what
@@ -74,10 +72,8 @@ pub struct Style {
     pub min_digits: u8,
     /// Whether there is an exponent.
     pub exponent: ExponentStyle,
-    /// How many digits the fraction of a float has, to which it is rounded. For `None`, as many as its value needs.
+    /// How many digits the fraction of a float has in decimal floats, to which it is rounded. For `None`, as many as its value needs.
     pub decimals: Option<u8>,
-    /// Whether a float has a point with a digit behind it, also before an exponent, as in `1.0e16`.
-    pub point: bool,
 }
 
 impl Style {
@@ -92,7 +88,6 @@ impl Style {
         min_digits: 0,
         exponent: ExponentStyle::AsNumber,
         decimals: None,
-        point: false,
     };
 }
 
@@ -112,8 +107,6 @@ pub enum WriteError {
     /// A limit: the literal has another radix or another exponent base, or no literal has its exponent, and its value is not
     /// known to be a number with 27 digits in this radix and without an exponent, or an integer with 128 bits.
     Radix,
-    /// A limit: no literal has an exponent, and without one the float has more than 800 digits.
-    Long,
     /// A limit: the buffer is too short for the text, which has this number of bytes.
     Buffer(usize),
     /// A list of forms reads the text as another number, or not at all.

@@ -27,7 +27,7 @@ texts! {
         6 => b"no literal is NaN or infinity, and no spelling is read back as it",
         7 => b"the buffer is too short",
         8 => b"the syntax, the forms, the style, the spellings or the special value is refused, or no call has made the literal",
-        9 => b"without an exponent, the text has more than 800 bytes",
+        9 => b"the text has more than 4096 bytes",
         10 => b"the text is read as another number",
         11 => b"the literal is too large for its kind",
         _ => b"",
@@ -43,8 +43,7 @@ pub struct Style {
     lowercase: u8,
     min_digits: u8,
     exponent: u8,
-    exponent_from: u32,
-    point: u8,
+    reserved_wishes: [u8; 7],
     has_decimals: u8,
     decimals: u8,
     reserved: [u8; 9],
@@ -67,16 +66,14 @@ impl Style {
         (style.group, style.fraction_group) = (group(self.group), group(self.fraction_group));
         (style.prefix, style.suffix) = (self.without_base == 0, self.without_base == 0);
         style.lowercase = self.lowercase != 0;
-        style.point = self.point != 0;
         style.decimals = (self.has_decimals != 0).then_some(self.decimals);
         let exponent = match self.exponent {
             0 => ExponentStyle::AsNumber,
             1 => ExponentStyle::Never,
             2 => ExponentStyle::Always,
-            3 => ExponentStyle::From(self.exponent_from),
             _ => return None,
         };
-        (self.reserved == [0; 9]).then_some(style.exponent(exponent))
+        ((self.reserved_wishes, self.reserved) == ([0; 7], [0; 9])).then_some(style.exponent(exponent))
     }
 }
 
@@ -112,7 +109,7 @@ fn status_of(error: WriteError) -> WriteStatus {
         WriteError::Negative => 2,
         WriteError::Fraction => 3,
         WriteError::Float => 5,
-        WriteError::Long | WriteError::Buffer(_) => 9,
+        WriteError::Buffer(_) => 9,
         WriteError::ReadBack => 10,
         WriteError::TooLarge => 11,
         _ => SPECIAL,

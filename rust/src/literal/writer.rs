@@ -116,8 +116,8 @@ impl Style {
 
     /// Rounds a float to `count` digits behind the point, as `{:.2}` of std does: to the nearest, or to the even one if two
     /// are as near. The sign of a number that becomes 0 is kept. There is no exponent, or 0 where the syntax requires one, unless
-    /// the style has [`ExponentStyle::Always`] or [`ExponentStyle::From`]. Then one digit is before the point. In a syntax of
-    /// integers alone, no digit is behind it.
+    /// the style has [`ExponentStyle::Always`]. Then one digit is before the point. In integers alone, and in another radix than
+    /// 10, this wish has no effect.
     ///
     /// ```
     /// use peltzivar::literal::{ExponentStyle, Language, Style};
@@ -133,21 +133,6 @@ impl Style {
     #[must_use]
     pub const fn decimals(mut self, count: u8) -> Style {
         self.decimals = Some(count);
-        self
-    }
-
-    /// Writes a float with a point and a digit behind it, also before an exponent: `1.0e16`. With
-    /// [`decimals(0)`][Self::decimals], there is no point.
-    ///
-    /// ```
-    /// use peltzivar::literal::{Language, Style};
-    ///
-    /// let ada = Language::ADA.forms()[0].syntax();
-    /// assert_eq!(ada.format_float(1e16, Style::PLAIN.point()).unwrap().to_string(), "1.0e16");
-    /// ```
-    #[must_use]
-    pub const fn point(mut self) -> Style {
-        self.point = true;
         self
     }
 }
@@ -496,7 +481,6 @@ impl fmt::Display for WriteError {
             WriteError::Fraction => "literals are integers, and the number is not whole",
             WriteError::Float => "each literal has an exponent, and an integer of Rust has none",
             WriteError::Special => "no literal is NaN or infinity, and no spelling is read back as it",
-            WriteError::Long => "without an exponent, the text has more than 800 bytes",
             WriteError::Buffer(length) => return write!(f, "the text has {length} bytes"),
             WriteError::ReadBack => "the text is read as another number",
         })

@@ -9,15 +9,12 @@ use crate::literal::writer::layout::{allows_exponent, is_whole, needs_exponent, 
 use crate::literal::writer::run::Source;
 
 // How the digits of a number are written: with zeros behind them, with a point before the last of all these digits, and with an
-// exponent, if it is shown.
+// exponent, whether its sign is `-` and its size, if there is one.
 #[derive(Debug, Clone, Copy)]
 pub(crate) struct Shape {
     pub(crate) after: usize,
     pub(crate) places: usize,
-    // Whether the sign of the exponent is `-`.
-    pub(crate) negative: bool,
-    pub(crate) exponent: u64,
-    pub(crate) shown: bool,
+    pub(crate) exponent: Option<(bool, u64)>,
 }
 
 // Returns a fraction, if it has digits, of which there are as many as `places`.
@@ -30,51 +27,52 @@ pub(crate) const fn fraction_in<'a>(places: u128, fraction: Source<'a>) -> Optio
     }
 }
 
-// Returns the exponent of a form, if it is shown.
+// Returns the exponent of a shape.
 #[inline(always)]
-const fn power_in(form: Shape) -> Option<Power<'static>> {
-    if !form.shown {
-        return None;
+const fn power_in(exponent: Option<(bool, u64)>) -> Option<Power<'static>> {
+    match exponent {
+        Some((negative, size)) => Some(Power { negative, source: Source::Number(size as u128) }),
+        None => None,
     }
-    Some(Power { negative: form.negative, source: Source::Number(form.exponent as u128) })
 }
 
-// Returns digits in a form, as a number that is to be written.
+// Returns digits in a shape, as a number that is to be written.
 #[inline(always)]
-pub(crate) fn amount_in<'a>(negative: bool, digits: &'a [u8], form: Shape) -> Amount<'a> {
-    let (integer, fraction) = split(digits, form.after, form.places);
-    Amount { negative, integer, fraction: fraction_in(form.places as u128, fraction), exponent: power_in(form) }
+pub(crate) fn amount_in<'a>(negative: bool, digits: &'a [u8], shape: Shape) -> Amount<'a> {
+    let (integer, fraction) = split(digits, shape.after, shape.places);
+    Amount {
+        negative,
+        integer,
+        fraction: fraction_in(shape.places as u128, fraction),
+        exponent: power_in(shape.exponent),
+    }
 }
 
-// Returns whether an exponent of this size is shown, of a float that is far from 1 or not, and long without an exponent or not.
+// Returns to how many digits behind the point a float is rounded in a syntax.
 #[inline(always)]
-pub(crate) fn is_shown(syntax: &Syntax, style: Style, size: u64, far: bool, long: bool) -> bool {
-    let plain = style.decimals.is_none();
-    allows_exponent(syntax)
-        && (long || (plain && needs_exponent(syntax)) || is_wanted(style.exponent, size, plain && far))
+pub(crate) fn decimals_in(syntax: &Syntax, style: Style) -> Option<u8> {
+    if is_whole(syntax) || syntax.format().view().mantissa_radix() != 10 {
+        None
+    } else {
+        style.decimals
+    }
 }
 
-// Returns whether an exponent is written by a wish.
+// Returns whether an exponent is written by a wish, of a float that is far from 1 or not.
 #[inline(always)]
-const fn is_wanted(wish: ExponentStyle, size: u64, far: bool) -> bool {
+const fn is_wanted(wish: ExponentStyle, far: bool) -> bool {
     match wish {
         ExponentStyle::AsNumber => far,
         ExponentStyle::Never => false,
         ExponentStyle::Always => true,
-        ExponentStyle::From(least) => size >= least as u64,
     }
 }
 
-// Returns how many digits are behind the point at least, where an exponent is shown or not.
+// Returns whether a float that is far from 1 or not has an exponent.
 #[inline(always)]
-pub(crate) fn least_places(syntax: &Syntax, style: Style, shown: bool) -> usize {
-    if is_whole(syntax) {
-        return 0;
-    }
-    match style.decimals {
-        Some(decimals) => decimals as usize,
-        None => (style.point || !shown) as usize,
-    }
+pub(crate) fn is_shown(syntax: &Syntax, style: Style, far: bool) -> bool {
+    let plain = decimals_in(syntax, style).is_none();
+    allows_exponent(syntax) && ((plain && needs_exponent(syntax)) || is_wanted(style.exponent, plain && far))
 }
 
 // Returns the exponents of ten above and below the line of a decimal number.
@@ -87,17 +85,16 @@ const fn tens_of(decimal: Decimal) -> (usize, usize) {
     }
 }
 
-// Returns the form of a decimal number of so many digits, times ten to an exponent.
+// Returns the shape of a decimal number of so many digits, times ten to an exponent.
 #[inline(always)]
-pub(crate) fn decimal_form(length: usize, decimal: Decimal, syntax: &Syntax, style: Style) -> Shape {
+pub(crate) fn decimal_shape(length: usize, decimal: Decimal, syntax: &Syntax, style: Style) -> Shape {
     let (up, down) = tens_of(decimal);
     let last = length.saturating_sub(1);
-    let (negative, exponent) = (up + last < down, (up + last).abs_diff(down) as u64);
-    let far = exponent > if negative { 4 } else { 15 };
-    if is_shown(syntax, style, exponent, far, false) {
-        let places = last.max(least_places(syntax, style, true));
-        return Shape { after: places - last, places, negative, exponent, shown: true };
+    let (negative, size) = (up + last < down, (up + last).abs_diff(down) as u64);
+    let far = size > if negative { 4 } else { 15 };
+    if is_shown(syntax, style, far) {
+        return Shape { after: 0, places: last, exponent: Some((negative, size)) };
     }
-    let places = down.max(least_places(syntax, style, false));
-    Shape { after: up + places - down, places, negative: false, exponent: 0, shown: false }
+    let places = down.max(!is_whole(syntax) as usize);
+    Shape { after: up + places - down, places, exponent: None }
 }
