@@ -1624,8 +1624,8 @@ class Opening(metaclass=_Class):
     """What stands before each literal of a form: up to 8 characters of ASCII, whose letters are in either case, unless
     it is case-sensitive. A sign stands behind the opening. Raises ValueError for others.
 
-        >>> hexadecimal = {"hexadecimal": Syntax.of(radix=16, base_suffix="#", required_base_suffix=True, exponent=None, point=None)}
-        >>> ada = Forms(hexadecimal, openings={"hexadecimal": Opening("16#")})
+        >>> closed = Syntax.of(radix=16, base_suffix="#", required_base_suffix=True, exponent=None, point=None)
+        >>> ada = Forms({"hexadecimal": closed}, openings={"hexadecimal": Opening("16#")})
         >>> ada.read("16#FF#").value
         255
     """

@@ -1,6 +1,6 @@
 -- Forms with an opening: what a syntax reads behind it, and where a text stops.
-use Rattle.lexical_forms.proofs.Common.{BeginsBy, Begins, Bool, Form, Found, GoesTo, IsBehind, IsCountedFront, IsErrorIn, IsFront, IsFrontIn, IsInside, Furthest}
-use Rattle.lexical_forms.proofs.Common.{IsLeftOut, IsLow, IsNearSign, IsNoBetter, IsOpened, IsOpenedTo, IsRefusal, IsRefusedAt, IsStopped}
+use Rattle.lexical_forms.proofs.Common.{Begins, BeginsBy, Bool, Form, Found, Furthest, GoesTo, IsBehind, IsCountedFront, IsErrorIn, IsFront, IsFrontIn}
+use Rattle.lexical_forms.proofs.Common.{IsInside, IsLeftOut, IsLow, IsNearSign, IsNoBetter, IsOpened, IsOpenedTo, IsRefusal, IsRefusedAt, IsStopped}
 use Rattle.lexical_forms.proofs.Common.{IsStoppedBefore, IsStoppedBehind, IsValidUpTo, List, Literal, NoFrontBy, NoFrontPast, NoLiteral, None, NoneBy}
 use Rattle.lexical_forms.proofs.Common.{NonePast, Notation, Option, Reaches, Reads, ReadsFront, ReadsFrontBy, ReadsIn, Refusal, Some, Stopped, [], ap, arith}
 use Rattle.lexical_forms.proofs.Common.{behind, drop, false, false≢true, get_or, if◌then◌else◌, inl, inr, is_stray, length, length-take-le, nat_tests, not}

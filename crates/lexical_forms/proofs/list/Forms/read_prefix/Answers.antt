@@ -1,9 +1,13 @@
 -- The front has the parts that were counted.
-use Rattle.lexical_forms.proofs.Common.{Form, IsFrontIn, IsSomeAnd, ReadsForm, ReadsIn, Some, ap, arith, behind, front_cut, front_read, length, length-take-le, drop}
-use Rattle.lexical_forms.proofs.Common.{slice_get, subst, sym, take, ◌-◌, ◌∙◌, ◌≡◌}
+use Rattle.lexical_forms.proofs.Common.{Form, IsFrontIn, IsSomeAnd, ReadsForm, ReadsIn, Some, ap, arith, behind, front_cut, front_read}
+use Rattle.lexical_forms.proofs.Common.{List, drop, length, length-take-le, ℕ, slice_get, subst, sym, take, ◌-◌, ◌∙◌, ◌≡◌}
 use Rattle.lexical_forms.proofs.FormLemmas.{form_at, inside_of}
 use Rattle.lexical_forms.proofs.BehindLemmas.{front_in, inner_is, read_in}
 use Rattle.lexical_forms.proofs.list.Forms.read_prefix.Goals as goal
+
+-- What is behind as many bytes as the opening has.
+inside_of_front : (g : Form) (front inside : List ℕ) (size : ℕ) → inside ≡ drop size front → size ≡ g.opening.size → inside ≡ drop g.opening.size front
+inside_of_front g front inside size back same = back ∙ ap (λ k. drop k front) same
 
 pub split_at-inside-requires : goal.split_at-inside-requires
 split_at-inside-requires c =
@@ -19,7 +23,8 @@ summed-requires c =
     let is = subst (λ (g : Form). IsFrontIn text found g) (sym c.index-as_slice-form.is) (form_at (IsFrontIn text found) c.args.self.now.forms
     c.as_slice.result.now c.index-as_slice-form.result c.in-Ok.form c.as_slice.ensures.list c.in-Ok.ensures.found).1 in
     front_cut g.syntax (behind g text) c.split_at-inside.result.1.now (found.size - g.opening.size) found.counts
-    (inner_is g text found is c.split_at-front.result.0.now c.split_at-inside.result.1.now c.split_at-front.ensures.front (c.split_at-inside.ensures.back ∙ ap (λ k. drop k c.split_at-front.result.0.now) c.size-2.ensures)) is.front
+    (inner_is g text found is c.split_at-front.result.0.now c.split_at-inside.result.1.now c.split_at-front.ensures.front
+    (inside_of_front g _ _ _ c.split_at-inside.ensures.back c.size-2.ensures)) is.front
 
 pub of_form-literal-requires : goal.of_form-literal-requires
 of_form-literal-requires c = inside_of _ c.args.self.now.forms c.in-Ok.form c.in-Ok.ensures.found
@@ -31,7 +36,8 @@ returns-in-Ok c =
     (form_at (IsFrontIn text found) forms c.as_slice.result.now g c.in-Ok.form c.as_slice.ensures.list c.in-Ok.ensures.found) in
     let read = c.summed.result in
     let is = front_read g.syntax (behind g text) c.split_at-inside.result.1.now (found.size - g.opening.size) found.counts
-    (inner_is g text found form.1 c.split_at-front.result.0.now c.split_at-inside.result.1.now c.split_at-front.ensures.front (c.split_at-inside.ensures.back ∙ ap (λ k. drop k c.split_at-front.result.0.now) c.size-2.ensures)) form.1.front read
+    (inner_is g text found form.1 c.split_at-front.result.0.now c.split_at-inside.result.1.now c.split_at-front.ensures.front
+    (inside_of_front g _ _ _ c.split_at-inside.ensures.back c.size-2.ensures)) form.1.front read
     c.summed.ensures in
     let own = c.of_form-literal.result in (
       found.size,
