@@ -30,7 +30,7 @@ pub use Rattle.lexical_writer.specs.Amount.{IsAmountOf, IsDigitsOf, IsExponent, 
 pub use Rattle.lexical_writer.specs.Amount.{is_far, is_shown, is_wanted, least_places, power_in, units_at, units_in, with_minus}
 pub use Rattle.lexical_writer.specs.Buffer.{IsTaken}
 pub use Rattle.lexical_writer.specs.Choice.{AreBefore, ArePassed, IsChosen, IsFound, IsMisread, IsNoToken, IsPassedOver, IsReached, IsReadElse, IsReadWith}
-pub use Rattle.lexical_writer.specs.Choice.{IsRefused, IsSearched, IsStopped, IsUnusable, IsWhole, bytes_of_word, has_floats, is_asked, is_marked, is_own}
+pub use Rattle.lexical_writer.specs.Choice.{IsRefused, IsSearched, IsStopped, IsUnusable, IsWhole, bytes_of_word, has_floats, is_asked, has_opening, is_own}
 pub use Rattle.lexical_writer.specs.Choice.{is_short, steps, text_by, unasked, unwished, ways, whole_of, words_of}
 pub use Rattle.lexical_writer.specs.Private.{IsPut}
 pub use Rattle.lexical_writer.specs.Conversion.{SameFraction, own_amount}
