@@ -5,8 +5,8 @@
 mod random;
 
 use peltzivar::literal::{
-    Condition, Form, FormError, Forms, FromLiteral, Kind, Language, Literal, Number, Opening, ParseError,
-    ReadError, ReadErrorKind, Special, Specials, Suffixes, Tokens,
+    Condition, Form, FormError, Forms, FromLiteral, Kind, Language, Literal, Number, Opening, ParseError, ReadError,
+    ReadErrorKind, Special, Specials, Suffixes, Tokens,
 };
 use random::Random;
 use std::cmp::Reverse;

@@ -8,8 +8,8 @@ mod random;
 
 use limits::{whole, Limits};
 use peltzivar::literal::{
-    Condition, Conditions, ExponentStyle, FloatKind, Form, Forms, IntegerKind, Kind, Language, Literal, Number, Opening,
-    ParseError, Real, Specials, Style, Syntax, Whole, Writable, WriteError,
+    Condition, Conditions, ExponentStyle, FloatKind, Form, Forms, IntegerKind, Kind, Language, Literal, Number,
+    Opening, ParseError, Real, Specials, Style, Syntax, Whole, Writable, WriteError,
 };
 use peltzivar::{Format, NumberFormatBuilder, Part};
 use random::Random;

@@ -359,7 +359,7 @@ fn spans_begin_with_the_opening() {
         assert_eq!((inner.span(), inner.valid_up_to(), inner.code().index()), (size..end, size, Some(&size)));
         assert_eq!((error.span(), error.valid_up_to()), (size..end, size));
         for wrong in ["1__1", "_1", "1_", "1.", "1e", "1e__1", "!", "é"] {
-            let error = forms.read(&[opening.as_bytes(), wrong.as_bytes(), closing.as_bytes()].concat()).err();
+            let error = forms.read(&[opening.as_bytes(), wrong.as_bytes()].concat()).err();
             if let Some((error, inner)) = error.and_then(|it| Some((it, it.error()?))) {
                 assert_eq!(error.span(), inner.span(), "{wrong} in {form:?}");
             }

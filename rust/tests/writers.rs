@@ -2,8 +2,8 @@
 //! syntax.
 
 use peltzivar::literal::{
-    ExponentStyle, Form, Forms, Language, Literal, Opening, Sign, Special, Specials, Spelling, Style, Syntax, WriteError,
-    Written,
+    ExponentStyle, Form, Forms, Language, Literal, Opening, Sign, Special, Specials, Spelling, Style, Syntax,
+    WriteError, Written,
 };
 use peltzivar::{NumberFormatBuilder, Part, Settings};
 use std::num::NonZeroU8;

@@ -2,7 +2,8 @@
 
 use super::{Definition, Language};
 use crate::literal::{
-    Conditions, FloatKind, FloatLimits, Form, Forms, IntegerKind, Kind, Opening, Specials, Stop, Suffixes, Syntax, Tokens,
+    Conditions, FloatKind, FloatLimits, Form, Forms, IntegerKind, Kind, Opening, Specials, Stop, Suffixes, Syntax,
+    Tokens,
 };
 use crate::{Format, NumberFormatBuilder};
 use core::num::NonZeroU8;

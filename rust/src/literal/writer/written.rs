@@ -265,7 +265,7 @@ impl Written<'_> {
         if let Some(layout) = layout {
             let mut printer = Printer { f, skip: front, result: Ok(()) };
             layout.put(&mut printer);
-                printer.put_all(self.word());
+            printer.put_all(self.word());
             printer.result?;
         }
         (before + zeros..missing).try_for_each(|_| f.write_char(fill))
