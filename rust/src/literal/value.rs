@@ -127,7 +127,7 @@ impl<'a> Literal<'a> {
             Ok((true, size)) => T::try_from(0_i128.wrapping_sub_unsigned(size)).map_err(|_| ValueErrorKind::TooSmall),
             Err(kind) => Err(kind),
         };
-        value.map_err(|kind| ValueError::of::<T>(kind, self.size_in_text(), self.integer_kind()))
+        value.map_err(|kind| self.error::<T>(kind).scaled(places))
     }
 
     /// Returns the literal as Rust and most other programs read it: without digit separators, prefix, suffix and plus
