@@ -1,6 +1,7 @@
 //! The values of literals as Rust's types, which are written by hand around the proved conversions.
 
 use core::fmt::{self, Write};
+use core::num::NonZero;
 
 use crate::format_flags::Part;
 use crate::literal::literal::Sums;
@@ -37,7 +38,8 @@ use number::float::Float;
 use number::numeral::{Magnitude, Numeral};
 use scaled::to_scaled;
 
-/// A type that can be [parsed][Syntax::parse]: each integer type of Rust, `f64` and `f32`, and a type of your own.
+/// A type that can be [parsed][Syntax::parse]: each integer type of Rust, also as a [`NonZero`], `f64` and `f32`, and a type of
+/// your own.
 ///
 /// Rust's types are also [made][TryFrom] from a [`Literal`] or a [`Number`], as in `u16::try_from(literal)`.
 ///
@@ -224,6 +226,24 @@ macro_rules! conversions {
 conversions! {
     u8 u16 u32 u64 usize u128 i8 i16 i32 i64 isize i128: Target::integer, to_integer, |_| Err(ValueErrorKind::Special)
 }
+
+/// Makes the types without 0. Each has the limits of its type of integers.
+macro_rules! non_zero {
+    ($($type:ident)*) => {
+        $(
+            impl FromLiteral for NonZero<$type> {
+                const TARGET: Target = <$type>::TARGET.named(concat!("NonZero<", stringify!($type), ">"));
+
+                fn from_literal(literal: Literal<'_>) -> Result<Self, ValueErrorKind> {
+                    NonZero::new($type::from_literal(literal)?).ok_or(ValueErrorKind::Zero)
+                }
+            }
+        )*
+    };
+}
+
+non_zero! { u8 u16 u32 u64 usize u128 i8 i16 i32 i64 isize i128 }
+
 conversions! { f64: Target::unlimited, to_float, |special: Special| Ok(special.to_f64()) }
 conversions! { f32: Target::unlimited, to_float, |special: Special| Ok(special.to_f32()) }
 

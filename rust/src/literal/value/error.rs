@@ -39,6 +39,11 @@ impl Target {
         Target { name, limits: Some((least, largest)) }
     }
 
+    /// Returns the same limits with another name.
+    pub(super) const fn named(self, name: &'static str) -> Target {
+        Target { name, ..self }
+    }
+
     /// Returns the name of a type of floats.
     pub(super) const fn unlimited(name: &'static str, _: i128, _: u128) -> Target {
         Target::new(name)
@@ -180,6 +185,7 @@ impl fmt::Display for ValueError {
                 write!(f, "no {target}: the mantissa radix and the exponent base are not both 10 or both powers of two")
             }
             ValueErrorKind::Vanishes => write!(f, "too near to 0 for an {target}"),
+            ValueErrorKind::Zero => write!(f, "0, which is no {target}"),
             ValueErrorKind::TooLarge | ValueErrorKind::TooSmall => self.fmt_limit(f),
         }
     }
