@@ -234,7 +234,7 @@ fn reading(forms: Forms<'_>, text: &[u8]) -> String {
             all(&mut [("sign", sign), ("special", rest)].into_iter())
         }
         _ => {
-            let front = forms.read_prefix(text).ok().and_then(|(number, rest)| {
+            let front = forms.read_prefix_bytes(text).ok().and_then(|(number, rest)| {
                 let (form, literal) = (&forms[number.form()?], number.literal()?);
                 let whole = &text[..text.len() - rest.len()];
                 let opening = ("opening", &whole[..form.opening().as_bytes().len()]);

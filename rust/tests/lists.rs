@@ -341,12 +341,12 @@ fn spans_begin_with_the_opening() {
     for (forms, form) in all.filter(|(_, form)| !form.opening().is_empty()) {
         let (opening, closing, digits) = (form.opening(), form.closing(), "1".repeat(150));
         let text = [opening.as_bytes(), digits.as_bytes(), closing.as_bytes()].concat();
-        let (number, front) = (forms.read(&text).unwrap(), forms.read_prefix(&text).unwrap().0);
+        let (number, front) = (forms.read(&text).unwrap(), forms.read_prefix_bytes(&text).unwrap().0);
         let literal = number.literal().unwrap();
         let values =
             [number.value::<u8>(), front.value(), literal.try_into(), literal.to_scaled(0), number.to_scaled(2)];
         let token = forms.token(&text).ok().map(|it| it.literal.try_into());
-        let parsed = [forms.parse(&text), forms.parse_prefix(&text).map(|it| it.0)];
+        let parsed = [forms.parse(&text), forms.parse_prefix_bytes(&text).map(|it| it.0)];
         let values = values.into_iter().chain(token).map(|it| it.map_err(ParseError::from)).chain(parsed);
         let size = opening.as_bytes().len();
         values.for_each(|it| assert_eq!(it.unwrap_err().span(), 0..size + 150, "{form:?}"));

@@ -114,7 +114,7 @@ as_forms! {
     [const] read_bytes ['t](&'t [u8]) -> Result<Number<'t>, FormError>;
     /// In source text, [`token`][Self::token] ends numbers as the language does: of `1..2` in RUST, this is `1.`, and the
     /// token `1`.
-    [] read_prefix ['t](&'t (impl AsRef<[u8]> + ?Sized)) -> Result<(Number<'t>, &'t [u8]), FormError>;
+    [] read_prefix ['t](&'t str) -> Result<(Number<'t>, &'t str), FormError>;
     [const] read_prefix_bytes ['t](&'t [u8]) -> Result<(Number<'t>, &'t [u8]), FormError>;
     /// Languages of data, such as JSON, have no tokens.
     ///
@@ -126,6 +126,7 @@ as_forms! {
     /// assert_eq!(Language::RUST.token("1..2").unwrap().rest, b"..2");
     /// ```
     [] token ['t](&'t (impl AsRef<[u8]> + ?Sized)) -> Result<Token<'t>, TokenError>;
+    [] read_token ['t](&'t (impl AsRef<[u8]> + ?Sized)) -> Result<Token<'t>, TokenError>;
     ///
     /// ```
     /// use peltzivar::literal::Language;
@@ -136,7 +137,8 @@ as_forms! {
     /// ```
     [] parse [T: FromLiteral](impl AsRef<[u8]>) -> Result<T, ParseError>;
     /// In source text, [`token`][Self::token] ends numbers as the language does.
-    [] parse_prefix ['t, T: FromLiteral](&'t (impl AsRef<[u8]> + ?Sized)) -> Result<(T, &'t [u8]), ParseError>;
+    [] parse_prefix ['t, T: FromLiteral](&'t str) -> Result<(T, &'t str), ParseError>;
+    [] parse_prefix_bytes ['t, T: FromLiteral](&'t [u8]) -> Result<(T, &'t [u8]), ParseError>;
 }
 
 /// Returns whether two names differ only in the case of letters.

@@ -4,6 +4,7 @@ use core::fmt::{self, Write};
 use core::num::NonZero;
 
 use crate::format_flags::Part;
+use crate::literal::forms::rest_of;
 use crate::literal::literal::Sums;
 use crate::literal::stop::Stopped;
 use crate::literal::{FloatKind, FloatLimits, IntegerKind, Kind, Literal, Number, Sign, Special, Spelling, Syntax};
@@ -206,7 +207,7 @@ macro_rules! conversions {
 
                 #[inline(always)]
                 fn try_from(literal: Literal<'_>) -> Result<$type, ValueError> {
-                    let (size, of) = (literal.size_in_text(), literal.integer_kind());
+                    let (size, of) = (literal.end(), literal.integer_kind());
                     $type::from_literal(literal).map_err(|kind| ValueError::of::<$type>(kind, size, of))
                 }
             }
@@ -301,7 +302,7 @@ impl Literal<'_> {
 
     /// Returns the error of the literal in a type.
     const fn error<T: FromLiteral>(&self, kind: ValueErrorKind) -> ValueError {
-        ValueError::of::<T>(kind, self.size_in_text(), self.integer_kind())
+        ValueError::of::<T>(kind, self.end(), self.integer_kind())
     }
 
     /// Returns the kind of the literal if it is an integer. A float has none.
@@ -485,18 +486,25 @@ impl Syntax {
     ///
     /// let syntax = Syntax::integers(peltzivar::Format::default());
     /// let (width, rest) = syntax.parse_prefix::<u16>("640x480")?;
-    /// assert_eq!((width, rest, syntax.parse_prefix::<u16>(&rest[1..])?.0), (640, &b"x480"[..], 480));
+    /// assert_eq!((width, rest, syntax.parse_prefix::<u16>(&rest[1..])?.0), (640, "x480", 480));
     /// # Ok::<(), ParseError>(())
     /// ```
     ///
     /// # Errors
     ///
     /// If `text` does not begin with a literal, or if its value is not one of the type, returns why.
-    pub fn parse_prefix<'t, T: FromLiteral>(
-        &self,
-        text: &'t (impl AsRef<[u8]> + ?Sized),
-    ) -> Result<(T, &'t [u8]), ParseError> {
-        let (literal, rest) = self.read_prefix_bytes(text.as_ref())?;
+    pub fn parse_prefix<'t, T: FromLiteral>(&self, text: &'t str) -> Result<(T, &'t str), ParseError> {
+        let (value, rest) = self.parse_prefix_bytes(text.as_bytes())?;
+        Ok((value, rest_of(text, rest)))
+    }
+
+    /// Returns what [`parse_prefix`][Self::parse_prefix] returns, of bytes.
+    ///
+    /// # Errors
+    ///
+    /// Those of this call.
+    pub fn parse_prefix_bytes<'t, T: FromLiteral>(&self, text: &'t [u8]) -> Result<(T, &'t [u8]), ParseError> {
+        let (literal, rest) = self.read_prefix_bytes(text)?;
         Ok((Number::Literal { literal, form: 0 }.value()?, rest))
     }
 
@@ -536,7 +544,7 @@ impl Number<'_> {
     /// use peltzivar::literal::{Language, ParseError};
     ///
     /// let (number, rest) = Language::RUST.read_prefix("0xFF..")?;
-    /// assert_eq!((number.value::<u8>()?, rest), (255, &b".."[..]));
+    /// assert_eq!((number.value::<u8>()?, rest), (255, ".."));
     /// # Ok::<(), ParseError>(())
     /// ```
     ///
@@ -546,9 +554,7 @@ impl Number<'_> {
     #[inline]
     pub fn value<T: FromLiteral>(self) -> Result<T, ValueError> {
         let (value, size, of) = match self {
-            Number::Literal { literal, .. } => {
-                (T::from_literal(literal), literal.size_in_text(), literal.integer_kind())
-            }
+            Number::Literal { literal, .. } => (T::from_literal(literal), literal.end(), literal.integer_kind()),
             Number::Special(special) => (T::from_special(special), 0, IntegerKind::Exact),
         };
         value.map_err(|kind| ValueError::of::<T>(kind, size, of))
