@@ -91,8 +91,8 @@ fn utf8(bytes: &[u8]) -> &str {
     core::str::from_utf8(bytes).unwrap_or("")
 }
 
-/// Returns the name and the bits of each setter; the name and the limits of each condition; and the name, the title, the spellings
-/// of special values, and the forms of each language.
+/// Returns the name and the bits of each setter; the name and the limits of each condition; and the name, the title, the aliases,
+/// the spellings of special values, and the forms of each language.
 fn facts() -> String {
     let setter = |it: &Setter| format!(r#"{{"name":"{}","mask":{}}}"#, it.name(), word(it.mask()));
     let rule = |it: &Condition| format!(r#"{{"name":"{}","limits":{:?}}}"#, it.name(), <[_; 2]>::from(it.limits()));
@@ -102,7 +102,8 @@ fn facts() -> String {
         let specials = list([nan, inf, infinity].map(|it| quoted(utf8(it.unwrap_or_default()))).into_iter());
         let forms = language.forms().as_slice().iter();
         let forms = forms.map(|it| format!(r#"{{{},"name":{}}}"#, parts_of(state_of(it)), quoted(it.name())));
-        format!(r#"{{"name":"{language}","title":{title},"specials":{specials},"forms":{}}}"#, list(forms))
+        let aliases = list(language.aliases().map(quoted));
+        format!(r#"{{"name":"{language}","title":{title},"aliases":{aliases},"specials":{specials},"forms":{}}}"#, list(forms))
     });
     let [setters, conditions] = [list(Setter::ALL.iter().map(setter)), list(Condition::ALL.iter().map(rule))];
     format!(r#"{{"setters":{setters},"limits":{conditions},"languages":{}}}"#, list(languages))
@@ -231,7 +232,7 @@ fn reading(forms: Forms<'_>, text: &[u8]) -> String {
             all(&mut [("sign", sign), ("special", rest)].into_iter())
         }
         _ => {
-            let front = forms.read_prefix(text).ok().and_then(|(number, rest)| {
+            let front = forms.read_prefix_bytes(text).ok().and_then(|(number, rest)| {
                 let (form, literal) = (&forms[number.form()?], number.literal()?);
                 let whole = &text[..text.len() - rest.len()];
                 let opening = ("opening", &whole[..form.opening().as_bytes().len()]);

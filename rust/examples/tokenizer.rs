@@ -1,5 +1,6 @@
 //! Prints the tokens of a line of a small language, each with its span: names, operators, and numbers such as `1_000`,
-//! `1.5e-3` and `0xFF`. If a number is refused, prints the span to blame and the reason, and ends with status 1.
+//! `1.5e-3` and `0xFF`. If a number is refused, prints the span to blame and the reason, goes on behind it, and ends with
+//! status 1.
 //!
 //!     cargo run --example tokenizer -- 'x1 = 0xFF + 1_000'
 
@@ -26,7 +27,7 @@ fn token(text: &str) -> Result<(&str, usize), TokenError> {
     let name = text.find(|it: char| !it.is_alphanumeric() && it != '_');
     if text.starts_with(|it: char| it.is_ascii_digit()) {
         let number = NUMBERS.token(text)?;
-        Ok((NUMBERS[number.form].name(), text.len() - number.rest.len()))
+        Ok((NUMBERS[number.form].name(), number.end()))
     } else if name == Some(0) {
         Ok(("operator", text.chars().map(char::len_utf8).next().unwrap()))
     } else {
@@ -36,7 +37,7 @@ fn token(text: &str) -> Result<(&str, usize), TokenError> {
 
 fn main() {
     let line = std::env::args().nth(1).unwrap_or_default();
-    let mut start = 0;
+    let (mut start, mut status) = (0, 0);
     while let Some(skipped) = line[start..].find(|it: char| !it.is_whitespace()) {
         start += skipped;
         match token(&line[start..]) {
@@ -48,8 +49,10 @@ fn main() {
             Err(error) => {
                 let (first, end) = (start + error.span().start, start + error.span().end);
                 println!("{first}..{end}: {error}");
-                std::process::exit(1);
+                start += error.resume(&line[start..]);
+                status = 1;
             }
         }
     }
+    std::process::exit(status);
 }

@@ -20,7 +20,7 @@
 //! let error = SYNTAX.read("1.25.3").unwrap_err();
 //! assert_eq!((error.valid_up_to(), error.to_string()), (4, "unexpected character '.'".into()));
 //! let (literal, rest) = SYNTAX.read_prefix("1.25.3").unwrap();
-//! assert_eq!((literal.as_bytes(), rest), (&b"1.25"[..], &b".3"[..]));
+//! assert_eq!((literal.as_bytes(), rest), (&b"1.25"[..], ".3"));
 //! ```
 //!
 //! [`Syntax::parse`] returns the value of a text. [`Syntax::read_prefix`] has an example that splits a text into numbers.

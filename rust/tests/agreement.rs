@@ -306,7 +306,7 @@ fn agrees(forms: &Forms, text: &[u8]) {
     });
     let rule = |(form, (right, _, span, sentences)): (usize, Why)| (form, right, span, sentences);
     assert_eq!(number.map_err(answers), read(forms, text).map_err(rule), "{text:?} {forms:?}");
-    let front = forms.read_prefix(text).map(|(it, rest)| (it.form().unwrap(), rest.len()));
+    let front = forms.read_prefix_bytes(text).map(|(it, rest)| (it.form().unwrap(), rest.len()));
     assert_eq!(front.map_err(answers), read_prefix(forms, text).map_err(rule), "{text:?} {forms:?}");
     parses::<i64, _>(forms, text, |it| it);
     parses::<u8, _>(forms, text, |it| it);

@@ -17,8 +17,8 @@ use random::Random;
 /// What a lexer gets of the text that begins with a number: its value and the rest, or the bytes to blame.
 #[test]
 fn a_front_has_a_value_and_each_error_a_span() {
-    assert_eq!(Language::C.parse_prefix("0x1Fu;"), Ok((31, &b"u;"[..])));
-    assert_eq!(Language::TOML.forms()[0].syntax().parse_prefix("1_000.5]"), Ok((1000.5, &b"]"[..])));
+    assert_eq!(Language::C.parse_prefix("0x1Fu;"), Ok((31, "u;")));
+    assert_eq!(Language::TOML.forms()[0].syntax().parse_prefix("1_000.5]"), Ok((1000.5, "]")));
     let where_of = |error: ParseError| (error.span(), error.form(), error.valid_up_to());
     assert_eq!(where_of(Language::C.parse_prefix::<u8>("256;").unwrap_err()), (0..3, None, 3));
     assert_eq!(where_of(Language::TOML.parse::<u8>("+nan").unwrap_err()), (0..4, None, 4));
@@ -36,8 +36,39 @@ fn languages_are_found_by_name() {
     assert_eq!((C_SHARP, Language::from_name("C_SHAR")), (Language::C_SHARP, None));
     assert!(["", " C", "C ", "C\n"].iter().all(|it| Language::from_name(it).is_none()));
     let error = |name: &str| name.parse::<Language>().unwrap_err().to_string();
-    assert_eq!(error("javascrip"), "unknown language; did you mean `JAVASCRIPT`?");
-    assert_eq!(error("Q"), "unknown language");
+    for near in [
+        "cpp C_PLUS_PLUS",
+        "c-sharp C_SHARP",
+        "CSharp C_SHARP",
+        "lisp COMMON_LISP",
+        "js JAVASCRIPT",
+        "Javascrip JAVASCRIPT",
+        "TypeScript JAVASCRIPT",
+        "javva JAVA",
+        "jvaa JAVA",
+        "java8 JAVA",
+        "golang GO",
+        "haskell2010 HASKELL",
+        "yml YAML",
+        "kotln KOTLIN",
+        "python3 PYTHON",
+        "delphi PASCAL",
+        "racket SCHEME",
+        "xml XML_SCHEMA",
+    ] {
+        let (name, wanted) = near.split_once(' ').unwrap();
+        assert_eq!(error(name), format!("unknown language; did you mean `{wanted}`?"), "{name}");
+    }
+    for name in ["Q", "", "ab", "lang", "erlgo", "notjs", "cobol", "simula", "algol", "eiffel"] {
+        assert_eq!(error(name), "unknown language", "{name}");
+    }
+    for (alias, language) in Language::ALL.iter().flat_map(|it| it.aliases().map(move |alias| (alias, it))) {
+        assert_eq!(
+            (Language::from_name(alias), error(alias).ends_with(&format!("`{language}`?"))),
+            (None, true),
+            "{alias}"
+        );
+    }
 }
 
 /// Returns whether a list has no number with the sign of `value`.

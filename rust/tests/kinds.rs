@@ -78,7 +78,7 @@ fn values_are_those_of_the_language() {
     }
     // It is below 0, in each call alike.
     assert_eq!(Language::JAVA.parse::<u32>("0xffffffff").unwrap_err().to_string(), "below 0, the least u32");
-    assert_eq!(Language::JAVA.parse_prefix::<i64>("0xffffffff;"), Ok((-1, &b";"[..])));
+    assert_eq!(Language::JAVA.parse_prefix::<i64>("0xffffffff;"), Ok((-1, ";")));
     assert_eq!(Language::JAVA.parse("4.9e-324"), Ok(5e-324));
     let error = Language::JAVA.parse::<f64>("1e400").unwrap_err();
     assert_eq!(error.to_string(), "above the largest f64");

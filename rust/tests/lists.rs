@@ -178,22 +178,22 @@ fn sentences_name_the_nearer_limit() {
     for (bits, of) in (1..=64).flat_map(|bits| kinds.map(|of| (bits, of(bits)))) {
         let forms = [Form::new("", integers(10)).with_kind(Kind::new(of, FloatKind::Nearest).unwrap())];
         let (forms, power) = (Forms::new_or_panic(&forms), 1_i128 << bits);
-        let (least, most) = match of {
-            IntegerKind::Signed(_) => (-power / 2, power / 2 - 1),
-            IntegerKind::Unsigned(_) => (0, power - 1),
-            _ => (1 - power, power - 1),
+        let (least, most, own) = match of {
+            IntegerKind::Signed(_) => (-power / 2, power / 2 - 1, format!("i{bits}")),
+            IntegerKind::Unsigned(_) => (0, power - 1, format!("u{bits}")),
+            _ => (1 - power, power - 1, format!("number of {bits} bits")),
         };
-        let limits = [format!("above {most}, the largest"), format!("below {least}, the least")];
+        let limits = [format!("above {most}, the largest {own}"), format!("below {least}, the least {own}")];
         for (number, limit) in [most + 1, least - 1].into_iter().zip(limits) {
             let error = forms.parse::<Unlimited>(number.to_string()).unwrap_err();
-            assert_eq!(error.to_string(), limit + " number of its form");
+            assert_eq!(error.to_string(), limit);
         }
         each_type!(Type => {
             let name = std::any::type_name::<Type>();
             let is_nearer = (most as u128) < Type::MAX as u128;
-            let above = if is_nearer { (most as u128, "number of its form") } else { (Type::MAX as u128, name) };
+            let above = if is_nearer { (most as u128, &*own) } else { (Type::MAX as u128, name) };
             let is_nearer = least > Type::MIN as i128;
-            let below = if is_nearer { (least, "number of its form") } else { (Type::MIN as i128, name) };
+            let below = if is_nearer { (least, &*own) } else { (Type::MIN as i128, name) };
             let above = format!("above {}, the largest {}", above.0, above.1);
             let below = format!("below {}, the least {}", below.0, below.1);
             for (sign, next, wanted) in [("", most + 1, above), ("-", least - 1, below)] {
@@ -342,13 +342,13 @@ fn spans_begin_with_the_opening() {
         let (opening, digits) = (form.opening(), "1".repeat(150));
         let suffix = Vec::from_iter(form.syntax().format().base_suffix().map(NonZeroU8::get));
         let text = [opening.as_bytes(), digits.as_bytes(), &suffix].concat();
-        let (number, front) = (forms.read(&text).unwrap(), forms.read_prefix(&text).unwrap().0);
+        let (number, front) = (forms.read(&text).unwrap(), forms.read_prefix_bytes(&text).unwrap().0);
         let literal = number.literal().unwrap();
         let values =
             [number.value::<u8>(), front.value(), literal.try_into(), literal.to_scaled(0), number.to_scaled(2)];
         let token = forms.token(&text).ok().map(|it| it.literal.try_into());
         let constant = literal.to_u64().err().map(Err);
-        let parsed = [forms.parse(&text), forms.parse_prefix(&text).map(|it| it.0)];
+        let parsed = [forms.parse(&text), forms.parse_prefix_bytes(&text).map(|it| it.0)];
         let values =
             values.into_iter().chain(token).chain(constant).map(|it| it.map_err(ParseError::from)).chain(parsed);
         let size = opening.as_bytes().len();
@@ -377,5 +377,35 @@ fn no_word_follows_a_decimal_point() {
         let forms = Forms::new_or_panic(&forms).with_tokens(tokens);
         let sizes = ["1.x", "1,x"].map(|text| forms.token(text).map_or(0, |it| text.len() - it.rest.len()));
         assert_eq!(sizes, ends, "{forms:?}");
+    }
+}
+
+/// An error of a scaled value names the limit as it would be in the text.
+#[test]
+fn limits_of_scaled_values_have_a_point() {
+    for places in 0..=45 {
+        let limit = |size: u128| {
+            let mut digits = format!("{size:0>width$}", width = usize::from(places) + 1);
+            digits.insert(digits.len() - usize::from(places), '.');
+            digits.trim_end_matches('.').to_string()
+        };
+        each_type!(Type => {
+            let scaled = |text: &str| Syntax::default().read(text).unwrap().to_scaled::<Type>(places).unwrap_err().to_string();
+            let name = match places {
+                0 => format!(", the largest {}", std::any::type_name::<Type>()),
+                _ => String::new(),
+            };
+            assert_eq!(scaled(&"9".repeat(60)), format!("above {}{name}", limit(Type::MAX as u128)));
+            let name = name.replace("largest", "least");
+            let least = limit((Type::MIN as i128).unsigned_abs());
+            let sign = if Type::MIN != 0 { "-" } else { "" };
+            assert_eq!(scaled(&("-".to_string() + &"9".repeat(60))), format!("below {sign}{least}{name}"));
+            let below = match places {
+                0 => "not a whole number".to_string(),
+                1 => "more than 1 digit after the point".to_string(),
+                _ => format!("more than {places} digits after the point"),
+            };
+            assert_eq!(scaled(&format!("0.{}1", "0".repeat(places.into()))), below);
+        });
     }
 }

@@ -59,7 +59,7 @@ fn has_parts(literal: Literal<'_>, format: Format) {
 /// Reads a text. Both calls agree.
 fn read<'a>(syntax: Syntax, text: &'a (impl AsRef<[u8]> + ?Sized)) -> Result<Literal<'a>, ReadError> {
     let text = text.as_ref();
-    let (result, prefix) = (syntax.read(text), syntax.read_prefix(text));
+    let (result, prefix) = (syntax.read(text), syntax.read_prefix_bytes(text));
     let longest = prefix.map_or(0, |(literal, _)| literal.as_bytes().len());
     if let Ok((literal, rest)) = prefix {
         assert_eq!((literal.as_bytes(), rest), text.split_at(longest), "{text:?}");

@@ -381,7 +381,7 @@ fn compare(word: u128, options: Option<(u8, u8)>, required: u128, bytes: &[u8], 
         let is_wrong = || syntax.begun(syntax.word, &text, &syntax.more).is_none();
         let wrong = wrong.or_else(|| is_wrong().then(|| syntax.failure(&text, false)));
         let failure = || wrong.clone().unwrap_or_else(|| syntax.failure(&text, true));
-        let (read, prefix) = (library.read(&text), library.read_prefix(&text));
+        let (read, prefix) = (library.read(&text), library.read_prefix_bytes(&text));
         for (read, pieces) in [(read, literal), (prefix.map(|(literal, _)| literal), front.clone())] {
             let wanted = pieces.ok_or_else(failure).map(|pieces| pieces.map(|piece| &text[piece]));
             assert_eq!(answer(read), wanted, "{} in {name}", text.escape_ascii());

@@ -50,6 +50,36 @@ fn each_language_ends_its_numbers_as_its_scanner_does() {
     }
 }
 
+/// A token ends where its rest begins, and is the token of this text. After an error, a lexer goes on behind a word.
+#[test]
+fn a_token_has_an_end_and_an_error_a_place_to_go_on() {
+    let is_word = |it: Option<char>| it.is_some_and(|it| it.is_ascii_alphanumeric() || it == '_' || !it.is_ascii());
+    for (language, text, _) in rows() {
+        let text = format!("{text} é");
+        match language.token(&text) {
+            Ok(token) => {
+                let (whole, rest) = text.split_at(token.end());
+                assert_eq!(
+                    (rest.as_bytes(), token.suffix_str()),
+                    (token.rest, str::from_utf8(token.suffix).ok()),
+                    "{text}"
+                );
+                assert_eq!(language.read_token(whole).map(|it| it.end()), Ok(whole.len()), "{language}: {whole}");
+                assert!(language.read_token(&text).is_err(), "{language}: {text}");
+            }
+            Err(error) => {
+                let (word, rest) = text.split_at(error.resume(&text));
+                assert!(!word.is_empty() && error.span().end <= word.len(), "{language}: {text}");
+                assert!(!is_word(word.chars().next_back()) || !is_word(rest.chars().next()), "{language}: {text}");
+            }
+        }
+        let (front, bytes) = (language.read_prefix(&text), language.read_prefix_bytes(text.as_bytes()));
+        assert_eq!(front.map(|it| (it.0, it.1.as_bytes())), bytes, "{language}: {text}");
+        let (front, bytes) = (language.parse_prefix(&text), language.parse_prefix_bytes::<f64>(text.as_bytes()));
+        assert_eq!(front.map(|it| (it.0, it.1.as_bytes())), bytes, "{language}: {text}");
+    }
+}
+
 /// Returns the rows of `compare/languages/run --suffixes`: a language, a number, and its suffixes, each with `f32` if 0.1 is a
 /// single with it.
 fn suffixes() -> impl Iterator<Item = (Language, &'static str, Vec<(&'static str, &'static str)>)> {

@@ -26,6 +26,8 @@ pub enum ValueErrorKind {
     TooLarge,
     /// The value is below the least value of the type.
     TooSmall,
+    /// The value is 0, and the type has each integer but 0.
+    Zero,
     /// The type is a float type, and the value, which is not 0, is so near to it that it is rounded to 0, which is an error by its kind.
     Vanishes,
     /// The type is a float type, or a float is to be scaled, and the mantissa radix and the exponent base of the format are

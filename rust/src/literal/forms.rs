@@ -109,8 +109,9 @@ impl<'a> Forms<'a> {
     /// # Errors
     ///
     /// If `text` does not begin with a literal, returns why it is not one.
-    pub fn read_prefix<'t>(&self, text: &'t (impl AsRef<[u8]> + ?Sized)) -> Result<(Number<'t>, &'t [u8]), FormError> {
-        self.read_prefix_bytes(text.as_ref())
+    pub fn read_prefix<'t>(&self, text: &'t str) -> Result<(Number<'t>, &'t str), FormError> {
+        let (number, rest) = self.read_prefix_bytes(text.as_bytes())?;
+        Ok((number, rest_of(text, rest)))
     }
 
     /// Returns the value of the number `text`.
@@ -171,9 +172,7 @@ impl<'a> Forms<'a> {
     fn parse_opened<T: FromLiteral>(&self, text: &[u8]) -> Result<T, ParseError> {
         let (value, size, kind) = match self.read_bytes(text)? {
             Number::Special(special) => (T::from_special(special), text.len(), IntegerKind::Exact),
-            Number::Literal { literal, .. } => {
-                (T::from_literal(literal), literal.size_in_text(), literal.integer_kind())
-            }
+            Number::Literal { literal, .. } => (T::from_literal(literal), literal.end(), literal.integer_kind()),
         };
         value.map_err(|error| ParseError::Value(ValueError::of::<T>(error, size, kind)))
     }
@@ -195,13 +194,25 @@ impl<'a> Forms<'a> {
     /// # Errors
     ///
     /// If `text` does not begin with a literal, or if its value is not one of the type, returns why.
-    pub fn parse_prefix<'t, T: FromLiteral>(
-        &self,
-        text: &'t (impl AsRef<[u8]> + ?Sized),
-    ) -> Result<(T, &'t [u8]), ParseError> {
-        let (number, rest) = self.read_prefix(text)?;
+    pub fn parse_prefix<'t, T: FromLiteral>(&self, text: &'t str) -> Result<(T, &'t str), ParseError> {
+        let (value, rest) = self.parse_prefix_bytes(text.as_bytes())?;
+        Ok((value, rest_of(text, rest)))
+    }
+
+    /// Returns what [`parse_prefix`][Self::parse_prefix] returns, of bytes.
+    ///
+    /// # Errors
+    ///
+    /// Those of this call.
+    pub fn parse_prefix_bytes<'t, T: FromLiteral>(&self, text: &'t [u8]) -> Result<(T, &'t [u8]), ParseError> {
+        let (number, rest) = self.read_prefix_bytes(text)?;
         Ok((number.value()?, rest))
     }
+}
+
+/// Returns the rest of a text behind a literal, of which each byte is ASCII.
+pub(crate) fn rest_of<'t>(text: &'t str, rest: &[u8]) -> &'t str {
+    text.get(text.len() - rest.len()..).unwrap_or_default()
 }
 
 impl Syntax {

@@ -1,6 +1,5 @@
 //! Languages as constants, which are written by hand.
 
-use crate::edits::likeness;
 use crate::literal::{FormError, Forms, FromLiteral, Number, ParseError, Token, TokenError};
 use core::{fmt, hash, str::FromStr};
 
@@ -115,7 +114,7 @@ as_forms! {
     [const] read_bytes ['t](&'t [u8]) -> Result<Number<'t>, FormError>;
     /// In source text, [`token`][Self::token] ends numbers as the language does: of `1..2` in RUST, this is `1.`, and the
     /// token `1`.
-    [] read_prefix ['t](&'t (impl AsRef<[u8]> + ?Sized)) -> Result<(Number<'t>, &'t [u8]), FormError>;
+    [] read_prefix ['t](&'t str) -> Result<(Number<'t>, &'t str), FormError>;
     [const] read_prefix_bytes ['t](&'t [u8]) -> Result<(Number<'t>, &'t [u8]), FormError>;
     /// Languages of data, such as JSON, have no tokens.
     ///
@@ -127,6 +126,7 @@ as_forms! {
     /// assert_eq!(Language::RUST.token("1..2").unwrap().rest, b"..2");
     /// ```
     [] token ['t](&'t (impl AsRef<[u8]> + ?Sized)) -> Result<Token<'t>, TokenError>;
+    [] read_token ['t](&'t (impl AsRef<[u8]> + ?Sized)) -> Result<Token<'t>, TokenError>;
     ///
     /// ```
     /// use peltzivar::literal::Language;
@@ -137,7 +137,8 @@ as_forms! {
     /// ```
     [] parse [T: FromLiteral](impl AsRef<[u8]>) -> Result<T, ParseError>;
     /// In source text, [`token`][Self::token] ends numbers as the language does.
-    [] parse_prefix ['t, T: FromLiteral](&'t (impl AsRef<[u8]> + ?Sized)) -> Result<(T, &'t [u8]), ParseError>;
+    [] parse_prefix ['t, T: FromLiteral](&'t str) -> Result<(T, &'t str), ParseError>;
+    [] parse_prefix_bytes ['t, T: FromLiteral](&'t [u8]) -> Result<(T, &'t [u8]), ParseError>;
 }
 
 /// Returns whether two names differ only in the case of letters.
@@ -149,21 +150,61 @@ const fn is_same(name: &[u8], other: &[u8]) -> bool {
     index == name.len() && index == other.len()
 }
 
+impl Language {
+    /// Returns other names of the language that people type.
+    #[doc(hidden)]
+    pub fn aliases(&self) -> impl Iterator<Item = &'static str> + use<> {
+        let language = *self;
+        tables::ALIASES.iter().filter(move |it| it.1 == language).map(|it| it.0)
+    }
+
+    /// Returns the language that is meant by a text that is not its name: an alias, a part of a name, a name with one letter
+    /// wrong, missing or too many or with two exchanged, or a text that begins with a name.
+    fn near(text: &str) -> Option<Language> {
+        let text = text.as_bytes();
+        let find = |is_near: fn(&[u8], &[u8]) -> bool| {
+            let names = |it: &Language| [it.name().as_bytes(), it.title().as_bytes()];
+            Language::ALL.iter().find(|it| names(it).iter().any(|name| is_near(text, name)))
+        };
+        let alias = tables::ALIASES.iter().find(|it| is_same(it.0.as_bytes(), text)).map(|it| &it.1);
+        alias
+            .or_else(|| find(is_part))
+            .or_else(|| find(is_misspelt))
+            .or_else(|| find(|text, name| is_part(name, text)))
+            .copied()
+    }
+}
+
+/// Returns whether a word of a name begins with at least three bytes.
+fn is_part(part: &[u8], name: &[u8]) -> bool {
+    let mut words = name.windows(part.len().max(1)).enumerate();
+    part.len() >= 3 && words.any(|(at, it)| is_same(it, part) && (at == 0 || !name[at - 1].is_ascii_alphabetic()))
+}
+
+/// Returns whether a text is a name but for one byte that is wrong, missing or too many, or for two that are exchanged.
+fn is_misspelt(text: &[u8], name: &[u8]) -> bool {
+    let same = |it: &(&u8, &u8)| it.0.eq_ignore_ascii_case(it.1);
+    let front = text.iter().zip(name).take_while(same).count();
+    let (text, name) = (&text[front..], &name[front..]);
+    let back = text.iter().rev().zip(name.iter().rev()).take_while(same).count();
+    let (text, name) = (&text[..text.len() - back], &name[..name.len() - back]);
+    let exchanged = matches!((text, name), ([a, b], [c, d]) if is_same(&[*b, *a], &[*c, *d]));
+    front + back >= 2 && (exchanged || text.len().max(name.len()) <= 1)
+}
+
 /// Finds the language with a name or a title, as [`Language::from_name`] does.
 impl FromStr for Language {
     type Err = LanguageError;
 
     fn from_str(name: &str) -> Result<Language, LanguageError> {
-        let alike = |other: &&str| likeness(name.as_bytes(), other);
-        let near = Language::ALL.iter().map(Language::name).filter(|it| alike(it) >= 50).max_by_key(alike);
-        Language::from_name(name).ok_or(LanguageError { near })
+        Language::from_name(name).ok_or_else(|| LanguageError { near: Language::near(name) })
     }
 }
 
 /// Why a text is not the name of a language.
 #[derive(Debug, Clone, Copy, PartialEq, Eq, Hash)]
 pub struct LanguageError {
-    near: Option<&'static str>,
+    near: Option<Language>,
 }
 
 /// Prints the name that is most like the text, if one is, as in ``unknown language; did you mean `JAVA`?``.

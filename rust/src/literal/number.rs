@@ -5,6 +5,7 @@ use core::{iter::FusedIterator, slice};
 
 use crate::digit::char_to_valid_digit_const;
 use crate::format_flags::Part;
+use crate::literal::forms::rest_of;
 use crate::literal::group_size::Group;
 use crate::literal::step::{is_complete, step};
 use crate::literal::stop::{Begun, Found, Stopped};
@@ -131,7 +132,7 @@ impl Syntax {
     /// use peltzivar::{format::STANDARD, Format};
     ///
     /// const SYNTAX: Syntax = Syntax::new_or_panic(Format::of::<STANDARD>(), b'e', b'.');
-    /// let mut rest = &b"1.5-3e2+.25-;"[..];
+    /// let mut rest = "1.5-3e2+.25-;";
     /// while let Ok((literal, after)) = SYNTAX.read_prefix(rest) {
     ///     println!("{literal}"); // 1.5, then -3e2, then +.25
     ///     rest = after;
@@ -147,11 +148,12 @@ impl Syntax {
     /// If `text` does not begin with a literal, returns the error of [`read`][Self::read]. For a wrong byte, the text
     /// before it may have an error that states what is missing, as above. A text such as `1e;` begins with the literal
     /// `1`. [`Forms::token`][crate::literal::Forms::token] refuses it.
-    pub fn read_prefix<'t>(&self, text: &'t (impl AsRef<[u8]> + ?Sized)) -> Result<(Literal<'t>, &'t [u8]), ReadError> {
-        self.read_prefix_bytes(text.as_ref())
+    pub fn read_prefix<'t>(&self, text: &'t str) -> Result<(Literal<'t>, &'t str), ReadError> {
+        let (literal, rest) = self.read_prefix_bytes(text.as_bytes())?;
+        Ok((literal, rest_of(text, rest)))
     }
 
-    /// Returns what [`read_prefix`][Self::read_prefix] returns, also in a constant.
+    /// Returns what [`read_prefix`][Self::read_prefix] returns, of bytes, also in a constant.
     pub const fn read_prefix_bytes<'t>(&self, text: &'t [u8]) -> Result<(Literal<'t>, &'t [u8]), ReadError> {
         match self.front(text) {
             (stop, None) => stop.refuse(self, text),
@@ -203,8 +205,10 @@ impl<'a> Literal<'a> {
         self.text
     }
 
-    // Returns the number of bytes up to its end, with the opening before it.
-    pub(crate) const fn size_in_text(&self) -> usize {
+    /// Returns the index behind the literal, in the text that it begins: that of [`read`][Syntax::read], of
+    /// [`read_prefix`][Syntax::read_prefix] or of [`token`][crate::literal::Forms::token], with the opening before it.
+    #[must_use]
+    pub const fn end(&self) -> usize {
         self.opened as usize + self.text.len()
     }
 

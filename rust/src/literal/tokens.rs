@@ -3,6 +3,7 @@
 use core::{fmt, ops::Range, str};
 
 use crate::literal::list::PointsBack;
+use crate::literal::suffix::is_word_byte;
 use crate::literal::{Form, Forms, Kind, Stop, Suffixes, Token, TokenError, Tokens};
 use crate::short_text::ShortText;
 
@@ -15,6 +16,21 @@ impl Forms<'_> {
     /// If `text` does not begin with a token, returns why.
     pub fn token<'t>(&self, text: &'t (impl AsRef<[u8]> + ?Sized)) -> Result<Token<'t>, TokenError> {
         self.token_bytes(text.as_ref())
+    }
+
+    /// Returns the token that the whole of `text` is, such as `10ms` of a list whose form has this suffix.
+    ///
+    /// # Errors
+    ///
+    /// If `text` is not a token, returns why. Behind a token, this is the error of [`read`][Self::read].
+    pub fn read_token<'t>(&self, text: &'t (impl AsRef<[u8]> + ?Sized)) -> Result<Token<'t>, TokenError> {
+        let text = text.as_ref();
+        let token = self.token_bytes(text)?;
+        match self.read(text) {
+            _ if token.rest.is_empty() => Ok(token),
+            Err(error) => Err(TokenError::Literal(error)),
+            Ok(_) => Err(TokenError::Stopped { form: token.form, start: token.end(), end: text.len() }),
+        }
     }
 
     /// Returns the forms that need a suffix, the words that may follow, and whether points are given back, to letters alone, and any word
@@ -67,7 +83,48 @@ impl Stop {
     }
 }
 
+impl<'a> Token<'a> {
+    /// Returns the index behind the suffix, in the text that the token begins.
+    ///
+    /// ```
+    /// use peltzivar::literal::Language;
+    ///
+    /// let token = Language::RUST.token("0xFFu8..").unwrap();
+    /// assert_eq!((token.literal.end(), token.end(), token.suffix_str()), (4, 6, Some("u8")));
+    /// ```
+    #[must_use]
+    pub const fn end(&self) -> usize {
+        self.literal.end() + self.suffix.len()
+    }
+
+    /// Returns the suffix as text, or `None` if it is not UTF-8.
+    #[must_use]
+    pub const fn suffix_str(&self) -> Option<&'a str> {
+        match str::from_utf8(self.suffix) {
+            Ok(suffix) => Some(suffix),
+            Err(_) => None,
+        }
+    }
+}
+
 impl TokenError {
+    /// Returns the index where a lexer goes on in `text`, of which this is the error: behind the word in which the
+    /// [`span`][Self::span] ends, at least one byte on, and on a boundary of a character.
+    ///
+    /// ```
+    /// use peltzivar::literal::Language;
+    ///
+    /// let text = "1__0;";
+    /// assert_eq!(Language::PYTHON.token(text).unwrap_err().resume(text), 4);
+    /// ```
+    #[must_use]
+    pub fn resume(&self, text: &(impl AsRef<[u8]> + ?Sized)) -> usize {
+        let text = text.as_ref();
+        let end = self.span().end.max(1).min(text.len());
+        let is_in_word = text[..end].last().is_some_and(|it| is_word_byte(*it));
+        end + text[end..].iter().take_while(|it| is_in_word && is_word_byte(**it)).count()
+    }
+
     /// Returns the range of the bytes to show.
     #[must_use]
     pub const fn span(&self) -> Range<usize> {

@@ -1,8 +1,10 @@
 //! The values of literals as Rust's types, which are written by hand around the proved conversions.
 
 use core::fmt::{self, Write};
+use core::num::NonZero;
 
 use crate::format_flags::Part;
+use crate::literal::forms::rest_of;
 use crate::literal::literal::Sums;
 use crate::literal::stop::Stopped;
 use crate::literal::{FloatKind, FloatLimits, IntegerKind, Kind, Literal, Number, Sign, Special, Spelling, Syntax};
@@ -37,7 +39,8 @@ use number::float::Float;
 use number::numeral::{Magnitude, Numeral};
 use scaled::to_scaled;
 
-/// A type that can be [parsed][Syntax::parse]: each integer type of Rust, `f64` and `f32`, and a type of your own.
+/// A type that can be [parsed][Syntax::parse]: each integer type of Rust, also as a [`NonZero`], `f64` and `f32`, and a type of
+/// your own.
 ///
 /// Rust's types are also [made][TryFrom] from a [`Literal`] or a [`Number`], as in `u16::try_from(literal)`.
 ///
@@ -127,7 +130,7 @@ impl<'a> Literal<'a> {
             Ok((true, size)) => T::try_from(0_i128.wrapping_sub_unsigned(size)).map_err(|_| ValueErrorKind::TooSmall),
             Err(kind) => Err(kind),
         };
-        value.map_err(|kind| ValueError::of::<T>(kind, self.size_in_text(), self.integer_kind()))
+        value.map_err(|kind| self.error::<T>(kind).scaled(places))
     }
 
     /// Returns the literal as Rust and most other programs read it: without digit separators, prefix, suffix and plus
@@ -204,7 +207,7 @@ macro_rules! conversions {
 
                 #[inline(always)]
                 fn try_from(literal: Literal<'_>) -> Result<$type, ValueError> {
-                    let (size, of) = (literal.size_in_text(), literal.integer_kind());
+                    let (size, of) = (literal.end(), literal.integer_kind());
                     $type::from_literal(literal).map_err(|kind| ValueError::of::<$type>(kind, size, of))
                 }
             }
@@ -224,6 +227,24 @@ macro_rules! conversions {
 conversions! {
     u8 u16 u32 u64 usize u128 i8 i16 i32 i64 isize i128: Target::integer, to_integer, |_| Err(ValueErrorKind::Special)
 }
+
+/// Makes the types without 0. Each has the limits of its type of integers.
+macro_rules! non_zero {
+    ($($type:ident)*) => {
+        $(
+            impl FromLiteral for NonZero<$type> {
+                const TARGET: Target = <$type>::TARGET.named(concat!("NonZero<", stringify!($type), ">"));
+
+                fn from_literal(literal: Literal<'_>) -> Result<Self, ValueErrorKind> {
+                    NonZero::new($type::from_literal(literal)?).ok_or(ValueErrorKind::Zero)
+                }
+            }
+        )*
+    };
+}
+
+non_zero! { u8 u16 u32 u64 usize u128 i8 i16 i32 i64 isize i128 }
+
 conversions! { f64: Target::unlimited, to_float, |special: Special| Ok(special.to_f64()) }
 conversions! { f32: Target::unlimited, to_float, |special: Special| Ok(special.to_f32()) }
 
@@ -281,7 +302,7 @@ impl Literal<'_> {
 
     /// Returns the error of the literal in a type.
     const fn error<T: FromLiteral>(&self, kind: ValueErrorKind) -> ValueError {
-        ValueError::of::<T>(kind, self.size_in_text(), self.integer_kind())
+        ValueError::of::<T>(kind, self.end(), self.integer_kind())
     }
 
     /// Returns the kind of the literal if it is an integer. A float has none.
@@ -465,18 +486,25 @@ impl Syntax {
     ///
     /// let syntax = Syntax::integers(peltzivar::Format::default());
     /// let (width, rest) = syntax.parse_prefix::<u16>("640x480")?;
-    /// assert_eq!((width, rest, syntax.parse_prefix::<u16>(&rest[1..])?.0), (640, &b"x480"[..], 480));
+    /// assert_eq!((width, rest, syntax.parse_prefix::<u16>(&rest[1..])?.0), (640, "x480", 480));
     /// # Ok::<(), ParseError>(())
     /// ```
     ///
     /// # Errors
     ///
     /// If `text` does not begin with a literal, or if its value is not one of the type, returns why.
-    pub fn parse_prefix<'t, T: FromLiteral>(
-        &self,
-        text: &'t (impl AsRef<[u8]> + ?Sized),
-    ) -> Result<(T, &'t [u8]), ParseError> {
-        let (literal, rest) = self.read_prefix_bytes(text.as_ref())?;
+    pub fn parse_prefix<'t, T: FromLiteral>(&self, text: &'t str) -> Result<(T, &'t str), ParseError> {
+        let (value, rest) = self.parse_prefix_bytes(text.as_bytes())?;
+        Ok((value, rest_of(text, rest)))
+    }
+
+    /// Returns what [`parse_prefix`][Self::parse_prefix] returns, of bytes.
+    ///
+    /// # Errors
+    ///
+    /// Those of this call.
+    pub fn parse_prefix_bytes<'t, T: FromLiteral>(&self, text: &'t [u8]) -> Result<(T, &'t [u8]), ParseError> {
+        let (literal, rest) = self.read_prefix_bytes(text)?;
         Ok((Number::Literal { literal, form: 0 }.value()?, rest))
     }
 
@@ -516,7 +544,7 @@ impl Number<'_> {
     /// use peltzivar::literal::{Language, ParseError};
     ///
     /// let (number, rest) = Language::RUST.read_prefix("0xFF..")?;
-    /// assert_eq!((number.value::<u8>()?, rest), (255, &b".."[..]));
+    /// assert_eq!((number.value::<u8>()?, rest), (255, ".."));
     /// # Ok::<(), ParseError>(())
     /// ```
     ///
@@ -526,9 +554,7 @@ impl Number<'_> {
     #[inline]
     pub fn value<T: FromLiteral>(self) -> Result<T, ValueError> {
         let (value, size, of) = match self {
-            Number::Literal { literal, .. } => {
-                (T::from_literal(literal), literal.size_in_text(), literal.integer_kind())
-            }
+            Number::Literal { literal, .. } => (T::from_literal(literal), literal.end(), literal.integer_kind()),
             Number::Special(special) => (T::from_special(special), 0, IntegerKind::Exact),
         };
         value.map_err(|kind| ValueError::of::<T>(kind, size, of))

@@ -8,6 +8,27 @@ use crate::literal::{
 use crate::{Format, NumberFormatBuilder};
 use core::num::NonZeroU8;
 
+/// Names of languages that people type, beside the languages' own. A part of a name, such as `lisp`, needs no row.
+pub(super) const ALIASES: &[(&str, Language)] = &[
+    ("c99", Language::C),
+    ("cpp", Language::C_PLUS_PLUS),
+    ("csharp", Language::C_SHARP),
+    ("delphi", Language::PASCAL),
+    ("dlang", Language::D),
+    ("f90", Language::FORTRAN),
+    ("golang", Language::GO),
+    ("hs", Language::HASKELL),
+    ("js", Language::JAVASCRIPT),
+    ("mysql", Language::SQL),
+    ("postgres", Language::SQL),
+    ("racket", Language::SCHEME),
+    ("rb", Language::RUBY),
+    ("sh", Language::BASH),
+    ("ts", Language::JAVASCRIPT),
+    ("typescript", Language::JAVASCRIPT),
+    ("yml", Language::YAML),
+];
+
 /// Makes a list of words, and one of words with their kinds.
 macro_rules! list {
     ($($word:tt)*) => { const { &[$(stringify!($word).as_bytes()),*] } };

@@ -15,6 +15,8 @@ pub struct ValueError {
     size: usize,
     /// The kind of an integer.
     of: IntegerKind,
+    /// The power of 10 with which the value was multiplied.
+    places: u8,
 }
 
 /// What the errors of a type that is parsed name: the type, with its limits.
@@ -35,6 +37,11 @@ impl Target {
     #[must_use]
     pub const fn integer(name: &'static str, least: i128, largest: u128) -> Target {
         Target { name, limits: Some((least, largest)) }
+    }
+
+    /// Returns the same limits with another name.
+    pub(super) const fn named(self, name: &'static str) -> Target {
+        Target { name, ..self }
     }
 
     /// Returns the name of a type of floats.
@@ -62,14 +69,23 @@ impl Target {
 impl ValueError {
     /// Returns the error of a literal of `size` bytes, whose kind is that of an integer.
     pub(crate) const fn of<T: FromLiteral>(kind: ValueErrorKind, size: usize, of: IntegerKind) -> ValueError {
-        ValueError { kind, target: const { &T::TARGET }, size, of }
+        ValueError { kind, target: const { &T::TARGET }, size, of, places: 0 }
+    }
+
+    /// Returns the error of the value times 10 to the power of `places`.
+    pub(crate) const fn scaled(self, places: u8) -> ValueError {
+        ValueError { places, ..self }
     }
 
     /// Returns the size of the largest or least number of its kind, if a number is out of range for it: the type has more values.
     fn limit_of_kind(&self) -> Option<u128> {
         let negative = matches!(self.kind, ValueErrorKind::TooSmall);
         let most = limit(self.of, negative)?;
-        let has_more = |(least, largest): (i128, u128)| if negative { least.unsigned_abs() } else { largest } > most;
+        let power = 10_u128.checked_pow(self.places.into());
+        let has_more = |(least, largest): (i128, u128)| {
+            let size = if negative { least.unsigned_abs() } else { largest };
+            power.map_or(0, |power| size / power) > most
+        };
         self.target.limits.is_none_or(has_more).then_some(most)
     }
 
@@ -94,31 +110,83 @@ impl ValueError {
     }
 }
 
+/// A limit of a type, before a value is multiplied by a power of 10.
+struct Limit {
+    negative: bool,
+    size: u128,
+    places: u8,
+}
+
+impl fmt::Display for Limit {
+    fn fmt(&self, f: &mut fmt::Formatter<'_>) -> fmt::Result {
+        let sign = if self.negative { "-" } else { "" };
+        let places = self.places.into();
+        let power = 10_u128.checked_pow(self.places.into());
+        let (whole, rest) = power.map_or((0, self.size), |power| (self.size / power, self.size % power));
+        match places {
+            0 => write!(f, "{sign}{whole}"),
+            _ => write!(f, "{sign}{whole}.{rest:0places$}"),
+        }
+    }
+}
+
+/// The kind of an integer as its sentences name it, such as `u8` or `number of 32 bits`.
+struct Named(IntegerKind);
+
+impl fmt::Display for Named {
+    fn fmt(&self, f: &mut fmt::Formatter<'_>) -> fmt::Result {
+        match self.0 {
+            IntegerKind::Signed(bits) => write!(f, "i{bits}"),
+            IntegerKind::Unsigned(bits) => write!(f, "u{bits}"),
+            IntegerKind::Wraps(bits) | IntegerKind::WrapsModulo(bits) => write!(f, "number of {bits} bits"),
+            IntegerKind::Exact => f.write_str("number"),
+        }
+    }
+}
+
+impl ValueError {
+    /// Prints the limit that the value is beyond: of its kind, or else of the type.
+    fn fmt_limit(&self, f: &mut fmt::Formatter<'_>) -> fmt::Result {
+        let negative = matches!(self.kind, ValueErrorKind::TooSmall);
+        let (beyond, last) = if negative { ("below", "least") } else { ("above", "largest") };
+        let target = self.target();
+        match (self.limit_of_kind(), self.target.limits) {
+            (Some(size), _) => {
+                let limit = Limit { negative: negative && size > 0, size, places: 0 };
+                write!(f, "{beyond} {limit}, the {last} {}", Named(self.of))
+            }
+            (None, Some((least, largest))) => {
+                let size = if negative { least.unsigned_abs() } else { largest };
+                let limit = Limit { negative: negative && least < 0, size, places: self.places };
+                match self.places {
+                    0 => write!(f, "{beyond} {limit}, the {last} {target}"),
+                    _ => write!(f, "{beyond} {limit}"),
+                }
+            }
+            (None, None) => write!(f, "{beyond} the {last} {target}"),
+        }
+    }
+}
+
 /// Prints the reason with the type and its limit, such as `above 65535, the largest u16`, or with the limit of the kind.
 impl fmt::Display for ValueError {
     fn fmt(&self, f: &mut fmt::Formatter<'_>) -> fmt::Result {
         let target = self.target();
-        let (limits, of_kind) = (self.target.limits, self.limit_of_kind());
         match self.kind {
             ValueErrorKind::Float => write!(f, "a float, and {target} is an integer type"),
             ValueErrorKind::Special => write!(f, "NaN or infinity, and {target} is an integer type"),
-            ValueErrorKind::NotWhole => write!(f, "not whole after scaling, and {target} is an integer type"),
+            ValueErrorKind::NotWhole => match self.places {
+                0 => f.write_str("not a whole number"),
+                1 => f.write_str("more than 1 digit after the point"),
+                places => write!(f, "more than {places} digits after the point"),
+            },
             ValueErrorKind::TooLong => write!(f, "too many digits for scaling, as an {target}"),
             ValueErrorKind::UnsupportedRadix => {
                 write!(f, "no {target}: the mantissa radix and the exponent base are not both 10 or both powers of two")
             }
             ValueErrorKind::Vanishes => write!(f, "too near to 0 for an {target}"),
-            ValueErrorKind::TooLarge => match (of_kind, limits) {
-                (Some(most), _) => write!(f, "above {most}, the largest number of its form"),
-                (_, Some((_, largest))) => write!(f, "above {largest}, the largest {target}"),
-                _ => write!(f, "above the largest {target}"),
-            },
-            ValueErrorKind::TooSmall => match (of_kind, limits) {
-                (Some(0), _) => write!(f, "below 0, the least number of its form"),
-                (Some(most), _) => write!(f, "below -{most}, the least number of its form"),
-                (_, Some((least, _))) => write!(f, "below {least}, the least {target}"),
-                _ => write!(f, "below the least {target}"),
-            },
+            ValueErrorKind::Zero => write!(f, "0, which is no {target}"),
+            ValueErrorKind::TooLarge | ValueErrorKind::TooSmall => self.fmt_limit(f),
         }
     }
 }
