@@ -3,11 +3,11 @@ use Rattle.lexical_forms.proofs.Common.{Begins, BeginsBy, Bool, Form, Found, Fur
 use Rattle.lexical_forms.proofs.Common.{IsInside, IsLeftOut, IsLow, IsNearSign, IsNoBetter, IsOpened, IsOpenedTo, IsRefusal, IsRefusedAt, IsStopped}
 use Rattle.lexical_forms.proofs.Common.{IsStoppedBefore, IsStoppedBehind, IsValidUpTo, List, Literal, NoFrontBy, NoFrontPast, NoLiteral, None, NoneBy}
 use Rattle.lexical_forms.proofs.Common.{NonePast, Notation, Option, Reaches, Reads, ReadsFront, ReadsFrontBy, ReadsIn, Refusal, Some, Stopped, [], ap, arith}
-use Rattle.lexical_forms.proofs.Common.{behind, drop, false, false≢true, get_or, if◌then◌else◌, inl, inr, is_stray, length, length-take-le, nat_tests, not}
-use Rattle.lexical_forms.proofs.Common.{notation_of, one_refusal, reach, reach_in, refl, sign_size, spells, subst, sym, take, take_all, true, ℕ, ◌*◌}
+use Rattle.lexical_forms.proofs.Common.{behind, drop, false, false≢true, get_or, if◌then◌else◌, inl, inr, is_stray, length, nat_tests, not}
+use Rattle.lexical_forms.proofs.Common.{notation_of, one_refusal, reach, reach_in, sign_size, spells, subst, sym, take, take_all, true, ℕ, ◌*◌}
 use Rattle.lexical_forms.proofs.Common.{◌+◌, ◌-◌, ◌<◌, ◌==◌, ◌∙◌, ◌≡◌, ◌≤◌}
 use Rattle.lexical_forms.proofs.OpeningLemmas.{behind_take, front_opened, no_opening, none_empty, not_longer, not_opened, one_valid, opened_front}
-use Rattle.lexical_forms.proofs.OpeningLemmas.{past_before, past_behind, reach_within, valid_behind}
+use Rattle.lexical_forms.proofs.OpeningLemmas.{past_behind, reach_within, valid_behind}
 
 -- A form without an opening.
 pub no_size : (n : ℕ) (some : Bool) → some ≡ not (n == 0) → some ≡ false → n ≡ 0

@@ -22,9 +22,6 @@ no_more form float text size past =
 kept : (a b : Bool) → b ≡ false → (a && b) ≡ false
 kept a b is = grind arith
 
-kept_too : (a b : Bool) → a ≡ false → (a && b) ≡ false
-kept_too a b is = grind arith
-
 module _ (list : FormList) (t : Tokens) (text : List ℕ) (token : Token) (is : IsToken list t text token) where
   -- The form has a candidate, which needs a suffix or not.
   candidate : (needs : Bool) × IsCandidate t.gives_points_back needs text is.form is.size is.end
@@ -71,8 +68,8 @@ module _ (list : FormList) (t : Tokens) (text : List ℕ) (token : Token) (is : 
         let all = subst (ReadsIn form l) (sym (take_all (length text) text (omega arith))) read in record {
           longest = length text;
           front = (l, record { within = omega arith; reads = all; no_longer = λ more past inside. absurd (omega (arith, past, inside)) });
-          size_is = ap (λ b. if b then length text - 1 else length text) (sym (kept _ _ (kept_too _ _
-              (ap (is_in (takes_point t.gives_points_back)) (slice_get_past text (length text) (omega arith))))));
+          size_is = ap (λ b. if b then length text - 1 else length text) (sym (kept _ _
+              (ap (is_in (takes_point t.gives_points_back)) (slice_get_past text (length text) (omega arith)))));
           literal = l;
           reads = all;
           end_is = let none = no_more form (is_float l) text (length text) (omega arith) in omega (arith, none);

@@ -4,9 +4,9 @@ use Rattle.lexical_forms.proofs.Common.{IsErrorOfForm, IsFirst, IsFirstOf, IsFor
 use Rattle.lexical_forms.proofs.Common.{HasOpening, IsLongestPast, IsLow, IsNearSign, IsReadByForms, IsRefusedAt, IsSomeAnd, Leads, List}
 use Rattle.lexical_forms.proofs.Common.{NoForm, NoFrontBy, NoFrontPast, None, NonePast, Notation, Ok, Option, Reaches, Read, ReadsForm, ReadsIn, Some}
 use Rattle.lexical_forms.proofs.Common.{Stopped, Tokens, [], ap, are_opened, arith, behind, cases_lt, common_steps, false, false≢true, get_or, get_or-take}
-use Rattle.lexical_forms.proofs.Common.{further, have_openings, if◌then◌else◌, inl, inr, length, length-take-le, limit, nat_lt, nat_tests, not}
+use Rattle.lexical_forms.proofs.Common.{further, have_openings, if◌then◌else◌, inl, inr, length, length-take-le, limit, nat_lt, nat_tests}
 use Rattle.lexical_forms.proofs.Common.{reach_in, refl, refusal_in, slice_get, slice_get-get_or, slice_get_within, subst, sym, take, take_all, true, ℕ, ◌*◌}
-use Rattle.lexical_forms.proofs.Common.{◌+◌, ◌<◌, ◌==◌, ◌||◌, ◌∷◌, ◌≡◌, ◌≤◌}
+use Rattle.lexical_forms.proofs.Common.{◌+◌, ◌<◌, ◌||◌, ◌∷◌, ◌≡◌, ◌≤◌}
 use Rattle.lexical_forms.proofs.BehindLemmas.{front_in, no_size, none_empty_in, none_in, one_reach, reach_least, reach_most}
 use Rattle.lexical_forms.proofs.OpeningLemmas.{bit_within, one_size}
 use Rattle.lexical_forms.specs.declared.list.FormError.{FormError}

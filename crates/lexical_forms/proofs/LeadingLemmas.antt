@@ -7,8 +7,8 @@ use Rattle.lexical_forms.proofs.Common.{[], ap, append-nil, arith, before_expone
 use Rattle.lexical_forms.proofs.Common.{begins, byte_before, cases_lt, cond, cut, drop, drop-take, false, false≢true, filter, fold, get_or, gives_back}
 use Rattle.lexical_forms.proofs.Common.{go_on_with, goes, has, has_float, has_prefix, if◌then◌else◌, inl, inr, is_alone, is_ascii_digit, is_float, is_in}
 use Rattle.lexical_forms.proofs.Common.{is_in_word, is_shorter, is_stopped, is_word_byte, kind_with, length, length-append, length-take-le, list_any, map, max}
-use Rattle.lexical_forms.proofs.Common.{meets, more_of, nat_le, nat_tests, not, notation_of, option_map, refl, sign_size, slice_get, slice_get-get_or}
-use Rattle.lexical_forms.proofs.Common.{slice_get_within, subst, suffix_size, suffix_words, sym, take, take-take, take_all, takes_point, text_of, true}
+use Rattle.lexical_forms.proofs.Common.{meets, more_of, nat_le, nat_tests, notation_of, option_map, refl, sign_size, slice_get, slice_get-get_or}
+use Rattle.lexical_forms.proofs.Common.{slice_get_within, subst, suffix_size, suffix_words, sym, take, take-take, takes_point, text_of, true}
 use Rattle.lexical_forms.proofs.Common.{unwrap_or, word_size, ℕ, ◌&&◌, ◌++◌, ◌+◌, ◌-◌, ◌<◌, ◌==◌, ◌||◌, ◌∙◌, ◌∷◌, ◌≡◌, ◌≤◌}
 use Rattle.lexical_forms.proofs.ExcludeLemmas.{BeginsPrefixed, front_sign, no_role_excludes, prefix_begins}
 use Rattle.lexical_forms.proofs.FormLemmas.{all_at, no_one, plain_at}

@@ -5,7 +5,7 @@ use Rattle.lexical_forms.proofs.Common.{IsCandidate, IsChosen, IsCounted, IsCut,
 use Rattle.lexical_forms.proofs.Common.{IsOver}
 use Rattle.lexical_forms.proofs.Common.{IsOwn}
 use Rattle.lexical_forms.proofs.Common.{IsPicked, IsRefused, IsSomeAnd, IsToken, IsTokenError, IsTrue, List, Literal, NoCandidate, NoForm, NoLonger, NoOwn}
-use Rattle.lexical_forms.proofs.Common.{None, NonePast, NoneBy, Option, PointsBack, Read, Reads, ReadsForm, ReadsIn, Some, [], ◌∷◌}
+use Rattle.lexical_forms.proofs.Common.{None, NonePast, NoneBy, Option, PointsBack, Read, ReadsForm, ReadsIn, Some, [], ◌∷◌}
 use Rattle.lexical_forms.proofs.Common.{Token, Tokens, ap, arith, better, cuts_of, drop, false, get_or, gives_back, goes_on, has_float, if◌then◌else◌}
 use Rattle.lexical_forms.proofs.Common.{inl, inr, is_ascii_digit, is_float, is_in, is_shorter, is_stopped, is_word_byte, kind_with, length, length-take-le}
 use Rattle.lexical_forms.proofs.Common.{more_of, nat_tests, notation_of, refl, slice_get, slice_get-get_or, stop_end, subst, suffix_size, suffix_words}

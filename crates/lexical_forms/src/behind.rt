@@ -1,6 +1,6 @@
 //! Forms with an opening: what a syntax reads behind it.
 
-ghost use Rattle.std.specs.Prelude.{ℕ, ◌≡◌, ◌<◌, ◌≤◌, ◌+◌, ◌-◌, ◌*◌, IfSome, IsNone, IsTrue, None, get_or, if◌then◌else◌};
+ghost use Rattle.std.specs.Prelude.{ℕ, ◌≡◌, ◌<◌, ◌+◌, ◌-◌, ◌*◌, IfSome, IsNone, None, get_or, if◌then◌else◌};
 ghost use Rattle.lexical_forms.specs.Additions.Forms.{GoesTo, IsFrontIn, IsInside, IsRefusedAt, NonePast, Reaches};
 ghost use Rattle.lexical_forms.specs.Forms.{IsErrorIn, IsErrorOfForm, ReadsForm, ReadsIn};
 ghost use Rattle.lexical_literal.specs.Additions.Stop.{IsStopped};

@@ -35,7 +35,7 @@ pub struct Opening {
 }
 
 impl Opening {
-    ghost use Rattle.std.specs.Prelude.{ℕ, ◌==◌, IfSome, IsSome, IsTrue, false};
+    ghost use Rattle.std.specs.Prelude.{◌==◌, IfSome, IsSome, IsTrue, false};
     ghost use Rattle.lexical_forms.specs.Opening.{spelling};
     ghost use Rattle.lexical_forms.specs.Additions.Forms.{spells, IsOpenedTo};
     ghost use Rattle.lexical_util.specs.Roles.{other_case};

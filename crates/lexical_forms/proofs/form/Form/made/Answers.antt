@@ -2,25 +2,25 @@
 use Rattle.lexical_forms.proofs.Common.{IsMeasured, Reads, ReadsIn, ap, arith, drop, length, measured_cut, notation_of, subst, sym, take, whole_read, ◌∙◌, ◌≤◌}
 use Rattle.lexical_forms.proofs.form.Form.made.Goals as goal
 
-pub split_at-inside-requires : goal.split_at-inside-requires
-split_at-inside-requires c = let g = c.args.self.now in let within = c.requires.counted.literal.1.0.within in
-    subst (λ t. c.size-2.result ≤ length t) (sym c.split_at-front.ensures.front) (omega (arith, c.size-2.ensures, within))
+pub split_at-requires-4 : goal.split_at-requires-4
+split_at-requires-4 c = let g = c.args.self.now in let within = c.requires.counted.literal.1.0.within in
+    subst (λ t. c.size.result ≤ length t) (sym c.split_at.ensures.front) (omega (arith, c.size.ensures, within))
 
 pub summed-literal-requires : goal.summed-literal-requires
 summed-literal-requires c =
     let g = c.args.self.now in
-    let inside = c.split_at-inside.ensures.back ∙ ap (λ k. drop k c.split_at-front.result.0.now) c.size-2.ensures
-    ∙ ap (drop g.opening.size) c.split_at-front.ensures.front in
-    measured_cut _ c.split_at-inside.result.1.now c.args.candidate.counts
+    let inside = c.split_at-4.ensures.back ∙ ap (λ k. drop k c.split_at.result.0.now) c.size.ensures
+    ∙ ap (drop g.opening.size) c.split_at.ensures.front in
+    measured_cut _ c.split_at-4.result.1.now c.args.candidate.counts
     (subst (λ t. IsMeasured (notation_of g.syntax) t c.args.candidate.counts) (sym inside) c.requires.counted.measured)
 
 pub returns-clause-literal : goal.returns-clause-literal
 returns-clause-literal c =
     let g = c.args.self.now in let text = take c.args.candidate.size c.args.text.now in let counted = c.requires.counted in
-    let inside = c.split_at-inside.ensures.back ∙ ap (λ k. drop k c.split_at-front.result.0.now) c.size-2.ensures
-    ∙ ap (drop g.opening.size) c.split_at-front.ensures.front in
+    let inside = c.split_at-4.ensures.back ∙ ap (λ k. drop k c.split_at.result.0.now) c.size.ensures
+    ∙ ap (drop g.opening.size) c.split_at.ensures.front in
     let read = c.summed-literal.result in
-    let is = whole_read _ c.split_at-inside.result.1.now c.args.candidate.counts
+    let is = whole_read _ c.split_at-4.result.1.now c.args.candidate.counts
     (subst (λ t. IsMeasured (notation_of g.syntax) t c.args.candidate.counts) (sym inside) counted.measured) read c.summed-literal.ensures in (
       c.behind.ensures.format ∙ c.with_kind.ensures.format ∙ is.0,
       subst (λ l. ReadsIn g l text) (sym (c.behind.ensures.literal ∙ c.with_kind.ensures.literal))
