@@ -180,7 +180,7 @@ binary_shown g style n k b bits top U p E Z far radix base few first none_top lo
       | inl z ↦ low ∙ ap (λ t. t / bits) (none_top z) ∙ sym high
       | inr more ↦ absurd (omega (arith, none, mul-pos more (one-le-pow k 2 (omega arith))))
     ]))
-    (not_rounded g style.decimals b radix few.1) shown far_is refl (elim last [ | inl none ↦ inl none | inr more ↦ inr (more.0, rw radix more.1) ])
+    (not_rounded g style.decimals b radix few.1) shown far_is refl (elim last [ inl none ↦ inl none | inr more ↦ inr (more.0, rw radix more.1) ])
   where
     r : Record
     r = raw g.word
@@ -235,4 +235,4 @@ binary_plain g style x b least U p far radix few some value least_is last far_is
       ap (λ R. x * R ^ p) radix,
       ap (λ q. x * (raw g.word).byte layout.mantissa_radix ^ p * q) (pow-zero (effective_exponent_base (raw g.word))),
     )) refl tt (not_rounded g style.decimals b radix few) shown far_is least_is
-    (elim last [ | inl same ↦ inl same | inr more ↦ inr (more.0, rw radix more.1) ])
+    (elim last [ inl same ↦ inl same | inr more ↦ inr (more.0, rw radix more.1) ])

@@ -26,8 +26,8 @@ pub use Rattle.lexical_util.specs.declared.format_flags.Part.{Part}
 pub use Rattle.lexical_value.specs.Float.{is_binary, is_decimal, nearest}
 pub use Rattle.lexical_value.specs.Kind.{float_worth, format_by, integer_worth, is_exact, within, worth}
 pub use Rattle.lexical_value.specs.Value.{denominator, numerator, power, scale}
-pub use Rattle.lexical_writer.specs.Amount.{IsAmountOf, IsDigitsOf, IsExponent, IsFinite, IsFloatOf, IsRaised, IsShape, IsWorth, decimals_in, float_error}
-pub use Rattle.lexical_writer.specs.Amount.{is_far, is_shown, is_wanted, least_places, power_in, units_at, units_in, with_minus}
+pub use Rattle.lexical_writer.specs.Amount.{IsDigitsOf, IsExponent, IsFinite, IsFloatOf, IsRaised, IsRounded, IsShape, IsWorth, decimals_in, float_error}
+pub use Rattle.lexical_writer.specs.Amount.{is_far, is_shown, is_wanted, least_places, rounded, units_at, units_in, with_minus}
 pub use Rattle.lexical_writer.specs.Buffer.{IsTaken}
 pub use Rattle.lexical_writer.specs.Choice.{AreBefore, ArePassed, IsChosen, IsFound, IsMisread, IsNoToken, IsPassedOver, IsReached, IsReadElse, IsReadWith}
 pub use Rattle.lexical_writer.specs.Choice.{IsRefused, IsSearched, IsStopped, IsUnusable, IsWhole, bytes_of_word, has_floats, is_asked, has_opening, is_own}
@@ -38,7 +38,6 @@ pub use Rattle.lexical_writer.specs.Digits.{at_least, begins_decimal, character,
 pub use Rattle.lexical_writer.specs.Digits.{separated, size_of, values_of}
 pub use Rattle.lexical_writer.specs.Layout.{HasNumber, HasValue, IsLaidOut, allows_exponent, first_error, given_fraction, given_power, has_exponent, has_point}
 pub use Rattle.lexical_writer.specs.Layout.{integer_literal, laid_out, literal_of, needs_exponent, no_power, number_of_size, one_if, refusal}
-pub use Rattle.lexical_writer.specs.Rounded.{IsRounded, rounded}
 pub use Rattle.lexical_writer.specs.declared.layout.Amount.{Amount}
 pub use Rattle.lexical_writer.specs.declared.layout.Layout.{Layout}
 pub use Rattle.lexical_writer.specs.declared.layout.Power.{Power}

@@ -1,5 +1,5 @@
 -- Digits with a point, zeros around them and an exponent have the value of the literal that is written.
-use Rattle.lexical_writer.proofs.Common.{Amount, Bool, Err, Float, Grammar, HasNumber, IfErr, IfOk, IsAmountOf, IsCutTo, IsErrAnd, IsFinite, IsFloatOf, IsLaidOut}
+use Rattle.lexical_writer.proofs.Common.{Amount, Bool, Err, Float, Grammar, HasNumber, IfErr, IfOk, IsCutTo, IsErrAnd, IsFinite, IsFloatOf, IsLaidOut}
 use Rattle.lexical_writer.proofs.Common.{IsRounded, IsWorth, Layout, List, Literal, None, Ok, Option, Power, Record, Result, Some, Style, WriteError, [], allows_exponent}
 use Rattle.lexical_writer.proofs.Common.{ap, append_assoc, arith, cond, cons_option, decimals_in, denominator, digit_of, digits_in, div-add-mod', drop, dvd-mul_right}
 use Rattle.lexical_writer.proofs.Common.{effective_exponent_base, effective_exponent_radix, eq-eqb, eq-zero-or-pos, eq_of_mul-eq-mul_right, exponent, false}
@@ -7,17 +7,19 @@ use Rattle.lexical_writer.proofs.Common.{false≢true, filter_map-append, first_
 use Rattle.lexical_writer.proofs.Common.{is_minus, is_power_of_two, is_present, is_some, is_whole, lacks_options, laid_out, le-ltb, length, length-append}
 use Rattle.lexical_writer.proofs.Common.{literal_of, low, lt-leb, mantissa, mod-eq_of_lt, mod-lt, mod-mod_of_dvd, mul-le-mul_right, mul-mod_left, mul-pos, nat_lt}
 use Rattle.lexical_writer.proofs.Common.{nat_tests, ne_eqb, nearest, no_power, not, number, number_after_append, number_from_digits, number_from_digits_after}
-use Rattle.lexical_writer.proofs.Common.{numerator, one-le-pow, one_if, pow-add, pow-le-pow_right, pow-suc, pow-zero, power_in, prec, raised_down, raised_up}
+use Rattle.lexical_writer.proofs.Common.{numerator, one-le-pow, one_if, pow-add, pow-le-pow_right, pow-suc, pow-zero, prec, raised_down, raised_up}
 use Rattle.lexical_writer.proofs.Common.{raw, refl, refusal, replicate, round, round_same, rounded, scale, size_of, subst, suc, sym, take, take-append-drop, true}
-use Rattle.lexical_writer.proofs.Common.{unwrap_or, values_of, with_minus, zero, ℕ, ◌%◌, ◌&&◌, ◌*◌, ◌++◌, ◌+◌, ◌-◌, ◌/◌, ◌<◌, ◌==◌, ◌^◌, ◌||◌, ◌∙◌, ◌∷◌}
-use Rattle.lexical_writer.proofs.Common.{IsDigitsOf, places as digit_count, ◌≡◌, ◌≢◌, ◌≤◌}
+use Rattle.lexical_writer.proofs.Common.{unwrap_or, values_of, with_minus, zero, ℕ, ◌%◌, ◌&&◌, ◌*◌, ◌++◌, ◌+◌, ◌-◌, ◌/◌, ◌<◌, ◌==◌, ◌^◌, ◌∙◌, ◌∷◌}
+use Rattle.lexical_writer.proofs.Common.{IsShape, has, places as digit_count, units_in, ◌||◌, ◌≡◌, ◌≢◌, ◌≤◌}
 use Rattle.std.proofs.Math.Nat.{div-eq_of_lt-le, div-lt_iff_lt-mul, mod-eq-sub-div-mul}
-use lib.Ieee.{Format, fin, hid, inf, is_nan, nan, neg, odd, of_bits, of_fields, ones, top}
+use lib.Ieee.{Format, down, fin, hid, inf, is_nan, nan, neg, odd, of_bits, of_fields, ones, top, up}
 use lib.Ieee.Exact.{HasValue, odd_sign}
 use lib.Dec.{eqb, leb}
 use Rattle.lexical_value.proofs.ScaledLemmas.{some_denominator}
-use Rattle.lexical_writer.specs.Rounded.{HasDecimals}
 use Rattle.lexical_util.specs.Layout as layout
+use Rattle.lexical_util.specs.Record.{bytes_of}
+use Rattle.lexical_literal.specs.declared.syntax.Condition.TheVariants as conditions
+use Rattle.std.specs.Prelude.{option_map}
 use Rattle.core.proofs.dec2flt.Patterns.{neg-round}
 use Rattle.lexical_writer.specs.declared.layout.WriteError.TheVariants as errors
 use Rattle.lexical_writer.proofs.ConversionLemmas.{size_values, zero_scaled}
@@ -132,80 +134,110 @@ pub some_down : (negative : Bool) (b e : ℕ) → 0 < b → 0 < raised_down nega
 some_down true b e some = one-le-pow e b some
 some_down false b e some = omega arith
 
+-- `units_of radix amount` is the number of the digits of an amount, `places_of radix amount` is how many are behind the point, and `exponent_of r amount` is the
+-- sign and the size of the exponent, if there is one. That of an exponent is `pair_of radix power`.
+abbrev pub pair_of : ℕ → Power → Bool × ℕ
+pair_of radix power = (power.negative, size_of radix power.source)
+
+abbrev pub units_of : ℕ → Amount → ℕ
+units_of radix amount = number_from_digits radix (values_of radix amount.integer ++ values_of radix (given_fraction amount))
+
+abbrev pub places_of : ℕ → Amount → ℕ
+places_of radix amount = length (values_of radix (given_fraction amount))
+
+abbrev pub exponent_of : Record → Amount → Option (Bool × ℕ)
+exponent_of r amount = option_map (pair_of (effective_exponent_radix r)) amount.exponent
+
 -- The power of an exponent, or of none.
-powers_of : (base radix : ℕ) (exponent : Option (Bool × ℕ)) (power : Option Power) → power ≡ power_in exponent
-    → let e = unwrap_or exponent (false, 0) in
+powers_of : (base radix : ℕ) (power : Option Power) → let e : Bool × ℕ = unwrap_or (option_map (pair_of radix) power) (false, 0) in
     (raised_up (unwrap_or power no_power).negative base (size_of radix (unwrap_or power no_power).source) ≡ raised_up e.0 base e.1)
     × (raised_down (unwrap_or power no_power).negative base (size_of radix (unwrap_or power no_power).source) ≡ raised_down e.0 base e.1)
-powers_of base radix (Some e) power is = rw is (refl, refl)
-powers_of base radix None power is = rw is (refl, refl)
+powers_of base radix (Some p) = (refl, refl)
+powers_of base radix None = (refl, refl)
 
 -- The parts of a literal that is written for an amount.
-parts_of : (f : Format) (x : Float) (g : Grammar) (style : Style) (l : Literal) → 2 ≤ (raw g.word).byte layout.mantissa_radix → (it : IsFloatOf f x g style l)
-    → let e = unwrap_or it.is.exponent (false, 0) in HasParts (raw g.word) l it.is.units it.is.places e.0 e.1
-parts_of f x g style l two it =
+parts_of : (g : Grammar) (amount : Amount) (l : Literal) → 2 ≤ (raw g.word).byte layout.mantissa_radix → HasNumber g amount l
+    → let e = unwrap_or (exponent_of (raw g.word) amount) (false, 0) in let R = (raw g.word).byte layout.mantissa_radix in
+    HasParts (raw g.word) l (units_of R amount) (places_of R amount) e.0 e.1
+parts_of g amount l two has =
     let s = raw g.word in
     let radix = s.byte layout.mantissa_radix in
     let b = effective_exponent_base s in
-    let has = it.number in
-    let front = values_of radix it.amount.integer in
-    let factor = zero_scaled radix (number_from_digits radix front) has.zero (values_of radix (given_fraction it.amount)) in
-    let integer : number radix l.integer ≡ number_from_digits radix front = has.integer ∙ size_values radix it.amount.integer two in
-    let powers = powers_of b (effective_exponent_radix s) it.is.exponent it.amount.exponent it.is.power in
+    let front = values_of radix amount.integer in
+    let factor = zero_scaled radix (number_from_digits radix front) has.zero (values_of radix (given_fraction amount)) in
+    let integer : number radix l.integer ≡ number_from_digits radix front = has.integer ∙ size_values radix amount.integer two in
+    let powers = powers_of b (effective_exponent_radix s) amount.exponent in
     record {
       factor = factor.0;
       mantissa = ap (number_from_digits radix) (filter_map-append _ l.integer l.fraction)
           ∙ number_after_append radix 0 (digits_in radix l.integer) (digits_in radix l.fraction)
           ∙ (λ j. number_from_digits_after radix (integer j) (has.fraction j)) ∙ factor.1
-          ∙ ap (λ m. m * factor.0) (sym (number_after_append radix 0 front (values_of radix (given_fraction it.amount))) ∙ it.is.number);
-      scale = ap (λ (ds : List ℕ). radix ^ length ds) has.fraction ∙ factor.2 ∙ ap (λ k. radix ^ k * factor.0) it.is.count;
+          ∙ ap (λ m. m * factor.0) (sym (number_after_append radix 0 front (values_of radix (given_fraction amount))));
+      scale = ap (λ (ds : List ℕ). radix ^ length ds) has.fraction ∙ factor.2;
       up = (λ j. raised_up (has.exponent_sign j) b (has.exponent j)) ∙ powers.0;
       down = (λ j. raised_down (has.exponent_sign j) b (has.exponent j)) ∙ powers.1;
     }
 
 -- A literal that is written for a float that is not rounded is read as this float.
 pub amount_nearest : (f : Format) (x : Float) (g : Grammar) (style : Style) (l : Literal) → (is_decimal (raw g.word).byte || is_binary (raw g.word).byte) ≡ true
-    → decimals_in g style.decimals ≡ None → IsFloatOf f x g style l → x ≡ nearest f (raw g.word).byte l
-amount_nearest f x g style l supported plain it =
+    → decimals_in g style.decimals ≡ None → (it : IsFloatOf f x g style l) → HasNumber g it.amount l → x ≡ nearest f (raw g.word).byte l
+amount_nearest f x g style l supported plain it has =
     let r = raw g.word in
     let B = effective_exponent_base r in
-    let e = unwrap_or it.is.exponent (false, 0) in
+    let R = r.byte layout.mantissa_radix in
+    let e = unwrap_or (exponent_of r it.amount) (false, 0) in
     let radixes = some_radixes r supported in
-    let p = parts_of f x g style l radixes.0 it in
-    let above : numerator r.byte l ≡ it.is.units * p.factor * raised_up e.0 B e.1 = (λ i. p.mantissa i * p.up i) in
-    let below : denominator r.byte l ≡ r.byte layout.mantissa_radix ^ it.is.places * p.factor * raised_down e.0 B e.1 = (λ i. p.scale i * p.down i) in
+    let p = parts_of g it.amount l radixes.0 has in
+    let above : numerator r.byte l ≡ units_of R it.amount * p.factor * raised_up e.0 B e.1 = (λ i. p.mantissa i * p.up i) in
+    let below : denominator r.byte l ≡ R ^ places_of R it.amount * p.factor * raised_down e.0 B e.1 = (λ i. p.scale i * p.down i) in
     let some = some_denominator r l (let two = radixes.0 in omega (arith, two)) radixes.1 in
     it.worth.near plain
     ∙ round_same f it.amount.negative it.num it.den (numerator r.byte l) (denominator r.byte l) it.worth.some some
-    (omega (arith, ap (λ n. it.num * n) below, ap (λ n. n * p.factor) (it.is.shape.exact plain), ap (λ n. n * it.den) above))
-    ∙ ap (λ sign. round f sign (numerator r.byte l) (denominator r.byte l)) (sym it.number.sign)
+    (omega (arith, ap (λ n. it.num * n) below, ap (λ n. n * p.factor) (it.shape.exact plain), ap (λ n. n * it.den) above))
+    ∙ ap (λ sign. round f sign (numerator r.byte l) (denominator r.byte l)) (sym has.sign)
 
 -- A literal that is written for a float that is rounded is rounded.
 pub amount_rounded : (f : Format) (x : Float) (g : Grammar) (style : Style) (n : ℕ) (l : Literal)
-    → (is_decimal (raw g.word).byte || is_binary (raw g.word).byte) ≡ true → decimals_in g style.decimals ≡ Some n → IsFloatOf f x g style l
-    → IsRounded x (raw g.word) l n
-amount_rounded f x g style n l supported wished it =
+    → (is_decimal (raw g.word).byte || is_binary (raw g.word).byte) ≡ true → decimals_in g style.decimals ≡ Some n → (it : IsFloatOf f x g style l)
+    → HasNumber g it.amount l → IsRounded x (raw g.word) l n
+amount_rounded f x g style n l supported wished it has =
     let r = raw g.word in
-    let shape = it.is.shape in
-    let p = parts_of f x g style l (some_radixes r supported).0 it in
-    let unit = r.byte layout.mantissa_radix ^ it.is.places in
-    let places : it.is.places ≡ n = elim shape.last [
-      | inl same ↦ same ∙ ap (λ o. unwrap_or o (one_if (not (is_some it.is.exponent || lacks_options g.options)))) wished
+    let R = r.byte layout.mantissa_radix in
+    let p = parts_of g it.amount l (some_radixes r supported).0 has in
+    let unit = R ^ places_of R it.amount in
+    let places : places_of R it.amount ≡ n = elim it.shape.last [
+      | inl same ↦ same ∙ ap (λ o. unwrap_or o (one_if (not (is_some (exponent_of r it.amount) || lacks_options g.options)))) wished
       | inr other ↦ absurd (false≢true (sym (ap is_some other.0) ∙ ap is_some wished))
     ] in
-    let rounded_to : HasDecimals r l it.is.places it.num it.den =
-    omega (arith, ap (λ m. m * unit) p.mantissa, ap (λ m. m * (unit * p.factor)) shape.rounded)
+    let rounded_to : mantissa r.byte l * unit
+    ≡ units_in r it.num it.den (places_of R it.amount) (is_minus l.exponent_sign) (exponent r.byte l) * scale r.byte l =
+    omega (arith, ap (λ m. m * unit) p.mantissa, ap (λ m. m * (unit * p.factor)) it.shape.rounded)
     ∙ sym (λ j. rounded (it.num * unit * p.down j) (it.den * p.up j) * p.scale j) in
     record {
       num = it.num;
       den = it.den;
       some = it.worth.some;
-      value = subst (λ sign. HasValue x sign it.num it.den) (sym it.number.sign) (elim it.worth.exact [
+      value = subst (λ sign. HasValue x sign it.num it.den) (sym has.sign) (elim it.worth.exact [
         | inl value ↦ value
         | inr other ↦ absurd (false≢true (sym (ap is_some other.0) ∙ ap is_some wished))
       ]);
-      decimals = subst (λ k. HasDecimals r l k it.num it.den) places rounded_to;
+      decimals = subst (λ k. mantissa r.byte l * R ^ k
+          ≡ units_in r it.num it.den k (is_minus l.exponent_sign) (exponent r.byte l) * scale r.byte l) places rounded_to;
     }
+
+-- The error of a number that is finite, and of one that is not.
+pub error_of : (g : Grammar) (x : Float) (negative : Bool) (num den : ℕ) → HasValue x negative num den
+    → float_error g x ≡ first_error (negative && has g.conditions conditions.NegativeSign) (lacks_options g.options && not (is_whole x))
+    (not (is_decimal (bytes_of g.word) || is_binary (bytes_of g.word))) errors.Radix
+error_of g nan negative num den value = absurd value
+error_of g (inf t) negative num den value = absurd value
+error_of g (fin t m e) negative num den value = ap (λ s. first_error (s && has g.conditions conditions.NegativeSign)
+    (lacks_options g.options && not (is_whole (fin t m e))) (not (is_decimal (bytes_of g.word) || is_binary (bytes_of g.word))) errors.Radix) value.0
+
+pub special_error : (g : Grammar) (x : Float) → ((negative : Bool) → IsFinite x negative → ⊥) → float_error g x ≡ Some errors.Special
+special_error g nan none = refl
+special_error g (inf t) none = refl
+special_error g (fin t m e) none = absurd (none t (m * up e, down e, (refl, refl)))
 
 -- What follows from an error that is passed on.
 pub residual : {A : Type 0} (result : Result A WriteError) (Q P : WriteError → Type 0) → IsErrAnd result Q → ((e : WriteError) → Q e → P e) → IfErr result P
@@ -316,31 +348,12 @@ minus_worth f x g style s num den it = record {
     near true is = ap neg is ∙ neg-round f num den
     near false is = is
 
--- Digits of a float are an amount.
-pub amount_of_digits : (f : Format) (x : Float) (g : Grammar) (style : Style) (bytes : List ℕ) (after places : ℕ) (exponent : Option (Bool × ℕ)) (amount : Amount)
-    → 2 ≤ (raw g.word).byte layout.mantissa_radix → (it : IsDigitsOf f x g style bytes after exponent places)
-    → ((radix : ℕ) → 2 ≤ radix → digit_count radix bytes ≡ length bytes
-    → number_from_digits radix (values_of radix amount.integer ++ values_of radix (given_fraction amount)) ≡ number radix bytes * radix ^ after)
-    → ((radix : ℕ) → digit_count radix bytes ≡ length bytes → length (values_of radix (given_fraction amount)) ≡ places)
-    → is_some amount.fraction ≡ nat_lt 0 places
-    → ((radix : ℕ) → 2 ≤ radix → digit_count radix bytes ≡ length bytes → is_present (values_of radix amount.integer) ≡ true)
-    → amount.exponent ≡ power_in exponent → IsAmountOf g style it.0 it.1 amount
-amount_of_digits f x g style bytes after places exponent amount two it number count some integer power = record {
-  exponent = exponent;
-  places = places;
-  units = _;
-  shape = it.3;
-  number = number _ two it.4;
-  count = count _ it.4;
-  some = some;
-  integer = integer _ two it.4;
-  power = power;
-}
-
 -- A float that is not refused has no sign, no fraction and no exponent that is refused.
-pub not_refused : (g : Grammar) (style : Style) (amount : Amount) (fraction : Bool) (num den : ℕ) → float_error g amount.negative fraction ≡ None
-    → (fraction ≡ false → num % den ≡ 0) → 0 < den → IsAmountOf g style num den amount → refusal g amount ≡ None
-not_refused g style amount fraction num den none whole some is =
+pub not_refused : (g : Grammar) (style : Style) (amount : Amount) (fraction last : Bool) (num den places units : ℕ) (exponent : Option (Bool × ℕ))
+    → first_error (amount.negative && has g.conditions conditions.NegativeSign) (lacks_options g.options && fraction) last errors.Radix ≡ None
+    → (fraction ≡ false → num % den ≡ 0) → 0 < den → IsShape g style num den exponent places units → is_some amount.fraction ≡ nat_lt 0 places
+    → is_some amount.exponent ≡ is_some exponent → refusal g amount ≡ None
+not_refused g style amount fraction last num den places units exponent none whole some shape has_fraction has_power =
     allowed _ _ _ (parts _ _ _ none).0 (left (lacks_options g.options) (is_some amount.fraction) no_fraction)
     (left (lacks_options g.options || (raw g.word).flag layout.no_exponent_notation) (is_some amount.exponent) no_exponent)
   where
@@ -369,40 +382,40 @@ not_refused g style amount fraction num den none whole some is =
     hidden None none = refl
     hidden (Some e) none = absurd (false≢true (sym none))
 
-    unshown : (lacks_options g.options || (raw g.word).flag layout.no_exponent_notation) ≡ true → is.exponent ≡ None
-    unshown it = hidden is.exponent (never (allows_exponent g) _ _ is.shape.shown (ap not it))
+    unshown : (lacks_options g.options || (raw g.word).flag layout.no_exponent_notation) ≡ true → exponent ≡ None
+    unshown it = hidden exponent (never (allows_exponent g) _ _ shape.shown (ap not it))
 
     no_exponent : (lacks_options g.options || (raw g.word).flag layout.no_exponent_notation) ≡ true → is_some amount.exponent ≡ false
-    no_exponent it = ap is_some (is.power ∙ ap power_in (unshown it))
+    no_exponent it = has_power ∙ ap is_some (unshown it)
 
-    no_places : lacks_options g.options ≡ true → is.places ≡ 0
+    no_places : lacks_options g.options ≡ true → places ≡ 0
     no_places integers =
         let none_shown = unshown (ap (λ l. l || (raw g.word).flag layout.no_exponent_notation) integers) in
-        elim is.shape.last [
+        elim shape.last [
           | inl same ↦ same ∙ (λ i. unwrap_or (if integers i || not (R == 10) then None else style.decimals) (one_if (not (is_some (none_shown i) || integers i))))
           | inr other ↦
               let whole_fraction = (λ i. sym integers i && fraction) ∙ (parts _ _ _ none).1 in
               let n = num / den in
               let number : num ≡ n * den = omega (arith, div-add-mod' num den, whole whole_fraction) in
-              let exact : is.units * (den * B ^ 0) ≡ num * R ^ is.places * 1 =
+              let exact : units * (den * B ^ 0) ≡ num * R ^ places * 1 =
               subst (λ (o : Option (Bool × ℕ)). let e = unwrap_or o (false, 0) in
-              is.units * (den * raised_up e.0 B e.1) ≡ num * R ^ is.places * raised_down e.0 B e.1) none_shown (is.shape.exact other.0) in
-              let value : is.units ≡ n * R ^ is.places = eq_of_mul-eq-mul_right den some is.units (n * R ^ is.places)
+              units * (den * raised_up e.0 B e.1) ≡ num * R ^ places * raised_down e.0 B e.1) none_shown (shape.exact other.0) in
+              let value : units ≡ n * R ^ places = eq_of_mul-eq-mul_right den some units (n * R ^ places)
               (omega (
                 arith,
                 exact,
-                ap (λ m. m * R ^ is.places) number,
-                ap (λ p. is.units * (den * p)) (pow-zero B),
+                ap (λ m. m * R ^ places) number,
+                ap (λ p. units * (den * p)) (pow-zero B),
               )) in
-              elim (eq-zero-or-pos is.places) [
+              elim (eq-zero-or-pos places) [
                 | inl none ↦ none
                 | inr more ↦
-                    let last : n * R ^ is.places ≡ n * R ^ (is.places - 1) * R =
-                    omega (arith, ap (λ p. n * p) (ap (λ k. R ^ k) {x = is.places} {y = suc (is.places - 1)} (omega (arith, more)) ∙ pow-suc R (is.places - 1))) in
-                    let rest : is.units % R ≡ 0 = ap (λ u. u % R) (value ∙ last) ∙ mul-mod_left (n * R ^ (is.places - 1)) R in
+                    let last : n * R ^ places ≡ n * R ^ (places - 1) * R =
+                    omega (arith, ap (λ p. n * p) (ap (λ k. R ^ k) {x = places} {y = suc (places - 1)} (omega (arith, more)) ∙ pow-suc R (places - 1))) in
+                    let rest : units % R ≡ 0 = ap (λ u. u % R) (value ∙ last) ∙ mul-mod_left (n * R ^ (places - 1)) R in
                     absurd (omega (arith, other.2, rest))
               ]
         ]
 
     no_fraction : lacks_options g.options ≡ true → is_some amount.fraction ≡ false
-    no_fraction integers = is.some ∙ le-ltb 0 is.places (let zero = no_places integers in omega (arith, zero))
+    no_fraction integers = has_fraction ∙ le-ltb 0 places (let zero = no_places integers in omega (arith, zero))

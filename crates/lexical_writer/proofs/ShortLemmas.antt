@@ -118,10 +118,13 @@ short_shown g style d up down last far radix base plain is far_is shown =
     (λ more. rw radix (let from = is.from (positive more) in omega (arith, from))) (λ none. omega (arith, is.none (zero none))))
     plain shown (far_is ∙ sym (far_in r d up down last radix is)) refl (elim (eq-zero-or-pos last) [
       | inl none ↦ inl none
-      | inr more ↦ inr (omega arith, rw radix (elim is.ends [
-        | inl z ↦ absurd (omega (arith, is.none z, more))
-        | inr rest ↦ omega (arith, rest)
-      ]))
+      | inr more ↦ inr (
+        omega arith,
+        rw radix (elim is.ends [
+          | inl z ↦ absurd (omega (arith, is.none z, more))
+          | inr rest ↦ omega (arith, rest)
+        ]),
+      )
     ])
 
 -- Its shape without an exponent, with `least` digits behind the point at least.
@@ -139,9 +142,12 @@ short_plain g style d up down last least p far radix base plain is far_is shown 
             | inl none ↦ omega (arith, most, none, less)
             | inr none ↦ absurd (omega (arith, less, none))
           ] in
-          inr (omega (arith, most), rw (radix, none) (elim is.ends [
-            | inl z ↦ absurd (omega (arith, is.none z, less))
-            | inr rest ↦ omega (arith, rest)
-          ]))
+          inr (
+            omega (arith, most),
+            rw (radix, none) (elim is.ends [
+              | inl z ↦ absurd (omega (arith, is.none z, less))
+              | inr rest ↦ omega (arith, rest)
+            ]),
+          )
       | inr fewer ↦ inl (omega (arith, most, fewer))
     ])

@@ -2,7 +2,6 @@ pub mod Digits
 pub mod Layout
 pub mod Conversion
 pub mod Buffer
-pub mod Rounded
 pub mod Choice
 pub mod Amount
 pub mod Private

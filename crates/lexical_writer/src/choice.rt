@@ -196,11 +196,11 @@ pub struct Real<F> {
 }
 
 impl<F: Float> Writable for Real<F> {
-    ghost use Rattle.std.specs.Prelude.{◌≡◌, MatchResult, None, false, is_some, true};
+    ghost use Rattle.std.specs.Prelude.{◌≡◌, MatchResult, None, Some, false, is_some, true};
     ghost use Rattle.lexical_number.specs.Float.{format_of};
     ghost use Rattle.lexical_util.specs.Record.{raw};
     ghost use Rattle.lexical_value.specs.Float.{nearest};
-    ghost use Rattle.lexical_writer.specs.Amount.{IsFloatError, IsFloatOf};
+    ghost use Rattle.lexical_writer.specs.Amount.{IsFloatOf, float_error};
     ghost use Rattle.lexical_writer.specs.Choice.{IsAmount, IsKept};
 
     ghost base = { λ number. 10 };
@@ -211,7 +211,7 @@ impl<F: Float> Writable for Real<F> {
 
     ghost writes = { λ number style g result. MatchResult result (λ l. IsFloatOf (format_of F.DOUBLE) (F.value number.value) g style l
         × (style.decimals ≡ None → F.value number.value ≡ nearest (format_of F.DOUBLE) (raw g.word).byte l))
-        (IsFloatError (F.value number.value) g) };
+        (λ error. float_error g (F.value number.value) ≡ Some error) };
 
     ghost is = { λ number style. IsAmount (format_of F.DOUBLE) (F.value number.value) style.decimals };
 

@@ -1,14 +1,14 @@
 //! How the digits of a float are written.
 
-ghost use Rattle.std.specs.Prelude.{◌≡◌, ◌*◌, ◌%◌, ◌^◌, ◌<◌, ◌≤◌, ◌++◌, ◌⊎◌, ℕ, true, is_some, length, length as count, None, nat_lt, unwrap_or};
+ghost use Rattle.std.specs.Prelude.{◌≡◌, ◌*◌, ◌%◌, ◌^◌, ◌<◌, ◌≤◌, ◌++◌, ◌⊎◌, ℕ, true, is_some, length, length as count, None, nat_lt, option_map, unwrap_or};
 ghost use Rattle.std.specs.Int.Digits.{digits_of, number_from_digits};
 ghost use Rattle.lexical_util.specs.Layout as layout;
 ghost use Rattle.lexical_util.specs.Record.{effective_exponent_base, raw};
 ghost use Rattle.lexical_literal.specs.Literal.{is_present};
 ghost use Rattle.lexical_number.specs.Float.{raised_down, raised_up};
 ghost use Rattle.lexical_number.specs.Number.{number, places as digit_count};
-ghost use Rattle.lexical_writer.specs.Digits.{values_of};
-ghost use Rattle.lexical_writer.specs.Amount.{IsShape, decimals_in, is_shown, is_wanted, power_in};
+ghost use Rattle.lexical_writer.specs.Digits.{size_of, values_of};
+ghost use Rattle.lexical_writer.specs.Amount.{IsShape, decimals_in, is_shown, is_wanted};
 ghost use Rattle.lexical_writer.specs.Layout.{given_fraction};
 ghost use Rattle.lexical_writer.specs.declared.run.Source.TheVariants as sources;
 
@@ -42,7 +42,7 @@ pub(crate) const fn fraction_in<'a>(places: u128, fraction: Source<'a>) -> Optio
 // Returns the exponent of a shape.
 #[inline(always)]
 const fn power_in(exponent: Option<(bool, u64)>) -> Option<Power<'static>>
-    ensures { result ≡ power_in exponent }
+    ensures { (radix : ℕ) → option_map (λ p. (p.negative, size_of radix p.source)) result ≡ exponent }
 {
     match exponent {
         Some((negative, size)) => Some(Power {
@@ -65,7 +65,7 @@ pub(crate) fn amount_in<'a>(negative: bool, digits: &'a [u8], shape: Shape) -> A
     ensures some { is_some result.fraction ≡ nat_lt 0 shape.places }
     ensures integer { (radix : ℕ) → 2 ≤ radix → digit_count radix digits.entry.now ≡ length digits.entry.now
         → is_present (values_of radix result.integer) ≡ true }
-    ensures power { result.exponent ≡ power_in shape.exponent }
+    ensures power { (radix : ℕ) → option_map (λ p. (p.negative, size_of radix p.source)) result.exponent ≡ shape.exponent }
 {
     let (integer, fraction) = split(digits, shape.after, shape.places);
     Amount {

@@ -38,8 +38,13 @@ returns-clause-last c =
       | inl less ↦
           let few : up < it.bits = omega (arith, (needed c).1 less, (needed c).0) in
           let odd : it.number % 2 ≡ 1 = elim (eq-zero-or-pos it.number) [
-            | inl z ↦ absurd (omega (arith, it.zero z, c.requires.2 z, (needed c).1 less,
-                mul-le-mul_left it.bits (let one : 1 ≤ p = omega (arith, less) in one)))
+            | inl z ↦ absurd (omega (
+              arith,
+              it.zero z,
+              c.requires.2 z,
+              (needed c).1 less,
+              mul-le-mul_left it.bits (let one : 1 ≤ p = omega (arith, less) in one),
+            ))
             | inr some ↦ it.odd some
           ] in
           let value : it.number * 2 ^ (up % it.bits) % 2 ^ 64 * (2 ^ it.bits) ^ (up / it.bits) ≡ it.number * 2 ^ up =
