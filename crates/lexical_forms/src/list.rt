@@ -10,9 +10,9 @@ ghost use Rattle.lexical_literal.specs.Front.{NoLiteral};
 ghost use Rattle.lexical_literal.specs.Notation.{notation_of};
 ghost use Rattle.lexical_forms.specs.declared.list.PointsBack.TheVariants as points;
 
-use crate::opening::Opening;
 use crate::exclude::{excludes, has_letter_behind_zero, is_settled, sign_size};
 use crate::form::Form;
+use crate::opening::Opening;
 use crate::specials::{Special, Specials};
 use crate::suffix::is_wide;
 use lexical_literal::cause::ReadError;
