@@ -205,7 +205,7 @@ typedef struct {
  * are floats. The value is that of the kind of the form: Java's `0xffffffff` is -1, and its `1e400` an error. Otherwise,
  * leave *out unchanged and return another status but PELTZIVAR_VALUE_NO_LITERAL. With PELTZIVAR_VALUE_REFUSED, write
  * where reading stopped to *error. This is also the status if the list is null, has no array, too many forms, an
- * unknown kind, a wrong opening or closing, or reserved bytes that are not 0, or if len is above PTRDIFF_MAX. Then
+ * unknown kind, a wrong opening, or reserved bytes that are not 0, or if len is above PTRDIFF_MAX. Then
  * `valid_up_to` is 0. */
 PELTZIVAR_MUST_USE peltzivar_value_status peltzivar_parse_i64(
     const peltzivar_forms *forms, const char *text, size_t len, int64_t *out, peltzivar_read_error *error);
@@ -263,8 +263,8 @@ typedef struct {
 /* A literal: its text, which must last as long as the literal is used, and its parts, in the order of the text. An
  * absent part is empty. The prefix includes the zero before it. The three parts with digits include digit separators.
  * `size` is the length of the text. A float has a point or an exponent character, or both. `form` is the index of one
- * of several forms, and otherwise 0. If the form has an opening or a closing, the text is what is between them. A
- * literal can be copied, as an error can. */
+ * of several forms, and otherwise 0. If the form has an opening, the text is what is behind it. A literal can be copied,
+ * as an error can. */
 typedef struct {
     PELTZIVAR_ALIGNED uint64_t magic;
     const char *text;
@@ -283,10 +283,9 @@ PELTZIVAR_MUST_USE bool peltzivar_forms_read(const peltzivar_forms *forms, const
     peltzivar_literal *literal, peltzivar_read_error *error);
 
 /* Reads the longest beginning of a text that is a literal of any form, writes it to *literal and returns true. What
- * follows it may be anything: with the prefix `0x`, the literal of `0xG` is `0`. It begins behind the closing, if the
- * form has one. If there is no literal, or if peltzivar_parse_f64 refuses the list or the length, writes where reading
- * stopped to *error and returns false. Reads no byte behind the first that cannot follow or, if it begins a character
- * of UTF-8, behind this character. */
+ * follows it may be anything: with the prefix `0x`, the literal of `0xG` is `0`. If there is no literal, or if
+ * peltzivar_parse_f64 refuses the list or the length, writes where reading stopped to *error and returns false. Reads no
+ * byte behind the first that cannot follow or, if it begins a character of UTF-8, behind this character. */
 PELTZIVAR_MUST_USE bool peltzivar_forms_read_prefix(const peltzivar_forms *forms, const char *text, size_t len,
     peltzivar_literal *literal, peltzivar_read_error *error);
 
@@ -636,8 +635,8 @@ typedef struct {
  * this case or, with either_case, in either one. With whole_words, a suffix is the whole word behind a number, and `1if`
  * has no suffix `i`. A string of words has spaces between them, as in "u8 u16". Words have letters, digits, `_`, bytes
  * from 128 up and those of the string `word_bytes`, such as "-" for `2n-1` of CSS, and others are never found. One that
- * begins with a digit of its form is found only where the literal cannot go on with it, as behind a closing or a base
- * suffix. Any word that begins with a byte of the string `any` is a suffix, too, as in `1_km`. A string may be null.
+ * begins with a digit of its form is found only where the literal cannot go on with it, as behind a base suffix. Any
+ * word that begins with a byte of the string `any` is a suffix, too, as in `1_km`. A string may be null.
  *
  * The words of the string `written`, such as "L" for Java, may be written behind an integer that the forms do not have
  * without one: the first with which peltzivar_forms_token reads all of the text as the number. */
@@ -658,19 +657,18 @@ typedef struct {
  * type, with float_limits or without. integer_bits is from 1 to 64, or to 128 for integers that do not wrap, or 0 for
  * exact integers. Zeros are exact integers and nearest floats without limits.
  *
- * A text is a literal of the form if it is the string `opening`, a literal of the syntax, and the string `closing`, as
- * in `16#FF#`. A string that is null is empty. Each has at most 8 bytes, all ASCII, whose letters are in either case
- * unless it is case-sensitive. The first byte of a closing has no role in the syntax, nor has its other case. A list
- * with another opening or closing is refused. Nothing is written by a form that is `only_read`. Several forms of a
- * language can have one name, such as `radix in front` in ADA. */
+ * A text is a literal of the form if it is the string `opening`, and then a literal of the syntax, as in `16#FF#`, whose
+ * last `#` is a base suffix. An opening that is null is empty. It has at most 8 bytes, all ASCII, whose letters are in
+ * either case unless it is case-sensitive. A list with another opening is refused. Nothing is written by a form that is
+ * `only_read`. Several forms of a language can have one name, such as `radix in front` in ADA. */
 typedef struct {
     const char *name;
     peltzivar_syntax syntax;
     uint8_t integer_kind, integer_bits, float_kind, float_limits;
-    bool case_sensitive_opening, case_sensitive_closing, only_read;
-    uint8_t reserved[1];
+    bool case_sensitive_opening, only_read;
+    uint8_t reserved[2];
     const peltzivar_suffixes *suffixes;
-    const char *opening, *closing;
+    const char *opening;
 } peltzivar_form;
 
 /* The rules by which a list has tokens: an array of `count` forms that need a suffix, which no other call takes, such
@@ -750,16 +748,16 @@ enum {
     PELTZIVAR_KIND_SUFFIX = 6, /* The word behind a number is not a suffix of its form. */
     PELTZIVAR_KIND_POINT = 7, /* The decimal point of a number belongs to what follows, and it is none without it. */
     PELTZIVAR_KIND_STOP = 8, /* A stop of the form refuses what follows the number. */
-    PELTZIVAR_KIND_AFFIX = 9 /* The opening or the closing of the form is not there. */
+    PELTZIVAR_KIND_OPENING = 9 /* The opening of the form is not there. */
 };
 
 /* Why a text is not a literal. `span` has the bytes to show. If it is empty, it marks the place before `start`. `mask`
- * has the flags to blame, and `number` is the lowest as a setter. For a wrong byte, opening or closing, for missing
+ * has the flags to blame, and `number` is the lowest as a setter. For a wrong byte or opening, for missing
  * digits, and if conditions alone are to blame, they are 0 and PELTZIVAR_NO_SETTER. `conditions` has those to blame,
  * as bits. `part` is the part of a separator or of missing digits, and otherwise PELTZIVAR_NO_PART. If `kind` is
  * PELTZIVAR_KIND_SEPARATOR, a format with any one of these flags set allows the separator. Otherwise, a syntax without
  * all of these flags and conditions does not have this cause. Either may refuse the text for another one. `code` is a
- * parse error, of PELTZIVAR_KIND_AFFIX that of a wrong byte or, at the end of the text, of missing digits, and `index`
+ * parse error, of PELTZIVAR_KIND_OPENING that of a wrong byte or, at the end of the text, of missing digits, and `index`
  * its index for peltzivar_error_text. */
 typedef struct {
     peltzivar_span span;

@@ -31,7 +31,7 @@ SIGNS
 A form reads an optional sign, `.5` and `1.` beside `1.5`, and exponents with `e` or `E`, unless its row says otherwise:
 *integers* have neither a point nor an exponent, and a prefix is required. Values are those of the numbers, unless a
 form has a [kind](FORMS.md#kinds). Digits of a *radix in front* are of the radix in the
-[opening](FORMS.md#openings-and-closings): `36#Z` is 35. If it is neither 10 nor a power of two, `parse` has integers,
+[opening](FORMS.md#openings): `36#Z` is 35. If it is neither 10 nor a power of two, `parse` has integers,
 but no `f64`.
 
 [languages.py](languages.py) writes this page from the [constants](../rust/src/literal/language/tables.rs). Each language

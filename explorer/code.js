@@ -22,7 +22,7 @@ const KIND_CODE = {
 };
 
 /* What the code in Rust can use of the module `literal`. */
-const LITERAL = "Affix Conditions FloatKind FloatLimits Form FormError Forms IntegerKind Kind Number Specials Syntax";
+const LITERAL = "Conditions FloatKind FloatLimits Form FormError Forms IntegerKind Kind Number Opening Specials Syntax";
 
 /* Returns what writes a text between double quotes, with an escape for each character that is special. */
 const quoting = (special, escape) => (text) => `"${text.toWellFormed().replace(special, escape)}"`;
@@ -70,35 +70,28 @@ class Code {
 
     sentence(forms) {
         const named = (name) => (forms[1] ? ` of the form ${name}` : "");
-        const placed = (place, text) => text && `, ${place} \`${text}\``;
-        return forms.map(({ name, sentence, opening, closing }) => {
-            const places = placed("behind", opening) + placed("before", closing);
-            return `Numbers${named(name)}${places && `${places},`} are ${sentence}.`;
-        }).join("\n\n");
+        const placed = (opening) => opening && `, behind \`${opening}\`,`;
+        return forms.map(({ name, sentence, opening }) => `Numbers${named(name)}${placed(opening)} are ${sentence}.`).join("\n\n");
     }
 
     grammar(forms) {
         return forms.map((form) => {
-            const [opening, closing] = this.spelled(form, (it) => ` ${JSON.stringify(it)}`, (it) => ` ${it}`);
-            const whole = opening + closing && `Number   ::=${opening} Literal${closing}\n`;
+            const opening = this.spelled(form, (it) => ` ${JSON.stringify(it)}`, (it) => ` ${it}`);
+            const whole = opening && `Number   ::=${opening} Literal\n`;
             return (form.name && `/* ${form.name.replaceAll("*/", "")} */\n`) + whole + form.grammar;
         }).join("\n\n");
     }
 
     regex(forms) {
         const escaped = (text) => text.replace(/\W/g, (it) => `\\x${it.charCodeAt().toString(16)}`);
-        const all = forms.map((form) => this.spelled(form, escaped, (it) => it).join(form.regex));
+        const all = forms.map((form) => this.spelled(form, escaped, (it) => it) + form.regex);
         return all.length > 1 ? `(?:${all.join("|")})` : all[0];
     }
 
-    /* Returns the opening and the closing of a form in a notation, which is that of texts and, if their case does not matter, of letters. */
+    /* Returns the opening of a form in a notation, which is that of texts and, if their case does not matter, of letters. */
     spelled(form, ofText, ofLetter) {
-        return AFFIXES.map(({ name }) => {
-            const parts = this.library.value(form, `case_sensitive_${name}`) ? [form[name]] : form[name].split(/([a-z])/i);
-            return parts.map((it, index) => {
-                return index % 2 ? ofLetter(`[${it.toUpperCase()}${it.toLowerCase()}]`) : it && ofText(it);
-            }).join("");
-        });
+        const parts = this.library.value(form, "case_sensitive_opening") ? [form.opening] : form.opening.split(/([a-z])/i);
+        return parts.map((it, index) => (index % 2 ? ofLetter(`[${it.toUpperCase()}${it.toLowerCase()}]`) : it && ofText(it))).join("");
     }
 
     rust(forms, specials, tests) {
@@ -138,9 +131,8 @@ ${this.rustTest(tests)}`;
         const set = conditions.length ? `\n        .with_conditions_or_panic(Conditions::NONE${conditions.join("")})` : "";
         const beside = this.beside(form, 0, ({ name, isText, value }) => {
             if (!isText) return name === "only_read" ? ".only_read(true)" : "";
-            const isSensitive = this.library.value(form, `case_sensitive_${name}`);
-            const affix = `Affix::new(b${JSON.stringify(value)}).unwrap()${isSensitive ? ".case_sensitive(true)" : ""}`;
-            return `.with_${name}(${affix})${name === "closing" ? ".unwrap()" : ""}`;
+            const isSensitive = this.library.value(form, "case_sensitive_opening");
+            return `.with_opening(Opening::new(b${JSON.stringify(value)}).unwrap()${isSensitive ? ".case_sensitive(true)" : ""})`;
         });
         const [kinds, calls] = [true, false].map((is) => beside.filter(({ name }) => name in KIND_CODE === is).map(({ code }) => code));
         const of = (start, usual = "") => kinds.find((it) => it.startsWith(start)) ?? usual;
@@ -216,19 +208,19 @@ bool test_numbers(void) {
     python(forms, specials, tests) {
         const settings = (form) => this.lines(form).map((line) => `\n        ${JSON.stringify(line)},`).join("") + (this.lines(form).length ? "\n    " : "");
         const one = (form) => `    # ${wordText(form.word)}\n    (${pythonText(form.name)}, Syntax.of(${settings(form)})),\n`;
-        const beside = (form) => this.beside(form, 2, ({ name, isText, value }) => `${name}=${isText ? pythonText(value) : "True"}`);
+        const beside = (form) => this.beside(form, 2, ({ isText, value }) => (isText ? pythonText(value) : "case_sensitive=True"));
         const byName = (call, isOf) => forms.flatMap((form) => {
             const codes = beside(form).filter(isOf).map(({ code }) => code).join(", ");
             return codes ? [`${pythonText(form.name)}: ${call}(${codes})`] : [];
         }).join(", ");
-        const [kinds, affixes] = [byName("Kind", ({ name }) => name in KIND_CODE), byName("Affixes", ({ part }) => part === "base")];
+        const [kinds, openings] = [byName("Kind", ({ name }) => name in KIND_CODE), byName("Opening", ({ part }) => part === "base")];
         const read = forms.filter((form) => this.library.value(form, "only_read")).map(({ name }) => pythonText(name)).join(", ");
         const spelled = specials.map((it, index) => (it === '""' ? "" : `, ${["nan", "inf", "infinity"][index]}=${it}`)).join("");
         const [accepted, refused] = tested(tests, pythonText);
         const lines = (texts, body) => texts && `    for text in [${texts}]:\n        ${body}\n`;
         const raises = "try:\n            read(text)\n        except LiteralError:\n            continue\n        raise AssertionError(text)";
         const test = `\n\ndef test_numbers():\n${lines(accepted, "read(text)")}${lines(refused, raises)}`;
-        const names = [affixes && "Affixes", "Forms", kinds && "Kind", refused && "LiteralError", "Syntax"];
+        const names = ["Forms", kinds && "Kind", refused && "LiteralError", openings && "Opening", "Syntax"];
         return `from peltzivar import ${names.filter(Boolean).join(", ")}
 
 
@@ -238,7 +230,7 @@ def read(text):
 
 
 forms = Forms([
-${forms.map(one).join("")}]${kinds && `, kinds={${kinds}}`}${affixes && `, affixes={${affixes}}`}${read && `, only_read=[${read}]`}${spelled})
+${forms.map(one).join("")}]${kinds && `, kinds={${kinds}}`}${openings && `, openings={${openings}}`}${read && `, only_read=[${read}]`}${spelled})
 ${tests.length ? test : ""}`;
     }
 

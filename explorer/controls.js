@@ -3,7 +3,7 @@
 class Controls {
     constructor(library, page) {
         Object.assign(this, { library, page, inputs: new Map(), boxes: [...library.flags, ...library.conditions.filter((it) => !it.isOfForm)] });
-        find("bytes").append(...[...library.bytes, ...OPTIONS, ...AFFIXES].map((field) => this.byteRow(field)));
+        find("bytes").append(...[...library.bytes, ...OPTIONS, OPENING].map((field) => this.byteRow(field)));
         const titleOf = ({ section, name, holder }) => {
             return holder === "conditions" ? "Conditions" : section || (/^(integer|fraction|exponent|special)_/.exec(name) ?? [])[1];
         };
@@ -63,7 +63,7 @@ class Controls {
     /* Returns {value} of a typed text: a number, a character, the name of one, or an empty text; or {error}. */
     parsed({ name, title, isNumber, isText }, text) {
         const long = `the ${title} has up to 8 visible characters of ASCII`;
-        if (isText) return AFFIX.test(text) ? { value: text } : { error: long };
+        if (isText) return OPENING_TEXT.test(text) ? { value: text } : { error: long };
         const setter = this.library.named.get(name).holder ? name : "digit_separator";
         const known = Object.keys(NAMES).find((byte) => NAMES[byte] === text.toUpperCase());
         const first = this.library.parse(setter, (!isNumber && known) || text || "none");

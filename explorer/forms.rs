@@ -5,7 +5,7 @@ use core::array;
 use core::str::FromStr;
 
 use peltzivar::literal::{
-    Affix, Condition, Conditions, FloatKind, FloatLimits, Form, Forms, IntegerKind, Kind, Literal, Number, Specials,
+    Condition, Conditions, FloatKind, FloatLimits, Form, Forms, IntegerKind, Kind, Literal, Number, Opening, Specials,
     ValueError, ValueErrorKind,
 };
 
@@ -39,18 +39,18 @@ impl List {
 }
 
 /// Reads the states of a line. Each is numbers between colons: its word, then bytes, from the lowest the exponent character,
-/// the decimal point, the number of each condition, and those of [`numbers_of`], and then the bytes of the opening and the
-/// closing. The first one has the spellings of special values, which are behind tabs.
+/// the decimal point, the number of each condition, and those of [`numbers_of`], and then the bytes of the opening. The
+/// first one has the spellings of special values, which are behind tabs.
 pub fn states_of(line: &'static str) -> impl Iterator<Item = State> {
     let mut parts = line.split('\t');
     let states = parts.next().unwrap_or("").split(' ');
     let [nan, inf, infinity] = [(); 3].map(|()| parts.next().map(str::as_bytes));
     states.enumerate().map(move |(form, state)| {
         let mut parts = state.split(':').map(|it| u128::from_str(it).unwrap_or(0));
-        let [word, options, opening, closing] = [(); 4].map(|()| parts.next().unwrap_or(0));
+        let [word, options, opening] = [(); 3].map(|()| parts.next().unwrap_or(0));
         let [exponent, point, numbers @ ..] = options.to_le_bytes();
         let (numbers, of_form) = numbers.split_at(Condition::ALL.len());
-        let [single, largest, vanishing, opening_case, closing_case, only_read] =
+        let [single, largest, vanishing, is_case_sensitive, only_read] =
             array::from_fn(|bit| of_form[KINDS.len()] >> bit & 1 == 1);
         let integers = KINDS.iter().zip(of_form).find(|it| *it.1 > 0);
         let integers = integers.map_or(IntegerKind::Exact, |(kind, &bits)| kind(bits));
@@ -64,23 +64,22 @@ pub fn states_of(line: &'static str) -> impl Iterator<Item = State> {
         let conditions =
             Condition::ALL.iter().zip(numbers).fold(Conditions::NONE, |all, (&it, &number)| all.with(it, number));
         let specials = if form == 0 { Specials { nan, inf, infinity } } else { Specials::default() };
-        let [opening, closing] = [(opening, opening_case), (closing, closing_case)].map(affix_of);
-        State { word, exponent, point, conditions, kind, opening, closing, only_read, specials }
+        let opening = opening_of(opening).case_sensitive(is_case_sensitive);
+        State { word, exponent, point, conditions, kind, opening, only_read, specials }
     })
 }
 
-/// Returns the affix with the bytes of a number, from the lowest, and whether it is case-sensitive.
-fn affix_of((number, sensitive): (u128, bool)) -> Affix {
-    let affix = number.to_le_bytes().split(|&byte| byte == 0).next().and_then(Affix::new);
-    affix.unwrap_or(Affix::NONE).case_sensitive(sensitive)
+/// Returns the opening with the bytes of a number, from the lowest.
+fn opening_of(number: u128) -> Opening {
+    number.to_le_bytes().split(|&byte| byte == 0).next().and_then(Opening::new).unwrap_or(Opening::NONE)
 }
 
 pub fn state_of(form: &Form) -> State {
     let (syntax, kind) = (form.syntax(), form.kind());
     let [exponent, point] = [syntax.exponent(), syntax.point()].map(Option::unwrap_or_default);
     let (word, conditions) = (syntax.format().word(), syntax.conditions());
-    let (opening, closing, only_read) = (form.opening(), form.closing(), form.is_only_read());
-    State { word, exponent, point, conditions, kind, opening, closing, only_read, specials: Specials::default() }
+    let (opening, only_read) = (form.opening(), form.is_only_read());
+    State { word, exponent, point, conditions, kind, opening, only_read, specials: Specials::default() }
 }
 
 /// The kinds of integers, each with its bits.
@@ -88,15 +87,14 @@ const KINDS: [fn(u8) -> IntegerKind; 4] =
     [IntegerKind::Signed, IntegerKind::Unsigned, IntegerKind::Wraps, IntegerKind::WrapsModulo];
 
 /// Returns what a form has beside its syntax as numbers: the bits of each kind of integers, of which one is not 0, and the
-/// bits that are set if floats are single, too large ones are errors, vanishing ones are, the opening and the closing are
-/// case-sensitive, and the form is only read.
-pub fn numbers_of(State { kind, opening, closing, only_read, .. }: State) -> [u8; KINDS.len() + 1] {
+/// bits that are set if floats are single, too large ones are errors, vanishing ones are, the opening is case-sensitive,
+/// and the form is only read.
+pub fn numbers_of(State { kind, opening, only_read, .. }: State) -> [u8; KINDS.len() + 1] {
     let bits = |make: fn(u8) -> IntegerKind| (1..=128).find(|&bits| make(bits) == kind.integers()).unwrap_or(0);
     let [signed, unsigned, wraps, modulo] = KINDS.map(bits);
     let (single, limits) = (kind.floats() == FloatKind::Single, kind.limits());
-    let cases = [opening, closing].map(|it| it.is_case_sensitive());
     let limits = [limits == FloatLimits::Largest, limits == FloatLimits::Both];
-    let flags = [single, limits[0], limits[1], cases[0], cases[1], only_read];
+    let flags = [single, limits[0], limits[1], opening.is_case_sensitive(), only_read];
     [signed, unsigned, wraps, modulo, flags.iter().rev().fold(0, |all, &it| all << 1 | u8::from(it))]
 }
 

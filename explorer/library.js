@@ -28,13 +28,11 @@ const OPTIONS = [
     { name: "exponent", part: "exponent", isByte: true, title: "exponent character", meaning: "an option of the parser, such as the `e` in `1e5`" },
     { name: "point", part: "option", isByte: true, title: "decimal point", meaning: "an option of the parser, such as the `.` in `1.5`" },
 ];
-const STANDARD_OPTIONS = { exponent: 101, point: 46, opening: "", closing: "", conditions: 0n };
-/* What stands before and behind the literals of a form, up to 8 visible characters. */
-const AFFIXES = [["opening", "before", "`16#`"], ["closing", "behind", "last `#`"]].map(([name, place, example]) => {
-    const meaning = `up to 8 characters ${place} each literal, such as the ${example} in \`16#FF#\``;
-    return { name, title: name, part: "base", isText: true, isOfForm: true, meaning };
-});
-const AFFIX = /^[ -~]{0,8}$/;
+const STANDARD_OPTIONS = { exponent: 101, point: 46, opening: "", conditions: 0n };
+/* What stands before the literals of a form, up to 8 visible characters. */
+const OPENING = { name: "opening", title: "opening", part: "base", isText: true, isOfForm: true,
+    meaning: "up to 8 characters before each literal, such as the `16#` in `16#FF#`" };
+const OPENING_TEXT = /^[ -~]{0,8}$/;
 /* What else a form has beside its syntax, as numbers and then bits behind those of the conditions. Of the first four, one is set. */
 const OF_FORM = [
     { name: "signed", meaning: "Bits of an integer, one of which is its sign", limits: [1, 128] },
@@ -45,7 +43,6 @@ const OF_FORM = [
     { name: "largest", meaning: "Floats that are too large are errors" },
     { name: "vanishing", meaning: "Floats that are too large are errors, and so are those that are not 0 and vanish" },
     { name: "case_sensitive_opening", part: "base", meaning: "Letters of the opening have only this case" },
-    { name: "case_sensitive_closing", part: "base", meaning: "Letters of the closing have only this case" },
     { name: "only_read", meaning: "Numbers are written in other forms" },
 ];
 const SPECIALS = ["NaN", "inf", "infinity"];
@@ -80,7 +77,7 @@ class Library {
         }
         /* The fields in the order of their bits, all that differs in states, and all that can be set by its name. */
         this.fields = [...this.flags, ...this.bytes];
-        this.differing = [...this.fields, ...AFFIXES, ...OPTIONS, ...this.conditions];
+        this.differing = [...this.fields, OPENING, ...OPTIONS, ...this.conditions];
         this.named = new Map([...setters, ...this.differing].map((field) => [field.name, field]));
         const [word, numbers] = [this.fields, this.conditions].map((all) => all.reduce((known, { mask }) => known | mask, 0n));
         this.known = { word, conditions: numbers };
@@ -177,9 +174,9 @@ class Library {
         return SAMPLES.filter((_, index) => !before[index] && after[index]).slice(0, 3);
     }
 
-    /* Returns the value of an option, an affix or a condition in a setting: of an option, a byte or its character. */
+    /* Returns the value of an option, an opening or a condition in a setting: of an option, a byte or its character. */
     number({ isByte, isText, limits: [least, most] = [1, 1] }, value) {
-        if (isText) return AFFIX.exec(value.replace(/^'(.*)'$/, "$1"))?.[0];
+        if (isText) return OPENING_TEXT.exec(value.replace(/^'(.*)'$/, "$1"))?.[0];
         const byteOf = (text) => this.parse("digit_separator", text).value;
         const ofWord = () => ({ true: 1, false: 0, none: 0 })[value] ?? Number(value || NaN);
         const number = isByte ? byteOf(value) ?? byteOf(`'${value}'`) : ofWord();
@@ -238,7 +235,7 @@ class Library {
 function passed({ forms, specials = SPECIALS }) {
     const options = ({ exponent, point, conditions }) => BigInt(exponent | (point << 8)) | (conditions << 16n);
     const bytes = (text) => [...text].reduceRight((all, it) => (all << 8n) | BigInt(it.charCodeAt()), 0n);
-    const numbers = (form) => [form.word, options(form), bytes(form.opening), bytes(form.closing)].join(":");
+    const numbers = (form) => [form.word, options(form), bytes(form.opening)].join(":");
     return [forms.map(numbers).join(" "), ...specials].join("\t");
 }
 

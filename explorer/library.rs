@@ -138,8 +138,6 @@ fn explain(state: &'static str) -> String {
     let reason = |it: Reason| put(&it, it.mask(), &options_of(it.cause()));
     let lawful = Format::new(state.word).ok().into_iter();
     let misfits = lawful.flat_map(|it| Syntax::integers(it).contradictions(state.conditions));
-    let has_role = state.syntax().is_some() && state.form().is_none();
-    let role = has_role.then(|| put(&"the first character of the closing has a role in the syntax", 0, "closing"));
     let options = view.options_reasons(state.exponent, state.point).filter(|_| !state.is_integers());
     format!(
         r#"{{"normal":{},"isBuilt":{},"fits":{},"reasons":{},"options":{},"misfits":{},"notes":{}{notation}}}"#,
@@ -148,7 +146,7 @@ fn explain(state: &'static str) -> String {
         State { conditions: Conditions::NONE, ..state }.syntax().is_some(),
         list(view.reasons().map(reason)),
         list(options.map(reason)),
-        list(misfits.map(misfit).chain(role)),
+        list(misfits.map(misfit)),
         list(view.notes().map(|it| put(&it, it.mask(), ""))),
     )
 }
@@ -196,11 +194,11 @@ fn has_named_suffix(text: &[u8]) -> bool {
 
 /// Returns the parts of an object with a state.
 fn parts_of(state: State) -> String {
-    let State { word: format, exponent, point, opening, closing, .. } = state;
+    let State { word: format, exponent, point, opening, .. } = state;
     let numbers = Condition::ALL.iter().map(|&it| state.conditions.number(it)).chain(numbers_of(state));
     let (format, conditions) = (word(format), word(numbers.rev().fold(0, |all, it| all << 8 | u128::from(it))));
-    let [opening, closing] = [opening, closing].map(|it| quoted(utf8(it.as_bytes())));
-    let options = format!(r#""exponent":{exponent},"point":{point},"opening":{opening},"closing":{closing}"#);
+    let opening = quoted(utf8(opening.as_bytes()));
+    let options = format!(r#""exponent":{exponent},"point":{point},"opening":{opening}"#);
     format!(r#""word":{format},{options},"conditions":{conditions}"#)
 }
 
@@ -237,8 +235,7 @@ fn reading(forms: Forms<'_>, text: &[u8]) -> String {
                 let (form, literal) = (&forms[number.form()?], number.literal()?);
                 let whole = &text[..text.len() - rest.len()];
                 let opening = ("opening", &whole[..form.opening().as_bytes().len()]);
-                let closing = ("closing", &whole[whole.len() - form.closing().as_bytes().len()..]);
-                Some([opening].into_iter().chain(literal.parts()).chain([closing]))
+                Some([opening].into_iter().chain(literal.parts()))
             });
             all(&mut front.into_iter().flatten())
         }

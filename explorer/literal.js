@@ -83,8 +83,8 @@ class Trial {
         const [{ forms }, { library, answers }, at] = [this.state, this, answer.form];
         const isFlag = ({ isByte, isText }) => Number(!isByte && !isText);
         const changes = library.differences(offer, forms[at]).sort((a, b) => isFlag(a) - isFlag(b));
-        const affixes = changes.filter(({ name, value }) => value && name.startsWith("base_"));
-        const own = affixes.reduce((all, { name }) => library.with(all, `required_${name}`, 1), offer);
+        const around = changes.filter(({ name, value }) => value && name.startsWith("base_"));
+        const own = around.reduce((all, { name }) => library.with(all, `required_${name}`, 1), offer);
         const changed = (form) => changes.reduce((all, { name, value }) => library.with(all, name, value), form);
         const [single, every] = [forms.with(at, { ...forms[at], ...offer }), forms.map(changed)].map((all) => ({ at, forms: all }));
         const other = { at: forms.length, forms: [...forms, { ...own, name: "" }] };

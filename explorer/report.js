@@ -5,7 +5,7 @@ function showReport({ problems, notes }) {
     find("report").hidden = !problems.length && !notes.length;
     const link = (name) => {
         if (name === "reserved") return element("code", { "data-field": name }, "reserved bits");
-        const title = [...OPTIONS, ...AFFIXES].find((it) => it.name === name)?.title ?? name;
+        const title = [...OPTIONS, OPENING].find((it) => it.name === name)?.title ?? name;
         return button("link", title, () => find(name)?.focus(), { "data-field": name });
     };
     for (const [id, kind, all] of [["reasons", "reason", problems], ["notes", "note", notes]]) {
@@ -42,7 +42,7 @@ function textsFor(library, form, seen) {
         return parts.map(([part, isUnusual]) => [text + toText(part), count + isUnusual]).filter(([, count]) => count <= most);
     }), [["", 0]]).map(([text]) => text);
     const whole = limits.flatMap((it) => ["%", "0x%", "%h", "0%h"].map(written).filter(isVisible).map((around) => toText(around).replace("%", it)));
-    return [...all, ...whole].map((it) => form.opening + it + form.closing).concat(`${form.opening.toUpperCase()}1${form.closing.toUpperCase()}`);
+    return [...all, ...whole].map((it) => form.opening + it).concat(`${form.opening.toUpperCase()}1`);
 }
 
 /* Returns the shortest texts that tell two lists apart, one of each cause: those that the other one refuses, those that it alone accepts,

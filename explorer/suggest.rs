@@ -4,7 +4,7 @@ use alloc::vec::Vec;
 use core::cmp::Reverse;
 
 use peltzivar::format::*;
-use peltzivar::literal::{Affix, Condition, Conditions, Form, FormError, Forms, Kind, ReadErrorKind, Specials, Syntax};
+use peltzivar::literal::{Condition, Conditions, Form, FormError, Forms, Kind, Opening, ReadErrorKind, Specials, Syntax};
 use peltzivar::{Format, FormatView, Rule};
 
 /// How many states are offered for a number.
@@ -29,8 +29,8 @@ const RESERVED: u128 = Rule::ReservedBitsAreZero.mask();
 /// The usual size of groups of digits.
 const USUAL_SIZE: u8 = 3;
 
-/// A form of numbers: a format word, the options of a parser, the conditions, the kind, the opening, the closing, whether it is
-/// only read, and the spellings of special values, which the first form of a list has. If both options are 0, numbers are
+/// A form of numbers: a format word, the options of a parser, the conditions, the kind, the opening, whether it is only
+/// read, and the spellings of special values, which the first form of a list has. If both options are 0, numbers are
 /// integers alone.
 #[derive(Clone, Copy, Debug, PartialEq, Eq)]
 pub struct State {
@@ -39,8 +39,7 @@ pub struct State {
     pub point: u8,
     pub conditions: Conditions,
     pub kind: Kind,
-    pub opening: Affix,
-    pub closing: Affix,
+    pub opening: Opening,
     pub only_read: bool,
     pub specials: Specials<'static>,
 }
@@ -59,10 +58,10 @@ impl State {
         syntax.ok()?.with_conditions(self.conditions).ok()
     }
 
-    /// Returns the form, without a name, if the syntax has no role for the first byte of the closing.
+    /// Returns the form, without a name.
     pub fn form(self) -> Option<Form> {
         let form = Form::new("", self.syntax()?).with_kind(self.kind).only_read(self.only_read);
-        form.with_opening(self.opening).with_closing(self.closing)
+        Some(form.with_opening(self.opening))
     }
 
     fn with_condition(self, condition: Condition, number: u8) -> Self {
@@ -116,16 +115,16 @@ impl State {
         read.map_err(Some)
     }
 
-    /// Returns why what is between the opening and the closing of a text is not a literal, which shows the flags to blame.
+    /// Returns why what is behind the opening of a text is not a literal, which shows the flags to blame.
     fn read_inside(self, text: &[u8]) -> Option<FormError> {
-        let inside = text.strip_prefix(self.opening.as_bytes())?.strip_suffix(self.closing.as_bytes())?;
-        self.with_affixes(b"", b"")?.read(inside).err()?
+        let inside = text.strip_prefix(self.opening.as_bytes())?;
+        self.with_opening(b"")?.read(inside).err()?
     }
 
-    /// Returns the state with another opening and closing, whose letters have one case if they had before.
-    fn with_affixes(self, opening: &[u8], closing: &[u8]) -> Option<Self> {
-        let of = |text, before: Affix| Some(Affix::new(text)?.case_sensitive(before.is_case_sensitive()));
-        Some(Self { opening: of(opening, self.opening)?, closing: of(closing, self.closing)?, ..self })
+    /// Returns the state with another opening, whose letters have one case if they had before.
+    fn with_opening(self, opening: &[u8]) -> Option<Self> {
+        let is_case_sensitive = self.opening.is_case_sensitive();
+        Some(Self { opening: Opening::new(opening)?.case_sensitive(is_case_sensitive), ..self })
     }
 
     fn refuses(self, text: &[u8]) -> bool {
@@ -337,7 +336,7 @@ fn candidates(state: State, line: Line<'_>, at: usize) -> [Option<State>; 12] {
     let usual = State { word: STANDARD, exponent: b'e', point: b'.', conditions: Conditions::NONE, ..state };
     [
         opened(state, text),
-        usual.with_affixes(b"", b"").filter(|_| !state.opening.is_empty()),
+        usual.with_opening(b"").filter(|_| !state.opening.is_empty()),
         prefix(state, before, byte),
         exponent(state, before, byte, rest),
         mark.filter(|_| byte == b',' && is_group && !matches!(unsigned(before), b"" | b"0")),
@@ -382,16 +381,18 @@ fn opened_radix(opening: &[u8]) -> Option<u8> {
 }
 
 /// The longest front that can be an opening is one before digits of its radix, also of a letter behind `$` and `#`, and a mark at the
-/// end is the closing then.
+/// end is a base suffix then, which is required.
 fn opened(state: State, text: &[u8]) -> Option<State> {
-    let is_mark = text.last().is_some_and(|it| matches!(it, b'#' | b'\'' | b'"' | b'>'));
-    let (text, closing) = text.split_at(text.len() - usize::from(is_mark));
+    let suffix = text.last().copied().filter(|it| matches!(it, b'#' | b'\'' | b'"' | b'>'));
+    let text = &text[..text.len() - usize::from(suffix.is_some())];
+    let closed = |it: State, byte| it.with(BASE_SUFFIX, byte).with_condition(Condition::BaseSuffix, 1);
     (1..text.len()).rev().find_map(|size| {
         let (opening, digits) = text.split_at(size);
         let radix = opened_radix(opening)?;
         let has_letter = digits.iter().any(u8::is_ascii_alphabetic) || !matches!(opening, [b'$' | b'#']);
         let is_digit = |&byte: &u8| !byte.is_ascii_alphanumeric() || value(byte) < Some(radix);
-        let found = state.with_radix(radix).with_affixes(opening, closing)?;
+        let found = state.with_radix(radix).with_opening(opening)?;
+        let found = suffix.map_or(found, |byte| closed(found, byte));
         (has_letter && digits.iter().all(is_digit)).then_some(found)
     })
 }

@@ -34,15 +34,13 @@ function changeWords(library, form, changes) {
         return places.length ? [`${verb} \`${character("digit_separator")}\` ${places.join(", ")}`] : [];
     });
     const [prefix, suffix, opening] = ["base_prefix", "base_suffix", "opening"].map(changed);
-    const closing = form.closing && ` .. \`${form.closing}\``;
     const hasRadix = changed("mantissa_radix");
     const [verb, asRadix] = hasRadix ? ["read", ` as ${radix}`] : ["allow", ""];
     const words = {
         digit_separator: ({ value }) => (separators.length ? "" : value ? `\`${byteText(value)}\` separates digits` : "no separator"),
         base_prefix: ({ value }) => (value ? `read \`0${byteText(value)}\` as ${radix}` : "no prefix"),
         base_suffix: ({ value }) => (value ? `${verb} \`${byteText(value)}\` at the end${asRadix}` : "no suffix"),
-        opening: ({ value }) => (value ? `read \`${value}\`${closing} as ${radix}` : "no opening"),
-        closing: ({ value }) => (opening?.value ? "" : value ? `\`${value}\` at the end` : "no closing"),
+        opening: ({ value }) => (value ? `read \`${value}\` as ${radix}` : "no opening"),
         mantissa_radix: () => ([prefix, suffix, opening].some((it) => it?.value) ? "" : `read ${radix} digits`),
         exponent_base: ({ value }) => (hasRadix ? "" : `exponents of ${value || "the radix"}`),
         exponent_radix: ({ value }) => (hasRadix ? "" : `${radixWord(value || library.value(form, "mantissa_radix"))} exponents`),
@@ -63,7 +61,7 @@ function changeWords(library, form, changes) {
 /* The words for parts of numbers, before their texts. */
 const PART_WORDS = {
     opening: "the opening", sign: "a sign", prefix: "the prefix", digits: "", point: "the point",
-    exponent_character: "an exponent behind", suffix: "the suffix", closing: "the closing",
+    exponent_character: "an exponent behind", suffix: "the suffix",
 };
 
 /* Returns in words what numbers of a form are, by the parts that they have. A part is that of the first number with it. */

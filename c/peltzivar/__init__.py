@@ -50,9 +50,9 @@ from . import _peltzivar
 # The calls of C.
 _c: Any = _peltzivar
 
-__all__ = ["STANDARD", "Affixes", "Byte", "Column", "ColumnError", "Edit", "Error", "Format", "FormatError"]
+__all__ = ["STANDARD", "Byte", "Column", "ColumnError", "Edit", "Error", "Format", "FormatError"]
 __all__ += ["FormatView", "Forms"]
-__all__ += ["Kind", "Language", "Literal", "LiteralError", "Note", "OptionsError", "Part", "Parts", "ReadErrorKind"]
+__all__ += ["Kind", "Language", "Literal", "LiteralError", "Note", "Opening", "OptionsError", "Part", "Parts", "ReadErrorKind"]
 __all__ += ["Reason", "ReasonsError", "Role", "Rule", "Separators", "Setter", "SettingsError", "Special", "Specials"]
 __all__ += ["Spelling", "Suffixes", "Syntax", "Token", "Tokens", "Value", "WrongCell", "languages", "notes_of"]
 
@@ -677,7 +677,7 @@ class Parts(Generic[AnyStr], metaclass=_Class):
 
 class Literal(_Keyed, _peltzivar.Found, Generic[AnyStr]):
     """A text that is a literal of a syntax. `str(literal)` is the text, and `read` makes a literal. If its form has an
-    opening or a closing, it is what is between them.
+    opening, it is what is behind it.
 
     `int(literal)` is the value of an integer, and raises a ValueError for a float and, as for each text, for more than
     4300 digits, unless the radix is a power of two. `float(literal)` is the float that is nearest to the value, or
@@ -820,12 +820,10 @@ class Literal(_Keyed, _peltzivar.Found, Generic[AnyStr]):
         return text.decode() if isinstance(text, bytes) else text
 
     def _whole(self) -> AnyStr:
-        """Returns the text with its opening, its closing and its suffix."""
-        affixes, suffix = self._owner._listed[self._form][4], self._suffix or self.text[:0]
-        opening, closing = (affixes.opening, affixes.closing) if affixes else ("", "")
-        if isinstance(self.text, bytes):
-            return cast(AnyStr, opening.encode() + self.text + closing.encode() + suffix)
-        return cast(AnyStr, opening + self.text + closing + suffix)
+        """Returns the text with its opening and its suffix."""
+        of_form, suffix = self._owner._listed[self._form][4], self._suffix or self.text[:0]
+        opening = of_form.text if of_form else ""
+        return cast(AnyStr, (opening.encode() if isinstance(self.text, bytes) else opening) + self.text + suffix)
 
     def __repr__(self) -> str:
         whole = self._whole()
@@ -921,7 +919,7 @@ class _Reader(_peltzivar.Reader):
     """What reads texts by forms."""
 
     _named: Any  # The syntaxes of the forms, by their names.
-    # The name, syntax, kind, suffixes and affixes of each form, and whether it is only read, and then of those that
+    # The name, syntax, kind, suffixes and opening of each form, and whether it is only read, and then of those that
     # need a suffix.
     _listed: Any
     read: Any
@@ -1142,7 +1140,7 @@ _style.__qualname__ = "format_column"
 _FACTORS = {2**twos * 5**fives: (twos, fives) for twos in range(6) for fives in range(3)}
 _MOST_DIGITS = 10**6
 # The members of a form behind its syntax, if it has the kind `Kind()`, and nothing else.
-_PLAIN = 0, 0, 0, 0, None, None, None, 0, 0, 0
+_PLAIN = 0, 0, 0, 0, None, None, 0, 0
 _TOO_LONG = "the exact value has more than 10^6 digits"
 # The status of a cell with such a value, which no call of C returns.
 _LONG = 255
@@ -1567,8 +1565,8 @@ class Suffixes(metaclass=_Class):
     between them, in this case or in either one, and with `whole_words` a suffix is the whole word behind a number, so
     that `1if` has no suffix `i`. Words have letters, digits, `_`, characters that are not ASCII, and those of
     `word_bytes`, such as `-` for `2n-1` of CSS. One that begins with a digit of the form, such as `5k`, is found only
-    where the literal cannot go on with it, as behind a closing or a base suffix. Any word that begins with a character
-    of `any` is a suffix, too, as in `1_km`. `kinds` has the kinds of numbers by their suffixes, a dict or pairs. A
+    where the literal cannot go on with it, as behind a base suffix. Any word that begins with a character of `any` is a
+    suffix, too, as in `1_km`. `kinds` has the kinds of numbers by their suffixes, a dict or pairs. A
     number is not a token if it is at one of the `stops`: if it ends in a character of the first string, one of the
     second follows, and then one of the third. An empty string asks for nothing.
     `written` has the words that `format_number` may write behind an integer: the first with which `token` reads all of
@@ -1622,32 +1620,27 @@ class Suffixes(metaclass=_Class):
 
 
 @dataclass(frozen=True)
-class Affixes(metaclass=_Class):
-    """What stands before and behind each literal of a form: up to 8 characters of ASCII each, whose letters are in
-    either case, unless it is case-sensitive. A sign stands behind the opening. Raises ValueError for others.
+class Opening(metaclass=_Class):
+    """What stands before each literal of a form: up to 8 characters of ASCII, whose letters are in either case, unless
+    it is case-sensitive. A sign stands behind the opening. Raises ValueError for others.
 
-        >>> hexadecimal = {"hexadecimal": Syntax.of(radix=16, exponent=None, point=None)}
-        >>> ada = Forms(hexadecimal, affixes={"hexadecimal": Affixes("16#", "#")})
+        >>> closed = Syntax.of(radix=16, base_suffix="#", required_base_suffix=True, exponent=None, point=None)
+        >>> ada = Forms({"hexadecimal": closed}, openings={"hexadecimal": Opening("16#")})
         >>> ada.read("16#FF#").value
         255
     """
 
-    opening: str = ""
-    closing: str = ""
-    case_sensitive_opening: bool = False
-    case_sensitive_closing: bool = False
+    text: str = ""
+    case_sensitive: bool = False
 
     def __post_init__(self) -> None:
-        for name, it in vars(self).items():
-            if "_" in name:
-                _typed(name, it, bool)
-            elif len(_string(it)) > 8 or not it.isascii():
-                raise ValueError(f"{name} has at most 8 characters, which are ASCII: {reprlib.repr(it)}")
+        _typed("case_sensitive", self.case_sensitive, bool)
+        if len(_string(self.text)) > 8 or not self.text.isascii():
+            raise ValueError(f"an opening has at most 8 characters, which are ASCII: {reprlib.repr(self.text)}")
 
     def _members(self) -> Tuple[Any, ...]:
         """Returns the members of the structure."""
-        texts = _string(self.opening), _string(self.closing)
-        return *texts, int(self.case_sensitive_opening), int(self.case_sensitive_closing)
+        return _string(self.text), int(self.case_sensitive)
 
 
 @dataclass(frozen=True)
@@ -1675,7 +1668,7 @@ class Tokens(metaclass=_Class):
         return [int(_typed(name, vars(self)[name], bool)) for name in names]
 
 
-_OF_FORMS = "kinds", "suffixes", "tokens", "affixes", "only_read"
+_OF_FORMS = "kinds", "suffixes", "tokens", "openings", "only_read"
 
 
 class Forms(_Keyed, _Several, Mapping[str, Syntax]):
@@ -1684,18 +1677,17 @@ class Forms(_Keyed, _Several, Mapping[str, Syntax]):
     The first form of which a text is a literal decides its parts and its value, so the order matters. If it is a
     literal of none, a spelling may match, by the flags of the first form. A LiteralError is that of the form for which
     most of the text is right. `forms["hexadecimal"]` is the syntax with this name. `kinds` has the kinds of forms, by
-    their names, `suffixes` the `Suffixes` of forms, `affixes` their `Affixes`, `only_read` the names of those by which
+    their names, `suffixes` the `Suffixes` of forms, `openings` their `Opening`, `only_read` the names of those by which
     nothing is written, and `tokens` the rules for `token`. They are those of `forms` if these are `Forms`. Raises
-    ValueError if there are no forms or more than 64, if two have the same name, if a name is that of no form, if the
-    first character of a closing has a role in its syntax, or if forms that have tokens have more than 256 words, kinds
-    of suffixes, or stops.
+    ValueError if there are no forms or more than 64, if two have the same name, if a name is that of no form, or if
+    forms that have tokens have more than 256 words, kinds of suffixes, or stops.
     """
 
     def __init__(
         self, forms: Union[Mapping[str, Syntax], Iterable[Tuple[str, Syntax]]], *, nan: Optional[str] = None,
         inf: Optional[str] = None, infinity: Optional[str] = None, kinds: Optional[Mapping[str, Kind]] = None,
         suffixes: Optional[Mapping[str, Suffixes]] = None, tokens: Optional[Tokens] = None,
-        affixes: Optional[Mapping[str, Affixes]] = None, only_read: Optional[Iterable[str]] = None
+        openings: Optional[Mapping[str, Opening]] = None, only_read: Optional[Iterable[str]] = None
     ) -> None:
         pairs = [*(forms.items() if isinstance(forms, Mapping) else forms)]
         self._named = {_typed("a name", name, str): _typed("a form", it, Syntax) for name, it in pairs}
@@ -1705,27 +1697,25 @@ class Forms(_Keyed, _Several, Mapping[str, Syntax]):
         self.specials = Specials(nan, inf, infinity)
         if isinstance(forms, Forms):
             kinds, suffixes = forms.kinds if kinds is None else kinds, forms.suffixes if suffixes is None else suffixes
-            tokens, affixes = forms.tokens if tokens is None else tokens, forms.affixes if affixes is None else affixes
+            tokens, openings = forms.tokens if tokens is None else tokens, forms.openings if openings is None else openings
             only_read = forms.only_read if only_read is None else only_read
         self.kinds: Dict[str, Kind] = self._by_form("a kind", kinds, Kind)
         self.suffixes: Dict[str, Suffixes] = self._by_form("suffixes", suffixes, Suffixes)
-        self.affixes: Dict[str, Affixes] = self._by_form("affixes", affixes, Affixes)
+        self.openings: Dict[str, Opening] = self._by_form("an opening", openings, Opening)
         self.only_read: Tuple[str, ...] = (*self._by_form("", dict.fromkeys(only_read or (), ""), str),)
         self.tokens: Optional[Tokens] = None if tokens is None else _typed("tokens", tokens, Tokens)
         behind = self.tokens.forms if self.tokens is not None else None
-        given = [(self.kinds.get(it, Kind()), self.suffixes.get(it), self.affixes.get(it)) for it in self]
+        given = [(self.kinds.get(it, Kind()), self.suffixes.get(it), self.openings.get(it)) for it in self]
         own = [(name, self[name], *of, name in self.only_read) for name, of in zip(self, given)]
         self._listed: Any = own + (behind._listed if behind is not None else [])
         made = tuple(
-            (None, it._by, *kind._numbers(), more and more._members(), *(affixes or Affixes())._members(), int(is_read))
-            for _, it, kind, more, affixes, is_read in own
+            (None, it._by, *kind._numbers(), more and more._members(), *(opening or Opening())._members(), int(is_read))
+            for _, it, kind, more, opening, is_read in own
         )
         forms_behind = behind._made[0] if behind is not None else ()
         rules = self.tokens and (forms_behind, _string(self.tokens.following), *self.tokens._flags())
         self._made: Any = made, self.specials._spellings(), rules
         _c.make(self, self._made, True)
-        if isinstance(self._explain(b"", -1), str):
-            raise ValueError("the first character of a closing has a role in the syntax of its form")
         if self.tokens is not None and isinstance(self._explain(b"", 0), str):
             raise ValueError(f"the forms have more than {_c.WORDS_MAX} words, kinds of suffixes, or stops")
 
@@ -1764,11 +1754,10 @@ def _forms_of(listed: Any, more: Dict[str, Any]) -> Forms:
     named = {_shown(name if names.count(name) == 1 else name + b" " + it[6]): it for name, *it in listed}
     kinds = {name: kind for name, it in named.items() if (kind := Kind._of(*it[1:5])) != Kind()}
     suffixes = {name: Suffixes._of(*it[5]) for name, it in named.items() if it[5]}
-    of = {name: Affixes(_shown(it[6]), _shown(it[7]), bool(it[8]), bool(it[9])) for name, it in named.items()}
-    affixes = {name: it for name, it in of.items() if it != Affixes()}
+    openings = {name: Opening(_shown(it[6]), bool(it[7])) for name, it in named.items() if it[6]}
     forms = {name: Syntax._of_numbers(it[0]) for name, it in named.items()}
-    only_read = [name for name, it in named.items() if it[10]]
-    return Forms(forms, **more, kinds=kinds, suffixes=suffixes, affixes=affixes, only_read=only_read)
+    only_read = [name for name, it in named.items() if it[8]]
+    return Forms(forms, **more, kinds=kinds, suffixes=suffixes, openings=openings, only_read=only_read)
 
 
 class _Language(_Several, _Named):

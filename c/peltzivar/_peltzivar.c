@@ -67,8 +67,8 @@ IS(suffixes) S(suffixes, integers) S(suffixes, floats) S(suffixes, any) S(suffix
     ARRAY(suffixes, kinds, kind_count, suffix_kind) ARRAY(suffixes, stops, stop_count, stop)
     B(suffixes, either_case) B(suffixes, whole_words) }};
 IS(form) S(form, name) OF('>', form, syntax, syntax) B(form, integer_kind) B(form, integer_bits) B(form, float_kind)
-    B(form, float_limits) OF('*', form, suffixes, suffixes) S(form, opening) S(form, closing)
-    B(form, case_sensitive_opening) B(form, case_sensitive_closing) B(form, only_read) }};
+    B(form, float_limits) OF('*', form, suffixes, suffixes) S(form, opening)
+    B(form, case_sensitive_opening) B(form, only_read) }};
 IS(tokens) ARRAY(tokens, forms, count, form) S(tokens, following) B(tokens, gives_points_back)
     B(tokens, gives_points_to_letters) B(tokens, any_word_follows) }};
 IS(forms) ARRAY(forms, forms, count, form) OF('>', forms, specials, specials) OF('*', forms, tokens, tokens) }};
@@ -311,13 +311,11 @@ static const peltzivar_form *form_of(const peltzivar_forms *by, size_t form) {
 /* USES: how numbers of the forms, and words behind them, use a byte. A sign may follow those of USES_EXPONENT. */
 enum { USES_KNOWN = 1, USES_ROLE = 2, USES_EXPONENT = 4, USES_WORD = 8 };
 
-/* Returns how a form uses a byte in its opening and its closing, whose case does not count here. */
-static uint8_t uses_in_affixes(const peltzivar_form *form, uint8_t byte) {
-    const char *const affixes[] = {form->opening ? form->opening : "", form->closing ? form->closing : ""};
+/* Returns how a form uses a byte in its opening, whose case does not count here. */
+static uint8_t uses_in_opening(const peltzivar_form *form, uint8_t byte) {
     uint8_t uses = 0;
-    for (const char *const *it = affixes; it < affixes + 2; it++)
-        for (const char *at = *it; *at; at++)
-            if (tolower((unsigned char)*at) == tolower(byte)) uses |= USES_ROLE | (at[1] ? 0 : USES_EXPONENT);
+    for (const char *at = form->opening ? form->opening : ""; *at; at++)
+        if (tolower((unsigned char)*at) == tolower(byte)) uses |= USES_ROLE | (at[1] ? 0 : USES_EXPONENT);
     return uses;
 }
 
@@ -326,7 +324,7 @@ static uint8_t uses_of(Reader *by, uint8_t byte) {
     uint8_t uses = USES_KNOWN | (byte > 127 || isalnum(byte) || byte == '_' ? USES_WORD : 0);
     for (size_t i = 0; i < by->forms->count + (by->forms->tokens ? by->forms->tokens->count : 0); i++) {
         const peltzivar_syntax *of = &form_of(by->forms, i)->syntax;
-        uses |= uses_in_affixes(form_of(by->forms, i), byte);
+        uses |= uses_in_opening(form_of(by->forms, i), byte);
         peltzivar_role role = peltzivar_role_of(of->format, of->exponent, of->decimal_point, byte);
         if (role && role != PELTZIVAR_ROLE_SIGN) uses |= USES_ROLE;
         if (role == PELTZIVAR_ROLE_EXPONENT) uses |= USES_EXPONENT;
@@ -1034,7 +1032,7 @@ static const struct {
      "INVALID_FLOAT_PRECISION INVALID_NEGATIVE_EXPONENT_BREAK INVALID_POSITIVE_EXPONENT_BREAK "
      , PELTZIVAR_SUCCESS},
     /* End */
-    {"ReadErrorKind", "REQUIREMENT SEPARATOR CASE BYTE MISSING SUFFIX POINT STOP AFFIX", PELTZIVAR_KIND_REQUIREMENT},
+    {"ReadErrorKind", "REQUIREMENT SEPARATOR CASE BYTE MISSING SUFFIX POINT STOP OPENING", PELTZIVAR_KIND_REQUIREMENT},
     {"Spelling", "NAN INF INFINITY", PELTZIVAR_SPELLING_NAN},
     {"Part", "INTEGER FRACTION EXPONENT", PELTZIVAR_PART_INTEGER},
     {"Role", "DIGIT SIGN SEPARATOR PREFIX SUFFIX EXPONENT POINT", PELTZIVAR_ROLE_DIGIT},

@@ -59,7 +59,7 @@ class Role(_Named):
     DIGIT = 1; SIGN = 2; SEPARATOR = 3; PREFIX = 4; SUFFIX = 5; EXPONENT = 6; POINT = 7
 
 class ReadErrorKind(_Named):
-    REQUIREMENT = 1; SEPARATOR = 2; CASE = 3; BYTE = 4; MISSING = 5; SUFFIX = 6; POINT = 7; STOP = 8; AFFIX = 9
+    REQUIREMENT = 1; SEPARATOR = 2; CASE = 3; BYTE = 4; MISSING = 5; SUFFIX = 6; POINT = 7; STOP = 8; OPENING = 9
 
 class Spelling(_Named):
     NAN = 1; INF = 2; INFINITY = 3

@@ -61,7 +61,7 @@ static void test_constants(void) {
     CHECK(sizeof(peltzivar_word) == 16 && sizeof(peltzivar_fields) == 16 && sizeof(peltzivar_edit) == 2);
     CHECK(sizeof(peltzivar_read_error) == 144 && sizeof(peltzivar_literal) == 320 && sizeof(peltzivar_span) == 16);
     CHECK(sizeof(peltzivar_syntax) == 32 && sizeof(peltzivar_explanation) == 56 && sizeof(peltzivar_i128) == 16);
-    CHECK(sizeof(peltzivar_form) == 72 && sizeof(peltzivar_suffixes) == 80 && sizeof(peltzivar_forms) == 80);
+    CHECK(sizeof(peltzivar_form) == 64 && sizeof(peltzivar_suffixes) == 80 && sizeof(peltzivar_forms) == 80);
     CHECK(sizeof(peltzivar_specials) == 32 && sizeof(peltzivar_special) == 2 && sizeof(peltzivar_style) == 24);
     CHECK(sizeof(peltzivar_separators) == 4 && sizeof(peltzivar_token) == 368);
     CHECK(sizeof(peltzivar_suffix_kind) == 16 && sizeof(peltzivar_stop) == 32 && PELTZIVAR_VERSION_FITS());
@@ -415,7 +415,7 @@ static void test_tokens(void) {
 
 /* Forms of one's own, at any address. A literal comes before a special value. What a later version may read otherwise is refused. */
 static void test_forms(void) {
-    static const char refusal[] = "the forms are null, not 1 to 64, or have an unknown kind, a wrong opening or closing, reserved members or too many words";
+    static const char refusal[] = "the forms are null, not 1 to 64, or have an unknown kind, a wrong opening, reserved members or too many words";
     uint8_t memory[81 + 64 * sizeof(peltzivar_form)] = {0};
     peltzivar_form list[65];
     peltzivar_forms forms = forms_of((const peltzivar_form *)(memory + 1), 64), toml = *language("TOML"), most = forms_of(list, 64);

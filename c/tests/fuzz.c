@@ -209,29 +209,27 @@ static void test_list(const peltzivar_forms *forms, const char *from, size_t len
     if (!peltzivar_format_special(&forms->forms[0].syntax, &forms->specials, special, text, sizeof text, NULL)) CHECK(special.spelling % 4 && special.sign != '*');
 }
 
-/* A text between an opening and a closing is a literal of a form with these if and only if it is one of the syntax. */
-static void test_affixes(peltzivar_forms forms, const char *from, size_t len, bool is_lawful) {
-    static const char *const openings[] = {NULL, "", "#X", "16r", "-", "\177))))))z"}, *const closings[] = {NULL, "", "#", "')", "e", "H"};
+/* A text behind an opening is a literal of a form with it if and only if it is one of the syntax. */
+static void test_opening(peltzivar_forms forms, const char *from, size_t len, bool is_lawful) {
+    static const char *const openings[] = {NULL, "", "#X", "16r", "-", "\177))))))z"};
     peltzivar_form form = *forms.forms;
-    form.opening = openings[draw() % 6], form.closing = closings[draw() % 6];
-    form.case_sensitive_opening = draw() % 2, form.case_sensitive_closing = draw() % 2, form.only_read = draw() % 4 == 0;
+    form.opening = openings[draw() % 6], form.case_sensitive_opening = draw() % 2, form.only_read = draw() % 4 == 0;
     forms.forms = &form;
-    const size_t before = form.opening ? strlen(form.opening) : 0, behind = form.closing ? strlen(form.closing) : 0;
+    const size_t before = form.opening ? strlen(form.opening) : 0;
     const bool is_upper = draw() % 2 && before > 1;
     if (before) memcpy(text, form.opening, before);
-    if (behind) memcpy(text + before + len, form.closing, behind);
     memcpy(text + before, from, len);
     if (is_upper) text[before - 1] ^= 32;
-    char *const all = copy(before + len + behind);
+    char *const all = copy(before + len);
     peltzivar_literal own, literal;
     peltzivar_read_error why, error;
     const bool is_own = peltzivar_read(&form.syntax, from, len, &own, &why);
-    const bool is_read = peltzivar_forms_read(&forms, all, before + len + behind, &literal, &error);
+    const bool is_read = peltzivar_forms_read(&forms, all, before + len, &literal, &error);
     const bool is_refused = !is_read && !peltzivar_explain(&error, NULL), is_other = is_upper && form.case_sensitive_opening;
     CHECK_LAWFUL(is_refused || is_read == (is_own && !is_other));
     if (is_read) CHECK_LAWFUL(literal.text == all + before && literal.size == len && !memcmp(&literal.sign, &own.sign, 9 * sizeof own.sign));
     if (!is_refused && !is_own && !is_other) CHECK_LAWFUL(error.valid_up_to >= before + why.valid_up_to);
-    if (!is_refused && !behind) test_list(&forms, all, before + len + behind, is_lawful);
+    if (!is_refused) test_list(&forms, all, before + len, is_lawful);
     free(all);
 }
 
@@ -275,14 +273,14 @@ static void test_literals(peltzivar_word word) {
     /* A lawful syntax as a form reads the same, and a column has the values of its texts. */
     static const peltzivar_stop stops[] = {{"1", "-.", "1", {0}}};
     const peltzivar_suffixes suffixes = {"e ux", "f", "_", "ux", NULL, 0, stops, 1, true, len % 7 == 0, {0}, len % 2 ? "-" : NULL};
-    const peltzivar_form form = {"it", syntax, 0, 0, 0, 0, false, false, false, {0}, &suffixes, NULL, NULL};
+    const peltzivar_form form = {"it", syntax, 0, 0, 0, 0, false, false, {0}, &suffixes, NULL};
     const peltzivar_tokens rules = {&form, 1, "if", len % 2 == 0, len % 3 == 0, len % 5 == 0, {0}};
     const peltzivar_forms forms = {&form, 1, {NULL, NULL, NULL, {0}}, NULL, {0}, &rules};
     const char *const language = peltzivar_language_name(draw() % 32);
     CHECK_LAWFUL(peltzivar_forms_read(&forms, from, len, &literal_before, NULL) == is_read);
     CHECK_LAWFUL(!peltzivar_parse_f64(&forms, from, len, &(double){0}, NULL) == (is_read && !peltzivar_to_f64(&literal, NULL)));
     test_list(&forms, from, len, is_lawful);
-    test_affixes(forms, from, len, is_lawful);
+    test_opening(forms, from, len, is_lawful);
     if (*language) test_list(peltzivar_language(language, strlen(language)), from, len, true);
     if (peltzivar_read_prefix(&syntax, from, len, &literal, &error)) {
         const peltzivar_span *const parts = &literal.sign;

@@ -34,7 +34,7 @@ TESTS = pathlib.Path(__file__).resolve().parent
 TOP = TESTS.parent.parent
 sys.path.insert(0, os.environ.get("PELTZIVAR_PACKAGE", str(TESTS.parent)))
 import peltzivar
-from peltzivar import Affixes, Edit, Error, Format, FormatError, FormatView, Forms, Kind, Language, LiteralError, OptionsError, Part, ReadErrorKind
+from peltzivar import Edit, Error, Format, FormatError, FormatView, Forms, Kind, Language, LiteralError, Opening, OptionsError, Part, ReadErrorKind
 from peltzivar import Role, Rule, Setter, SettingsError, Special, Specials, Spelling, Suffixes, Syntax, Tokens, languages, notes_of
 
 numpy = importlib.import_module("numpy") if importlib.util.find_spec("numpy") else None
@@ -338,18 +338,18 @@ class Literals(unittest.TestCase):
             with contextlib.nullcontext() if most == 256 else self.assertRaisesRegex(ValueError, "more than 256 words, kinds of suffixes, or stops"):
                 self.assertEqual(Forms({"": SYNTAX}, suffixes={"": Suffixes("a " * most)}, tokens=Tokens()).token("1a").suffix, "a")
 
-    def test_a_literal_is_what_is_between_its_affixes(self):
-        forms = {"": Syntax.of(), **{it: Syntax.of(radix=16, exponent=None, point=None) for it in ("cased", "boz", "both")}}
-        affixes = {"cased": Affixes("16r", "", True), "boz": Affixes("Z'", "'"), "both": Affixes("#x", "#H", False, True)}
-        own = Forms(forms, affixes=affixes, only_read=["boz"], tokens=Tokens(), suffixes={"both": Suffixes("u8")})
+    def test_a_literal_is_what_is_behind_its_opening(self):
+        of = functools.partial(Syntax.of, radix=16, exponent=None, point=None)
+        forms = {"": Syntax.of(), "cased": of(), "boz": of(base_suffix="'", required_base_suffix=True)}
+        forms["both"] = of(base_suffix="H", case_sensitive_base_suffix=True, required_base_suffix=True)
+        openings = {"cased": Opening("16r", True), "boz": Opening("Z'"), "both": Opening("#x")}
+        own = Forms(forms, openings=openings, only_read=["boz"], tokens=Tokens(), suffixes={"both": Suffixes("u8")})
         for forms in (own, eval(repr(own)), pickle.loads(pickle.dumps(own)), Forms(own), *Language):
             named = forms.forms if isinstance(forms, Language) else forms
-            for name, it in named.affixes.items():
+            for name, it in named.openings.items():
                 for inside, suffix in itertools.product(map(named[name].format_number, (0, 31, 2**31)), ("", "u8")):
                     with self.subTest(forms=forms, name=name, inside=inside):
-                        texts = [it.opening + inside + it.closing]
-                        texts += [it.opening.swapcase() + inside + it.closing] * (not it.case_sensitive_opening)
-                        texts += [it.opening + inside + it.closing.swapcase()] * (not it.case_sensitive_closing)
+                        texts = [it.text + inside] + [it.text.swapcase() + inside] * (not it.case_sensitive)
                         for text in (*texts, *map(str.encode, texts)):
                             literal, stop = forms.read(text), text[:0] + (b";" if isinstance(text, bytes) else ";")
                             self.assertEqual((str(literal), literal.form, literal.parts), (inside, name, named[name].read(literal.text).parts))
@@ -362,20 +362,18 @@ class Literals(unittest.TestCase):
                                 self.assertEqual((token.literal, token.suffix, token.rest), (literal, behind, stop))
                                 self.assertEqual(pickle.loads(pickle.dumps(token)), token)
         rows = [("16RF", "", "unexpected character 'R'", (2, 3)), ("#y", "both", "expected the opening `#x`", (1, 2))]
-        rows += [("z'F\u20ac", "boz", "expected the closing `'`", (3, 4)), ("#xF", "both", "expected the closing `#H`", (3, 3))]
         for text, form, sentence, span in rows:
             with self.assertRaises(LiteralError) as caught:
                 own.read(text)
             error = pickle.loads(pickle.dumps(caught.exception))
             self.assertEqual((error.form, str(error), error.span, error.valid_up_to), (form, sentence, span, span[0]))
             wanted = Error.EMPTY_INTEGER if span[0] == span[1] else Error.INVALID_DIGIT
-            self.assertEqual((error.error, error.kind), (wanted, ReadErrorKind.AFFIX if form else ReadErrorKind.BYTE))
-        # A token is read from a window, which goes on behind each byte of an opening or a closing.
-        for text in ("#x-F#H", "#x" + "0" * 40 + "F#Hu8", "Z'" + "0" * 30 + "F'"):
+            self.assertEqual((error.error, error.kind), (wanted, ReadErrorKind.OPENING if form else ReadErrorKind.BYTE))
+        # A token is read from a window, which goes on behind each byte of an opening.
+        for text in ("#x-FH", "#x" + "0" * 40 + "FHu8", "Z'" + "0" * 30 + "F'"):
             self.assertEqual([own.token(text + rest).end for rest in ("", " - 1", ", x" * 40)], [len(text)] * 3)
-        for wrong in (("123456789",), ("\u00e9",), ("", "123456789")):
-            self.assertRaises(ValueError, Affixes, *wrong)
-        self.assertRaisesRegex(ValueError, "role", Forms, {"": Syntax.of()}, affixes={"": Affixes("", "E")})
+        for wrong in ("123456789", "\u00e9"):
+            self.assertRaises(ValueError, Opening, wrong)
         self.assertRaisesRegex(ValueError, "no form", Forms, {"": Syntax.of()}, only_read=["x"])
 
     def test_integers_are_written_with_words(self):
@@ -661,10 +659,10 @@ CHANGES = {
     Specials: SPELLED,
     Suffixes: {**WORDS, "kinds": {"x": Kind(8)}, "stops": [("", "x", "")], "either_case": True, "whole_words": True},
     Tokens: {"forms": Forms({"": SYNTAX}), "following": "x", "gives_points_back": True, "gives_points_to_letters": True, "any_word_follows": True},
-    Affixes: {"opening": "o", "closing": "o", "case_sensitive_opening": True, "case_sensitive_closing": True},
+    Opening: {"text": "o", "case_sensitive": True},
     Forms: {
         **SPELLED, "forms": {"b": SYNTAX}, "kinds": {"a": Kind(8)}, "suffixes": {"a": Suffixes("u")}, "tokens": Tokens(),
-        "affixes": {"a": Affixes("o")}, "only_read": ("a",),
+        "openings": {"a": Opening("o")}, "only_read": ("a",),
     },
     Syntax: {"format": Format(), "exponent": "^", "point": ",", **{it: "size" not in it or 3 for it in peltzivar._CONDITIONS}},
 }

@@ -6,7 +6,7 @@ from fractions import Fraction
 from typing import Dict, List, Optional, Sequence, Tuple, Union
 
 from peltzivar import Column, ColumnError, Edit, Error, Format, FormatError, FormatView, Forms, Kind, Literal, LiteralError, Note
-from peltzivar import Affixes, Suffixes, Token, Tokens
+from peltzivar import Opening, Suffixes, Token, Tokens
 from peltzivar import OptionsError, Part, Parts, ReadErrorKind, Reason, ReasonsError, Role, Rule, Separators, Setter
 from peltzivar import SettingsError, Special, Specials, Spelling, Syntax, WrongCell, languages, notes_of
 
@@ -56,9 +56,9 @@ kind: Kind = Kind(signed=8, single=True, limits="both")
 of_kind: Tuple[Optional[int], Optional[int], Optional[int], bool, bool, Optional[str]] = kind.signed, kind.unsigned, literal.kind.wraps, kind.modulo, kind.single, kind.limits
 kinds: Dict[str, Kind] = forms.kinds
 suffixes: Suffixes = Suffixes(integers="u8", floats="f", any="_", kinds={"f": kind}, stops=[("", ".", "0")], either_case=True, written="u8", whole_words=True, word_bytes="-")
-affixes: Affixes = Affixes(opening="16#", closing="#", case_sensitive_opening=True, case_sensitive_closing=True)
-between: Forms = Forms({"ada": integers}, affixes={"ada": affixes}, only_read=["ada"])
-of_affixes: Tuple[Dict[str, Affixes], Sequence[str], str, str] = between.affixes, between.only_read, affixes.opening, affixes.closing
+opening: Opening = Opening(text="16#", case_sensitive=True)
+opened: Forms = Forms({"ada": integers}, openings={"ada": opening}, only_read=["ada"])
+of_opening: Tuple[Dict[str, Opening], Sequence[str], str, bool] = opened.openings, opened.only_read, opening.text, opening.case_sensitive
 rules: Tokens = Tokens(forms=None, following="if", gives_points_back=True, gives_points_to_letters=True, any_word_follows=True)
 token: Token[str] = Forms({"": syntax}, suffixes={"": suffixes}, tokens=rules).token("1u8;")
 of_token: Tuple[Literal[str], str, str, int, bytes] = token.literal, token.suffix, token.rest, token.end, languages.C.token(b" 1L", 1).suffix

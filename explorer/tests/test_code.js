@@ -12,9 +12,8 @@ function test_the_sentence_the_grammar_and_the_expression_are_those_of_all_forms
         const count = forms.length;
         const isShown = (form, at) => {
             const [told, { name }] = [library.explain(form), page.list.forms[at]];
-            const [opening, closing] = [["behind", form.opening], ["before", form.closing]].map(([place, it]) => it && `, ${place} ${it}`);
-            const head = `Numbers${count > 1 ? ` of the form ${name}` : ""}${opening}${closing}${opening + closing && ","}`;
-            const sentence = `${head} are ${told.sentence.replaceAll("`", "")}.`;
+            const opening = form.opening && `, behind ${form.opening},`;
+            const sentence = `Numbers${count > 1 ? ` of the form ${name}` : ""}${opening} are ${told.sentence.replaceAll("`", "")}.`;
             return grammar.includes(told.grammar) && (count < 2 || grammar.includes(`/* ${name} */\n`)) && sentences[at] === sentence;
         };
         const hasSpecials = library.call("numbers", { forms, specials }, specials.join("\n")).some((it) => it.is === "special value");
@@ -32,8 +31,8 @@ function test_settings_are_those_of_the_forms(_, shown) {
     const states = shown.map(stateOfWord);
     const each = library.conditions.flatMap((it) => (it.limits ?? [1]).map((value) => library.with(states.at(-1), it.name, value)));
     const other = { ...states.at(-1), conditions: formOf("integer_group_size=3 required_base_prefix=true wraps=8 single=true").conditions };
-    const marked = { ...library.usual, opening: "X'", closing: "'" };
-    const lists = [library.usual, marked, ...states, ...each].map((form) => [form]);
+    const opened = { ...library.usual, opening: "X'" };
+    const lists = [library.usual, opened, ...states, ...each].map((form) => [form]);
     return [...lists, ...languages.map(({ forms }) => forms)].flatMap((forms) => [[library.usual, "\n"], [other, "\r\n"]].flatMap(([before, end]) => {
         show(forms);
         const settings = codeOf("settings");

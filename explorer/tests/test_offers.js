@@ -14,7 +14,7 @@ function test_the_sentence_promises_what_a_button_does() {
     }).map(({ name }) => name);
 }
 
-/* Texts that flags and conditions refuse; and in a form with `_`, `x`, `h` and a closing, the words of setting what else there is, and
+/* Texts that flags and conditions refuse; and in a form with `_`, `x` and `h`, the words of setting what else there is, and
  * of clearing it. */
 const REFUSED = { required_integer_digits: ".5", required_fraction_digits: "5.", required_exponent_digits: "1e", required_mantissa_digits: ".",
     no_positive_mantissa_sign: "+1", required_mantissa_sign: "1", no_exponent_notation: "1e5", no_positive_exponent_sign: "1e+5",
@@ -29,7 +29,7 @@ const WORDS = {
     fraction_group_size: "groups of 3 digits in the fraction / groups of any number of digits in the fraction",
     single: "floats have 32 bits / not: floats have 32 bits",
     only_read: "numbers are written in other forms / not: numbers are written in other forms",
-    opening: "read `$` .. `#` as decimal / no opening", closing: "`#` at the end / no closing",
+    opening: "read `$` as decimal / no opening",
     exponent: "an exponent behind `p` / an exponent behind `e`", point: "`,` is the decimal point / `.` is the decimal point",
     ...Object.fromEntries(Object.entries(REFUSED).map(([name, text]) => {
         return [name, `refuse \`${text}\`: ${name.replace("required", "require").replaceAll("_", " ")} / allow \`${text}\``];
@@ -44,15 +44,14 @@ const WORDS = {
 
 function test_words_of_a_change_tell_what_it_does() {
     const { library } = page;
-    const base = library.with(formOf("base_prefix='x'", "base_suffix='h'", "closing='#'"), "digit_separator", 95);
-    const values = { opening: "$", closing: "", exponent: 112, point: 44 };
+    const base = library.with(formOf("base_prefix='x'", "base_suffix='h'"), "digit_separator", 95);
+    const values = { opening: "$", exponent: 112, point: 44 };
     return Object.entries(WORDS).filter(([name, words]) => {
         const usual = library.value(library.usual, name);
         const other = values[name] ?? (library.named.get(name).isNumber ? 3 : 1 - usual);
-        const states = [usual, other].map((it) => library.with(base, name, name === "closing" && !it ? "" : it));
-        if (name === "closing") states[0] = base;
+        const states = [usual, other].map((it) => library.with(base, name, it));
         const told = states.map((it, index) => changeWords(library, it, library.differences(it, states[1 - index])));
-        return (usual === 1 || name === "closing" ? told : told.toReversed()).join(" / ") !== words;
+        return (usual === 1 ? told : told.toReversed()).join(" / ") !== words;
     }).map(([name]) => name).concat(library.differing.filter(({ name, meaning }) => !(name in WORDS) && !meaning).map(({ name }) => name));
 }
 

@@ -24,7 +24,7 @@ function test_flags_are_shown_with_texts_that_they_refuse() {
  * that a link has, and in the code. So is what a form has without a control, and in a sentence. */
 function test_each_choice_lands_in_the_state_the_link_and_the_code() {
     const { library } = page;
-    const whole = ["digit_separator_flags=true", "digit_separator='_'", "base_prefix='x'", "base_suffix='h'", "opening=x'", "closing='"];
+    const whole = ["digit_separator_flags=true", "digit_separator='_'", "base_prefix='x'", "base_suffix='h'", "opening=x'"];
     const kinds = {
         signed: ["::Signed(%)", "_SIGNED, .integer_bits = %}", "(signed=%)"],
         unsigned: ["::Unsigned(%)", "_UNSIGNED, .integer_bits = %}", "(unsigned=%)"],
@@ -33,10 +33,8 @@ function test_each_choice_lands_in_the_state_the_link_and_the_code() {
         single: ["::Single", "_FLOATS_SINGLE", "(single=True)"],
         largest: ["::Largest", "_LIMITS_LARGEST", '(limits="largest")'],
         vanishing: ["::Both", "_LIMITS_BOTH", '(limits="both")'],
-        opening: ['.with_opening(Affix::new(b"%").unwrap())', ', .opening = "%"', 'Affixes(opening="%", '],
-        closing: ['.with_closing(Affix::new(b"%").unwrap()).unwrap()', ', .closing = "%"', 'closing="%")'],
-        case_sensitive_opening: ['b"x\'").unwrap().case_sensitive(true))', ", .case_sensitive_opening = true", ", case_sensitive_opening=True)"],
-        case_sensitive_closing: ['b"\'").unwrap().case_sensitive(true)).unwrap()', ", .case_sensitive_closing = true", ", case_sensitive_closing=True)"],
+        opening: ['.with_opening(Opening::new(b"%").unwrap())', ', .opening = "%"', 'Opening("%")'],
+        case_sensitive_opening: ['b"x\'").unwrap().case_sensitive(true))', ", .case_sensitive_opening = true", ", case_sensitive=True)"],
         only_read: [".only_read(true)", ", .only_read = true", 'only_read=[""]'],
     };
     const start = (name) => {
@@ -83,7 +81,7 @@ function test_each_choice_lands_in_the_state_the_link_and_the_code() {
 /* Each byte and option refuses texts below it, without a change, and takes the names of bytes that cannot be seen. */
 function test_texts_are_refused_below_their_fields() {
     page.chooseTab("edit");
-    const refused = [...page.library.bytes, ...OPTIONS, ...AFFIXES].flatMap(({ name, isText }) => {
+    const refused = [...page.library.bytes, ...OPTIONS, OPENING].flatMap(({ name, isText }) => {
         const texts = isText ? ["123456789", "\u00e9"] : name.endsWith("_radix") ? ["xyz", "256", "a", "'a'"] : ["xyz"];
         return texts.map((text) => [name, text]);
     }).filter(([name, text]) => {

@@ -5,7 +5,7 @@
 function test_each_typing_is_undone() {
     page.chooseTab("edit");
     const press = () => document.activeElement.dispatchEvent(new KeyboardEvent("keydown", { key: "z", ctrlKey: true, bubbles: true, cancelable: true }));
-    return ["literal", ...page.library.bytes.map(({ name }) => name), ...[...OPTIONS, ...AFFIXES].map(({ name }) => name)].filter((name) => {
+    return ["literal", ...page.library.bytes.map(({ name }) => name), ...[...OPTIONS, OPENING].map(({ name }) => name)].filter((name) => {
         show([page.library.usual]);
         const before = page.fragment();
         return [press, press, () => find("undo").click()].some((undo) => {
@@ -77,7 +77,7 @@ function test_failures_are_told() {
 /* Each field in which forms can differ is set, alone and with each other one. No answer is that of another form or number. */
 function test_each_pair_of_fields_has_an_answer() {
     const { library, library: { usual, differing } } = page;
-    const values = { digit_separator: 95, base_prefix: 120, base_suffix: 104, exponent: 112, point: 44, opening: "$", closing: "#" };
+    const values = { digit_separator: 95, base_prefix: 120, base_suffix: 104, exponent: 112, point: 44, opening: "$" };
     const set = (form, { name, isNumber, limits }) => library.with(form, name, values[name] ?? (isNumber ? (limits ? 3 : 16) : 1 - library.value(usual, name)));
     return differing.flatMap((first, index) => differing.slice(index).filter((second) => {
         show([set(set(usual, first), second)], "1_0\n$FF\n0x1F\n!1");

@@ -77,9 +77,8 @@ fn module(language: &Language) -> String {
             own.push(new);
         }
         let at = at.map_or("ptr::null()".to_string(), |at| format!("SUFFIXES.0.as_ptr().wrapping_add({at})"));
-        let [name, opening, closing] =
-            [it.name().as_bytes(), it.opening().as_bytes(), it.closing().as_bytes()].map(|it| made.string(&[it]));
-        shown.push(format!("Form::of({name}, form_of(IT, {form}), {at}, [{opening}, {closing}])"));
+        let [name, opening] = [it.name().as_bytes(), it.opening().as_bytes()].map(|it| made.string(&[it]));
+        shown.push(format!("Form::of({name}, form_of(IT, {form}), {at}, {opening})"));
     }
     made.array("SUFFIXES", "Suffixes", &suffixes);
     made.array("FORMS", "Form", &shown);

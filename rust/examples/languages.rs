@@ -5,7 +5,7 @@
 //! Without a text, prints the forms of all languages: the language, the form, a sentence on its numbers, its kind, its
 //! suffixes, its syntax and the settings of its format, with tabs between them.
 
-use peltzivar::literal::{Affix, FloatKind, FloatLimits, Form, IntegerKind, Kind, Language, Number, Suffixes};
+use peltzivar::literal::{FloatKind, FloatLimits, Form, IntegerKind, Kind, Language, Number, Suffixes};
 
 fn answer(language: Language, text: &[u8]) -> String {
     let form = |index: usize| language.forms()[index].name();
@@ -63,12 +63,12 @@ fn print(language: &Language, form: &Form, needs: bool) {
     let syntax = form.syntax();
     let settings = Vec::from_iter(syntax.format().edits().map(|edit| edit.to_string()));
     let (name, kind) = (form.name(), words(form.kind()));
-    let mark = |name: &str, affix: Affix| match affix.as_bytes() {
+    let opening = form.opening();
+    let opening = match opening.as_bytes() {
         [] => String::new(),
-        bytes => format!("; {name} `{}`", String::from_utf8_lossy(bytes)),
+        bytes => format!("; opening `{}`", String::from_utf8_lossy(bytes)),
     };
-    let marks = [mark("opening", form.opening()), mark("closing", form.closing())].concat();
-    let sentence = format!("{}{marks}{}", syntax.sentence(), if form.is_only_read() { "; not written" } else { "" });
+    let sentence = format!("{}{opening}{}", syntax.sentence(), if form.is_only_read() { "; not written" } else { "" });
     let words = form.suffixes().map(suffixes).unwrap_or_default() + if needs { ", required" } else { "" };
     println!("{language}\t{name}\t{sentence}\t{kind}\t{words}\t{syntax}\t{}", settings.join(" "));
 }

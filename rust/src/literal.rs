@@ -48,7 +48,7 @@
 //! # Ok::<(), WriteError>(())
 //! ```
 
-mod affix;
+mod behind;
 mod candidate;
 mod cause;
 mod conditions;
@@ -61,9 +61,9 @@ mod language;
 #[allow(clippy::exhaustive_enums, reason = "numbers are of two kinds")]
 mod list;
 mod literal;
-mod marks;
 mod notation;
 mod number;
+mod opening;
 mod scan;
 mod sentence;
 mod span;
@@ -89,7 +89,6 @@ mod tokens;
 mod value;
 mod writer;
 
-pub use affix::Affix;
 pub use cause::{Place, ReadError, ReadErrorKind};
 pub use form::Form;
 pub use kind::{FloatKind, FloatLimits, IntegerKind, Kind};
@@ -116,7 +115,7 @@ pub use language::{Language, LanguageError};
 /// assert_eq!((error.form, error.name, error.to_string()), (1, "octal", "unexpected character '8'".into()));
 /// ```
 pub use list::Forms;
-pub use list::{FormError, Mark, Number, Tokens};
+pub use list::{FormError, Number, Tokens};
 /// A number that was read from a text: its parts, which can be converted to a type of Rust.
 ///
 /// A part that is absent has no bytes. All bytes are ASCII. Two literals are equal if they have the same format, up to
@@ -141,6 +140,7 @@ pub use list::{FormError, Mark, Number, Tokens};
 /// ```
 pub use literal::Literal;
 pub use number::Digits;
+pub use opening::Opening;
 pub use specials::{Sign, Special, Specials, Spelling};
 pub use suffix::{Stop, Suffixes};
 pub use syntax::{Condition, Conditions, ConditionsError, ConditionsErrorKind, Syntax};

@@ -5,8 +5,8 @@
 mod random;
 
 use peltzivar::literal::{
-    Affix, Condition, Form, FormError, Forms, FromLiteral, Kind, Language, Literal, Number, ParseError, ReadError,
-    ReadErrorKind, Special, Specials, Suffixes, Syntax, Tokens,
+    Condition, Form, FormError, Forms, FromLiteral, Kind, Language, Literal, Number, Opening, ParseError, ReadError,
+    ReadErrorKind, Special, Specials, Suffixes, Tokens,
 };
 use random::Random;
 use std::cmp::Reverse;
@@ -32,9 +32,8 @@ fn text(random: &mut Random) -> Vec<u8> {
     (0..count).flat_map(|_| random.pick(&PIECES)).copied().collect()
 }
 
-/// Openings and closings that overlap each other and literals. Those with a capital letter are case-sensitive.
+/// Openings that overlap literals. Those with a capital letter are case-sensitive.
 const OPENINGS: [&[u8]; 9] = [b"0", b"0x", b"x", b"1", b"12", b"0Xe5", b"-", b"e", b"8F.+0001"];
-const CLOSINGS: [&[u8]; 8] = [b"q", b" ", b";", b";;", b"h", b"Qe5", b"'1.", b"x0x"];
 
 /// Suffixes of half of the forms, and words that may follow numbers.
 const WORDS: Suffixes = Suffixes::new(&[b"u8", b"x", b"D0", b"x-", b"-", b"2x"], &[b"f", b"f1", b"f,f"], &[]);
@@ -62,33 +61,28 @@ struct Case {
     any_word_follows: bool,
 }
 
-/// Returns a form of any language, with the kind of another one, maybe with an opening, a closing and suffixes.
-fn form(random: &mut Random, are_marked: bool) -> Form {
+/// Returns a form of any language, with the kind of another one, maybe with an opening and suffixes.
+fn form(random: &mut Random, are_opened: bool) -> Form {
     let forms: Vec<Form> = Language::ALL.iter().flat_map(Language::forms).copied().collect();
     let [from, kind] = [random.pick(&forms), random.pick(&forms)];
     let mut form = Form::new(from.name(), from.syntax()).with_kind(kind.kind());
-    let mark = |random: &mut Random, marks: &[&[u8]]| {
-        let bytes = random.pick(marks);
-        Affix::new(bytes).unwrap().case_sensitive(bytes.iter().any(u8::is_ascii_uppercase))
-    };
     if random.one_in(2) {
         form = form.with_suffixes(&SUFFIXES[usize::from(random.byte(0, 3))]);
     }
-    if are_marked && random.one_in(2) {
-        form = form.with_opening(mark(random, &OPENINGS));
-    }
-    if are_marked && random.one_in(2) {
-        form = form.with_closing(mark(random, &CLOSINGS)).unwrap_or(form);
+    if are_opened && random.one_in(2) {
+        let bytes = random.pick(&OPENINGS);
+        let is_case_sensitive = bytes.iter().any(u8::is_ascii_uppercase);
+        form = form.with_opening(Opening::new(bytes).unwrap().case_sensitive(is_case_sensitive));
     }
     form
 }
 
 /// Returns a list of forms, some with special values that begin as literals do.
 fn list(random: &mut Random) -> Case {
-    let are_marked = random.one_in(2);
+    let are_opened = random.one_in(2);
     let mut forms = |least, most| {
         let count = random.byte(least, most);
-        &*(0..count).map(|_| form(random, are_marked)).collect::<Vec<_>>().leak()
+        &*(0..count).map(|_| form(random, are_opened)).collect::<Vec<_>>().leak()
     };
     let (list, needing) = (forms(1, 5), forms(0, 2));
     let back = random.pick(&[Back::Never, Back::ToWords, Back::ToLetters]);
@@ -102,27 +96,16 @@ fn list(random: &mut Random) -> Case {
     Case { list, needing, back, any_word_follows }
 }
 
-/// How many bytes of an opening or a closing a text begins with.
-fn common(mark: Affix, text: &[u8]) -> usize {
-    let same = |(own, byte): &(&u8, &u8)| own == byte || !mark.is_case_sensitive() && own.eq_ignore_ascii_case(byte);
-    mark.as_bytes().iter().zip(text).take_while(same).count()
+/// How many bytes of an opening a text begins with.
+fn common(opening: Opening, text: &[u8]) -> usize {
+    let same = |(own, byte): &(&u8, &u8)| own == byte || !opening.is_case_sensitive() && own.eq_ignore_ascii_case(byte);
+    opening.as_bytes().iter().zip(text).take_while(same).count()
 }
 
-/// What is between the opening and the closing of a text, if it has both, and is a literal of the syntax.
-fn between<'t>(form: &Form, text: &'t [u8]) -> Option<Literal<'t>> {
-    let [opening, closing] = [form.opening(), form.closing()];
-    let (start, size) = (opening.as_bytes().len(), closing.as_bytes().len());
-    let end = text.len().checked_sub(size).filter(|end| start <= *end)?;
-    let is_marked = common(opening, text) == start && common(closing, &text[end..]) == size;
-    is_marked.then(|| form.syntax().read(&text[start..end]).ok())?
-}
-
-/// The index in `text`, which is behind the opening, where a literal ends behind which a part of the closing is the rest.
-fn closed_at(form: &Form, text: &[u8]) -> Option<usize> {
-    let is_end = |end: &usize| {
-        common(form.closing(), &text[*end..]) == text.len() - end && form.syntax().read(&text[..*end]).is_ok()
-    };
-    (0..=text.len()).find(is_end)
+/// What is behind the opening of a text, if it is there, and the rest is a literal of the syntax.
+fn behind<'t>(form: &Form, text: &'t [u8]) -> Option<Literal<'t>> {
+    let size = form.opening().as_bytes().len();
+    (common(form.opening(), text) == size).then(|| form.syntax().read(&text[size..]).ok())?
 }
 
 /// Whether some literal of a form begins with a text.
@@ -132,7 +115,7 @@ fn is_front(form: &Form, text: &[u8]) -> bool {
     if opened < form.opening().as_bytes().len() {
         return rest.is_empty();
     }
-    closed_at(form, rest).is_some() || form.syntax().read(rest).err().is_none_or(|it| it.valid_up_to() == rest.len())
+    form.syntax().read(rest).err().is_none_or(|it| it.valid_up_to() == rest.len())
 }
 
 /// The longest front of a text with which some literal of a form begins.
@@ -147,29 +130,14 @@ type Why = (usize, bool, Range<usize>, [String; 2]);
 fn why(form: &Form, text: &[u8]) -> Why {
     let right = right(form, text);
     let shown = if text[right..].starts_with("é".as_bytes()) { 2 } else { 1.min(text.len() - right) };
-    let stray = |sentence: String| (right, true, right..right + shown, [sentence.clone(), sentence]);
-    let expected =
-        |name, mark: Affix| stray(format!("expected the {name} `{}`", std::str::from_utf8(mark.as_bytes()).unwrap()));
     let opened = form.opening().as_bytes().len();
     if right < opened {
-        return expected("opening", form.opening());
+        let opening = form.opening();
+        let sentence = format!("expected the opening `{}`", std::str::from_utf8(opening.as_bytes()).unwrap());
+        return (right, true, right..right + shown, [sentence.clone(), sentence]);
     }
-    let (rest, size) = (&text[opened..], right - opened);
-    let error = form.syntax().read(rest).err();
     let is_stray = |it: &ReadError| it.kind() == ReadErrorKind::Byte || it.conditions().has(Condition::BasePrefix);
-    let closing = form.closing().as_bytes().len();
-    if let Some(end) = closed_at(form, &rest[..size]).filter(|_| closing > 0) {
-        if size - end == closing {
-            return stray(match text[right] {
-                byte if byte.is_ascii_graphic() && byte != b'\'' => format!("unexpected character '{}'", byte as char),
-                _ => Syntax::default().read(&text[right..]).unwrap_err().to_string(),
-            });
-        }
-        if size > end || error.is_none_or(|it| is_stray(&it)) {
-            return expected("closing", form.closing());
-        }
-    }
-    let it = error.unwrap();
+    let it = form.syntax().read(&text[opened..]).err().unwrap();
     let span = opened + it.span().start..opened + it.span().end;
     (right, is_stray(&it), span, [format!("{it}"), format!("{it:#}")])
 }
@@ -193,7 +161,7 @@ fn error_in(list: &Forms, text: &[u8]) -> (usize, Why) {
 
 /// What a list reads: the literal of a form, or else a special value, or else an error.
 fn read(list: &Forms, text: &[u8]) -> Result<Found, (usize, Why)> {
-    let literals = list.into_iter().map(|form| between(form, text));
+    let literals = list.into_iter().map(|form| behind(form, text));
     if let Some((form, literal)) = literals.enumerate().find_map(|(form, it)| Some((form, it?))) {
         return Ok(Ok((form, format!("{literal:?}"), list[form].kind())));
     }
@@ -205,7 +173,7 @@ fn read(list: &Forms, text: &[u8]) -> Result<Found, (usize, Why)> {
 
 /// The longest front of a text that is a literal of a form.
 fn longest(form: &Form, text: &[u8]) -> Option<usize> {
-    (0..=text.len()).rev().find(|size| between(form, &text[..*size]).is_some())
+    (0..=text.len()).rev().find(|size| behind(form, &text[..*size]).is_some())
 }
 
 /// The longest front that is a literal of a form, of the first form of equals: its index, and how many bytes follow.
@@ -244,10 +212,10 @@ fn candidate(form: &Form, needs: bool, back: Back, text: &[u8]) -> Option<(usize
         Back::ToWords => *it == b'.' || is_word_byte(*it),
         Back::ToLetters => it.is_ascii_alphabetic(),
     };
-    if text.get(size).is_some_and(takes) && form.closing().is_empty() && is_point(form, text, size - 1) {
+    if text.get(size).is_some_and(takes) && is_point(form, text, size - 1) {
         size -= 1;
     }
-    let literal = between(form, &text[..size])?;
+    let literal = behind(form, &text[..size])?;
     let words = form.suffixes().map_or(&[][..], |it| if literal.is_float() { it.floats() } else { it.integers() });
     let (behind, whole) = (&text[size..], word(&text[size..], more(form)));
     let is_whole = form.suffixes().is_some_and(|it| SUFFIXES[1..3].contains(it));
@@ -275,7 +243,7 @@ fn token(case: &Case, text: &[u8]) -> Ended {
         let furthest = list.into_iter().map(|form| right(form, text)).max().unwrap();
         let end = furthest + word(&text[furthest..], b"");
         let part = &text[..end];
-        if list.into_iter().any(|form| between(form, part).is_some()) {
+        if list.into_iter().any(|form| behind(form, part).is_some()) {
             return Err((end..end, "the decimal point belongs to what follows".into()));
         }
         let (_, (_, _, span, [sentence, _])) = error_in(list, part);
@@ -352,7 +320,7 @@ fn has_token(case: &Case, text: &[u8]) {
     let own = case.list.token(text);
     if let Ok(it) = own {
         let end = text.len() - it.rest.len();
-        let literal = between(&case.list[it.form], &text[..end - it.suffix.len()]).map(|it| format!("{it:?}"));
+        let literal = behind(&case.list[it.form], &text[..end - it.suffix.len()]).map(|it| format!("{it:?}"));
         assert_eq!(Some(format!("{:?}", it.literal)), literal, "{text:?} {:?}", case.list);
     }
     let own = match own {
@@ -370,8 +338,8 @@ fn languages_and_other_lists_read_as_their_forms_do() {
         agrees(language.forms(), &text);
         let case = list(random);
         let form = case.list[usize::from(random.byte(0, case.list.as_slice().len() as u8 - 1))];
-        let marked = [form.opening().as_bytes(), &text, form.closing().as_bytes(), random.pick(&PIECES)].concat();
-        for text in [&text, &marked[..usize::from(random.byte(0, marked.len() as u8))]] {
+        let opened = [form.opening().as_bytes(), &text, random.pick(&PIECES)].concat();
+        for text in [&text, &opened[..usize::from(random.byte(0, opened.len() as u8))]] {
             agrees(&case.list, text);
             has_token(&case, text);
         }

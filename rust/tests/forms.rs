@@ -8,8 +8,8 @@ mod random;
 
 use limits::{whole, Limits};
 use peltzivar::literal::{
-    Affix, Condition, Conditions, ExponentStyle, FloatKind, Form, Forms, IntegerKind, Kind, Language, Literal, Number,
-    ParseError, Real, Specials, Style, Syntax, Whole, Writable, WriteError,
+    Condition, Conditions, ExponentStyle, FloatKind, Form, Forms, IntegerKind, Kind, Language, Literal, Number,
+    Opening, ParseError, Real, Specials, Style, Syntax, Whole, Writable, WriteError,
 };
 use peltzivar::{Format, NumberFormatBuilder, Part};
 use random::Random;
@@ -191,7 +191,7 @@ fn an_integer_has_no_exponent_in_a_radix_without_floats() {
     for (radix, required) in (2..=36).flat_map(|radix| [(radix, false), (radix, true)]) {
         let format = NumberFormatBuilder::new().mantissa_radix(radix).required_exponent_notation(required);
         let form = Form::new("", Syntax::new_or_panic(format.build_format_or_panic(), b'^', b'.'));
-        let forms = [form, form.with_opening(Affix::new(b"$").unwrap())];
+        let forms = [form, form.with_opening(Opening::new(b"$").unwrap())];
         for forms in [&forms[..1], &forms[1..]].map(Forms::new_or_panic) {
             let literal = Language::JSON.read("8").unwrap().literal().unwrap();
             let style = Style::PLAIN.exponent(ExponentStyle::Always);

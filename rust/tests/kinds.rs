@@ -240,9 +240,9 @@ fn ones(form: &Form) -> Vec<String> {
 /// and of the next one. Returns the row of the limits, if a form reads such a text, and if there is a row.
 fn has_limits(language: Language, form: &Form, one: &str, suffix: &str, known: &mut Digits) -> Option<usize> {
     let (before, behind) = one.split_once('1').unwrap();
-    let [opening, closing] =
-        [form.opening(), form.closing()].map(|it| std::str::from_utf8(it.as_bytes()).unwrap().to_string());
-    let text_of = |sign, digits: &str| format!("{opening}{sign}{before}{digits}{behind}{closing}{suffix}");
+    let opening = form.opening();
+    let opening = std::str::from_utf8(opening.as_bytes()).unwrap();
+    let text_of = |sign, digits: &str| format!("{opening}{sign}{before}{digits}{behind}{suffix}");
     let text = text_of("", "1");
     let (literal, form) = whole(language, &text, suffix)?;
     let (limits, is_float) = (Limits::of(language, form, suffix), literal.is_float());

@@ -339,8 +339,9 @@ fn notations_show_each_byte_and_size() {
 fn spans_begin_with_the_opening() {
     let all = Language::ALL.iter().flat_map(|it| it.forms().into_iter().map(|form| (it.forms(), form)));
     for (forms, form) in all.filter(|(_, form)| !form.opening().is_empty()) {
-        let (opening, closing, digits) = (form.opening(), form.closing(), "1".repeat(150));
-        let text = [opening.as_bytes(), digits.as_bytes(), closing.as_bytes()].concat();
+        let (opening, digits) = (form.opening(), "1".repeat(150));
+        let suffix = Vec::from_iter(form.syntax().format().base_suffix().map(NonZeroU8::get));
+        let text = [opening.as_bytes(), digits.as_bytes(), &suffix].concat();
         let (number, front) = (forms.read(&text).unwrap(), forms.read_prefix(&text).unwrap().0);
         let literal = number.literal().unwrap();
         let values =
@@ -349,10 +350,10 @@ fn spans_begin_with_the_opening() {
         let parsed = [forms.parse(&text), forms.parse_prefix(&text).map(|it| it.0)];
         let values = values.into_iter().chain(token).map(|it| it.map_err(ParseError::from)).chain(parsed);
         let size = opening.as_bytes().len();
-        values.for_each(|it| assert_eq!(it.unwrap_err().span(), 0..size + 150, "{form:?}"));
+        values.for_each(|it| assert_eq!(it.unwrap_err().span(), 0..text.len(), "{form:?}"));
         // Without digits, the syntax refuses what is behind the opening.
-        let error = forms.read(&[opening.as_bytes(), closing.as_bytes()].concat()).unwrap_err();
-        let (inner, end) = (error.error().unwrap(), size + closing.as_bytes().len());
+        let error = forms.read(&[opening.as_bytes(), &suffix].concat()).unwrap_err();
+        let (inner, end) = (error.error().unwrap(), size + suffix.len());
         assert_eq!((inner.span(), inner.valid_up_to(), inner.code().index()), (size..end, size, Some(&size)));
         assert_eq!((error.span(), error.valid_up_to()), (size..end, size));
     }

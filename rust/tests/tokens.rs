@@ -8,8 +8,8 @@ use std::collections::BTreeSet;
 fn stated(forms: &Forms, text: &str) -> String {
     match forms.token(text) {
         Ok(token) => {
-            let (opening, closing) = (forms[token.form].opening(), forms[token.form].closing());
-            let parts = [token.literal.as_bytes(), closing.as_bytes(), token.suffix, token.rest].concat();
+            let opening = forms[token.form].opening();
+            let parts = [token.literal.as_bytes(), token.suffix, token.rest].concat();
             assert_eq!(parts, text.as_bytes()[opening.as_bytes().len()..], "{text}");
             assert!(forms[token.form].syntax().read(token.literal.as_bytes()).is_ok(), "{text}");
             format!("{}|{}", token.literal, String::from_utf8_lossy(token.suffix))

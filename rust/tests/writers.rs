@@ -2,8 +2,8 @@
 //! syntax.
 
 use peltzivar::literal::{
-    Affix, ExponentStyle, Form, Forms, Language, Literal, Sign, Special, Specials, Spelling, Style, Syntax, WriteError,
-    Written,
+    ExponentStyle, Form, Forms, Language, Literal, Opening, Sign, Special, Specials, Spelling, Style, Syntax,
+    WriteError, Written,
 };
 use peltzivar::{NumberFormatBuilder, Part, Settings};
 use std::num::NonZeroU8;
@@ -157,11 +157,12 @@ fn forms_write_what_they_read_as_the_same_number() {
 
 /// What stands around a literal counts for the width, and zeros are inside.
 #[test]
-fn marks_stand_around_what_is_written() {
-    let [opening, closing] = [b"#x", &b"#'"[..]].map(|it| Affix::new(it).unwrap());
-    let syntax = syntax_of("mantissa_radix=16 exponent_base=2 exponent_radix=10 exponent=94");
-    let form = Form::new("", syntax).with_opening(opening);
-    let forms = [form.only_read(true), form.with_closing(closing).unwrap()];
+fn an_opening_stands_before_what_is_written() {
+    let opening = Opening::new(b"#x").unwrap();
+    let syntax = syntax_of("mantissa_radix=16 exponent_base=2 exponent_radix=10 exponent=94 base_suffix=39");
+    let closed = syntax.with_conditions_or_panic(syntax.conditions().required_base_suffix(true));
+    let [first, second] = [syntax, closed].map(|it| Form::new("", it).with_opening(opening));
+    let forms = [first.only_read(true), second];
     let forms = Forms::new_or_panic(&forms);
     let long = Language::PYTHON.read("0xFFFFFFFFFFFFFFFFFFFFFFFFFFFFFFFFFFFFFFFFFFFFFFFFF").unwrap().literal().unwrap();
     let written = [
@@ -171,9 +172,9 @@ fn marks_stand_around_what_is_written() {
         Language::JAVA.forms().format_integer(3_000_000_000_u32, Style::PLAIN),
     ];
     for (written, wanted) in written.map(Result::unwrap).iter().zip([
-        "#xFF#'",
-        "#x-1.8#'",
-        "#xFFFFFFFFFFFFFFFFFFFFFFFFFFFFFFFFFFFFFFFFFFFFFFFFF#'",
+        "#xFF'",
+        "#x-1.8'",
+        "#xFFFFFFFFFFFFFFFFFFFFFFFFFFFFFFFFFFFFFFFFFFFFFFFFF'",
         "3000000000L",
     ]) {
         let padded = format!("{written:<60}|{written:^+60}|{written:060}");
@@ -222,10 +223,9 @@ fn languages_read_what_they_write() {
                 Err(error) => {
                     let forms = || target.forms().into_iter().filter(|it| !it.is_only_read());
                     let text_in = |form: &Form| {
-                        let [opening, closing] = [form.opening(), form.closing()]
-                            .map(|it| String::from_utf8_lossy(it.as_bytes()).into_owned());
+                        let opening = String::from_utf8_lossy(form.opening().as_bytes()).into_owned();
                         let written = form.syntax().format_literal(&literal, Style::PLAIN);
-                        written.map(|it| format!("{opening}{it}{closing}"))
+                        written.map(|it| format!("{opening}{it}"))
                     };
                     let is_written = |text: String| is_same(target.read(&text).unwrap().literal().unwrap());
                     assert!(

@@ -84,12 +84,12 @@ REPLACED = [
 ]
 
 # Files in which each function is const in plain Rust. Rattle's `split_at` is not, nor is what calls it.
-CONST = ("lexical_literal/src/stop.rt", "affix.rt", "candidate.rt", "marks.rt", "list.rt", "span.rt", "token.rt", "lexical_literal/src/literal.rt")
+CONST = ("lexical_literal/src/stop.rt", "behind.rt", "candidate.rt", "opening.rt", "list.rt", "span.rt", "token.rt", "lexical_literal/src/literal.rt")
 
 # Functions that are inlined in plain Rust, and of which the library for C has one copy.
 ONE_COPY = {
-    "affix.rt": "opened", "exclude.rt": "excludes is_over lacks_longer", "lexical_value/src/float.rt": "beyond", "lexical_literal/src/stop.rt": "front step",
-    "lexical_value/src/integer.rt": "keeps", "candidate.rt": r"\w+", "marks.rt": r"\w+", "reasons.rt": "clash reason_for", "scaled.rt": "settled",
+    "opening.rt": "opened", "exclude.rt": "excludes is_over lacks_longer", "lexical_value/src/float.rt": "beyond", "lexical_literal/src/stop.rt": "front step",
+    "lexical_value/src/integer.rt": "keeps", "candidate.rt": r"\w+", "behind.rt": r"\w+", "reasons.rt": "clash reason_for", "scaled.rt": "settled",
     "step.rt": "admits step_as", "suffix.rt": "is_word_byte has_word_byte is_stopped", "token.rt": r"\w+",
 }  # fmt: skip
 
@@ -164,27 +164,26 @@ REPLACED += [
     ("token.rt", "it.syntax.begin(false, text, true)", "it.syntax.begin_small(text, true)"),
     ("token.rt", "it.syntax.begin(false, front, true)", "it.syntax.begin_small(front, true)"),
     # The library for C has one copy of these.
-    ("candidate.rt", "match self.find_marked(word) {", "if cfg!(peltzivar_small) { return self.fault(word, end); } match self.find_marked(word) {"),
+    ("candidate.rt", "match self.find_opened(word) {", "if cfg!(peltzivar_small) { return self.fault(word, end); } match self.find_opened(word) {"),
     ("token.rt", "        if has_letter_behind_zero(text) {", "        if !cfg!(peltzivar_small) && has_letter_behind_zero(text) {"),
     ("token.rt", "match self.leading(tokens, text, sign) {", "let start = if cfg!(peltzivar_small) && has_letter_behind_zero(text) { sign + 1 } else { sign };\n        match self.leading(tokens, text, start) {"),
-    ("marks.rt", "const fn between<", "pub(crate) const fn between<"),
-    ("list.rt", "        if self.marked {\n            self.number(text, self.find_marked(text))", "        if !cfg!(peltzivar_small) && self.marked {\n            self.number(text, self.find_marked(text))"),
-    ("list.rt", "            let syntax = &self.forms[form].syntax;\n            if !is_behind(", "            let text = if cfg!(peltzivar_small) && self.marked { match self.forms[form].between(text) { Some(inside) => inside, None => { form += 1; continue; } } } else { text }; let syntax = &self.forms[form].syntax;\n            if !is_behind("),
+    ("behind.rt", "const fn inside<", "pub(crate) const fn inside<"),
+    ("list.rt", "        if self.opened {\n            self.number(text, self.find_opened(text))", "        if !cfg!(peltzivar_small) && self.opened {\n            self.number(text, self.find_opened(text))"),
+    ("list.rt", "            let syntax = &self.forms[form].syntax;\n            if !is_behind(", "            let text = if cfg!(peltzivar_small) && self.opened { match self.forms[form].inside(text) { Some(inside) => inside, None => { form += 1; continue; } } } else { text }; let syntax = &self.forms[form].syntax;\n            if !is_behind("),
     ("list.rt", "let begun = syntax.begin(false, text, false);", "let begun = syntax.begin_small(text, false);"),
-    ("list.rt", "Err(stop) => furthest = self.further_on(", "Err(_) if cfg!(peltzivar_small) && self.marked => {}\n Err(stop) => furthest = self.further_on("),
+    ("list.rt", "Err(stop) => furthest = self.further_on(", "Err(_) if cfg!(peltzivar_small) && self.opened => {}\n Err(stop) => furthest = self.further_on("),
     ("exclude.rt", "pub(crate) const fn is_settled(", "#[cfg_attr(not(peltzivar_small), inline(always))]\npub(crate) const fn is_settled("),
     ("lexical_literal/src/stop.rt", "stop.step(syntax, text, last)", "stop.step_any(syntax, text, last)"),
     ("lexical_literal/src/stop.rt", "at.step(self, text, last)", "at.step_any(self, text, last)"),
     ("list.rt", "    #[inline(never)]\n    const fn furthest(", "    #[cfg_attr(not(peltzivar_small), inline(never))]\n #[cfg_attr(peltzivar_small, inline(always))]\n    const fn furthest("),
     ("lexical_literal/src/stop.rt", "    #[cold]\n    pub(crate) const fn walk(", "    #[cold]\n #[cfg_attr(peltzivar_small, inline(always))]\n    pub(crate) const fn walk("),
-    ("marks.rt", "    #[cold]\n    const fn is_marked_stray(", "    #[cold]\n #[cfg_attr(peltzivar_small, inline(always))]\n    const fn is_marked_stray("),
     # Texts that are refused need it alone, and one copy is enough for all calls.
     ("lexical_literal/src/stop.rt", "    const fn step(", "    pub(crate) const fn step("),
     ("lexical_literal/src/stop.rt", "#[inline(always)]\n    pub(crate) const fn go_on(", "#[inline(never)]\n    pub(crate) const fn go_on("),
     # The library for C asks it for each byte that may end a token.
     ("feature_format/roles.rt", "const fn is_byte(", "#[inline(always)]\nconst fn is_byte("),
     # The loop over the bytes of an opening is a loop in the library for C.
-    ("affix.rt", "    #[inline(always)]\n    const fn spells(", "    #[cfg_attr(peltzivar_small, inline(never))]\n    #[cfg_attr(not(peltzivar_small), inline(always))]\n    const fn spells("),
+    ("opening.rt", "    #[inline(always)]\n    const fn spells(", "    #[cfg_attr(peltzivar_small, inline(never))]\n    #[cfg_attr(not(peltzivar_small), inline(always))]\n    const fn spells("),
     # An error is made in its place.
     ("lexical_literal/src/stop.rt", "    const fn spot(", "    pub(crate) const fn spot("),
     ("span.rt", "pub(crate) const fn spot(", "#[cfg_attr(not(peltzivar_small), inline(always))]\npub(crate) const fn spot("),

@@ -1,16 +1,16 @@
 -- The names that most proofs of this crate cite, passed on from one place. Declares nothing.
-pub use Rattle.lexical_forms.specs.Additions.Forms.{AreBelow, AreFalse, GoesTo, IsBehind, IsBetween, IsEnding, IsFirstOf, IsFoundForm, IsFoundFrontForm}
+pub use Rattle.lexical_forms.specs.Additions.Forms.{AreBelow, AreFalse, GoesTo, IsBehind, IsFirstOf, IsInside, IsFoundForm, IsFoundFrontForm}
 pub use Rattle.lexical_forms.specs.Additions.Forms.{IsFrontIn, IsLed, IsLeftOut, IsLongestPast, IsLow, IsNearSign, IsNoBetter, IsOpened}
 pub use Rattle.lexical_forms.specs.Additions.Forms.{IsOpenedTo, IsRefusedAt, IsSpare, IsStoppedBefore, IsStoppedBehind, IsStranger, LacksZero, Leads}
-pub use Rattle.lexical_forms.specs.Additions.Forms.{NoFrontPast, NoneOpenedPast, NonePast, OpensIn, PlaysNoRole, Reaches, behind, further, limit, reach}
+pub use Rattle.lexical_forms.specs.Additions.Forms.{NoFrontPast, NonePast, PlaysNoRole, Reaches, behind, further, limit, reach}
 pub use Rattle.lexical_forms.specs.Additions.Forms.{right_in}
 pub use Rattle.lexical_forms.specs.Additions.Forms.{sign_size, special_separator, spells}
 pub use Rattle.lexical_forms.specs.Additions.Token.{AreBare, AreNear, FrontsWithin, HasFrontOfSyntax, IsBestMade, IsBestOf, IsCounted, IsEnd, IsLeading, IsMade}
 pub use Rattle.lexical_forms.specs.Additions.Token.{IsNear, IsOwn, IsPicked, IsWithin, NoOwn, better, go_on_with, goes_on, has_float, has_prefix}
 pub use Rattle.lexical_forms.specs.Additions.Token.{is_in_word, suffixed, whole}
-pub use Rattle.lexical_forms.specs.FormList.{FormList, are_marked, have_marks}
-pub use Rattle.lexical_forms.specs.Forms.{Begins, HasFront, IsErrorIn, IsErrorOfForm, IsFirst, IsFormError, IsGreatest, IsReadByForms, KeepsError, NoForm}
-pub use Rattle.lexical_forms.specs.Affix.{is_free, spelling}
+pub use Rattle.lexical_forms.specs.FormList.{FormList, are_opened, have_openings}
+pub use Rattle.lexical_forms.specs.Forms.{Begins, HasFront, IsErrorIn, IsErrorOfForm, IsFirst, IsFormError, IsGreatest, IsReadByForms, NoForm}
+pub use Rattle.lexical_forms.specs.Opening.{spelling}
 pub use Rattle.lexical_forms.specs.Forms.{HasOpening, ReadsForm, ReadsIn, reach_in, refusal_in}
 pub use Rattle.lexical_forms.specs.Specials.{is_spelled, letter_of, signed, special_behind, special_of}
 pub use Rattle.lexical_forms.specs.Suffix.{begins, byte_before, is_followed, is_stopped, is_word_byte, kind_with, meets, more_of, stop_end, suffix_size}

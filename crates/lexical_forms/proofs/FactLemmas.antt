@@ -8,7 +8,7 @@ use Rattle.lexical_forms.proofs.Common.{take_all, takes_point, text_of, true, wo
 use Rattle.lexical_forms.specs.declared.suffix.Suffixes.{Suffixes}
 use Rattle.lexical_forms.proofs.FormLemmas.{all_at}
 use Rattle.lexical_forms.proofs.LeadingLemmas.{IsBare, are_bare, less_or_same, suffix_within}
-use Rattle.lexical_forms.proofs.MarkLemmas.{plain_of}
+use Rattle.lexical_forms.proofs.BehindLemmas.{plain_of}
 
 -- A form has no suffix at the end of a text.
 no_more : (form : Form) (float : Bool) (text : List ℕ) (size : ℕ) → length text ≤ size → suffix_size form.suffixes float (drop size text) ≡ 0
@@ -21,9 +21,6 @@ no_more form float text size past =
 
 kept : (a b : Bool) → b ≡ false → (a && b) ≡ false
 kept a b is = grind arith
-
-kept_too : (a b : Bool) → a ≡ false → (a && b) ≡ false
-kept_too a b is = grind arith
 
 module _ (list : FormList) (t : Tokens) (text : List ℕ) (token : Token) (is : IsToken list t text token) where
   -- The form has a candidate, which needs a suffix or not.
@@ -43,7 +40,7 @@ module _ (list : FormList) (t : Tokens) (text : List ℕ) (token : Token) (is : 
       of (inr (behind, same, at, best, others)) = all_at IsBare t.forms.now behind is.form at (are_bare t.forms.now bare.1)
 
     reads_plain : Reads (notation_of is.form.syntax) token.literal.literal (take is.size text)
-    reads_plain = plain_of is.form (take is.size text) own_bare.0 own_bare.1 token.literal.literal is.literal.1
+    reads_plain = plain_of is.form (take is.size text) own_bare token.literal.literal is.literal.1
 
     pub parts_are : text ≡ text_of token.literal.literal ++ (token.suffix.now ++ token.rest.now)
     parts_are =
@@ -71,8 +68,8 @@ module _ (list : FormList) (t : Tokens) (text : List ℕ) (token : Token) (is : 
         let all = subst (ReadsIn form l) (sym (take_all (length text) text (omega arith))) read in record {
           longest = length text;
           front = (l, record { within = omega arith; reads = all; no_longer = λ more past inside. absurd (omega (arith, past, inside)) });
-          size_is = ap (λ b. if b then length text - 1 else length text) (sym (kept _ _ (kept_too _ _
-              (ap (is_in (takes_point t.gives_points_back)) (slice_get_past text (length text) (omega arith))))));
+          size_is = ap (λ b. if b then length text - 1 else length text) (sym (kept _ _
+              (ap (is_in (takes_point t.gives_points_back)) (slice_get_past text (length text) (omega arith)))));
           literal = l;
           reads = all;
           end_is = let none = no_more form (is_float l) text (length text) (omega arith) in omega (arith, none);

@@ -3,11 +3,11 @@ use Rattle.lexical_forms.proofs.Common.{All, All-more, AreBare, AreBelow, Bool, 
 use Rattle.lexical_forms.proofs.Common.{IsErrorOfForm, IsFirst, IsFirstOf, IsFormError, IsFoundForm, IsFoundFrontForm, IsFrontIn, IsGreatest, IsLed, IsLeftOut}
 use Rattle.lexical_forms.proofs.Common.{HasOpening, IsLongestPast, IsLow, IsNearSign, IsReadByForms, IsRefusedAt, IsSomeAnd, Leads, List}
 use Rattle.lexical_forms.proofs.Common.{NoForm, NoFrontBy, NoFrontPast, None, NonePast, Notation, Ok, Option, Reaches, Read, ReadsForm, ReadsIn, Some}
-use Rattle.lexical_forms.proofs.Common.{Stopped, Tokens, [], ap, are_marked, arith, behind, cases_lt, common_steps, false, false≢true, get_or, get_or-take}
-use Rattle.lexical_forms.proofs.Common.{further, have_marks, if◌then◌else◌, inl, inr, length, length-take-le, limit, nat_lt, nat_tests, not}
+use Rattle.lexical_forms.proofs.Common.{Stopped, Tokens, [], ap, are_opened, arith, behind, cases_lt, common_steps, false, false≢true, get_or, get_or-take}
+use Rattle.lexical_forms.proofs.Common.{further, have_openings, if◌then◌else◌, inl, inr, length, length-take-le, limit, nat_lt, nat_tests}
 use Rattle.lexical_forms.proofs.Common.{reach_in, refl, refusal_in, slice_get, slice_get-get_or, slice_get_within, subst, sym, take, take_all, true, ℕ, ◌*◌}
-use Rattle.lexical_forms.proofs.Common.{◌+◌, ◌<◌, ◌==◌, ◌||◌, ◌∷◌, ◌≡◌, ◌≤◌}
-use Rattle.lexical_forms.proofs.MarkLemmas.{front_in, none_empty_in, none_in, one_reach, reach_least, reach_most}
+use Rattle.lexical_forms.proofs.Common.{◌+◌, ◌<◌, ◌||◌, ◌∷◌, ◌≡◌, ◌≤◌}
+use Rattle.lexical_forms.proofs.BehindLemmas.{front_in, no_size, none_empty_in, none_in, one_reach, reach_least, reach_most}
 use Rattle.lexical_forms.proofs.OpeningLemmas.{bit_within, one_size}
 use Rattle.lexical_forms.specs.declared.list.FormError.{FormError}
 use Rattle.lexical_forms.specs.declared.list.Number.TheVariants as numbers
@@ -128,28 +128,23 @@ number_is list text i read own is format same kind opened = (go (slice_get list.
       let first = subst (IsFirst list.forms text i) (λ j. record { format = sym format j; literal = sym same j; kind = sym kind j; opened = read.opened }) is in
       record { reads = first.reads; before = first.before }
 
--- A form of a list without marks has none.
+-- A form of a list without openings has none.
 pub no_one : (a b : Bool) → (a || b) ≡ false → (a ≡ false) × (b ≡ false)
 no_one false b is = (refl, is)
 no_one true b is = absurd (false≢true (sym is))
 
-unmarked : (a b : Bool) (x y : ℕ) → a ≡ not (x == 0) → b ≡ not (y == 0) → (a || b) ≡ false → (x ≡ 0) × (y ≡ 0)
-unmarked a b x y one two is = let both = no_one a b is in (grind (arith, nat_tests, both.0), grind (arith, nat_tests, both.1))
-
-pub plain_at : (forms : List Form) (i : ℕ) (d : Form) → i < length forms → have_marks forms ≡ false
-    → ((get_or forms i d).opening.size ≡ 0) × ((get_or forms i d).closing.size ≡ 0)
+pub plain_at : (forms : List Form) (i : ℕ) (d : Form) → i < length forms → have_openings forms ≡ false → (get_or forms i d).opening.size ≡ 0
 plain_at [] i d inside none = absurd (omega (arith, inside))
-plain_at (form ∷ forms) ℕ.zero d inside none =
-    unmarked _ _ form.opening.size form.closing.size refl refl (no_one _ (have_marks forms) none).0
-plain_at (form ∷ forms) (ℕ.suc i) d inside none = plain_at forms i d (omega (arith, inside)) (no_one _ (have_marks forms) none).1
+plain_at (form ∷ forms) ℕ.zero d inside none = no_size form.opening.size _ refl (no_one _ (have_openings forms) none).0
+plain_at (form ∷ forms) (ℕ.suc i) d inside none = plain_at forms i d (omega (arith, inside)) (no_one _ (have_openings forms) none).1
 
 -- The forms of a list, without those of its tokens.
-pub plain_forms : (forms : List Form) (t : Option (Bor Tokens)) → are_marked forms t ≡ false → have_marks forms ≡ false
+pub plain_forms : (forms : List Form) (t : Option (Bor Tokens)) → are_opened forms t ≡ false → have_openings forms ≡ false
 plain_forms forms None is = is
 plain_forms forms (Some t) is = (no_one _ _ is).0
 
-pub bare_list : (list : FormList) (t : Bor Tokens) → are_marked list.forms list.tokens ≡ false → list.tokens ≡ Some t → AreBare list t.now
-bare_list list t none same = no_one _ _ (subst (λ o. are_marked list.forms o ≡ false) same none)
+pub bare_list : (list : FormList) (t : Bor Tokens) → are_opened list.forms list.tokens ≡ false → list.tokens ≡ Some t → AreBare list t.now
+bare_list list t none same = no_one _ _ (subst (λ o. are_opened list.forms o ≡ false) same none)
 
 -- All forms have been tried.
 module _ (forms : List Form) (text : List ℕ) (i : ℕ) (end : length forms ≤ i) where

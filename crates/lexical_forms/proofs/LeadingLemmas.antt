@@ -2,17 +2,17 @@
 use Rattle.lexical_forms.proofs.Common.{All, All-more, All-take, AreSums, Bool, Bor, Candidate, Cuts, Form, FormList, FrontsWithin, HasFrontOfSyntax}
 use Rattle.lexical_forms.proofs.Common.{HasLengths, HasSums, IsAhead, IsCandidate, IsLeading, IsMeasured, IsNear, IsPicked, IsSomeAnd, IsStopped, IsToken}
 use Rattle.lexical_forms.proofs.Common.{IsTrue, IsValidUpTo, IsWithin, List, Literal, NoFront, NoFrontPast, NoLiteral, None, Notation, Option, PlaysNoRole}
-use Rattle.lexical_forms.proofs.Common.{PointsBack, Reads, ReadsIn, IsCounted, HasFront, BeginsBy, IsFront, have_marks, Record, Some, Stopped, Token, Tokens}
+use Rattle.lexical_forms.proofs.Common.{PointsBack, Reads, ReadsIn, IsCounted, HasFront, BeginsBy, IsFront, have_openings, Record, Some, Stopped, Token, Tokens}
 use Rattle.lexical_forms.proofs.Common.{[], ap, append-nil, arith, before_exponent, lets_words}
 use Rattle.lexical_forms.proofs.Common.{begins, byte_before, cases_lt, cond, cut, drop, drop-take, false, false≢true, filter, fold, get_or, gives_back}
 use Rattle.lexical_forms.proofs.Common.{go_on_with, goes, has, has_float, has_prefix, if◌then◌else◌, inl, inr, is_alone, is_ascii_digit, is_float, is_in}
 use Rattle.lexical_forms.proofs.Common.{is_in_word, is_shorter, is_stopped, is_word_byte, kind_with, length, length-append, length-take-le, list_any, map, max}
-use Rattle.lexical_forms.proofs.Common.{meets, more_of, nat_le, nat_tests, not, notation_of, option_map, refl, sign_size, slice_get, slice_get-get_or}
-use Rattle.lexical_forms.proofs.Common.{slice_get_within, subst, suffix_size, suffix_words, sym, take, take-take, take_all, takes_point, text_of, true}
+use Rattle.lexical_forms.proofs.Common.{meets, more_of, nat_le, nat_tests, notation_of, option_map, refl, sign_size, slice_get, slice_get-get_or}
+use Rattle.lexical_forms.proofs.Common.{slice_get_within, subst, suffix_size, suffix_words, sym, take, take-take, takes_point, text_of, true}
 use Rattle.lexical_forms.proofs.Common.{unwrap_or, word_size, ℕ, ◌&&◌, ◌++◌, ◌+◌, ◌-◌, ◌<◌, ◌==◌, ◌||◌, ◌∙◌, ◌∷◌, ◌≡◌, ◌≤◌}
 use Rattle.lexical_forms.proofs.ExcludeLemmas.{BeginsPrefixed, front_sign, no_role_excludes, prefix_begins}
 use Rattle.lexical_forms.proofs.FormLemmas.{all_at, no_one, plain_at}
-use Rattle.lexical_forms.proofs.MarkLemmas.{plain_in, plain_of}
+use Rattle.lexical_forms.proofs.BehindLemmas.{plain_in, plain_of}
 use Rattle.lexical_forms.proofs.OpeningLemmas.{begins_whole, both, front_byte}
 use Rattle.lexical_forms.proofs.TokenLemmas.{float_in, some_is, token_is}
 use Rattle.lexical_forms.specs.declared.suffix.Suffixes.{Suffixes}
@@ -185,9 +185,8 @@ byte_behind text size = go (size + 1 == 0) refl where
 pub given_point : (back : PointsBack) (form : Form) (text : List ℕ) (size : ℕ) → gives_back back form text (size + 1) ≡ true
     → (is_alone back text size (size + 1) ≡ true) × (is_in (notation_of form.syntax).point (slice_get text size) ≡ true)
 given_point back form text size gives =
-    let takes = is_in (takes_point back) (slice_get text (size + 1)) in
-    let parts = both (is_in (notation_of form.syntax).point (byte_before text (size + 1))) (takes && (form.closing.size == 0)) gives in
-    (alone back (both takes (form.closing.size == 0) parts.1).0, ap (is_in (notation_of form.syntax).point) (sym (byte_behind text size)) ∙ parts.0) where
+    let parts = both (is_in (notation_of form.syntax).point (byte_before text (size + 1))) (is_in (takes_point back) (slice_get text (size + 1))) gives in
+    (alone back parts.1, ap (is_in (notation_of form.syntax).point) (sym (byte_behind text size)) ∙ parts.0) where
       nothing : (o : Option ℕ) → is_in (takes_point points.Never) o ≡ false
       nothing None = refl
       nothing (Some byte) = refl
@@ -255,9 +254,9 @@ front_before back text form stop size is stop_is gives kept l reads = go (goes (
     ap (λ b. if b then size - 1 else size) (sym kept),
   )
 
--- Without an opening and a closing, a form reads what its syntax reads.
+-- Without an opening, a form reads what its syntax reads.
 abbrev pub IsBare : Form → Type 0
-IsBare form = (form.opening.size ≡ 0) × (form.closing.size ≡ 0)
+IsBare form = form.opening.size ≡ 0
 
 module _ (text : List ℕ) (form : Form) (bare : IsBare form) where
   syntax_front : (size : ℕ) → HasFront text form size → HasFrontOfSyntax text form size
@@ -265,8 +264,8 @@ module _ (text : List ℕ) (form : Form) (bare : IsBare form) where
     l,
     record {
       within = is.within;
-      reads = plain_of form (take size text) bare.0 bare.1 l is.reads;
-      no_longer = λ n past inside l reads. is.no_longer n past inside l (plain_in form (take n text) bare.0 bare.1 l reads);
+      reads = plain_of form (take size text) bare l is.reads;
+      no_longer = λ n past inside l reads. is.no_longer n past inside l (plain_in form (take n text) bare l reads);
     },
   )
 
@@ -275,8 +274,8 @@ module _ (text : List ℕ) (form : Form) (bare : IsBare form) where
     l,
     record {
       within = is.within;
-      reads = plain_in form (take size text) bare.0 bare.1 l is.reads;
-      no_longer = λ n past inside l reads. is.no_longer n past inside l (plain_of form (take n text) bare.0 bare.1 l reads);
+      reads = plain_in form (take size text) bare l is.reads;
+      no_longer = λ n past inside l reads. is.no_longer n past inside l (plain_of form (take n text) bare l reads);
     },
   )
 
@@ -284,19 +283,16 @@ module _ (text : List ℕ) (form : Form) (bare : IsBare form) where
   begins_plain size is = record {
     more = is.more;
     literal = is.literal;
-    reads = plain_of form (take size text ++ is.more) bare.0 bare.1 is.literal is.reads;
+    reads = plain_of form (take size text ++ is.more) bare is.literal is.reads;
   }
 
   counted_plain : (size : ℕ) (counts : List ℕ) → IsMeasured (notation_of form.syntax) (take size text) counts → IsCounted form (take size text) counts
   counted_plain size counts is = record {
-    literal = (is.literal.0, plain_in form (take size text) bare.0 bare.1 is.literal.0 is.literal.1);
-    room = omega (arith, bare.0, bare.1);
-    measured = subst (λ t. IsMeasured (notation_of form.syntax) t counts) (sym (
-        ap (λ n. drop n (take (length (take size text) - form.closing.size) (take size text))) bare.0
-        ∙ take_all (length (take size text) - form.closing.size) (take size text) (omega (arith, bare.1)))) is;
+    literal = (is.literal.0, plain_in form (take size text) bare is.literal.0 is.literal.1);
+    measured = subst (λ k. IsMeasured (notation_of form.syntax) (drop k (take size text)) counts) (sym bare) is;
   }
 
-pub are_bare : (forms : List Form) → have_marks forms ≡ false → All IsBare forms
+pub are_bare : (forms : List Form) → have_openings forms ≡ false → All IsBare forms
 are_bare forms none k d below = plain_at forms k d below none
 
 -- A point alone that is given back does not go on.
@@ -441,8 +437,8 @@ module _ (list : FormList) (t : Tokens) (text : List ℕ) (index : ℕ) (form : 
         → token.suffix.now ≡ take more (drop size text)
         → token.rest.now ≡ drop (size + more) text → IsToken list t text token
     leading_token token same format reads kind opened suffix rest = token_is list t text index form found picked token same
-        (format, plain_in form (take size text) own_bare.0 own_bare.1 token.literal.literal reads) kind
-        (opened ∙ sym own_bare.0)
+        (format, plain_in form (take size text) own_bare token.literal.literal reads) kind
+        (opened ∙ sym own_bare)
         (suffix ∙ ap (λ n. take n (drop size text)) (let sum : more ≡ size + more - size = omega arith in sum)) rest
         (inr (
           λ k d below. not_ahead (get_or list.forms k d) (bare k d below) (near k d below),

@@ -3,7 +3,7 @@ mod SpecialLemmas
 mod ExcludeLemmas
 mod StrangerLemmas
 mod OpeningLemmas
-pub mod MarkLemmas
+pub mod BehindLemmas
 mod FormLemmas
 mod TokenLemmas
 mod LeadingLemmas

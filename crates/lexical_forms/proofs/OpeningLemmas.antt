@@ -1,11 +1,11 @@
 -- Forms with an opening: what a syntax reads behind it, in the text before which it stands.
 use Rattle.lexical_forms.proofs.Common.{Begins, BeginsBy, Bool, Form, IsFront, IsOpened, IsOpenedTo, IsValidBy, IsValidUpTo, List, Literal, NoFrontPast}
-use Rattle.lexical_forms.proofs.Common.{NoLiteral, NoneBy, NoneOpenedPast, Notation, OpensIn, Reads, ReadsFront, ReadsFrontBy, Refusal, [], ap, append-nil}
+use Rattle.lexical_forms.proofs.Common.{NoLiteral, NoneBy, NonePast, Notation, ReadsIn, Reads, ReadsFront, ReadsFrontBy, Refusal, [], ap, append-nil}
 use Rattle.lexical_forms.proofs.Common.{append_assoc, arith, behind, cases_lt, drop, drop-append-le, drop-take, drop_all, drop_at, false, false≢true, get_or}
 use Rattle.lexical_forms.proofs.Common.{get_or-append_right, get_or-drop, get_or-take, get_or_append_left, if◌then◌else◌, inl, inr, is_absent, is_present}
 use Rattle.lexical_forms.proofs.Common.{is_stray, le_antisymm, length, length-append, length-drop, length-take-le, nat_tests, not, notation_of, reach, refl}
 use Rattle.lexical_forms.proofs.Common.{spelling, spells, subst, sym, take, true, ℕ, ◌&&◌, ◌*◌, ◌++◌, ◌+◌, ◌-◌, ◌<◌, ◌||◌, ◌∙◌, ◌∷◌, ◌≡◌, ◌≤◌}
-use Rattle.lexical_forms.specs.declared.affix.Affix.{Affix}
+use Rattle.lexical_forms.specs.declared.opening.Opening.{Opening}
 
 -- A text has one longest front that some literal begins with, and one that is a literal. A literal begins with itself.
 module _ (R : Literal → List ℕ → Type 0) (text : List ℕ) where
@@ -35,7 +35,7 @@ no_empty m l reads =
     (subst (λ i. (is_present i || (not (is_absent l.point) || not (is_absent l.exponent_character))) ≡ true) (sym integer.0)
     reads.literal.spelled.some_number)))
 
-pub none_empty : (g : Form) → NoneBy (OpensIn g) []
+pub none_empty : (g : Form) → NoneBy (ReadsIn g) []
 none_empty g l reads = no_empty (notation_of g.syntax) l
     (subst (Reads (notation_of g.syntax) l) (drop_all (g.opening.size) [] (omega arith)) reads.1)
 
@@ -55,78 +55,78 @@ front_byte text more size index below within =
     get_or_append_left (take size text) more 0 index (let same = length-take-le size text within in omega (arith, same, below))
     ∙ get_or-take size text index 0 below
 
-module _ (affix : Affix) where
-  -- The byte of an affix may be there.
-  pub spells_own : (index : ℕ) → spells affix index (get_or affix.bytes index 0) ≡ true
+module _ (opening : Opening) where
+  -- The byte of an opening may be there.
+  pub spells_own : (index : ℕ) → spells opening index (get_or opening.bytes index 0) ≡ true
   spells_own index = grind (arith, nat_tests)
 
   module _ (text : List ℕ) where
-    -- An affix without bytes is there.
-    pub no_opening : affix.size ≡ 0 → IsOpened affix text
+    -- An opening without bytes is there.
+    pub no_opening : opening.size ≡ 0 → IsOpened opening text
     no_opening none = record { within = omega (arith, none); each = λ index below. absurd (omega (arith, below, none)) }
 
     -- A text does not begin with more than its first bytes.
-    pub not_begun : (size more : ℕ) → IsOpenedTo affix text size → size < more → more ≤ affix.size → Begins affix text more → ⊥
+    pub not_begun : (size more : ℕ) → IsOpenedTo opening text size → size < more → more ≤ opening.size → Begins opening text more → ⊥
     not_begun size more is past inside begins = false≢true (
         sym (is.differs (omega (arith, past, inside)) (let within = begins.within in omega (arith, past, within))) ∙ begins.each size past)
 
-    pub not_opened : (size : ℕ) → IsOpenedTo affix text size → size < affix.size → IsOpened affix text → ⊥
-    not_opened size is short opened = not_begun size (affix.size) is short (omega arith) opened
+    pub not_opened : (size : ℕ) → IsOpenedTo opening text size → size < opening.size → IsOpened opening text → ⊥
+    not_opened size is short opened = not_begun size (opening.size) is short (omega arith) opened
 
     -- A front with more bytes, which are other ones, begins as the text does.
-    pub begins_front : (n size : ℕ) (more : List ℕ) → n ≤ size → size ≤ length text → Begins affix text n → Begins affix (take size text ++ more) n
+    pub begins_front : (n size : ℕ) (more : List ℕ) → n ≤ size → size ≤ length text → Begins opening text n → Begins opening (take size text ++ more) n
     begins_front n size more less within is = record {
       within = let same = length-take-le size text within in let all = length-append (take size text) more in omega (arith, same, all, less);
-      each = λ index below. subst (λ b. spells affix index b ≡ true) (sym (front_byte text more size index (omega (arith, below, less)) within))
+      each = λ index below. subst (λ b. spells opening index b ≡ true) (sym (front_byte text more size index (omega (arith, below, less)) within))
           (is.each index below);
     }
 
-    pub begins_text : (n size : ℕ) (more : List ℕ) → n ≤ size → size ≤ length text → Begins affix (take size text ++ more) n → Begins affix text n
+    pub begins_text : (n size : ℕ) (more : List ℕ) → n ≤ size → size ≤ length text → Begins opening (take size text ++ more) n → Begins opening text n
     begins_text n size more less within is = record {
       within = omega (arith, less, within);
-      each = λ index below. subst (λ b. spells affix index b ≡ true) (front_byte text more size index (omega (arith, below, less)) within)
+      each = λ index below. subst (λ b. spells opening index b ≡ true) (front_byte text more size index (omega (arith, below, less)) within)
           (is.each index below);
     }
 
-    begins_less : (n more : ℕ) → n ≤ more → Begins affix text more → Begins affix text n
+    begins_less : (n more : ℕ) → n ≤ more → Begins opening text more → Begins opening text n
     begins_less n more less is = record {
       within = let within = is.within in omega (arith, less, within);
       each = λ index below. is.each index (omega (arith, below, less));
     }
 
--- The first bytes of a text that are those of an affix, with the others of it behind them.
-module _ (affix : Affix) where
-  pub spelling_size : length (spelling affix) ≡ affix.size
-  spelling_size = length-take-le affix.size affix.bytes affix.within
+-- The first bytes of a text that are those of an opening, with the others of it behind them.
+module _ (opening : Opening) where
+  pub spelling_size : length (spelling opening) ≡ opening.size
+  spelling_size = length-take-le opening.size opening.bytes opening.within
 
-  module _ (text : List ℕ) (size : ℕ) (inside : size ≤ affix.size) (begins : Begins affix text size) (more : List ℕ) where
+  module _ (text : List ℕ) (size : ℕ) (inside : size ≤ opening.size) (begins : Begins opening text size) (more : List ℕ) where
     front_size : length (take size text) ≡ size
     front_size = length-take-le size text begins.within
 
-    left_size : length (drop size (spelling affix)) ≡ affix.size - size
-    left_size = length-drop size (spelling affix) ∙ ap (λ k. k - size) spelling_size
+    left_size : length (drop size (spelling opening)) ≡ opening.size - size
+    left_size = length-drop size (spelling opening) ∙ ap (λ k. k - size) spelling_size
 
-    pub completed_size : length (take size text ++ drop size (spelling affix)) ≡ affix.size
-    completed_size = let all = length-append (take size text) (drop size (spelling affix)) in omega (arith, all, front_size, left_size, inside)
+    pub completed_size : length (take size text ++ drop size (spelling opening)) ≡ opening.size
+    completed_size = let all = length-append (take size text) (drop size (spelling opening)) in omega (arith, all, front_size, left_size, inside)
 
-    byte_left : (index : ℕ) → size ≤ index → index < affix.size
-        → get_or (take size text ++ (drop size (spelling affix) ++ more)) index 0 ≡ get_or affix.bytes index 0
+    byte_left : (index : ℕ) → size ≤ index → index < opening.size
+        → get_or (take size text ++ (drop size (spelling opening) ++ more)) index 0 ≡ get_or opening.bytes index 0
     byte_left index low below =
-        get_or-append_right (take size text) (drop size (spelling affix) ++ more) size index 0 front_size low
-        ∙ get_or_append_left (drop size (spelling affix)) more 0 (index - size) (omega (arith, left_size, low, below))
-        ∙ get_or-drop size (spelling affix) (index - size) 0
-        ∙ ap (λ k. get_or (spelling affix) k 0) (let same : size + (index - size) ≡ index = omega (arith, low) in same)
-        ∙ get_or-take affix.size affix.bytes index 0 below
+        get_or-append_right (take size text) (drop size (spelling opening) ++ more) size index 0 front_size low
+        ∙ get_or_append_left (drop size (spelling opening)) more 0 (index - size) (omega (arith, left_size, low, below))
+        ∙ get_or-drop size (spelling opening) (index - size) 0
+        ∙ ap (λ k. get_or (spelling opening) k 0) (let same : size + (index - size) ≡ index = omega (arith, low) in same)
+        ∙ get_or-take opening.size opening.bytes index 0 below
 
-    pub completed : IsOpened affix (take size text ++ (drop size (spelling affix) ++ more))
+    pub completed : IsOpened opening (take size text ++ (drop size (spelling opening) ++ more))
     completed = record {
       within =
-          let all = length-append (take size text) (drop size (spelling affix) ++ more) in let rest = length-append (drop size (spelling affix)) more in
+          let all = length-append (take size text) (drop size (spelling opening) ++ more) in let rest = length-append (drop size (spelling opening)) more in
           omega (arith, all, rest, front_size, left_size, inside);
       each = λ index below. elim (cases_lt index size) [
-        | inl before ↦ subst (λ b. spells affix index b ≡ true)
-            (sym (front_byte text (drop size (spelling affix) ++ more) size index before begins.within)) (begins.each index before)
-        | inr low ↦ subst (λ b. spells affix index b ≡ true) (sym (byte_left index low below)) (spells_own affix index)
+        | inl before ↦ subst (λ b. spells opening index b ≡ true)
+            (sym (front_byte text (drop size (spelling opening) ++ more) size index before begins.within)) (begins.each index before)
+        | inr low ↦ subst (λ b. spells opening index b ≡ true) (sym (byte_left index low below)) (spells_own opening index)
       ];
     }
 
@@ -163,7 +163,7 @@ module _ (text : List ℕ) (g : Form) where
 
   -- FRONTS
 
-  pub front_behind : (size : ℕ) → n ≤ size → size ≤ length text → BeginsBy (OpensIn g) (take size text) → IsFront m (take (size - n) rest)
+  pub front_behind : (size : ℕ) → n ≤ size → size ≤ length text → BeginsBy (ReadsIn g) (take size text) → IsFront m (take (size - n) rest)
   front_behind size less within is = record {
     more = is.more;
     literal = is.literal;
@@ -171,7 +171,7 @@ module _ (text : List ℕ) (g : Form) where
   }
 
   pub front_before : (size : ℕ) → IsOpened g.opening text → n ≤ size → size ≤ length text → IsFront m (take (size - n) rest)
-      → BeginsBy (OpensIn g) (take size text)
+      → BeginsBy (ReadsIn g) (take size text)
   front_before size opened less within is = record {
     more = is.more;
     literal = is.literal;
@@ -181,7 +181,7 @@ module _ (text : List ℕ) (g : Form) where
     );
   }
 
-  pub valid_behind : (size : ℕ) → IsOpened g.opening text → IsValidUpTo m rest size → IsValidBy (OpensIn g) text (n + size)
+  pub valid_behind : (size : ℕ) → IsOpened g.opening text → IsValidUpTo m rest size → IsValidBy (ReadsIn g) text (n + size)
   valid_behind size opened is =
       let all = rest_size opened.within in let low = is.within in record {
         within = omega (arith, all, low);
@@ -193,7 +193,7 @@ module _ (text : List ℕ) (g : Form) where
 
   module _ (size : ℕ) (is : IsOpenedTo g.opening text size) (short : size < n) where
     -- The text up to there, what is left of the opening, and a literal.
-    pub front_opened : IsFront m [] → BeginsBy (OpensIn g) (take size text)
+    pub front_opened : IsFront m [] → BeginsBy (ReadsIn g) (take size text)
     front_opened some = record {
       more = drop size (spelling g.opening) ++ some.more;
       literal = some.literal;
@@ -212,12 +212,12 @@ module _ (text : List ℕ) (g : Form) where
         (begins_less g.opening (take more text ++ tail) (size + 1) n (omega (arith, short)) opened))
 
     -- No front is a literal.
-    pub past_before : (least : ℕ) → NoneOpenedPast text least g
+    pub past_before : (least : ℕ) → NonePast text least g
     past_before least more past inside l reads = not_opened g.opening text size is short
         (begins_of more inside reads.0)
 
   -- The longest front behind the opening.
-  pub opened_front : (l : Literal) (size : ℕ) → IsOpened g.opening text → n ≤ size → ReadsFront m l rest (size - n) → ReadsFrontBy (OpensIn g) l text size
+  pub opened_front : (l : Literal) (size : ℕ) → IsOpened g.opening text → n ≤ size → ReadsFront m l rest (size - n) → ReadsFrontBy (ReadsIn g) l text size
   opened_front l size opened past is =
       let all = rest_size opened.within in let low = is.within in let within : size ≤ length text = omega (arith, all, low, past) in
       record {
@@ -231,7 +231,7 @@ module _ (text : List ℕ) (g : Form) where
       }
 
   -- If no longer one is behind the opening, none is a literal.
-  pub past_behind : (size : ℕ) → NoFrontPast m rest (size - n) → NoneOpenedPast text size g
+  pub past_behind : (size : ℕ) → NoFrontPast m rest (size - n) → NonePast text size g
   past_behind size none more past inside l reads =
       let same = length-take-le more text inside in let opened = reads.0.within in
       let less : n ≤ more = omega (arith, same, opened) in let all = rest_size (omega (arith, less, inside)) in

@@ -5,7 +5,7 @@ use Rattle.lexical_forms.proofs.Common.{IsCandidate, IsChosen, IsCounted, IsCut,
 use Rattle.lexical_forms.proofs.Common.{IsOver}
 use Rattle.lexical_forms.proofs.Common.{IsOwn}
 use Rattle.lexical_forms.proofs.Common.{IsPicked, IsRefused, IsSomeAnd, IsToken, IsTokenError, IsTrue, List, Literal, NoCandidate, NoForm, NoLonger, NoOwn}
-use Rattle.lexical_forms.proofs.Common.{None, NonePast, NoneBy, Option, PointsBack, Read, Reads, ReadsForm, ReadsIn, Some, [], ◌∷◌}
+use Rattle.lexical_forms.proofs.Common.{None, NonePast, NoneBy, Option, PointsBack, Read, ReadsForm, ReadsIn, Some, [], ◌∷◌}
 use Rattle.lexical_forms.proofs.Common.{Token, Tokens, ap, arith, better, cuts_of, drop, false, get_or, gives_back, goes_on, has_float, if◌then◌else◌}
 use Rattle.lexical_forms.proofs.Common.{inl, inr, is_ascii_digit, is_float, is_in, is_shorter, is_stopped, is_word_byte, kind_with, length, length-take-le}
 use Rattle.lexical_forms.proofs.Common.{more_of, nat_tests, notation_of, refl, slice_get, slice_get-get_or, stop_end, subst, suffix_size, suffix_words}
@@ -13,7 +13,7 @@ use Rattle.lexical_forms.proofs.Common.{suffixed, sym, take, take_all, true, who
 use Rattle.lexical_forms.specs.declared.token.TokenError.{TokenError}
 use Rattle.lexical_forms.specs.declared.token.TokenError.TheVariants as errors
 use Rattle.lexical_forms.proofs.FormLemmas.{all_at}
-use Rattle.lexical_forms.proofs.MarkLemmas.{front_in, inner_is, none_empty_in}
+use Rattle.lexical_forms.proofs.BehindLemmas.{front_in, inner_is, none_empty_in}
 use Rattle.lexical_forms.proofs.OpeningLemmas.{one_front, one_valid}
 use Rattle.lexical_literal.proofs.MadeLemmas.{present}
 
@@ -35,7 +35,7 @@ pub float_is : (l : Literal) (counts : List ℕ) → HasLengths l (cuts_of count
 float_is l counts is = λ j. present _ _ is.point j || present _ _ is.exponent_character j
 
 pub float_in : (form : Form) (text counts : List ℕ) → IsCounted form text counts → (l : Literal) → ReadsIn form l text → has_float counts ≡ is_float l
-float_in form text counts is l reads = float_is l counts (is.measured.counted l reads.opens.1)
+float_in form text counts is l reads = float_is l counts (is.measured.counted l reads.1)
 
 -- A form has one candidate.
 module _ (back : PointsBack) (needs : Bool) (text : List ℕ) (form : Form) (c : Candidate) (made : IsMade back needs text form c) (s e : ℕ)
@@ -102,18 +102,11 @@ literal_size form (byte ∷ text) l reads = omega arith
 -- The parts of a front are counted behind the opening.
 counted_in : (form : Form) (text : List ℕ) (found : Found) → IsFrontIn text found form → IsCounted form (take found.size text) found.counts
 counted_in form text found is =
-    let past = is.past in let long = length-take-le found.size text (front_in form text found is).within in
     let inside = inner_is form text found is (take found.size text) _ refl refl in record {
       literal = (is.front.literal, (front_in form text found is).reads);
-      room = omega (arith, long, past);
       measured = subst (λ t. IsMeasured (notation_of form.syntax) t found.counts) (sym inside)
           (record { literal = (is.front.literal, is.front.reads.reads); counted = is.front.counted });
     }
-
--- What is between the opening and the closing of a literal can be another one.
-pub reads_between : (form : Form) (text : List ℕ) (k l : Literal) → ReadsIn form k text
-    → Reads (notation_of form.syntax) l (drop form.opening.size (take (length text - form.closing.size) text)) → ReadsIn form l text
-reads_between form text k l around reads = record { room = around.room; opens = (around.opens.0, reads); closed = around.closed }
 
 pub front_some : (form : Form) (text : List ℕ) (found : Option Found) → IfSome found (λ found. (0 < found.size) × IsFrontIn text found form)
     → (g : Found) → found ≡ Some g → IsFrontIn text g form

@@ -12,10 +12,10 @@ pub record FormList : Type 0 where
   pub specials : Specials
   pub tokens : Option (Bor Tokens)
 
--- `have_marks forms` is true if one of `forms` has an opening or a closing, and `are_marked forms tokens` if one of them or of those of `tokens` has.
-abbrev pub have_marks : List Form → Bool
-have_marks forms = list_any (λ (form : Form). not (form.opening.size == 0) || not (form.closing.size == 0)) forms
+-- `have_openings forms` is true if one of `forms` has an opening, and `are_opened forms tokens` if one of them or of those of `tokens` has.
+abbrev pub have_openings : List Form → Bool
+have_openings forms = list_any (λ (form : Form). not (form.opening.size == 0)) forms
 
-abbrev pub are_marked : List Form → Option (Bor Tokens) → Bool
-are_marked forms None = have_marks forms
-are_marked forms (Some t) = have_marks forms || have_marks t.now.forms.now
+abbrev pub are_opened : List Form → Option (Bor Tokens) → Bool
+are_opened forms None = have_openings forms
+are_opened forms (Some t) = have_openings forms || have_openings t.now.forms.now

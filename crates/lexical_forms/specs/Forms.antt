@@ -1,5 +1,5 @@
 -- Several forms of numbers: which form has a text, and which error a text has that is of no form.
-use Rattle.std.specs.Prelude.{ℕ, ◌≡◌, ◌+◌, ◌-◌, ◌*◌, ◌<◌, ◌≤◌, ◌⊎◌, false, if◌then◌else◌, IfErr, IsSomeAnd, List, Option, Some, None, Result, Ok, Err, All}
+use Rattle.std.specs.Prelude.{ℕ, ◌≡◌, ◌+◌, ◌*◌, ◌<◌, ◌≤◌, if◌then◌else◌, IfErr, IsSomeAnd, List, Option, Some, None, Result, Ok, Err, All}
 use Rattle.std.specs.Prelude.{drop, length, option_and_then, option_map, slice_get, take, ◌==◌, ◌||◌, not, ◌&&◌, true, get_or}
 use Rattle.std.specs.Result.{result_ok}
 use Rattle.std.specs.Borrow.{Bor}
@@ -13,42 +13,28 @@ use Rattle.lexical_forms.specs.FormList.{FormList}
 use Rattle.lexical_literal.specs.declared.cause.Refusal.{Refusal}
 use Rattle.lexical_forms.specs.declared.form.Form.{Form}
 use Rattle.lexical_forms.specs.declared.list.FormError.{FormError}
-use Rattle.lexical_forms.specs.declared.list.Mark.TheVariants as marks
 use Rattle.lexical_forms.specs.declared.list.Number.{Number}
 use Rattle.lexical_forms.specs.declared.list.Number.TheVariants as numbers
 use Rattle.lexical_forms.specs.declared.specials.Special.{Special}
 use Rattle.lexical_util.specs.Roles.{other_case}
-use Rattle.lexical_forms.specs.declared.affix.Affix.{Affix}
+use Rattle.lexical_forms.specs.declared.opening.Opening.{Opening}
 
--- `Begins affix text size` holds if the first `size` bytes of `text` are those of `affix`, each in either case unless its case counts.
-pub record Begins (affix : Affix) (text : List ℕ) (size : ℕ) : Type 0 where
+-- `Begins opening text size` holds if the first `size` bytes of `text` are those of `opening`, each in either case unless its case counts.
+pub record Begins (opening : Opening) (text : List ℕ) (size : ℕ) : Type 0 where
   pub within : size ≤ length text
-  pub each : (index : ℕ) → index < size → ((get_or text index 0 == get_or affix.bytes index 0)
-      || (not affix.case_sensitive && (get_or text index 0 == other_case (get_or affix.bytes index 0)))) ≡ true
+  pub each : (index : ℕ) → index < size → ((get_or text index 0 == get_or opening.bytes index 0)
+      || (not opening.case_sensitive && (get_or text index 0 == other_case (get_or opening.bytes index 0)))) ≡ true
 
--- `ReadsIn form l text` holds if `text` is a literal of `form` with the parts of `l`: the opening, a literal of the syntax, and then the closing.
-pub record ReadsIn (form : Form) (l : Literal) (text : List ℕ) : Type 0 where
-  pub room : form.closing.size ≤ length text
-  pub opens : Begins form.opening (take (length text - form.closing.size) text) form.opening.size
-      × Reads (notation_of form.syntax) l (drop form.opening.size (take (length text - form.closing.size) text))
-  pub closed : Begins form.closing (drop (length text - form.closing.size) text) form.closing.size
+-- `ReadsIn form l text` holds if `text` is a literal of `form` with the parts of `l`: the opening, and then a literal of the syntax.
+abbrev pub ReadsIn : Form → Literal → List ℕ → Type 0
+ReadsIn form l text = Begins form.opening text form.opening.size × Reads (notation_of form.syntax) l (drop form.opening.size text)
 
--- `KeepsError form text error` holds if `error` says why what is behind the opening is not a literal of the syntax, if no more bytes than it counts begin
--- a literal of `form`, and if there is no closing, or the bytes that are right are not a literal of the syntax, or the cause is more than a wrong byte.
-pub record KeepsError (form : Form) (text : List ℕ) (error : Refusal) : Type 0 where
-  pub opened : Begins form.opening text form.opening.size
-  pub none : NoneBy (Reads (notation_of form.syntax)) (drop form.opening.size text)
-  pub refusal : IsRefusal (notation_of form.syntax) (drop form.opening.size text) error
-  pub valid : IsValidBy (ReadsIn form) text (form.opening.size + error.valid_up_to)
-  pub kept : (form.closing.size ≡ 0) ⊎ (NoneBy (Reads (notation_of form.syntax)) (take error.valid_up_to (drop form.opening.size text))
-      ⊎ (is_stray error ≡ false))
-
--- `IsErrorIn form text right error` holds if the error is kept behind the opening, which has `right` bytes, or if it is `None`, and none is kept: the
--- opening or the closing is not there behind `right` bytes, the most that begin a literal of `form`.
+-- `IsErrorIn form text opened error` holds if the opening is there and has `opened` bytes, and `error` says why what is behind it is not a literal of the
+-- syntax, or if `error` is `None`, and the opening is not there: a literal of `form` begins with `opened` bytes of `text`, and with no more.
 abbrev pub IsErrorIn : Form → List ℕ → ℕ → Option Refusal → Type 0
-IsErrorIn form text right None = IsValidBy (ReadsIn form) text right × (Begins form.opening text form.opening.size → 0 < form.closing.size)
-    × ((error : Refusal) → KeepsError form text error → ⊥)
-IsErrorIn form text right (Some error) = (right ≡ form.opening.size) × KeepsError form text error
+IsErrorIn form text opened None = IsValidBy (ReadsIn form) text opened × (Begins form.opening text form.opening.size → ⊥)
+IsErrorIn form text opened (Some error) = (opened ≡ form.opening.size) × Begins form.opening text form.opening.size
+    × IsRefusal (notation_of form.syntax) (drop form.opening.size text) error
 
 -- `HasFront text form size` holds if the longest front of `text` that is a literal of `form` has `size` bytes.
 abbrev pub HasFront : List ℕ → Form → ℕ → Type 0
@@ -73,21 +59,20 @@ pub record IsGreatest (P : Form → ℕ → Type 0) (forms : List Form) (index n
   pub before : All (λ form. (other : ℕ) → P form other → other < n) (take index forms)
   pub others : All (λ form. (other : ℕ) → P form other → other ≤ n) forms
 
--- `reach_in opened error` is twice the number of bytes that are right, and 1 more if the cause is not that a byte is wrong, or a prefix or a mark missing.
+-- `reach_in opened error` is twice the number of bytes that are right, and 1 more if the cause is not that a byte is wrong, or a prefix or the opening missing.
 abbrev pub reach_in : ℕ → Option Refusal → ℕ
 reach_in opened None = 2 * opened
 reach_in opened (Some error) = 2 * opened + (2 * error.valid_up_to + (if is_stray error then 0 else 1))
 
--- `refusal_in error` is why what is behind the opening is not a literal, or `None` if the opening or the closing is not there.
+-- `refusal_in error` is why what is behind the opening is not a literal, or `None` if the opening is not there.
 abbrev pub refusal_in : FormError → Option Refusal
 refusal_in error = option_map (λ (it : Explained). it.refusal) (result_ok error.error)
 
--- `IsErrorOfForm text error form` holds if `error` has the name of `form`, and says why `text` is not a literal of it, or which byte is not of which mark.
+-- `IsErrorOfForm text error form` holds if `error` has the name of `form`, and says why `text` is not a literal of it, or which byte is not of its opening.
 pub record IsErrorOfForm (text : List ℕ) (error : FormError) (form : Form) : Type 0 where
   pub name : error.name.now ≡ form.name.now
   pub refusal : IsErrorIn form text error.opened (refusal_in error)
-  pub unmarked : IfErr error.error (λ it. (it.byte ≡ slice_get text error.opened) × (it.tail ≡ tail_of text error.opened)
-      × (it.affix ≡ elim it.mark [ marks.Opening ↦ form.opening | marks.Closing ↦ form.closing | marks.End ↦ form.closing ]))
+  pub unopened : IfErr error.error (λ it. (it.byte ≡ slice_get text error.opened) × (it.tail ≡ tail_of text error.opened) × (it.opening ≡ form.opening))
 
 -- `IsFormError forms text error` holds if `error` is that of the form with the greatest reach, the first of equals: of one that goes furthest in `text`.
 pub record IsFormError (forms : List Form) (text : List ℕ) (error : FormError) : Type 0 where

@@ -1,4 +1,4 @@
-pub mod Affix
+pub mod Opening
 pub mod Specials
 pub mod Suffix
 pub mod FormList

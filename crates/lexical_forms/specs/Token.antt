@@ -26,10 +26,10 @@ takes_point points.Never byte = false
 takes_point points.ToWords byte = (byte == 46) || is_word_byte byte
 takes_point points.ToLetters byte = is_ascii_alphabetic byte
 
--- `gives_back back form text size` is true if the first `size` bytes of `text` end in a point that is given back. Before a closing, none is.
+-- `gives_back back form text size` is true if the first `size` bytes of `text` end in a point that is given back.
 abbrev pub gives_back : PointsBack → Form → List ℕ → ℕ → Bool
 gives_back back form text size =
-    is_in (notation_of form.syntax).point (byte_before text size) && (is_in (takes_point back) (slice_get text size) && (form.closing.size == 0))
+    is_in (notation_of form.syntax).point (byte_before text size) && is_in (takes_point back) (slice_get text size)
 
 -- `is_alone back text end size` is true if no byte of a literal that goes up to `size` is behind the point at `end`, or, in a list that gives
 -- points back to letters, one letter that begins a name, before another one or a point, as in `1.eq.2`.

@@ -104,7 +104,7 @@ impl<'a> Forms<'a> {
         let (_, rest) = text.split_at(size);
         let end = size + word_size(&[], rest);
         let (word, _) = text.split_at(end);
-        match self.find_marked(word) {
+        match self.find_opened(word) {
             Err(furthest) => TokenError::Literal(self.error_at(word, furthest)),
             Ok(_) => TokenError::NotAToken { end },
         }
@@ -186,7 +186,8 @@ impl Form {
         let (suffix, _) = behind.split_at(end - size);
         let (_, rest) = text.split_at(end);
         let kind = kind_with(self.suffixes, suffix, self.kind);
-        let literal = self.syntax.summed(self.inner(front), counts);
+        let (_, inside) = front.split_at(self.opening.size());
+        let literal = self.syntax.summed(inside, counts);
         Token {
             literal: literal.with_kind(kind).behind(self.opening.size),
             form,

@@ -3,14 +3,12 @@
 ghost use Rattle.std.specs.Prelude.{ℕ, ◌≡◌, ◌+◌, ◌<◌, ◌≤◌, Bool, IsTrue, length};
 ghost use Rattle.lexical_forms.specs.Additions.Forms.{AreFalse, IsNoBetter, IsStranger, LacksZero, NoFrontPast, PlaysNoRole, sign_size};
 ghost use Rattle.lexical_forms.specs.Additions.Token.{IsWithin, has_prefix};
-ghost use Rattle.lexical_forms.specs.Affix.{is_free, may_close};
 ghost use Rattle.lexical_literal.specs.Front.{IsValidUpTo, NoFront, NoLiteral};
 ghost use Rattle.lexical_util.specs.Record.{Record};
 ghost use Rattle.lexical_util.specs.Roles.{cased, other_case};
 ghost use Rattle.lexical_literal.specs.Notation.{exponent_character_of, notation_of, point_of};
 
-use crate::affix::Affix;
-use lexical_literal::step::{is_digit, is_point, other_case, role_at};
+use lexical_literal::step::{is_digit, other_case, role_at};
 use lexical_literal::stop::byte_at;
 use lexical_literal::syntax::{Condition, Grammar, Options};
 use lexical_util::format::{Part, base_prefix, base_suffix, digit_separator};
@@ -153,35 +151,6 @@ const fn has_no_role(grammar: Grammar, byte: u8) -> bool
     byte != b'0'
         && matches!(role_at(grammar, Part::Integer, byte), None)
         && !is_digit(grammar, Part::Exponent, byte)
-}
-
-// Returns whether no literal goes on with `closing`: it is empty, or neither its first byte nor the other case of this plays a role.
-pub(crate) const fn may_close(grammar: Grammar, closing: Affix) -> bool
-    ensures { result ≡ may_close (notation_of grammar) closing }
-{
-    let byte = closing.first();
-    closing.is_empty() || (is_free(grammar, byte) && is_free(grammar, other_case(byte)))
-}
-
-// Returns whether `byte` plays no role, and is not the zero of a prefix.
-const fn is_free(grammar: Grammar, byte: u8) -> bool
-    ensures { result ≡ is_free (notation_of grammar) byte }
-{
-    let view = grammar.view();
-    let exponent = match grammar.options {
-        None => false,
-        Some(options) => view.is_exponent_character(options.exponent, byte),
-    };
-    byte != b'0'
-        && !is_digit(grammar, Part::Integer, byte)
-        && !is_digit(grammar, Part::Exponent, byte)
-        && byte != b'+'
-        && byte != b'-'
-        && !view.is_separator(byte)
-        && !view.is_base_prefix(byte)
-        && !view.is_base_suffix(byte)
-        && !is_point(grammar, byte)
-        && !exponent
 }
 
 // Returns whether there is not the base prefix that is required.

@@ -1,37 +1,31 @@
 //! A form of numbers.
 
-ghost use Rattle.std.specs.Prelude.{◌≡◌, ◌==◌, ◌||◌, ◌↔◌, IfSome, IsSome, None, Some, false, not, true};
-ghost use Rattle.lexical_forms.specs.Affix.{may_close};
+ghost use Rattle.std.specs.Prelude.{◌≡◌, ◌==◌, None, Some, false, not};
 ghost use Rattle.lexical_literal.specs.Read.{exact};
-ghost use Rattle.lexical_literal.specs.Notation.{notation_of};
 
-use crate::affix::Affix;
-use crate::exclude::may_close;
+use crate::opening::Opening;
 use crate::suffix::Suffixes;
 use lexical_literal::kind::Kind;
 use lexical_literal::syntax::Syntax;
 
-/// A form of numbers: its name, such as `hexadecimal`, its opening, syntax and closing, the suffixes of its tokens, and its kind.
+/// A form of numbers: its name, such as `hexadecimal`, its opening and syntax, the suffixes of its tokens, and its kind.
 #[derive(Clone, Copy)]
 pub struct Form {
     pub(crate) name: &'static str,
-    pub(crate) opening: Affix,
-    pub(crate) closing: Affix,
+    pub(crate) opening: Opening,
     pub(crate) syntax: Syntax,
     pub(crate) suffixes: Option<&'static Suffixes>,
     pub(crate) kind: Kind,
     pub(crate) only_read: bool,
-    ghost closable: { may_close (notation_of syntax) closing ≡ true },
 }
 
 impl Form {
-    /// Returns the form with a name, which may be empty, and a syntax, without an opening, closing and suffixes, of the kind
+    /// Returns the form with a name, which may be empty, and a syntax, without an opening and suffixes, of the kind
     /// [`Kind::EXACT`].
     #[must_use]
     pub const fn new(name: &'static str, syntax: Syntax) -> Form
         ensures name { result.name.now ≡ name.now }
         ensures opening { result.opening.size ≡ 0 }
-        ensures closing { result.closing.size ≡ 0 }
         ensures syntax { result.syntax ≡ syntax }
         ensures suffixes { result.suffixes ≡ None }
         ensures kind { result.kind ≡ exact }
@@ -39,8 +33,7 @@ impl Form {
     {
         Form {
             name,
-            opening: Affix::NONE,
-            closing: Affix::NONE,
+            opening: Opening::NONE,
             syntax,
             suffixes: None,
             kind: Kind::EXACT,
@@ -50,43 +43,16 @@ impl Form {
 
     /// Returns the same form with an opening before each of its literals.
     #[must_use]
-    pub const fn with_opening(&self, opening: Affix) -> Form
+    pub const fn with_opening(&self, opening: Opening) -> Form
         ensures { result ≡ record self.now { opening = opening } }
     {
         Form {
             name: self.name,
             opening,
-            closing: self.closing,
             syntax: self.syntax,
             suffixes: self.suffixes,
             kind: self.kind,
             only_read: self.only_read,
-        }
-    }
-
-    /// Returns the same form with a closing behind each of its literals, or `None` if the first byte of the closing, or its other case,
-    /// plays a role in the syntax: a digit, a sign, the digit separator, the decimal point, the exponent character, or the base prefix
-    /// with its 0 or suffix.
-    #[must_use]
-    pub const fn with_closing(&self, closing: Affix) -> Option<Form>
-        ensures some { IsSome result ↔ (may_close (notation_of self.now.syntax) closing ≡ true) }
-        ensures closing { IfSome result (λ form. form.closing ≡ closing) }
-        ensures names { IfSome result (λ form. (form.name ≡ self.now.name) × (form.opening ≡ self.now.opening) × (form.syntax ≡ self.now.syntax)) }
-        ensures others { IfSome result (λ form.
-            (form.suffixes ≡ self.now.suffixes) × (form.kind ≡ self.now.kind) × (form.only_read ≡ self.now.only_read)) }
-    {
-        if may_close(self.syntax.grammar(), closing) {
-            Some(Form {
-                name: self.name,
-                opening: self.opening,
-                closing,
-                syntax: self.syntax,
-                suffixes: self.suffixes,
-                kind: self.kind,
-                only_read: self.only_read,
-            })
-        } else {
-            None
         }
     }
 
@@ -95,14 +61,13 @@ impl Form {
     pub const fn with_suffixes(&self, suffixes: &'static Suffixes) -> Form
         ensures suffixes { result.suffixes ≡ Some suffixes.entry }
         ensures name { result.name ≡ self.now.name }
-        ensures marks { (result.opening ≡ self.now.opening) × (result.closing ≡ self.now.closing) }
+        ensures opening { result.opening ≡ self.now.opening }
         ensures syntax { result.syntax ≡ self.now.syntax }
         ensures others { (result.kind ≡ self.now.kind) × (result.only_read ≡ self.now.only_read) }
     {
         Form {
             name: self.name,
             opening: self.opening,
-            closing: self.closing,
             syntax: self.syntax,
             suffixes: Some(suffixes),
             kind: self.kind,
@@ -118,7 +83,6 @@ impl Form {
         Form {
             name: self.name,
             opening: self.opening,
-            closing: self.closing,
             syntax: self.syntax,
             suffixes: self.suffixes,
             kind,
@@ -134,7 +98,6 @@ impl Form {
         Form {
             name: self.name,
             opening: self.opening,
-            closing: self.closing,
             syntax: self.syntax,
             suffixes: self.suffixes,
             kind: self.kind,
@@ -144,18 +107,10 @@ impl Form {
 
     /// Returns the opening, which is empty if there is none.
     #[must_use]
-    pub const fn opening(&self) -> Affix
+    pub const fn opening(&self) -> Opening
         ensures { result ≡ self.now.opening }
     {
         self.opening
-    }
-
-    /// Returns the closing, which is empty if there is none.
-    #[must_use]
-    pub const fn closing(&self) -> Affix
-        ensures { result ≡ self.now.closing }
-    {
-        self.closing
     }
 
     /// Returns the kind.
@@ -198,12 +153,12 @@ impl Form {
         self.syntax
     }
 
-    /// Returns whether there is an opening or a closing.
+    /// Returns whether there is an opening.
     #[must_use]
     #[inline(always)]
-    pub const fn is_marked(&self) -> bool
-        ensures { result ≡ (not (self.now.opening.size == 0) || not (self.now.closing.size == 0)) }
+    pub const fn has_opening(&self) -> bool
+        ensures { result ≡ not (self.now.opening.size == 0) }
     {
-        !self.opening.is_empty() || !self.closing.is_empty()
+        !self.opening.is_empty()
     }
 }

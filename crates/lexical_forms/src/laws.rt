@@ -11,7 +11,7 @@ ghost use Rattle.lexical_literal.specs.Literal.{text_of};
 
 /// States what the parts of a token are, and which tokens are a whole text.
 pub fn token_facts()
-    // If no form has an opening or a closing, the literal, the suffix and the rest are the text.
+    // If no form has an opening, the literal, the suffix and the rest are the text.
     ensures parts { (list : FormList) → (t : Tokens) → (text : List ℕ) → (token : Token) → IsToken list t text token → AreBare list t
         → text ≡ text_of token.literal.literal ++ (token.suffix.now ++ token.rest.now) }
 

@@ -1,13 +1,13 @@
 //! Numbers of several forms, with their suffixes and special values, and tokens of source text.
 #![tactic(auto)]
 
-pub mod affix;
+mod behind;
 mod candidate;
 mod exclude;
 pub mod form;
 pub mod laws;
 pub mod list;
-mod marks;
+pub mod opening;
 pub mod specials;
 pub mod suffix;
 pub mod token;

@@ -4,13 +4,13 @@ ghost use Rattle.std.specs.Prelude.{ℕ, ◌≡◌, ◌<◌, ◌+◌, ◌-◌, �
 ghost use Rattle.std.specs.Prelude.{slice_get};
 ghost use Rattle.lexical_forms.specs.Additions.Forms.{IsBehind, IsFoundForm, IsFoundFrontForm, IsLed, IsLongestPast, IsRefusedAt, Leads, Reaches, sign_size};
 ghost use Rattle.lexical_forms.specs.Additions.Token.{IsNarrow};
-ghost use Rattle.lexical_forms.specs.FormList.{have_marks};
+ghost use Rattle.lexical_forms.specs.FormList.{have_openings};
 ghost use Rattle.lexical_forms.specs.Forms.{IsFormError, IsFrontByForms, IsReadByForms, NoForm, special_by};
 ghost use Rattle.lexical_literal.specs.Front.{NoLiteral};
 ghost use Rattle.lexical_literal.specs.Notation.{notation_of};
 ghost use Rattle.lexical_forms.specs.declared.list.PointsBack.TheVariants as points;
 
-use crate::affix::Affix;
+use crate::opening::Opening;
 use crate::exclude::{excludes, has_letter_behind_zero, is_settled, sign_size};
 use crate::form::Form;
 use crate::specials::{Special, Specials};
@@ -123,8 +123,8 @@ pub struct Forms<'a> {
     pub(crate) forms: &'a [Form],
     specials: Specials<'a>,
     pub(crate) tokens: Option<&'a Tokens>,
-    // Whether a form, or one of the tokens, may have an opening or a closing.
-    pub(crate) marked: bool,
+    // Whether a form, or one of the tokens, may have an opening.
+    pub(crate) opened: bool,
     // Whether words behind a form may have other bytes than those of any word.
     pub(crate) wide: bool,
 }
@@ -132,13 +132,13 @@ pub struct Forms<'a> {
 impl<'a> Model for Forms<'a> {
     ghost use Rattle.std.specs.Prelude.{◌≡◌, ◌<◌, false, length};
     ghost use Rattle.lexical_forms.specs.Additions.Token.{IsNarrow};
-    ghost use Rattle.lexical_forms.specs.FormList.{FormList, are_marked};
+    ghost use Rattle.lexical_forms.specs.FormList.{FormList, are_opened};
 
     ghost Value = { FormList };
 
     ghost view = { λ it. record { forms = it.forms.now; specials = it.specials; tokens = it.tokens } };
 
-    ghost invariant = { λ it. (0 < length it.forms.now) × (it.marked ≡ are_marked it.forms.now it.tokens)
+    ghost invariant = { λ it. (0 < length it.forms.now) × (it.opened ≡ are_opened it.forms.now it.tokens)
         × (it.wide ≡ false → IsNarrow it.forms.now) };
 }
 
@@ -194,31 +194,18 @@ pub struct FormError {
     pub form: usize,
     /// The name of the form.
     pub name: &'static str,
-    // The number of bytes of the opening, or of those that are right where a mark is not there.
+    // The number of bytes of the opening, or of those that are right where it is not there.
     pub(crate) opened: usize,
-    // Why what is behind the opening is not a literal of the syntax, or that the opening or the closing is not there.
-    pub(crate) error: Result<ReadError, Unmarked>,
+    // Why what is behind the opening is not a literal of the syntax, or that the opening is not there.
+    pub(crate) error: Result<ReadError, Unopened>,
 }
 
-// An opening or a closing that is not there, or that is followed by more, the byte that differs, or `None` if the text ends, and what
-// follows it in its character.
+// An opening that is not there, the byte that differs, or `None` if the text ends, and what follows it in its character.
 #[derive(Debug, Clone, Copy, PartialEq, Eq, Hash)]
-pub struct Unmarked {
-    pub(crate) mark: Mark,
-    pub(crate) affix: Affix,
+pub struct Unopened {
+    pub(crate) opening: Opening,
     pub(crate) byte: Option<u8>,
     pub(crate) tail: [u8; 3],
-}
-
-/// What stands before or behind the literals of a form.
-#[derive(Debug, Clone, Copy, PartialEq, Eq, Hash)]
-pub enum Mark {
-    /// The opening.
-    Opening,
-    /// The closing.
-    Closing,
-    /// The end of the text, which is behind the closing.
-    End,
 }
 
 impl<'a> Forms<'a> {
@@ -243,7 +230,7 @@ impl<'a> Forms<'a> {
             forms,
             specials,
             tokens: None,
-            marked: have_marks(forms),
+            opened: have_openings(forms),
             wide: are_wide(forms),
         })
     }
@@ -270,10 +257,10 @@ impl<'a> Forms<'a> {
     pub const fn with_tokens(self, tokens: &'a Tokens) -> Forms<'a>
         ensures { result ≡ record self.entry { tokens = Some tokens.entry } }
     {
-        let marked = have_marks(self.forms) || have_marks(tokens.forms);
+        let opened = have_openings(self.forms) || have_openings(tokens.forms);
         Forms {
             tokens: Some(tokens),
-            marked,
+            opened,
             ..self
         }
     }
@@ -327,8 +314,8 @@ impl<'a> Forms<'a> {
         requires { IfSome stop (λ stop. IsSomeAnd (slice_get self.now.forms 0) (IsRefusedAt text.now stop)) }
         ensures { IsReadByForms self.now text.now result }
     {
-        if self.marked {
-            self.number(text, self.find_marked(text))
+        if self.opened {
+            self.number(text, self.find_opened(text))
         } else {
             self.number(text, self.find_plain(text, stop))
         }
@@ -371,7 +358,8 @@ impl<'a> Forms<'a> {
                 let Found { size, counts } = found;
                 let it = &self.as_slice()[form];
                 let (front, rest) = text.split_at(size);
-                let literal = self.of_form(form, it.syntax.summed(it.inner(front), counts));
+                let (_, inside) = front.split_at(it.opening.size());
+                let literal = self.of_form(form, it.syntax.summed(inside, counts));
                 Ok((Number::Literal { literal, form }, rest))
             }
             Err(error) => Err(error),
@@ -401,7 +389,7 @@ impl<'a> Forms<'a> {
     // Returns the index of the first form of which `text` is a literal, and the literal, or the form whose error is that of the list. If there is
     // no literal, all forms are asked again.
     #[inline(never)]
-    pub(crate) fn find_marked<'t>(&self, text: &'t [u8]) -> Result<(usize, Literal<'t>), Furthest>
+    pub(crate) fn find_opened<'t>(&self, text: &'t [u8]) -> Result<(usize, Literal<'t>), Furthest>
         ensures { IsFoundForm self.now.forms text.now result }
     {
         let byte = match text {
@@ -419,7 +407,7 @@ impl<'a> Forms<'a> {
         Err(self.furthest(text))
     }
 
-    // Returns the same in a list without openings and closings, where the first form stops at `stop`, if it has been asked. Each form is asked
+    // Returns the same in a list without openings, where the first form stops at `stop`, if it has been asked. Each form is asked
     // once, but if it has not been asked and no form goes beyond the first byte behind the sign, all are asked again.
     #[inline(always)]
     pub(crate) fn find_plain<'t>(
@@ -428,7 +416,7 @@ impl<'a> Forms<'a> {
         stop: Option<Stopped>,
     ) -> Result<(usize, Literal<'t>), Furthest>
         requires stop { IfSome stop (λ stop. IsSomeAnd (slice_get self.now.forms 0) (IsRefusedAt text.now stop)) }
-        requires plain { have_marks self.now.forms ≡ false }
+        requires plain { have_openings self.now.forms ≡ false }
         ensures { IsFoundForm self.now.forms text.now result }
     {
         let mut furthest = None;
@@ -477,7 +465,7 @@ impl<'a> Forms<'a> {
         let mut form = 1;
         while form < self.forms.len() {
             let it = &self.forms[form];
-            if it.is_marked() || !is_settled(it.syntax.grammar(), text, stop.size) {
+            if it.has_opening() || !is_settled(it.syntax.grammar(), text, stop.size) {
                 return None;
             }
             form += 1;
@@ -505,7 +493,7 @@ impl<'a> Forms<'a> {
         let mut form = 1;
         while form < self.forms.len() {
             let it = &self.forms[form];
-            if it.is_marked() || !is_settled(it.syntax.grammar(), text, furthest.stop.size) {
+            if it.has_opening() || !is_settled(it.syntax.grammar(), text, furthest.stop.size) {
                 let stop = it.stop(text);
                 furthest = self.further(text, furthest, form, stop);
             }
@@ -586,7 +574,7 @@ impl<'a> Forms<'a> {
     // Returns the longest front of `text` that is a literal of a form, with the index of the form, the first of equals, or
     // why there is none. Forms that end behind the zero, as a decimal one does in `0x1F`, are asked if no other goes on.
     #[inline(always)]
-    #[tactic(auto, using(crate::proofs::FormLemmas::front_is, crate::proofs::FormLemmas::no_front, crate::proofs::MarkLemmas::none_whole))]
+    #[tactic(auto, using(crate::proofs::FormLemmas::front_is, crate::proofs::FormLemmas::no_front, crate::proofs::BehindLemmas::none_whole))]
     fn find_front(&self, text: &[u8]) -> Result<(usize, Found), FormError>
         ensures { IsFoundFrontForm self.now.forms text.now result }
     {
@@ -632,13 +620,13 @@ impl<'a> Forms<'a> {
     }
 }
 
-// Returns whether a form has an opening or a closing.
-const fn have_marks(forms: &[Form]) -> bool
-    ensures { result ≡ have_marks forms.now }
+// Returns whether a form has an opening.
+const fn have_openings(forms: &[Form]) -> bool
+    ensures { result ≡ have_openings forms.now }
 {
     let mut form = 0;
     while form < forms.len() {
-        if forms[form].is_marked() {
+        if forms[form].has_opening() {
             return true;
         }
         form += 1;

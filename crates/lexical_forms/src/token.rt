@@ -102,7 +102,7 @@ impl<'a> Forms<'a> {
         let Some(tokens) = self.tokens else {
             return Err(TokenError::NoTokens);
         };
-        if self.marked {
+        if self.opened {
             return self.token_of(tokens, text);
         }
         let sign = sign_size(text);
@@ -355,7 +355,7 @@ impl Form {
         is_one(self.syntax, byte_before(text, size))
             && match byte_at(text, size) {
                 None => false,
-                Some(byte) => takes_point(back, byte) && self.closing.is_empty(),
+                Some(byte) => takes_point(back, byte),
             }
     }
 }

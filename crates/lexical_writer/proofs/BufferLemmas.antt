@@ -49,7 +49,6 @@ part_size k old =
     let behind = length-drop k old in
     omega (arith, size, behind)
 
--- In a form without an opening and a closing, the text is that of the literal.
-pub plain_by : (form : Form) (l : Literal) → form.opening.size ≡ 0 → form.closing.size ≡ 0 → text_by form None l ≡ text_of l
-plain_by form l opening closing = (λ i. ((take (opening i) form.opening.bytes ++ text_of l) ++ take (closing i) form.closing.bytes) ++ [])
-    ∙ append-nil _ ∙ append-nil (text_of l)
+-- In a form without an opening, the text is that of the literal.
+pub plain_by : (form : Form) (l : Literal) → form.opening.size ≡ 0 → text_by form None l ≡ text_of l
+plain_by form l opening = (λ i. (take (opening i) form.opening.bytes ++ text_of l) ++ []) ∙ append-nil (text_of l)

@@ -19,7 +19,7 @@ use Rattle.lexical_value.specs.declared.integer.ValueErrorKind.TheVariants as ki
 use Rattle.lexical_writer.specs.Choice.{IsAmount, IsInStyle, IsReal, has_floats, has_worth}
 use Rattle.lexical_writer.specs.Conversion.{IsNear}
 use Rattle.lexical_writer.specs.Layout.{sign_of}
-use Rattle.lexical_forms.proofs.MarkLemmas.{plain_in}
+use Rattle.lexical_forms.proofs.BehindLemmas.{plain_in}
 use Rattle.lexical_value.proofs.KindLemmas.{exact_float, limited_worth}
 use Rattle.lexical_literal.specs.declared.kind.FloatKind.TheVariants as floats
 
@@ -129,11 +129,11 @@ kept_whole negative size g read word whole kept sign has =
 
 -- What is written by the first form of a list is its first literal.
 pub first_reads : (forms : List Form) (form : Form) (text : List ℕ) (l : Literal) (index : ℕ) → slice_get forms index ≡ Some form → index ≡ 0
-    → (form.opening.size ≡ 0) × (form.closing.size ≡ 0) → Reads (notation_of form.syntax) l text
+    → form.opening.size ≡ 0 → Reads (notation_of form.syntax) l text
     → IsFirst forms text index (record { format = form.syntax.word; literal = l; kind = form.kind; opened = 0 })
 first_reads forms form text l index here first none reads =
     let read : Read = record { format = form.syntax.word; literal = l; kind = form.kind; opened = 0 } in record {
-      reads = subst (λ o. IsSomeAnd o (ReadsForm text read)) (sym here) (refl, refl, plain_in form text none.0 none.1 l reads);
+      reads = subst (λ o. IsSomeAnd o (ReadsForm text read)) (sym here) (refl, refl, plain_in form text none l reads);
       before = subst (λ n. NoForm (take n forms) text) (sym first) (λ k d below. absurd (omega (arith, below, length-take-le 0 forms (omega arith))));
     }
 
@@ -182,7 +182,7 @@ worth_is read (Err error) whole is = sym (worth_whole read whole ∙ ap is_some 
 
 -- What is a literal of a form of a list is not a literal of none.
 pub none_at : (forms : List Form) (form : Form) (text : List ℕ) (index : ℕ) (l : Literal) → slice_get forms index ≡ Some form
-    → (form.opening.size ≡ 0) × (form.closing.size ≡ 0) → Reads (notation_of form.syntax) l text → NoForm forms text → ⊥
+    → form.opening.size ≡ 0 → Reads (notation_of form.syntax) l text → NoForm forms text → ⊥
 none_at forms form text index l here none reads never = subst (λ (f : Form). NoneBy (ReadsIn f) text)
     (get_or_from_slice_get forms index form form here) (never index form (slice_get_within forms index form here)) l
-    (plain_in form text none.0 none.1 l reads)
+    (plain_in form text none l reads)

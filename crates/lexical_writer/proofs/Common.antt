@@ -30,7 +30,7 @@ pub use Rattle.lexical_writer.specs.Amount.{HasShape, HasUnits, IsExponent, IsFi
 pub use Rattle.lexical_writer.specs.Amount.{is_far, is_long, is_shown, is_wanted, least_places, power_if, units_at, units_in, wished_places, with_minus}
 pub use Rattle.lexical_writer.specs.Buffer.{IsTaken}
 pub use Rattle.lexical_writer.specs.Choice.{AreBefore, ArePassed, IsChosen, IsFound, IsMisread, IsNoToken, IsPassedOver, IsReached, IsReadElse, IsReadWith}
-pub use Rattle.lexical_writer.specs.Choice.{IsRefused, IsSearched, IsStopped, IsUnusable, IsWhole, bytes_of_word, has_floats, is_asked, is_marked, is_own}
+pub use Rattle.lexical_writer.specs.Choice.{IsRefused, IsSearched, IsStopped, IsUnusable, IsWhole, bytes_of_word, has_floats, is_asked, has_opening, is_own}
 pub use Rattle.lexical_writer.specs.Choice.{is_short, steps, text_by, unasked, unwished, ways, whole_of, words_of}
 pub use Rattle.lexical_writer.specs.Private.{IsPut}
 pub use Rattle.lexical_writer.specs.Conversion.{SameFraction, amount_of, fraction_of, or_limit, source_of}

@@ -7,7 +7,7 @@ use lib.Ieee.Exact.{HasValue as HasFraction}
 use Rattle.lexical_util.specs.Layout as layout
 use Rattle.lexical_util.specs.Record.{bytes_of, raw}
 use Rattle.lexical_forms.specs.FormList.{FormList}
-use Rattle.lexical_forms.specs.Affix.{spelling}
+use Rattle.lexical_forms.specs.Opening.{spelling}
 use Rattle.lexical_forms.specs.Forms.{IsFirst, NoForm}
 use Rattle.lexical_forms.specs.Token.{IsReadByTokens}
 use Rattle.lexical_forms.specs.declared.form.Form.{Form}
@@ -90,9 +90,9 @@ abbrev pub IsReadElse : (Bool → Read → Type 0) → List Form → ℕ → Lis
 IsReadElse keeps forms index text error = (at : ℕ) × (read : Read) × IsFirst forms text at read
     × (keeps (at == index) read → ⊥) × (error ≡ (if has_worth read then errors.ReadBack else errors.TooLarge))
 
--- `is_marked form` is true if a form has an opening or a closing.
-abbrev pub is_marked : Form → Bool
-is_marked form = not (form.opening.size == 0) || not (form.closing.size == 0)
+-- `has_opening form` is true if a form has an opening.
+abbrev pub has_opening : Form → Bool
+has_opening form = not (form.opening.size == 0)
 
 -- `bytes_of_word word` has the bytes of a word, if there is one.
 abbrev pub bytes_of_word : Option (Bor (Bor (List ℕ))) → Option (List ℕ)
@@ -104,9 +104,9 @@ abbrev pub words_of : Option (Bor Suffixes) → List (Bor (List ℕ))
 words_of None = []
 words_of (Some suffixes) = suffixes.now.written.now
 
--- `text_by form word l` is the text of the literal `l` of a form, between its opening and its closing, with a word behind it if there is one.
+-- `text_by form word l` is the text of the literal `l` of a form, behind its opening, with a word behind it if there is one.
 abbrev pub text_by : Form → Option (List ℕ) → Literal → List ℕ
-text_by form word l = ((spelling form.opening ++ text_of l) ++ spelling form.closing) ++ unwrap_or word []
+text_by form word l = (spelling form.opening ++ text_of l) ++ unwrap_or word []
 
 -- `is_short error` is true if a text does not fit the buffer, which ends the search.
 abbrev pub is_short : WriteError → Bool
@@ -151,7 +151,7 @@ module _ (writes : Style → Grammar → Result Literal WriteError → Type 0) (
   -- `IsMisread style word text error` holds if `error` is why `text`, which the form writes, is not used: the list reads it as no literal that surely keeps
   -- the number or, with a word, has no such token.
   abbrev pub IsMisread : Style → Option (List ℕ) → List ℕ → WriteError → Type 0
-  IsMisread style None text error = IsReadElse (λ own. keeps style (not (is_marked form) && own)) list.forms index text error
+  IsMisread style None text error = IsReadElse (λ own. keeps style (not (has_opening form) && own)) list.forms index text error
       ⊎ (NoForm list.forms text × (error ≡ errors.ReadBack))
   IsMisread style (Some word) text error = IsNoToken (keeps style) list word text error
 

@@ -20,7 +20,7 @@ ghost use Rattle.lexical_forms.specs.declared.form.Form.{Form as Asked};
 ghost use Rattle.lexical_writer.specs.Layout.{integer_literal, laid_out, literal_of as written, number_of_size};
 ghost use Rattle.lexical_writer.specs.Choice.{ArePassed, IsChosen, IsFound, IsNoToken, IsPassedOver, IsReadBack, IsReadElse, IsReadWith, IsReal};
 ghost use Rattle.lexical_writer.specs.Choice.{IsRefused, IsSearched, IsStopped, IsTokenOf, IsWhole, bytes_of_word, has_floats, has_worth, is_asked};
-ghost use Rattle.lexical_writer.specs.Choice.{is_marked, is_own, is_short, steps, text_by, unasked, unwished, ways, whole_of};
+ghost use Rattle.lexical_writer.specs.Choice.{has_opening, is_own, is_short, steps, text_by, unasked, unwished, ways, whole_of};
 ghost use Rattle.lexical_writer.specs.Private.{IsPut};
 ghost use Rattle.lexical_writer.specs.declared.layout.WriteError.{WriteError as Reason};
 ghost use Rattle.lexical_writer.specs.declared.layout.WriteError.TheVariants as errors;
@@ -669,7 +669,7 @@ pub fn lay_out_first(forms: &Forms, number: &Whole, style: Style) -> Option<Writ
 {
     let form = &forms.as_slice()[0];
     let syntax = form.syntax();
-    if form.is_only_read() || form.is_marked() || !is_own(10, true, &syntax) {
+    if form.is_only_read() || form.has_opening() || !is_own(10, true, &syntax) {
         return None;
     }
     let Ok(integer) = WrittenInteger::of_size(number.negative, number.size, &syntax, style) else {
@@ -824,7 +824,7 @@ fn write_words<N: Writable>(
     Err(WriteError::ReadBack)
 }
 
-// Writes a number by one form with its opening and its closing, and a word behind it if there is one, and returns the length of the text, or
+// Writes a number by one form with its opening, and a word behind it if there is one, and returns the length of the text, or
 // why it is not used.
 fn write_around<N: Writable>(
     forms: &Forms,
@@ -834,7 +834,7 @@ fn write_around<N: Writable>(
     word: Option<&'static &'static [u8]>,
     buffer: &mut [u8],
 ) -> Result<usize, WriteError>
-    requires { word ≡ None → is_marked form.now ≡ true }
+    requires { word ≡ None → has_opening form.now ≡ true }
     ensures length { IfOk result (λ size. size ≤ length buffer.new) }
     ensures room { length buffer.new ≡ length buffer.old }
     ensures text { IfOk result (λ size. (l : Parts) × N.writes number.now style form.now.syntax (Ok l)
@@ -856,7 +856,7 @@ fn write_around<N: Writable>(
     Ok(end)
 }
 
-// Writes a number by one form with its opening and its closing, and a word behind it if there is one, to the beginning of a buffer, as far as
+// Writes a number by one form with its opening, and a word behind it if there is one, to the beginning of a buffer, as far as
 // it has room, and returns the length of the text, or why there is none.
 fn put_text<N: Writable>(
     form: &Form,
@@ -870,10 +870,9 @@ fn put_text<N: Writable>(
         × IsPut (text_by form.now (bytes_of_word word.entry) l) buffer.new size) }
     ensures error { IfErr result (λ error. N.writes number.now style form.now.syntax (Err error)) }
 {
-    let (opening, closing) = (form.opening(), form.closing());
+    let opening = form.opening();
     let start = put_at(buffer, 0, opening.as_bytes());
     let end = put_number(&form.syntax(), number, style, start, buffer)?;
-    let end = put_at(buffer, end, closing.as_bytes());
     Ok(match word {
         Some(word) => put_at(buffer, end, word),
         None => end,
@@ -981,7 +980,7 @@ fn write_by<N: Writable>(
         × IsReadBack forms.now (take size buffer.new) (N.is number.now style form.now.syntax l)) }
     ensures error { IfErr result (IsRefused (N.writes number.now) (N.keeps number.now) (length buffer.old) forms.now index form.now (style, None)) }
 {
-    if form.is_marked() {
+    if form.has_opening() {
         return write_around(forms, form, number, style, None, buffer);
     }
     let (size, float) = number.write(&form.syntax(), style, buffer)?;
@@ -1007,7 +1006,7 @@ fn read_written<N: Writable>(
     text: &[u8],
 ) -> Result<(), WriteError>
     requires form { slice_get forms.now.forms index ≡ Some form.now }
-    requires unmarked { (form.now.opening.size ≡ 0) × (form.now.closing.size ≡ 0) }
+    requires unopened { form.now.opening.size ≡ 0 }
     requires written { (l : Parts) × Reads (notation_of form.now.syntax) l text.now × N.writes number.now style form.now.syntax (Ok l) × (float ≡ is_float l) }
     ensures value { IfOk result (λ _. (l : Parts) × N.writes number.now style form.now.syntax (Ok l) × (text.now ≡ text_of l)
         × IsReadBack forms.now text.now (N.is number.now style form.now.syntax l)) }

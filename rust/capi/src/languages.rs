@@ -3,7 +3,7 @@
 use crate::arguments::{input, Out};
 use crate::literals::Syntax;
 use crate::names::{at, texts};
-use crate::tokens::{affix, written, Constant, Reader, Stop, SuffixKind, Suffixes, Tokens, Unit};
+use crate::tokens::{opening, written, Constant, Reader, Stop, SuffixKind, Suffixes, Tokens, Unit};
 use core::cell::UnsafeCell;
 use core::ffi::CStr;
 use core::mem::MaybeUninit;
@@ -110,36 +110,35 @@ impl KindNumbers {
 }
 
 /// A form of numbers: its name, as a null-terminated string or a null pointer, its syntax, the numbers of its kind, whether the
-/// case of its opening and its closing counts, whether it is only read, its suffixes, or a null pointer, and its opening and
-/// its closing, as strings or null pointers.
+/// case of its opening counts, whether it is only read, its suffixes, or a null pointer, and its opening, as a string or a null
+/// pointer.
 #[repr(C)]
 #[derive(Clone, Copy)]
 pub struct Form {
     name: *const u8,
     syntax: Syntax,
     kind: KindNumbers,
-    cases: [u8; 2],
+    case_sensitive_opening: u8,
     only_read: u8,
-    reserved: u8,
+    reserved: [u8; 2],
     suffixes: *const Suffixes,
-    affixes: [*const u8; 2],
+    opening: *const u8,
 }
 
 impl Form {
-    /// Returns a form in C, with a name, suffixes, an opening and a closing.
-    const fn of(name: *const u8, form: literal::Form, suffixes: *const Suffixes, affixes: [*const u8; 2]) -> Form {
+    /// Returns a form in C, with a name, suffixes and an opening.
+    const fn of(name: *const u8, form: literal::Form, suffixes: *const Suffixes, opening: *const u8) -> Form {
         let (syntax, kind) = (Syntax::of(form.syntax()), numbers_of(form.kind()));
-        let cases = [form.opening().is_case_sensitive() as u8, form.closing().is_case_sensitive() as u8];
-        Form { name, syntax, kind, cases, only_read: form.is_only_read() as u8, reserved: 0, suffixes, affixes }
+        let [case_sensitive_opening, only_read] = [form.opening().is_case_sensitive() as u8, form.is_only_read() as u8];
+        Form { name, syntax, kind, case_sensitive_opening, only_read, reserved: [0; 2], suffixes, opening }
     }
 
     /// Returns the form in Rust, without its name and its suffixes, or `None` if it is refused.
     unsafe fn given(&self) -> Option<literal::Form> {
         let kind = self.kind.kind()?;
         let form = literal::Form::new("", Syntax::given_at_once(Some(&self.syntax))?).with_kind(kind);
-        let ([opening, closing], [of_opening, of_closing]) = (self.affixes, self.cases);
-        let form = form.with_opening(affix(opening, of_opening)?).with_closing(affix(closing, of_closing)?)?;
-        (self.reserved == 0).then_some(form.only_read(self.only_read != 0))
+        let form = form.with_opening(opening(self.opening, self.case_sensitive_opening)?);
+        (self.reserved == [0; 2]).then_some(form.only_read(self.only_read != 0))
     }
 }
 
@@ -157,7 +156,7 @@ pub struct Forms {
 }
 
 // The sizes in the header.
-const _: () = assert!(size_of::<Form>() == 72 && size_of::<Forms>() == 80);
+const _: () = assert!(size_of::<Form>() == 64 && size_of::<Forms>() == 80);
 
 /// The most forms.
 const MOST: usize = 64;
@@ -252,7 +251,7 @@ unsafe fn language(forms: *const Forms) -> Option<&'static LanguageForms> {
 }
 
 /// Why forms are refused.
-const REFUSED: &str = "the forms are null, not 1 to 64, or have an unknown kind, a wrong opening or closing, \
+const REFUSED: &str = "the forms are null, not 1 to 64, or have an unknown kind, a wrong opening, \
     reserved members or too many words";
 
 /// Passes the forms with their suffixes and rules for tokens.

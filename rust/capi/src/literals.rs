@@ -6,7 +6,7 @@ use crate::numbers::{error_number, ErrorNumber, Setter, Word, NO_PART, NO_SETTER
 use core::fmt::{self, Display, Formatter};
 use core::mem::ManuallyDrop;
 use core::ops::Range;
-use peltzivar::literal::{self, Condition, Conditions, Form, FormError, Mark, Number, ReadErrorKind};
+use peltzivar::literal::{self, Condition, Conditions, Form, FormError, Number, ReadErrorKind};
 use peltzivar::{Error, Format, FormatError};
 
 /// A word with an exponent character, a decimal point and conditions, of any values. If both are 0, literals are
@@ -259,8 +259,7 @@ impl From<&FormError> for Explanation {
         let Some(error) = error.error() else {
             let Range { start, end } = error.span();
             let code = if error.is_incomplete() { Error::EmptyInteger(start) } else { Error::InvalidDigit(start) };
-            let kind = if error.mark() == Some(Mark::End) { 4 } else { 9 };
-            return Explanation { code: error_number(code), ..Explanation::of_bytes(kind, start, end) };
+            return Explanation { code: error_number(code), ..Explanation::of_bytes(9, start, end) };
         };
         let (kind, part) = match error.kind() {
             ReadErrorKind::Requirement => (1, None),

@@ -6,7 +6,7 @@ use crate::literals::{Literal, ReadError, Refusal, Span, TOO_LONG};
 use core::ffi::CStr;
 use core::mem::{self, MaybeUninit};
 use core::{ptr, slice};
-use peltzivar::literal::{self, Affix, TokenError};
+use peltzivar::literal::{self, Opening, TokenError};
 
 /// The kind of numbers with a suffix.
 #[repr(C)]
@@ -187,13 +187,13 @@ unsafe fn string(text: *const u8) -> &'static [u8] {
     }
 }
 
-/// Returns an opening or a closing, or `None` if the string is refused. Whether its case counts is a number of C.
+/// Returns an opening, or `None` if the string is refused. Whether its case counts is a number of C.
 ///
 /// # Safety
 ///
 /// As for `string`.
-pub unsafe fn affix(text: *const u8, case_sensitive: u8) -> Option<Affix> {
-    Some(Affix::new(string(text))?.case_sensitive(case_sensitive != 0))
+pub unsafe fn opening(text: *const u8, case_sensitive: u8) -> Option<Opening> {
+    Some(Opening::new(string(text))?.case_sensitive(case_sensitive != 0))
 }
 
 /// Items that are constants, with pointers to constants.

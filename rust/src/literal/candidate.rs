@@ -83,7 +83,7 @@ impl<'a> Forms<'a> {
         if cfg!(peltzivar_small) {
             return self.fault(word, end);
         }
-        match self.find_marked(word) {
+        match self.find_opened(word) {
             Err(furthest) => TokenError::Literal(self.error_at(word, furthest)),
             Ok(_) => TokenError::NotAToken { end },
         }
@@ -142,7 +142,8 @@ impl Form {
         let (suffix, _) = behind.split_at(end - size);
         let (_, rest) = text.split_at(end);
         let kind = kind_with(self.suffixes, suffix, self.kind);
-        let literal = self.syntax.summed(self.inner(front), counts);
+        let (_, inside) = front.split_at(self.opening.size());
+        let literal = self.syntax.summed(inside, counts);
         Token { literal: literal.with_kind(kind).behind(self.opening.size), form, suffix, rest }
     }
 }

@@ -2,8 +2,7 @@
 
 //! What excludes that a text is a literal of a form: its first bytes, or a byte that plays no role in the form.
 
-use crate::literal::affix::Affix;
-use crate::literal::step::{is_digit, is_point, other_case, role_at};
+use crate::literal::step::{is_digit, other_case, role_at};
 use crate::literal::stop::byte_at;
 use crate::literal::syntax::{Condition, Grammar, Options};
 use crate::word::{base_prefix, base_suffix, digit_separator, Part};
@@ -105,31 +104,6 @@ pub(crate) const fn is_over(grammar: Grammar, text: &[u8], size: usize) -> bool 
 #[inline(always)]
 const fn has_no_role(grammar: Grammar, byte: u8) -> bool {
     byte != b'0' && matches!(role_at(grammar, Part::Integer, byte), None) && !is_digit(grammar, Part::Exponent, byte)
-}
-
-// Returns whether no literal goes on with `closing`: it is empty, or neither its first byte nor the other case of this plays a role.
-pub(crate) const fn may_close(grammar: Grammar, closing: Affix) -> bool {
-    let byte = closing.first();
-    closing.is_empty() || (is_free(grammar, byte) && is_free(grammar, other_case(byte)))
-}
-
-// Returns whether `byte` plays no role, and is not the zero of a prefix.
-const fn is_free(grammar: Grammar, byte: u8) -> bool {
-    let view = grammar.view();
-    let exponent = match grammar.options {
-        None => false,
-        Some(options) => view.is_exponent_character(options.exponent, byte),
-    };
-    byte != b'0'
-        && !is_digit(grammar, Part::Integer, byte)
-        && !is_digit(grammar, Part::Exponent, byte)
-        && byte != b'+'
-        && byte != b'-'
-        && !view.is_separator(byte)
-        && !view.is_base_prefix(byte)
-        && !view.is_base_suffix(byte)
-        && !is_point(grammar, byte)
-        && !exponent
 }
 
 // Returns whether there is not the base prefix that is required.

@@ -2,18 +2,16 @@
 
 //! A form of numbers.
 
-use crate::literal::affix::Affix;
-use crate::literal::exclude::may_close;
 use crate::literal::kind::Kind;
+use crate::literal::opening::Opening;
 use crate::literal::suffix::Suffixes;
 use crate::literal::syntax::Syntax;
 
-/// A form of numbers: its name, such as `hexadecimal`, its opening, syntax and closing, the suffixes of its tokens, and its kind.
+/// A form of numbers: its name, such as `hexadecimal`, its opening and syntax, the suffixes of its tokens, and its kind.
 #[derive(Debug, Clone, Copy, PartialEq, Eq, Hash)]
 pub struct Form {
     pub(crate) name: &'static str,
-    pub(crate) opening: Affix,
-    pub(crate) closing: Affix,
+    pub(crate) opening: Opening,
     pub(crate) syntax: Syntax,
     pub(crate) suffixes: Option<&'static Suffixes>,
     pub(crate) kind: Kind,
@@ -21,52 +19,23 @@ pub struct Form {
 }
 
 impl Form {
-    /// Returns the form with a name, which may be empty, and a syntax, without an opening, closing and suffixes, of the kind
+    /// Returns the form with a name, which may be empty, and a syntax, without an opening and suffixes, of the kind
     /// [`Kind::EXACT`].
     #[must_use]
     pub const fn new(name: &'static str, syntax: Syntax) -> Form {
-        Form {
-            name,
-            opening: Affix::NONE,
-            closing: Affix::NONE,
-            syntax,
-            suffixes: None,
-            kind: Kind::EXACT,
-            only_read: false,
-        }
+        Form { name, opening: Opening::NONE, syntax, suffixes: None, kind: Kind::EXACT, only_read: false }
     }
 
     /// Returns the same form with an opening before each of its literals.
     #[must_use]
-    pub const fn with_opening(&self, opening: Affix) -> Form {
+    pub const fn with_opening(&self, opening: Opening) -> Form {
         Form {
             name: self.name,
             opening,
-            closing: self.closing,
             syntax: self.syntax,
             suffixes: self.suffixes,
             kind: self.kind,
             only_read: self.only_read,
-        }
-    }
-
-    /// Returns the same form with a closing behind each of its literals, or `None` if the first byte of the closing, or its other case,
-    /// plays a role in the syntax: a digit, a sign, the digit separator, the decimal point, the exponent character, or the base prefix
-    /// with its 0 or suffix.
-    #[must_use]
-    pub const fn with_closing(&self, closing: Affix) -> Option<Form> {
-        if may_close(self.syntax.as_grammar(), closing) {
-            Some(Form {
-                name: self.name,
-                opening: self.opening,
-                closing,
-                syntax: self.syntax,
-                suffixes: self.suffixes,
-                kind: self.kind,
-                only_read: self.only_read,
-            })
-        } else {
-            None
         }
     }
 
@@ -76,7 +45,6 @@ impl Form {
         Form {
             name: self.name,
             opening: self.opening,
-            closing: self.closing,
             syntax: self.syntax,
             suffixes: Some(suffixes),
             kind: self.kind,
@@ -90,7 +58,6 @@ impl Form {
         Form {
             name: self.name,
             opening: self.opening,
-            closing: self.closing,
             syntax: self.syntax,
             suffixes: self.suffixes,
             kind,
@@ -104,7 +71,6 @@ impl Form {
         Form {
             name: self.name,
             opening: self.opening,
-            closing: self.closing,
             syntax: self.syntax,
             suffixes: self.suffixes,
             kind: self.kind,
@@ -114,14 +80,8 @@ impl Form {
 
     /// Returns the opening, which is empty if there is none.
     #[must_use]
-    pub const fn opening(&self) -> Affix {
+    pub const fn opening(&self) -> Opening {
         self.opening
-    }
-
-    /// Returns the closing, which is empty if there is none.
-    #[must_use]
-    pub const fn closing(&self) -> Affix {
-        self.closing
     }
 
     /// Returns the kind.
@@ -154,10 +114,10 @@ impl Form {
         self.syntax
     }
 
-    /// Returns whether there is an opening or a closing.
+    /// Returns whether there is an opening.
     #[must_use]
     #[inline(always)]
-    pub const fn is_marked(&self) -> bool {
-        !self.opening.is_empty() || !self.closing.is_empty()
+    pub const fn has_opening(&self) -> bool {
+        !self.opening.is_empty()
     }
 }

@@ -3,8 +3,8 @@
 use core::{fmt, ops, ops::Range, slice, str};
 
 use crate::literal::exclude::has_letter_behind_zero;
-use crate::literal::list::{Furthest, Mark, Unmarked};
-use crate::literal::sentence::{first_character, unexpected};
+use crate::literal::list::{Furthest, Unopened};
+use crate::literal::sentence::first_character;
 use crate::literal::stop::{Begun, Stopped};
 use crate::literal::value::Decimal;
 use crate::literal::{
@@ -64,7 +64,7 @@ impl<'a> Forms<'a> {
     // for C and the page, which set `peltzivar_small`, have no second copy of the reader for this.
     #[inline(always)]
     fn asks_first(&self, text: &[u8]) -> bool {
-        !cfg!(peltzivar_small) && !self.marked && (self.forms.len() == 1 || !has_letter_behind_zero(text))
+        !cfg!(peltzivar_small) && !self.opened && (self.forms.len() == 1 || !has_letter_behind_zero(text))
     }
 
     // Returns the literal of the first form that `text` is, if this is known at once, as of most decimal ones, or where the
@@ -87,7 +87,7 @@ impl<'a> Forms<'a> {
     #[doc(hidden)]
     #[must_use]
     pub fn find<'t>(&self, text: &'t [u8]) -> Option<Number<'t>> {
-        if self.marked {
+        if self.opened {
             return self.read_bytes(text).ok();
         }
         let stop = match self.first_decimal(text) {
@@ -144,8 +144,8 @@ impl<'a> Forms<'a> {
     // Returns what `parse` returns, where the first form stops at `stop`, if it has been asked.
     #[inline(never)]
     fn parse_behind<T: FromLiteral>(&self, text: &[u8], stop: Option<Stopped>) -> Result<T, ParseError> {
-        if self.marked {
-            return self.parse_marked(text);
+        if self.opened {
+            return self.parse_opened(text);
         }
         let (error, kind) = match self.find_plain(text, stop) {
             Ok((form, literal)) => {
@@ -166,9 +166,9 @@ impl<'a> Forms<'a> {
         Err(ParseError::Value(ValueError::of::<T>(error, text.len(), kind)))
     }
 
-    // Returns what `parse` returns in a list with openings or closings.
+    // Returns what `parse` returns in a list with openings.
     #[cold]
-    fn parse_marked<T: FromLiteral>(&self, text: &[u8]) -> Result<T, ParseError> {
+    fn parse_opened<T: FromLiteral>(&self, text: &[u8]) -> Result<T, ParseError> {
         let (value, size, kind) = match self.read_bytes(text)? {
             Number::Special(special) => (T::from_special(special), text.len(), IntegerKind::Exact),
             Number::Literal { literal, .. } => {
@@ -178,7 +178,7 @@ impl<'a> Forms<'a> {
         value.map_err(|error| ParseError::Value(ValueError::of::<T>(error, size, kind)))
     }
 
-    // Returns the error of the form that goes furthest, made in its place. The list has neither openings nor closings.
+    // Returns the error of the form that goes furthest, made in its place. The list has no openings.
     #[cold]
     fn refuse<T>(&self, text: &[u8], furthest: Furthest) -> Result<T, ParseError> {
         let Furthest { form, stop, .. } = furthest;
@@ -297,8 +297,8 @@ impl FormError {
         FormError { form: 0, name: "", opened: 0, error: Ok(error) }
     }
 
-    /// Returns why what is between the [opening][Form::with_opening] and the [closing][Form::with_closing] is not a literal
-    /// of the syntax, or `None` if there is a [mark][Self::mark]. All indexes count from the beginning of the text.
+    /// Returns why what is behind the [opening][Form::with_opening] is not a literal of the syntax, or `None` if the opening
+    /// is not there. All indexes count from the beginning of the text.
     #[must_use]
     pub const fn error(&self) -> Option<ReadError> {
         match &self.error {
@@ -307,30 +307,21 @@ impl FormError {
         }
     }
 
-    /// Returns what was expected: the opening, the closing, or the end of the text behind the closing, or `None` if the
-    /// syntax refuses what is between.
-    #[must_use]
-    pub const fn mark(&self) -> Option<Mark> {
-        match &self.error {
-            Ok(_) => None,
-            Err(it) => Some(it.mark),
-        }
-    }
-
-    /// Returns the range of the bytes to show, as [`ReadError::span`] does: of a [mark][Self::mark], the wrong character.
+    /// Returns the range of the bytes to show, as [`ReadError::span`] does: where the opening is not there, the wrong
+    /// character.
     #[must_use]
     pub const fn span(&self) -> Range<usize> {
         let Range { start, end } = match &self.error {
             Ok(error) => error.span(),
-            Err(Unmarked { byte: None, .. }) => 0..0,
-            Err(Unmarked { byte: Some(byte), tail, .. }) => {
+            Err(Unopened { byte: None, .. }) => 0..0,
+            Err(Unopened { byte: Some(byte), tail, .. }) => {
                 0..first_character(&[*byte, tail[0], tail[1], tail[2]]).len()
             }
         };
         self.opened + start..self.opened + end
     }
 
-    /// Returns the kind, as [`ReadError::kind`] does, or `None` if a [mark][Self::mark] is not there.
+    /// Returns the kind, as [`ReadError::kind`] does, or `None` if the opening is not there.
     #[must_use]
     pub const fn kind(&self) -> Option<ReadErrorKind> {
         match &self.error {
@@ -354,7 +345,7 @@ impl FormError {
         }
     }
 
-    /// Returns the mask of the flags to blame, as [`ReadError::mask`] does, or 0 if a [mark][Self::mark] is not there.
+    /// Returns the mask of the flags to blame, as [`ReadError::mask`] does, or 0 if the opening is not there.
     #[must_use]
     pub const fn mask(&self) -> u128 {
         match &self.error {
@@ -373,18 +364,13 @@ impl FormError {
     }
 }
 
-/// Prints the error of the form, or which mark is not there.
+/// Prints the error of the form, or that the opening is not there.
 impl fmt::Display for FormError {
     fn fmt(&self, f: &mut fmt::Formatter<'_>) -> fmt::Result {
         match &self.error {
             Ok(error) => error.fmt(f),
-            Err(Unmarked { mark: Mark::End, byte, tail, .. }) => {
-                let bytes = [byte.unwrap_or_default(), tail[0], tail[1], tail[2]];
-                f.write_str(unexpected(first_character(&bytes)).as_str())
-            }
-            Err(Unmarked { mark, affix, .. }) => {
-                let mark = if *mark == Mark::Opening { "opening" } else { "closing" };
-                write!(f, "expected the {mark} `{}`", str::from_utf8(affix.as_bytes()).unwrap_or_default())
+            Err(Unopened { opening, .. }) => {
+                write!(f, "expected the opening `{}`", str::from_utf8(opening.as_bytes()).unwrap_or_default())
             }
         }
     }

@@ -205,13 +205,13 @@ impl fmt::Debug for Language {
     }
 }
 
-/// Defines the constants: documentation, name, title, and forms with their openings, closings, suffixes and kinds; then
+/// Defines the constants: documentation, name, title, and forms with their openings, suffixes and kinds; then
 /// forms that differ in their radix alone, special values, and rules for tokens, if there are any.
 macro_rules! languages {
     ($($(#[$about:meta])+ $name:ident: $title:literal = {
-        $($form:literal $(behind $opening:literal)? $(before $closing:literal)? $(only_read $only:literal)?: $syntax:expr
+        $($form:literal $(behind $opening:literal)? $(only_read $only:literal)?: $syntax:expr
             $(=> $suffixes:expr)? $(; $kind:expr)?),+ $(,)?
-    } $(radixes $before:literal $behind:literal $(before $closed:literal)? $(to $most:literal)? { $binary:expr $(=> $words:expr)? $(; $values:expr)? })? $(, $specials:expr)? $(=> $tokens:expr)?;)+) => {
+    } $(radixes $before:literal $behind:literal $(to $most:literal)? { $binary:expr $(=> $words:expr)? $(; $values:expr)? })? $(, $specials:expr)? $(=> $tokens:expr)?;)+) => {
         impl Language {
             /// All languages, in alphabetical order.
             pub const ALL: &'static [Language] = &[$(Language::$name),+];
@@ -221,10 +221,9 @@ macro_rules! languages {
                 name: stringify!($name),
                 title: $title,
                 forms: Forms::new_or_panic(languages!(
-                    @[$(Form::new($form, $syntax)$(.with_opening(affix($opening)))?
-                        $(.with_closing(affix($closing)).unwrap())?$(.only_read($only))?$(.with_suffixes(&$suffixes))?$(.with_kind($kind))?),+]
+                    @[$(Form::new($form, $syntax)$(.with_opening(opening($opening)))?$(.only_read($only))?$(.with_suffixes(&$suffixes))?$(.with_kind($kind))?),+]
                     $(; RADIXES $(+ $most - 36)?, $before $behind, Form::new("radix in front", $binary)
-                        $(.with_closing(affix($closed)).unwrap())?$(.with_suffixes(&$words))?$(.with_kind($values))?)?
+                        $(.with_suffixes(&$words))?$(.with_kind($values))?)?
                 ))
                     $(.with_specials($specials))?
                     $(.with_tokens(&$tokens))?,

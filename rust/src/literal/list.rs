@@ -2,11 +2,11 @@
 
 //! Numbers that have several forms, such as `10`, `0x1F` and `0b1`.
 
-use crate::literal::affix::Affix;
 use crate::literal::cause::ReadError;
 use crate::literal::exclude::{excludes, has_letter_behind_zero, is_settled, sign_size};
 use crate::literal::form::Form;
 use crate::literal::literal::Literal;
+use crate::literal::opening::Opening;
 use crate::literal::specials::{Special, Specials};
 use crate::literal::step::other_case;
 use crate::literal::stop::{Found, Stopped};
@@ -81,8 +81,8 @@ pub struct Forms<'a> {
     pub(crate) forms: &'a [Form],
     specials: Specials<'a>,
     pub(crate) tokens: Option<&'a Tokens>,
-    // Whether a form, or one of the tokens, may have an opening or a closing.
-    pub(crate) marked: bool,
+    // Whether a form, or one of the tokens, may have an opening.
+    pub(crate) opened: bool,
     // Whether words behind a form may have other bytes than those of any word.
     pub(crate) wide: bool,
 }
@@ -140,31 +140,18 @@ pub struct FormError {
     pub form: usize,
     /// The name of the form.
     pub name: &'static str,
-    // The number of bytes of the opening, or of those that are right where a mark is not there.
+    // The number of bytes of the opening, or of those that are right where it is not there.
     pub(crate) opened: usize,
-    // Why what is behind the opening is not a literal of the syntax, or that the opening or the closing is not there.
-    pub(crate) error: Result<ReadError, Unmarked>,
+    // Why what is behind the opening is not a literal of the syntax, or that the opening is not there.
+    pub(crate) error: Result<ReadError, Unopened>,
 }
 
-// An opening or a closing that is not there, or that is followed by more, the byte that differs, or `None` if the text ends, and what
-// follows it in its character.
+// An opening that is not there, the byte that differs, or `None` if the text ends, and what follows it in its character.
 #[derive(Debug, Clone, Copy, PartialEq, Eq, Hash)]
-pub struct Unmarked {
-    pub(crate) mark: Mark,
-    pub(crate) affix: Affix,
+pub struct Unopened {
+    pub(crate) opening: Opening,
     pub(crate) byte: Option<u8>,
     pub(crate) tail: [u8; 3],
-}
-
-/// What stands before or behind the literals of a form.
-#[derive(Debug, Clone, Copy, PartialEq, Eq, Hash)]
-pub enum Mark {
-    /// The opening.
-    Opening,
-    /// The closing.
-    Closing,
-    /// The end of the text, which is behind the closing.
-    End,
 }
 
 impl<'a> Forms<'a> {
@@ -175,7 +162,7 @@ impl<'a> Forms<'a> {
             return None;
         }
         let specials = Specials { nan: None, inf: None, infinity: None };
-        Some(Forms { forms, specials, tokens: None, marked: have_marks(forms), wide: are_wide(forms) })
+        Some(Forms { forms, specials, tokens: None, opened: have_openings(forms), wide: are_wide(forms) })
     }
 
     /// Returns the same forms with these special values. The format of the first form decides what flags say of them.
@@ -196,8 +183,8 @@ impl<'a> Forms<'a> {
     /// Returns the same forms with rules for tokens, without which there are none.
     #[must_use]
     pub const fn with_tokens(self, tokens: &'a Tokens) -> Forms<'a> {
-        let marked = have_marks(self.forms) || have_marks(tokens.forms);
-        Forms { tokens: Some(tokens), marked, ..self }
+        let opened = have_openings(self.forms) || have_openings(tokens.forms);
+        Forms { tokens: Some(tokens), opened, ..self }
     }
 
     /// Returns the forms.
@@ -232,8 +219,8 @@ impl<'a> Forms<'a> {
     // Returns what `read` returns, where the first form stops at `stop`, if it has been asked.
     #[inline(never)]
     pub(crate) const fn read_behind<'t>(&self, text: &'t [u8], stop: Option<Stopped>) -> Result<Number<'t>, FormError> {
-        if !cfg!(peltzivar_small) && self.marked {
-            self.number(text, self.find_marked(text))
+        if !cfg!(peltzivar_small) && self.opened {
+            self.number(text, self.find_opened(text))
         } else {
             self.number(text, self.find_plain(text, stop))
         }
@@ -270,7 +257,8 @@ impl<'a> Forms<'a> {
                 let Found { size, counts } = found;
                 let it = &self.as_slice()[form];
                 let (front, rest) = text.split_at(size);
-                let literal = self.of_form(form, it.syntax.summed(it.inner(front), counts));
+                let (_, inside) = front.split_at(it.opening.size());
+                let literal = self.of_form(form, it.syntax.summed(inside, counts));
                 Ok((Number::Literal { literal, form }, rest))
             }
             Err(error) => Err(error),
@@ -292,7 +280,7 @@ impl<'a> Forms<'a> {
     // Returns the index of the first form of which `text` is a literal, and the literal, or the form whose error is that of the list. If there is
     // no literal, all forms are asked again.
     #[inline(never)]
-    pub(crate) const fn find_marked<'t>(&self, text: &'t [u8]) -> Result<(usize, Literal<'t>), Furthest> {
+    pub(crate) const fn find_opened<'t>(&self, text: &'t [u8]) -> Result<(usize, Literal<'t>), Furthest> {
         let byte = match text {
             [first, ..] => *first,
             [] => 0,
@@ -308,7 +296,7 @@ impl<'a> Forms<'a> {
         Err(self.furthest(text))
     }
 
-    // Returns the same in a list without openings and closings, where the first form stops at `stop`, if it has been asked. Each form is asked
+    // Returns the same in a list without openings, where the first form stops at `stop`, if it has been asked. Each form is asked
     // once, but if it has not been asked and no form goes beyond the first byte behind the sign, all are asked again.
     #[inline(always)]
     pub(crate) const fn find_plain<'t>(
@@ -323,8 +311,8 @@ impl<'a> Forms<'a> {
             form = 1;
         }
         while form < self.forms.len() {
-            let text = if cfg!(peltzivar_small) && self.marked {
-                match self.forms[form].between(text) {
+            let text = if cfg!(peltzivar_small) && self.opened {
+                match self.forms[form].inside(text) {
                     Some(inside) => inside,
                     None => {
                         form += 1;
@@ -342,7 +330,7 @@ impl<'a> Forms<'a> {
                 }
                 match begun.lengths(syntax, text) {
                     Ok(counts) => return Ok((form, syntax.summed(text, counts))),
-                    Err(_) if cfg!(peltzivar_small) && self.marked => {}
+                    Err(_) if cfg!(peltzivar_small) && self.opened => {}
                     Err(stop) => furthest = self.further_on(text, furthest, form, stop),
                 }
             }
@@ -365,7 +353,7 @@ impl<'a> Forms<'a> {
         let mut form = 1;
         while form < self.forms.len() {
             let it = &self.forms[form];
-            if it.is_marked() || !is_settled(it.syntax.as_grammar(), text, stop.size) {
+            if it.has_opening() || !is_settled(it.syntax.as_grammar(), text, stop.size) {
                 return None;
             }
             form += 1;
@@ -383,7 +371,7 @@ impl<'a> Forms<'a> {
         let mut form = 1;
         while form < self.forms.len() {
             let it = &self.forms[form];
-            if it.is_marked() || !is_settled(it.syntax.as_grammar(), text, furthest.stop.size) {
+            if it.has_opening() || !is_settled(it.syntax.as_grammar(), text, furthest.stop.size) {
                 let stop = it.stop(text);
                 furthest = self.further(text, furthest, form, stop);
             }
@@ -475,11 +463,11 @@ impl<'a> Forms<'a> {
     }
 }
 
-// Returns whether a form has an opening or a closing.
-const fn have_marks(forms: &[Form]) -> bool {
+// Returns whether a form has an opening.
+const fn have_openings(forms: &[Form]) -> bool {
     let mut form = 0;
     while form < forms.len() {
-        if forms[form].is_marked() {
+        if forms[form].has_opening() {
             return true;
         }
         form += 1;

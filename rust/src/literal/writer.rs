@@ -373,10 +373,10 @@ impl<'a> Forms<'a> {
                 let form = &self[form];
                 let mut written = form.syntax().format_literal(literal, style)?;
                 if let Text::Value(value) = &mut written.text {
-                    // Its short text lacks the opening and the closing.
+                    // Its short text lacks the opening.
                     value.length = usize::MAX;
                 }
-                Ok(Written { opening: form.opening(), closing: form.closing(), word, ..written })
+                Ok(Written { opening: form.opening(), word, ..written })
             }
             Some(Other::Integer(value)) => self.format_integer(value, style),
             Some(Other::Single(value)) => self.format_value(&Real { value }, Value::of_float(value), style),
@@ -430,8 +430,8 @@ impl<'a> Forms<'a> {
     fn written_value(&self, value: Value, chosen: Chosen, text: [u8; 40]) -> Written<'static> {
         let Chosen { form, word, length, style } = chosen;
         let form = &self.as_slice()[form];
-        let (syntax, opening, closing) = (form.syntax(), form.opening(), form.closing());
-        Written { text: Text::Value(ValueText { value, syntax, style, text, length }), opening, closing, word }
+        let (syntax, opening) = (form.syntax(), form.opening());
+        Written { text: Text::Value(ValueText { value, syntax, style, text, length }), opening, word }
     }
 
     /// Passes how a number is written, and the text, which may have any length that is read back.

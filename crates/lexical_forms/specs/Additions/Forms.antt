@@ -1,16 +1,15 @@
 -- What one pass over several forms finds.
 use Rattle.std.specs.Prelude.{ℕ, ◌≡◌, ◌+◌, ◌-◌, ◌*◌, ◌<◌, ◌≤◌, ◌⊎◌, [], ◌∷◌, false, if◌then◌else◌, nat_lt, IfErr, IfOk, IsErr, IsSomeAnd, IsTrue, List, Option}
-use Rattle.std.specs.Prelude.{◌==◌, ◌&&◌, ◌||◌, not, Bool, get_or, Some, None, Result, Ok, Err, All, drop, length, slice_get, take}
+use Rattle.std.specs.Prelude.{◌==◌, ◌&&◌, ◌||◌, not, Bool, get_or, Some, None, Result, All, drop, length, slice_get, take}
 use Rattle.lexical_util.specs.Ascii.{ByteSet}
 use Rattle.lexical_util.specs.Layout as layout
 use Rattle.lexical_util.specs.Roles.{other_case, signs}
 use Rattle.lexical_util.specs.declared.feature_format.roles.Role.{Role}
 use Rattle.lexical_util.specs.declared.feature_format.roles.Role.TheVariants as roles
 use Rattle.lexical_literal.specs.Additions.Stop.{IsCountedFront, IsStopped}
-use Rattle.lexical_literal.specs.Cause.{Explained, IsRefusal, is_stray}
+use Rattle.lexical_literal.specs.Cause.{IsRefusal, is_stray}
 use Rattle.lexical_forms.specs.Forms.{Begins, HasFront, IsErrorIn, IsFirst, IsFormError, IsGreatest, NoForm, ReadsIn, reach_in}
 use Rattle.lexical_literal.specs.Front.{IsValidBy, IsValidUpTo, NoFrontBy, NoLiteral, NoneBy}
-use Rattle.lexical_literal.specs.Literal.{Literal, Reads}
 use Rattle.lexical_literal.specs.Read.{Read}
 use Rattle.lexical_literal.specs.Notation.{Notation, notation_of, set_of_role}
 use Rattle.lexical_literal.specs.declared.cause.Refusal.{Refusal}
@@ -19,9 +18,8 @@ use Rattle.lexical_forms.specs.declared.list.FormError.{FormError}
 use Rattle.lexical_forms.specs.declared.list.Furthest.{Furthest}
 use Rattle.lexical_literal.specs.declared.stop.Found.{Found}
 use Rattle.lexical_literal.specs.declared.stop.Stopped.{Stopped}
-use Rattle.lexical_forms.specs.declared.affix.Affix.{Affix}
+use Rattle.lexical_forms.specs.declared.opening.Opening.{Opening}
 use Rattle.lexical_forms.specs.declared.form.Form.{Form}
-use Rattle.lexical_forms.specs.declared.marks.Unclosed.{Unclosed}
 
 -- `reach error` is twice the number of bytes that are right, and 1 more unless the cause is a wrong byte or a required prefix is not there.
 abbrev pub reach : Refusal → ℕ
@@ -40,20 +38,20 @@ sign_size (byte ∷ text) = if signs byte then 1 else 0
 abbrev pub behind : Form → List ℕ → List ℕ
 behind form text = drop form.opening.size text
 
--- `spells affix index byte` is true if `byte` is the byte of `affix` with this index or, unless its case counts, the other case of this byte.
-abbrev pub spells : Affix → ℕ → ℕ → Bool
-spells affix index byte =
-    (byte == get_or affix.bytes index 0) || (not affix.case_sensitive && (byte == other_case (get_or affix.bytes index 0)))
+-- `spells opening index byte` is true if `byte` is the byte of `opening` with this index or, unless its case counts, the other case of this byte.
+abbrev pub spells : Opening → ℕ → ℕ → Bool
+spells opening index byte =
+    (byte == get_or opening.bytes index 0) || (not opening.case_sensitive && (byte == other_case (get_or opening.bytes index 0)))
 
--- `IsOpened affix text` holds if `text` begins with `affix`.
-abbrev pub IsOpened : Affix → List ℕ → Type 0
-IsOpened affix text = Begins affix text affix.size
+-- `IsOpened opening text` holds if `text` begins with `opening`.
+abbrev pub IsOpened : Opening → List ℕ → Type 0
+IsOpened opening text = Begins opening text opening.size
 
--- `IsOpenedTo affix text size` holds if `text` begins with the first `size` bytes of `affix`, and not with more.
-pub record IsOpenedTo (affix : Affix) (text : List ℕ) (size : ℕ) : Type 0 where
-  pub inside : size ≤ affix.size
-  pub begins : Begins affix text size
-  pub differs : size < affix.size → size < length text → spells affix size (get_or text size 0) ≡ false
+-- `IsOpenedTo opening text size` holds if `text` begins with the first `size` bytes of `opening`, and not with more.
+pub record IsOpenedTo (opening : Opening) (text : List ℕ) (size : ℕ) : Type 0 where
+  pub inside : size ≤ opening.size
+  pub begins : Begins opening text size
+  pub differs : size < opening.size → size < length text → spells opening size (get_or text size 0) ≡ false
 
 -- `Reaches text form n` holds if an error of `text` in `form` has the reach `n`.
 abbrev pub Reaches : List ℕ → Form → ℕ → Type 0
@@ -106,38 +104,24 @@ IsBehind m text None = (n : ℕ) → IsValidUpTo m text n → n ≤ sign_size te
 IsBehind m text (Some best) = IsNoBetter m text best.stop.size
 
 -- `IsStoppedBefore text stop g` holds if reading stops at `stop` in the opening of the form `g`. `IsStoppedBehind text stop g` holds if the opening is
--- there, and there is no closing, and if what is behind it is not a literal, and reading it stops at `stop`. `IsUnended text stop g` holds if there is a
--- closing, and each error of `text` is where `stop` is. `IsRefusedAt text stop g` holds if one of them does.
+-- there, and if what is behind it is not a literal, and reading it stops at `stop`. `IsRefusedAt text stop g` holds if one of them does.
 pub record IsStoppedBefore (text : List ℕ) (stop : Stopped) (g : Form) : Type 0 where
   pub opened : IsOpenedTo g.opening text stop.size
   pub short : stop.size < g.opening.size
 
 pub record IsStoppedBehind (text : List ℕ) (stop : Stopped) (g : Form) : Type 0 where
-  pub bare : g.closing.size ≡ 0
   pub opened : IsOpened g.opening text
   pub past : g.opening.size ≤ stop.size
   pub stopped : IsStopped (notation_of g.syntax) (behind g text) (record stop { size = stop.size - g.opening.size })
   pub none : NoLiteral (notation_of g.syntax) (behind g text)
 
-pub record IsUnended (text : List ℕ) (stop : Stopped) (g : Form) : Type 0 where
-  pub some : 0 < g.closing.size
-  pub opened : IsOpened g.opening text
-  pub past : g.opening.size ≤ stop.size
-  pub none : NoneBy (ReadsIn g) text
-  pub near : (n : ℕ) → Reaches text g n → (2 * stop.size ≤ n) × (n ≤ 2 * stop.size + 1)
-
 abbrev pub IsRefusedAt : List ℕ → Stopped → Form → Type 0
-IsRefusedAt text stop g = IsStoppedBefore text stop g ⊎ (IsStoppedBehind text stop g ⊎ IsUnended text stop g)
+IsRefusedAt text stop g = IsStoppedBefore text stop g ⊎ IsStoppedBehind text stop g
 
--- `IsBetween g text part` holds if `text` is a literal of `g` exactly if `part` is one of its syntax, with the same parts.
-pub record IsBetween (g : Form) (text part : List ℕ) : Type 0 where
-  pub within : (l : Literal) → ReadsIn g l text → Reads (notation_of g.syntax) l part
-  pub around : (l : Literal) → Reads (notation_of g.syntax) l part → ReadsIn g l text
-
--- `IsEnding g text result` holds if `result` is the error of the syntax behind the opening of `g`, which is kept, or tells that the closing is not there.
-abbrev pub IsEnding : Form → List ℕ → Result Explained Unclosed → Type 0
-IsEnding g text (Ok error) = IsErrorIn g text g.opening.size (Some error.refusal)
-IsEnding g text (Err it) = (g.opening.size ≤ it.right) × IsErrorIn g text it.right None
+-- `IsInside g text part` holds if `text` is the opening of `g`, and then `part`.
+pub record IsInside (g : Form) (text part : List ℕ) : Type 0 where
+  pub opened : IsOpened g.opening text
+  pub is : part ≡ behind g text
 
 -- `IsLow text size g` holds if no error of `text` in the form `g` has a greater reach than one that goes up to `size` and whose cause is a wrong byte.
 -- `IsLeftOut text furthest g` holds if none has a greater one than `furthest`, or if none goes beyond the first byte behind the sign, where it is `None`.
@@ -173,10 +157,6 @@ abbrev pub IsLed : List Form → List ℕ → ℕ → Option Furthest → Type 0
 IsLed forms text asked None = (k : ℕ) (d : Form) → k < asked → IsNearSign text (get_or forms k d)
 IsLed forms text asked (Some best) = Leads forms text asked best
 
--- `OpensIn form l text` holds if `text` is the opening of `form`, and then a literal of its syntax with the parts of `l`.
-abbrev pub OpensIn : Form → Literal → List ℕ → Type 0
-OpensIn form l text = Begins form.opening text form.opening.size × Reads (notation_of form.syntax) l (drop form.opening.size text)
-
 -- `IsFirstOf forms text index read` holds if `read`, with the kind of the form with this index, is the literal `text` of this form, and of none before.
 abbrev pub IsFirstOf : List Form → List ℕ → ℕ → Read → Type 0
 IsFirstOf forms text index read = IsSomeAnd (slice_get forms index) (λ form. IsFirst forms text index (record read { kind = form.kind }))
@@ -189,24 +169,17 @@ pub record IsFoundForm (forms : List Form) (text : List ℕ) (result : Result (�
   pub furthest : IfErr result (Leads forms text (length forms))
 
 -- `NoFrontPast m text size` holds if no front of `text` with more than `size` bytes is a literal, and `NonePast text size g` if none is one of the form `g`.
--- `IsFrontIn text found g` holds if `found` has the longest front that is a literal of `g`, and the lengths of its parts behind the opening. If there is a
--- closing, it is where the syntax stops.
+-- `IsFrontIn text found g` holds if `found` has the longest front that is a literal of `g`, and the lengths of its parts behind the opening.
 abbrev pub NoFrontPast : Notation → List ℕ → ℕ → Type 0
 NoFrontPast m text size = (more : ℕ) → size < more → more ≤ length text → NoLiteral m (take more text)
-
--- `NoneOpenedPast text size g` holds if none is an opening of `g` with a literal of its syntax.
-abbrev pub NoneOpenedPast : List ℕ → ℕ → Form → Type 0
-NoneOpenedPast text size g = (more : ℕ) → size < more → more ≤ length text → NoneBy (OpensIn g) (take more text)
 
 abbrev pub NonePast : List ℕ → ℕ → Form → Type 0
 NonePast text size g = (more : ℕ) → size < more → more ≤ length text → NoneBy (ReadsIn g) (take more text)
 
 pub record IsFrontIn (text : List ℕ) (found : Found) (g : Form) : Type 0 where
   pub opened : IsOpened g.opening text
-  pub past : g.opening.size + g.closing.size ≤ found.size
-  pub front : IsCountedFront (notation_of g.syntax) (behind g text) (record found { size = found.size - (g.opening.size + g.closing.size) })
-  pub closed : IsOpened g.closing (drop (found.size - g.closing.size) text)
-  pub ends : 0 < g.closing.size → IsValidUpTo (notation_of g.syntax) (behind g text) (found.size - (g.opening.size + g.closing.size))
+  pub past : g.opening.size ≤ found.size
+  pub front : IsCountedFront (notation_of g.syntax) (behind g text) (record found { size = found.size - g.opening.size })
 
 -- `IsLongestPast forms text size longest` holds if `longest` has the longest front of `text` with more than `size` bytes that is a literal of a
 -- form, of the first form of equals, or if it is `None`, and there is no such front.

@@ -5,7 +5,7 @@ use Rattle.std.specs.Borrow.{Bor}
 use Rattle.std.specs.List.{list_any}
 use Rattle.lexical_util.specs.Ascii.{ByteSet}
 use Rattle.lexical_literal.specs.Cause.{is_in}
-use Rattle.lexical_forms.specs.FormList.{FormList, have_marks}
+use Rattle.lexical_forms.specs.FormList.{FormList, have_openings}
 use Rattle.lexical_forms.specs.Forms.{ReadsIn}
 use Rattle.lexical_literal.specs.Front.{IsFront, NoneBy, ReadsFront}
 use Rattle.lexical_forms.specs.Suffix.{is_word_byte, more_of, stop_end, suffix_size, suffix_words}
@@ -30,11 +30,10 @@ HasFrontOfSyntax text form size = (l : Literal) × ReadsFront (notation_of form.
 abbrev pub has_float : List ℕ → Bool
 has_float counts = not (get_or counts 3 0 == 0) || not (get_or counts 5 0 == 0)
 
--- `IsCounted form text counts` holds if `text` is a literal of `form`, and if `counts` has the lengths of its parts between the opening and the closing.
+-- `IsCounted form text counts` holds if `text` is a literal of `form`, and if `counts` has the lengths of its parts behind the opening.
 pub record IsCounted (form : Form) (text counts : List ℕ) : Type 0 where
   pub literal : (l : Literal) × ReadsIn form l text
-  pub room : form.opening.size + form.closing.size ≤ length text
-  pub measured : IsMeasured (notation_of form.syntax) (drop form.opening.size (take (length text - form.closing.size) text)) counts
+  pub measured : IsMeasured (notation_of form.syntax) (drop form.opening.size text) counts
 
 -- `is_in_word more byte` is true if `byte` is a byte of a word, or one of `more`, the bytes that words of a form have besides.
 abbrev pub is_in_word : List ℕ → ByteSet
@@ -131,9 +130,9 @@ AreNear back forms but text size =
 abbrev pub FrontsWithin : List ℕ → ℕ → Form → Type 0
 FrontsWithin text size form = (longest : ℕ) → HasFrontOfSyntax text form longest → longest ≤ size
 
--- `AreBare list t` holds if no form of the list, and none that needs a suffix, has an opening or a closing.
+-- `AreBare list t` holds if no form of the list, and none that needs a suffix, has an opening.
 abbrev pub AreBare : FormList → Tokens → Type 0
-AreBare list t = (have_marks list.forms ≡ false) × (have_marks t.forms.now ≡ false)
+AreBare list t = (have_openings list.forms ≡ false) × (have_openings t.forms.now ≡ false)
 
 -- `IsLeading list t text index form size` holds if `form`, with this index, is the first of the list whose longest front of `text`, without its point
 -- if that is given back, has `size` bytes, and if no literal of a form goes on behind them, or only with a point that is given back.

@@ -2,7 +2,8 @@
 
 use super::{Definition, Language};
 use crate::literal::{
-    Affix, Conditions, FloatKind, FloatLimits, Form, Forms, IntegerKind, Kind, Specials, Stop, Suffixes, Syntax, Tokens,
+    Conditions, FloatKind, FloatLimits, Form, Forms, IntegerKind, Kind, Opening, Specials, Stop, Suffixes, Syntax,
+    Tokens,
 };
 use crate::{Format, NumberFormatBuilder};
 use core::num::NonZeroU8;
@@ -99,9 +100,9 @@ const fn signed(syntax: Syntax) -> Syntax {
     syntax.with_conditions_or_panic(syntax.conditions().no_negative_mantissa_sign(false))
 }
 
-/// Returns an opening or a closing.
-const fn affix(text: &'static str) -> Affix {
-    Affix::new(text.as_bytes()).unwrap()
+/// Returns an opening.
+const fn opening(text: &'static str) -> Opening {
+    Opening::new(text.as_bytes()).unwrap()
 }
 
 /// The number of radixes, which are those from 2 to 36.
@@ -130,13 +131,14 @@ const fn in_radix(binary: Form, before: &str, radix: u8, behind: &str) -> Form {
         ([before, ..], true) => &[*before, one, behind],
         ([before, ..], false) => &[*before, ten, one, behind],
     };
-    Form { syntax, ..binary }.with_opening(Affix::new(bytes).unwrap())
+    Form { syntax, ..binary }.with_opening(Opening::new(bytes).unwrap())
 }
 
-/// Returns the syntax of binary integers and fractions without an exponent, for forms with a radix in their opening. No digit is `^`.
-const fn based(builder: NumberFormatBuilder) -> Syntax {
+/// Returns the syntax of binary integers and fractions without an exponent, for forms with a radix in their opening, and with a suffix,
+/// which is required. No digit is `^`.
+const fn closed(suffix: u8, builder: NumberFormatBuilder) -> Syntax {
     let builder = builder.mantissa_radix(2).no_exponent_notation(true).required_digits(true); // rejects `.8` and `F.`
-    numbers(b'^', b'.', builder).with_conditions_or_panic(UNSIGNED)
+    numbers(b'^', b'.', builder.base_suffix(NonZeroU8::new(suffix))).with_conditions_or_panic(SUFFIXED)
 }
 
 /// Digits of Raku behind a prefix.
@@ -483,7 +485,7 @@ languages! {
         "integer with an exponent": decimal(separated(b'_')
             .required_digits(true) // rejects `.5`, `1.`, `1e` and `.`
         ) => ADA_WORDS,
-    } radixes "" "#" before "#" to 16 { based(separated(b'_')) } => POINTS_BACK;
+    } radixes "" "#" to 16 { closed(b'#', separated(b'_')) } => POINTS_BACK;
 
     /// Bash's integers in arithmetic (Bash Reference Manual 5.2, 6.5 Shell Arithmetic). An integer keeps its last 64 bits:
     /// `9223372036854775808` is -9223372036854775808. Radixes from 37 to 64, as in `64#_`, are refused here, and so is `0x`, which is 0 in
@@ -623,12 +625,12 @@ languages! {
             .no_special(true)
             .required_exponent_notation(true) // rejects `1.0`, which the first form reads
         ); finite(Kind::EXACT),
-        "hexadecimal, '" behind "z'" before "'" only_read true: integers(16, TOKENS, UNSIGNED); UNSIGNED_128,
-        "octal, '" behind "o'" before "'" only_read true: integers(8, TOKENS, UNSIGNED); UNSIGNED_128,
-        "binary, '" behind "b'" before "'" only_read true: integers(2, TOKENS, UNSIGNED); UNSIGNED_128,
-        "hexadecimal, \"" behind "z\"" before "\"" only_read true: integers(16, TOKENS, UNSIGNED); UNSIGNED_128,
-        "octal, \"" behind "o\"" before "\"" only_read true: integers(8, TOKENS, UNSIGNED); UNSIGNED_128,
-        "binary, \"" behind "b\"" before "\"" only_read true: integers(2, TOKENS, UNSIGNED); UNSIGNED_128,
+        "hexadecimal, '" behind "z'" only_read true: suffixed(b'\'', 16, TOKENS, SUFFIXED); UNSIGNED_128,
+        "octal, '" behind "o'" only_read true: suffixed(b'\'', 8, TOKENS, SUFFIXED); UNSIGNED_128,
+        "binary, '" behind "b'" only_read true: suffixed(b'\'', 2, TOKENS, SUFFIXED); UNSIGNED_128,
+        "hexadecimal, \"" behind "z\"" only_read true: suffixed(b'"', 16, TOKENS, SUFFIXED); UNSIGNED_128,
+        "octal, \"" behind "o\"" only_read true: suffixed(b'"', 8, TOKENS, SUFFIXED); UNSIGNED_128,
+        "binary, \"" behind "b\"" only_read true: suffixed(b'"', 2, TOKENS, SUFFIXED); UNSIGNED_128,
     } => Tokens::new(&[], &[]).gives_points_to_letters();
 
     /// Go's integer and floating-point literals (Language Specification).
@@ -873,7 +875,7 @@ languages! {
         "octal": prefixed(b'o', 8, RAKU_PREFIXED) => RAKU_WORDS,
         "binary": prefixed(b'b', 2, RAKU_PREFIXED) => RAKU_WORDS,
         "decimal, 0d": prefixed(b'd', 10, RAKU_PREFIXED) => RAKU_WORDS,
-    } radixes ":" "<" before ">" { based(separated(b'_')) } => POINTS_BACK;
+    } radixes ":" "<" { closed(b'>', separated(b'_')) } => POINTS_BACK;
 
     /// Ruby's integers and floats (ISO/IEC 30170:2012, 8.7.6.2), with signs.
     RUBY: "Ruby" = {
@@ -993,7 +995,7 @@ languages! {
             .no_exponent_without_fraction(true) // rejects `1e3`, not `1.0e3`
         ) => ADA_WORDS; finite(SIGNED_64),
         "integer with an exponent": decimal(separated(b'_').required_digits(true)) => ADA_WORDS; finite(SIGNED_64),
-    } radixes "" "#" before "#" to 16 { based(separated(b'_')) => ADA_WORDS; finite(SIGNED_64) } => Tokens::new(&[], &[]);
+    } radixes "" "#" to 16 { closed(b'#', separated(b'_')) => ADA_WORDS; finite(SIGNED_64) } => Tokens::new(&[], &[]);
 
     /// The decimals of XML Schema, with signs (XML Schema 1.1, Part 2, 3.3.3).
     XML_SCHEMA: "XML Schema" = { "decimal": numbers(b'e', b'.', NumberFormatBuilder::new()

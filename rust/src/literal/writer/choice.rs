@@ -443,7 +443,7 @@ fn takes(integer: bool, syntax: &Syntax) -> bool {
 pub fn lay_out_first(forms: &Forms, number: &Whole, style: Style) -> Option<WrittenInteger> {
     let form = &forms.as_slice()[0];
     let syntax = form.syntax();
-    if form.is_only_read() || form.is_marked() || !is_own(10, true, &syntax) {
+    if form.is_only_read() || form.has_opening() || !is_own(10, true, &syntax) {
         return None;
     }
     let Ok(integer) = WrittenInteger::of_size(number.negative, number.size, &syntax, style) else {
@@ -542,7 +542,7 @@ fn write_words<N: Writable + ?Sized>(
     Err(WriteError::ReadBack)
 }
 
-// Writes a number by one form with its opening and its closing, and a word behind it if there is one, and returns the length of the text, or
+// Writes a number by one form with its opening, and a word behind it if there is one, and returns the length of the text, or
 // why it is not used.
 fn write_around<N: Writable + ?Sized>(
     forms: &Forms,
@@ -565,7 +565,7 @@ fn write_around<N: Writable + ?Sized>(
     Ok(end)
 }
 
-// Writes a number by one form with its opening and its closing, and a word behind it if there is one, to the beginning of a buffer, as far as
+// Writes a number by one form with its opening, and a word behind it if there is one, to the beginning of a buffer, as far as
 // it has room, and returns the length of the text, or why there is none.
 fn put_text<N: Writable + ?Sized>(
     form: &Form,
@@ -574,10 +574,9 @@ fn put_text<N: Writable + ?Sized>(
     word: Option<&'static &'static [u8]>,
     buffer: &mut [u8],
 ) -> Result<usize, WriteError> {
-    let (opening, closing) = (form.opening(), form.closing());
+    let opening = form.opening();
     let start = put_at(buffer, 0, opening.as_bytes());
     let end = put_number(&form.syntax(), number, style, start, buffer)?;
-    let end = put_at(buffer, end, closing.as_bytes());
     Ok(match word {
         Some(word) => put_at(buffer, end, word),
         None => end,
@@ -656,7 +655,7 @@ fn write_by<N: Writable + ?Sized>(
     style: Style,
     buffer: &mut [u8],
 ) -> Result<usize, WriteError> {
-    if form.is_marked() {
+    if form.has_opening() {
         return write_around(forms, form, number, style, None, buffer);
     }
     let (size, float) = number.write(&form.syntax(), style, buffer)?;

@@ -10,16 +10,14 @@ use crate::literal::writer::float_digits::FloatDigits;
 use crate::literal::writer::integer::WrittenInteger;
 use crate::literal::writer::layout::{Amount, Layout, Style, WriteError};
 use crate::literal::writer::sink::{Sink, Window};
-use crate::literal::{Affix, Syntax};
+use crate::literal::{Opening, Syntax};
 
 /// A number as a literal of a syntax, or NaN or infinity, which prints the text. Nothing is allocated.
 #[derive(Clone, Copy)]
 pub struct Written<'a> {
     pub(super) text: Text<'a>,
     /// The opening before the literal.
-    pub(super) opening: Affix,
-    /// The closing behind it.
-    pub(super) closing: Affix,
+    pub(super) opening: Opening,
     /// A word behind this.
     pub(super) word: Option<&'static &'static [u8]>,
 }
@@ -27,7 +25,7 @@ pub struct Written<'a> {
 impl<'a> Written<'a> {
     /// Returns a text that nothing stands around.
     pub(super) const fn of(text: Text<'a>) -> Written<'a> {
-        Written { text, opening: Affix::NONE, closing: Affix::NONE, word: None }
+        Written { text, opening: Opening::NONE, word: None }
     }
 }
 
@@ -145,7 +143,7 @@ impl Written<'_> {
 
     /// Returns whether nothing stands around the text.
     fn is_bare(&self) -> bool {
-        self.opening.is_empty() && self.closing.is_empty() && self.word.is_none()
+        self.opening.is_empty() && self.word.is_none()
     }
 
     /// Writes the text with what stands around it, as [`write`][Self::write] does.
@@ -160,9 +158,6 @@ impl Written<'_> {
         }
         let start = window.length.min(window.bytes.len());
         window.length = window.length.saturating_add(self.text.write(&mut window.bytes[start..]));
-        if !self.closing.is_empty() {
-            window.put_all(self.closing.as_bytes());
-        }
         if self.word.is_some() {
             window.put_all(self.word());
         }
@@ -231,7 +226,6 @@ impl Written<'_> {
         if let Some(layout) = self.text.layout(&mut FloatDigits::new()) {
             layout.put(&mut printer);
         }
-        printer.put_all(self.closing.as_bytes());
         printer.put_all(self.word());
         printer.result
     }
@@ -271,7 +265,6 @@ impl Written<'_> {
         if let Some(layout) = layout {
             let mut printer = Printer { f, skip: front, result: Ok(()) };
             layout.put(&mut printer);
-            printer.put_all(self.closing.as_bytes());
             printer.put_all(self.word());
             printer.result?;
         }

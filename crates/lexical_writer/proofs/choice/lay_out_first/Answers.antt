@@ -1,7 +1,7 @@
 -- The first form reads the text as the integer.
 use Rattle.lexical_writer.proofs.Common.{Form, Grammar, List, Read, Reads, Some, ap, get_or, integer_literal, laid_out, length, notation_of, number_of_size}
 use Rattle.lexical_writer.proofs.Common.{refl, slice_get, slice_get_read, subst, sym, text_of, true, is_own, with_sign, ◌<◌, ◌∙◌, ◌≡◌}
-use Rattle.lexical_forms.proofs.MarkLemmas.{no_marks}
+use Rattle.lexical_forms.proofs.BehindLemmas.{no_size}
 use Rattle.lexical_writer.proofs.ChoiceLemmas.{first_reads}
 use Rattle.lexical_writer.proofs.choice.lay_out_first.Goals as goal
 
@@ -15,7 +15,7 @@ returns-clause-back c =
     let l = integer_literal c.in-Ok.integer in
     let written = c.in-Ok.ensures.written in
     let here = first _ _ form c.as_slice.ensures.list c.as_slice.ensures.some c.index-as_slice-0.is in
-    let none = no_marks _ _ c.is_marked.result c.is_marked.ensures c.if-is_marked.false in
+    let none = no_size _ c.has_opening.result c.has_opening.ensures c.if-has_opening.false in
     let own : Read = record { format = form.syntax.word; literal = l; kind = form.kind; opened = 0 } in
     let read = first_reads c.args.forms.now.forms form (text_of l) l 0 here refl none
     (subst (λ (g : Grammar). Reads (notation_of g) l (text_of l)) c.syntax-syntax.ensures written.0) in (

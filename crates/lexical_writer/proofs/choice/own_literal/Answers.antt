@@ -2,7 +2,7 @@
 use Rattle.lexical_writer.proofs.Common.{Form, Grammar, IsSomeAnd, List, Reads, ReadsForm, [], ap, notation_of, refl, slice_get, subst, suc, sym, zero, ℕ, ◌∙◌}
 use Rattle.lexical_writer.proofs.Common.{◌∷◌, ◌≡◌}
 use Rattle.lexical_forms.specs.FormList.{FormList}
-use Rattle.lexical_forms.proofs.MarkLemmas.{plain_of}
+use Rattle.lexical_forms.proofs.BehindLemmas.{plain_of}
 use Rattle.lexical_writer.proofs.ChoiceLemmas.{none_at}
 use Rattle.lexical_writer.proofs.choice.own_literal.Goals as goal
 
@@ -20,11 +20,11 @@ returns-in-Some-clause-some c =
       by.1 ∙ c.new.ensures.kind,
       by.0 ∙ ap (λ (g : Grammar). g.word) c.new.ensures.syntax,
       subst (λ (g : Grammar). Reads (notation_of g) read.literal c.args.text.now) c.new.ensures.syntax
-          (plain_of c.new.result c.args.text.now c.new.ensures.opening c.new.ensures.closing read.literal by.2),
+          (plain_of c.new.result c.args.text.now c.new.ensures.opening read.literal by.2),
     )
 
 pub returns-in-None-clause-none : goal.returns-in-None-clause-none
 returns-in-None-clause-none c equal l reads =
     let one : c.in_ok-list.list.forms ≡ c.new.result ∷ [] = ap (λ (list : FormList). list.forms) c.in_ok-list.ensures.1 in
-    none_at c.in_ok-list.list.forms c.new.result c.args.text.now 0 l (ap (λ forms. slice_get forms 0) one) (c.new.ensures.opening, c.new.ensures.closing)
+    none_at c.in_ok-list.list.forms c.new.result c.args.text.now 0 l (ap (λ forms. slice_get forms 0) one) c.new.ensures.opening
     (subst (λ (g : Grammar). Reads (notation_of g) l c.args.text.now) (sym c.new.ensures.syntax) reads) (c.in-None.ensures.none refl)

@@ -1,6 +1,6 @@
 -- The parts of the text are one behind another.
 use Rattle.lexical_writer.proofs.Common.{IsPut, Ok, [], append-nil, arith, bytes_of_word, length, length-take, min, subst, sym, text_of, unwrap_or, ◌++◌, ◌-◌, ◌<◌, ◌^◌, ◌∙◌, ◌≡◌}
-use Rattle.lexical_forms.specs.Affix.{spelling}
+use Rattle.lexical_forms.specs.Opening.{spelling}
 use Rattle.lexical_writer.proofs.BufferLemmas.{put_none}
 use Rattle.lexical_writer.proofs.choice.put_text.Goals as goal
 
@@ -10,16 +10,15 @@ returns-in-Some-clause-text g c =
     let start = c.put_at-start.result in
     let size = length-take c.opening-opening.result.size c.opening-opening.result.bytes in
     let opening : c.as_bytes.result.now ≡ spelling c.args.form.now.opening = c.as_bytes.ensures ∙ (λ i. spelling (c.opening-opening.ensures i)) in
-    let closing : c.as_bytes-2.result.now ≡ spelling c.args.form.now.closing = c.as_bytes-2.ensures ∙ (λ i. spelling (c.closing-closing.ensures i)) in
     let small : start < 2 ^ 64 - 1 = subst (λ n. n < 2 ^ 64 - 1) (sym first.counted) (subst (λ l. min (length l) (2 ^ 64 - 1) < 2 ^ 64 - 1)
     (sym c.as_bytes.ensures) (omega (arith, size, c.opening-opening.result.within))) in
     let all = c.in_ok-end.ensures.text c.as_bytes.result.now small first in
     let l = all.0 in
-    let last = c.put_at.ensures.text _ (c.put_at-end.ensures.text _ all.2) in (
+    let last = c.put_at.ensures.text _ all.2 in (
       l,
       subst (λ s. g.N.Writable.writes c.args.number.now c.args.style s (Ok l)) c.syntax.ensures all.1,
       subst (λ text. IsPut text c.put_at.new.buffer c.put_at.result)
-          (λ i. ((opening i ++ text_of l) ++ closing i) ++ unwrap_or (bytes_of_word (sym c.in-Some.is i)) []) last,
+          (λ i. (opening i ++ text_of l) ++ unwrap_or (bytes_of_word (sym c.in-Some.is i)) []) last,
     )
 
 pub returns-in-None-clause-text : goal.returns-in-None-clause-text
@@ -28,14 +27,13 @@ returns-in-None-clause-text g c =
     let start = c.put_at-start.result in
     let size = length-take c.opening-opening.result.size c.opening-opening.result.bytes in
     let opening : c.as_bytes.result.now ≡ spelling c.args.form.now.opening = c.as_bytes.ensures ∙ (λ i. spelling (c.opening-opening.ensures i)) in
-    let closing : c.as_bytes-2.result.now ≡ spelling c.args.form.now.closing = c.as_bytes-2.ensures ∙ (λ i. spelling (c.closing-closing.ensures i)) in
     let small : start < 2 ^ 64 - 1 = subst (λ n. n < 2 ^ 64 - 1) (sym first.counted) (subst (λ l. min (length l) (2 ^ 64 - 1) < 2 ^ 64 - 1)
     (sym c.as_bytes.ensures) (omega (arith, size, c.opening-opening.result.within))) in
     let all = c.in_ok-end.ensures.text c.as_bytes.result.now small first in
     let l = all.0 in (
       l,
       subst (λ s. g.N.Writable.writes c.args.number.now c.args.style s (Ok l)) c.syntax.ensures all.1,
-      subst (λ text. IsPut text c.put_at-end.new.buffer c.put_at-end.result) ((λ i. (opening i ++ text_of l) ++ closing i) ∙ sym (append-nil _)
-          ∙ (λ i. ((spelling c.args.form.now.opening ++ text_of l) ++ spelling c.args.form.now.closing) ++ unwrap_or (bytes_of_word (sym c.in-None.is i)) []))
-          (c.put_at-end.ensures.text _ all.2),
+      subst (λ text. IsPut text c.put_number-end.new.buffer c.in_ok-end.end) ((λ i. opening i ++ text_of l) ∙ sym (append-nil _)
+          ∙ (λ i. (spelling c.args.form.now.opening ++ text_of l) ++ unwrap_or (bytes_of_word (sym c.in-None.is i)) []))
+          all.2,
     )

@@ -3,7 +3,7 @@ use Rattle.lexical_writer.proofs.Common.{Bool, Grammar, IsSomeAnd, IsSyntax, Ok,
 use Rattle.lexical_writer.proofs.Common.{refl, rules, slice_get, true}
 use Rattle.lexical_writer.proofs.Common.{false, subst, sym, ◌&&◌, ◌==◌, ◌∙◌, ◌≡◌}
 use Rattle.lexical_writer.proofs.Common.{Some, eqb-true, false≢true}
-use Rattle.lexical_forms.proofs.MarkLemmas.{plain_of}
+use Rattle.lexical_forms.proofs.BehindLemmas.{plain_of}
 use Rattle.lexical_writer.proofs.ChoiceLemmas.{first_reads, none_at}
 use Rattle.lexical_writer.proofs.choice.read_written.Goals as goal
 
@@ -22,7 +22,7 @@ returns-then-index-eq0-clause-value g c =
     let style = c.args.style in
     let syntax = c.syntax-syntax.ensures in
     let read : Read = record { format = form.syntax.word; literal = l; kind = form.kind; opened = 0 } in
-    let first = first_reads c.args.forms.now.forms form c.args.text.now l c.args.index c.requires.form c.if-index-eq0.true c.requires.unmarked reads in
+    let first = first_reads c.args.forms.now.forms form c.args.text.now l c.args.index c.requires.form c.if-index-eq0.true c.requires.unopened reads in
     let plain = c.is_plain-plain.ensures.plain c.if-plain.true read (sym c.kind.ensures) (ap (λ (g : Grammar). g.word) (sym syntax)) (sym float)
     (subst (λ s. g.N.Writable.writes c.args.number.now style s (Ok l)) (sym syntax) has) in (
       l,
@@ -44,7 +44,7 @@ returns-then-plain-form-clause-value g c =
     let by : ReadsForm text literal form = subst (λ o. IsSomeAnd o (ReadsForm text literal)) here first.reads in
     let lawful : IsSyntax form.syntax = search rules in
     let same : l ≡ literal.literal = c.literal_facts.ensures.one_reading form.syntax lawful l literal.literal text reads
-    (plain_of form text c.requires.unmarked.0 c.requires.unmarked.1 literal.literal by.2) in
+    (plain_of form text c.requires.unopened literal.literal by.2) in
     let plain = c.is_plain-plain.ensures.plain (and_first _ _ c.if-plain-form.true) literal (by.1 ∙ sym c.kind.ensures)
     (by.0 ∙ sym (ap (λ (g : Grammar). g.word) syntax)) (ap is_float (sym same) ∙ sym float)
     (subst (λ l. g.N.Writable.writes c.args.number.now style c.syntax-syntax.result (Ok l)) same
@@ -114,7 +114,7 @@ returns-clause-error g c =
           let by : ReadsForm text literal form = subst (λ o. IsSomeAnd o (ReadsForm text literal)) here first.reads in
           let lawful : IsSyntax form.syntax = search rules in
           let one : l ≡ literal.literal = c.literal_facts.ensures.one_reading form.syntax lawful l literal.literal text reads
-          (plain_of form text c.requires.unmarked.0 c.requires.unmarked.1 literal.literal by.2) in
+          (plain_of form text c.requires.unopened literal.literal by.2) in
           other (c.is_plain-plain.ensures.kept (and_left _ _ c.if-plain-form.false same) literal
           (by.1 ∙ sym c.kind.ensures)
           (by.0 ∙ sym (ap (λ (g : Grammar). g.word) c.syntax-syntax.ensures)) (ap is_float (sym one) ∙ sym float) kept)),
@@ -124,7 +124,7 @@ returns-clause-error g c =
 pub returns-in_default-clause-error : goal.returns-in_default-clause-error
 returns-in_default-clause-error g c =
     let (l, reads, has, float) = c.requires.written in
-    absurd (none_at c.args.forms.now.forms c.args.form.now c.args.text.now c.args.index l c.requires.form c.requires.unmarked reads
+    absurd (none_at c.args.forms.now.forms c.args.form.now c.args.text.now c.args.index l c.requires.form c.requires.unopened reads
     (c.read_literal.ensures.none c.in_default.is))
 
 pub returns-in_default-own_literal-clause-error : goal.returns-in_default-own_literal-clause-error

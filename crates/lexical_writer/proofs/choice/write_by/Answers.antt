@@ -3,7 +3,7 @@ use Rattle.lexical_writer.proofs.Common.{Err, Grammar, IsReadElse, IsRefused, Is
 use Rattle.lexical_writer.proofs.Common.{ap, arith, inl, inr, ◌&&◌}
 use Rattle.lexical_writer.proofs.Common.{is_float, length, not, notation_of, subst, sym, take, text_of, ℕ, ◌-◌, ◌^◌}
 use Rattle.lexical_writer.proofs.Common.{◌∙◌, ◌≡◌, ◌≤◌}
-use Rattle.lexical_forms.proofs.MarkLemmas.{no_marks}
+use Rattle.lexical_forms.proofs.BehindLemmas.{no_size}
 use Rattle.lexical_writer.proofs.BufferLemmas.{plain_by}
 use Rattle.lexical_writer.proofs.FloatLemmas.{residual}
 use Rattle.lexical_writer.specs.declared.layout.WriteError.TheVariants as errors
@@ -16,10 +16,10 @@ taken text old bytes size is fits short =
     sym (ap (λ n. take n bytes) count ∙ is.begins (omega (arith, count, fits)))
 
 pub write_around-requires : goal.write_around-requires
-write_around-requires g c _ = sym c.is_marked.ensures ∙ c.if-is_marked.true
+write_around-requires g c _ = sym c.has_opening.ensures ∙ c.if-has_opening.true
 
-pub returns-then-is_marked-clause-error : goal.returns-then-is_marked-clause-error
-returns-then-is_marked-clause-error g c = c.write_around.ensures.error c.args.index
+pub returns-then-has_opening-clause-error : goal.returns-then-has_opening-clause-error
+returns-then-has_opening-clause-error g c = c.write_around.ensures.error c.args.index
 
 pub returns-in_err-size-clause-error : goal.returns-in_err-size-clause-error
 returns-in_err-size-clause-error g c =
@@ -39,13 +39,13 @@ pub returns-then-size-clause-error : goal.returns-then-size-clause-error
 returns-then-size-clause-error g c =
     let written = c.in_ok-size.ensures.text in
     let l = written.0 in
-    let none = no_marks _ _ c.is_marked.result c.is_marked.ensures c.if-is_marked.false in
+    let none = no_size _ c.has_opening.result c.has_opening.ensures c.if-has_opening.false in
     let form = c.args.form.now in
     inr (
       l,
       subst (λ s. g.N.Writable.writes c.args.number.now c.args.style s (Ok l)) c.syntax.ensures written.2,
       subst (λ text. IsUnusable (g.N.Writable.writes c.args.number.now) (g.N.Writable.keeps c.args.number.now) (length c.args.buffer.now) c.args.forms.now
-          c.args.index form c.args.style None text (errors.Buffer c.in_ok-size.size)) (sym (plain_by form l none.0 none.1))
+          c.args.index form c.args.style None text (errors.Buffer c.in_ok-size.size)) (sym (plain_by form l none))
           (inl (
             elim c.then-size.either [
               | inl most ↦ inr (omega (arith, most, written.3.counted))
@@ -59,7 +59,7 @@ pub returns-in-Err-clause-error : goal.returns-in-Err-clause-error
 returns-in-Err-clause-error g c =
     let written = c.in_ok-size.ensures.text in
     let l = written.0 in
-    let none = no_marks _ _ c.is_marked.result c.is_marked.ensures c.if-is_marked.false in
+    let none = no_size _ c.has_opening.result c.has_opening.ensures c.if-has_opening.false in
     let form = c.args.form.now in
     let keeps = g.N.Writable.keeps c.args.number.now in
     let whole = taken (text_of l) c.args.buffer.now c.write.new.buffer c.in_ok-size.size written.3 c.if-size-buffer.false c.if-size.false in
@@ -68,23 +68,23 @@ returns-in-Err-clause-error g c =
       l,
       subst (λ s. g.N.Writable.writes c.args.number.now c.args.style s (Ok l)) c.syntax.ensures written.2,
       subst (λ text. IsUnusable (g.N.Writable.writes c.args.number.now) keeps (length c.args.buffer.now) c.args.forms.now
-          c.args.index form c.args.style None text error) (sym (plain_by form l none.0 none.1))
+          c.args.index form c.args.style None text error) (sym (plain_by form l none))
           (inr (
             omega (arith, written.3.counted, c.if-size-buffer.false, c.if-size.false, c.in_ok-size.ensures.room),
             inl (subst (λ b. IsReadElse (λ own. keeps c.args.style (not b && own)) c.args.forms.now.forms c.args.index (text_of l) error)
-                (sym (sym c.is_marked.ensures ∙ c.if-is_marked.false))
+                (sym (sym c.has_opening.ensures ∙ c.if-has_opening.false))
                 (subst (λ text. IsReadElse (keeps c.args.style) c.args.forms.now.forms c.args.index text error) (sym whole) c.in-Err.ensures.error)),
           )),
     )
 
 pub returns-in-Ok-clause-text : goal.returns-in-Ok-clause-text
 returns-in-Ok-clause-text g c =
-    let none = no_marks _ _ c.is_marked.result c.is_marked.ensures c.if-is_marked.false in
+    let none = no_size _ c.has_opening.result c.has_opening.ensures c.if-has_opening.false in
     let written = c.in-Ok.ensures.value in
-    (written.0, written.1, written.2 ∙ sym (plain_by c.args.form.now written.0 none.0 none.1), written.3)
+    (written.0, written.1, written.2 ∙ sym (plain_by c.args.form.now written.0 none), written.3)
 
-pub read_written-requires-clause-unmarked : goal.read_written-requires-clause-unmarked
-read_written-requires-clause-unmarked g c = no_marks _ _ c.is_marked.result c.is_marked.ensures c.if-is_marked.false
+pub read_written-requires-clause-unopened : goal.read_written-requires-clause-unopened
+read_written-requires-clause-unopened g c = no_size _ c.has_opening.result c.has_opening.ensures c.if-has_opening.false
 
 pub read_written-requires-clause-written : goal.read_written-requires-clause-written
 unfolding of_form

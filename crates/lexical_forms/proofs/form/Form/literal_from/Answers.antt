@@ -1,5 +1,5 @@
 -- The first byte is not that of the opening.
-use Rattle.lexical_forms.proofs.MarkLemmas.{none_excluded}
+use Rattle.lexical_forms.proofs.BehindLemmas.{none_excluded}
 use Rattle.lexical_forms.proofs.form.Form.literal_from.Goals as goal
 
 pub returns-then-excludes-clause-none : goal.returns-then-excludes-clause-none

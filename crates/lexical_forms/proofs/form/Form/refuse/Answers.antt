@@ -1,23 +1,29 @@
--- Without marks, the syntax refuses the text.
-use Rattle.lexical_forms.proofs.Common.{refl}
-use Rattle.lexical_forms.proofs.MarkLemmas.{no_marks, plain_error, plain_stopped}
+-- The opening is not there, or the syntax refuses what is behind it.
+use Rattle.lexical_forms.proofs.Common.{Grammar, IsFront, IsSyntax, [], arith, notation_of, refl, rules, subst}
+use Rattle.lexical_forms.proofs.BehindLemmas.{before_of, lacks_opening, part_error, part_refused, part_stopped}
 use Rattle.lexical_forms.proofs.form.Form.refuse.Goals as goal
 
+pub lacks_opening-requires : goal.lacks_opening-requires
+lacks_opening-requires c =
+    let g = c.args.self.now in
+    let lawful : IsSyntax c.syntax-syntax.result = search rules in
+    let some = subst (λ (g : Grammar). IsFront (notation_of g) []) c.syntax-syntax.ensures (c.literal_facts.ensures.some c.syntax-syntax.result lawful) in
+    lacks_opening g c.args.text.now c.args.stop some
+    (before_of g c.args.text.now c.args.stop c.requires (omega (arith, c.if-stop-opened.true, c.size-opened.ensures)))
+
 pub error_of-requires-clause-stopped : goal.error_of-requires-clause-stopped
-error_of-requires-clause-stopped c = let plain = no_marks _ _ c.is_marked.result c.is_marked.ensures c.if-is_marked.false in
-    (plain_stopped c.args.self.now c.args.text.now c.args.stop plain.0 plain.1 c.requires).0
+error_of-requires-clause-stopped c = part_stopped c.args.self.now c.args.text.now c.args.stop c.at.result c.split_at.result.1.now c.requires
+    (omega (arith, c.if-stop-opened.false, c.size-opened.ensures)) c.size-opened.result c.size-opened.ensures c.at.ensures c.split_at.ensures.back
 
 pub error_of-requires-clause-refused : goal.error_of-requires-clause-refused
-error_of-requires-clause-refused c = let plain = no_marks _ _ c.is_marked.result c.is_marked.ensures c.if-is_marked.false in
-    (plain_stopped c.args.self.now c.args.text.now c.args.stop plain.0 plain.1 c.requires).1
+error_of-requires-clause-refused c = part_refused c.args.self.now c.args.text.now c.args.stop c.at.result c.split_at.result.1.now c.requires
+    (omega (arith, c.if-stop-opened.false, c.size-opened.ensures)) c.size-opened.result c.size-opened.ensures c.at.ensures c.split_at.ensures.back
 
 pub returns-clause-error : goal.returns-clause-error
-returns-clause-error c =
-    let g = c.args.self.now in let text = c.args.text.now in
-    let plain = no_marks g.opening.size g.closing.size c.is_marked.result c.is_marked.ensures c.if-is_marked.false in
-    record {
-      name = refl;
-      refusal = plain_error g text plain.0 plain.1 (plain_stopped g text c.args.stop plain.0 plain.1 c.requires).1 c.error_of.result.refusal
-          c.error_of.ensures;
-      unmarked = tt;
-    }
+returns-clause-error c = record {
+  name = refl;
+  refusal = part_error c.args.self.now c.args.text.now c.args.stop c.at.result c.split_at.result.1.now c.requires
+      (omega (arith, c.if-stop-opened.false, c.size-opened.ensures)) c.size-opened.result c.size-opened.ensures c.at.ensures c.split_at.ensures.back
+      c.error_of.result.refusal c.error_of.ensures;
+  unopened = tt;
+}

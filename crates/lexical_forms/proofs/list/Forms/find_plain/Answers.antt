@@ -1,8 +1,8 @@
 -- The first form that reads the text, or the form whose error is that of the list.
 use Rattle.lexical_forms.proofs.Common.{All-more, FormList, Furthest, Grammar, IfSome, IsBehind, IsLed, IsLeftOut, IsRefusedAt, IsSomeAnd, NoForm, NoLiteral}
-use Rattle.lexical_forms.proofs.Common.{None, NoneBy, Option, ReadsIn, Stopped, arith, false, get_or, have_marks, length-take-le, measured_cut, notation_of}
+use Rattle.lexical_forms.proofs.Common.{None, NoneBy, Option, ReadsIn, Stopped, arith, false, get_or, have_openings, length-take-le, measured_cut, notation_of}
 use Rattle.lexical_forms.proofs.Common.{refl, slice_get, subst, sym, take, whole_read, ℕ, ◌+◌, ◌≡◌}
-use Rattle.lexical_forms.proofs.MarkLemmas.{left_plain, none_plain, plain_in, plain_refused}
+use Rattle.lexical_forms.proofs.BehindLemmas.{left_plain, none_plain, plain_in, plain_refused}
 use Rattle.lexical_forms.proofs.FormLemmas.{all_tried, at_index, first_none, found_is, leads_all, leads_first, led_out, plain_at}
 use Rattle.lexical_forms.proofs.list.Forms.find_plain.Goals as goal
 use Rattle.lexical_forms.proofs.list.Forms.find_plain.Goals.{in-Some, in_default, then-not-is_behind+else-is_whole+in-Err, else-not-is_behind}
@@ -40,28 +40,28 @@ pub returns-then-is_whole : goal.returns-then-is_whole
 returns-then-is_whole c =
     let text = c.args.text.now in let g = get_or c.self.inside.forms.now c.loop-form.form c.index-self-form.result in
     let plain = plain_at c.self.inside.forms.now c.loop-form.form c.index-self-form.result c.loop-form-test.true
-    (subst (λ (l : FormList). have_marks l.forms ≡ false) (sym c.self.view_is) c.requires.plain) in
+    (subst (λ (l : FormList). have_openings l.forms ≡ false) (sym c.self.view_is) c.requires.plain) in
     let is = whole_read _ text c.begin-begun.result.counts (c.is_whole.ensures.measured c.if-is_whole.true) c.literal.result c.literal.ensures in
     rw (← c.self.view_is) (found_is c.self.inside.forms.now text c.loop-form.form c.index-self-form.result c.literal.result
-    c.loop-form-test.true (is.0, refl, plain_in g text plain.0 plain.1 c.literal.result.literal is.1) c.loop-form.invariant.0)
+    c.loop-form-test.true (is.0, refl, plain_in g text plain c.literal.result.literal is.1) c.loop-form.invariant.0)
 
 pub returns-in-Ok : goal.returns-in-Ok
 returns-in-Ok c =
     let text = c.args.text.now in let g = get_or c.self.inside.forms.now c.loop-form.form c.index-self-form.result in
     let plain = plain_at c.self.inside.forms.now c.loop-form.form c.index-self-form.result c.loop-form-test.true
-    (subst (λ (l : FormList). have_marks l.forms ≡ false) (sym c.self.view_is) c.requires.plain) in
+    (subst (λ (l : FormList). have_openings l.forms ≡ false) (sym c.self.view_is) c.requires.plain) in
     let is = whole_read _ text c.in-Ok.counts c.in-Ok.ensures.some c.summed.result c.summed.ensures in
     rw (← c.self.view_is) (found_is c.self.inside.forms.now text c.loop-form.form c.index-self-form.result c.summed.result
-    c.loop-form-test.true (is.0, refl, plain_in g text plain.0 plain.1 c.summed.result.literal is.1) c.loop-form.invariant.0)
+    c.loop-form-test.true (is.0, refl, plain_in g text plain c.summed.result.literal is.1) c.loop-form.invariant.0)
 
 pub further_on-furthest-requires-clause-refused : goal.further_on-furthest-requires-clause-refused
 further_on-furthest-requires-clause-refused c =
     let forms = c.self.inside.forms.now in let text = c.args.text.now in let i = c.loop-form.form in
     let plain = plain_at c.self.inside.forms.now c.loop-form.form c.index-self-form.result c.loop-form-test.true
-    (subst (λ (l : FormList). have_marks l.forms ≡ false) (sym c.self.view_is) c.requires.plain) in
+    (subst (λ (l : FormList). have_openings l.forms ≡ false) (sym c.self.view_is) c.requires.plain) in
     subst (λ (l : FormList). IsSomeAnd (slice_get l.forms i) (IsRefusedAt text c.in-Err.stop)) c.self.view_is
     (at_index (IsRefusedAt text c.in-Err.stop) forms forms c.index-self-form.result i refl c.loop-form-test.true
-    (plain_refused (get_or forms i c.index-self-form.result) text c.in-Err.stop plain.0 plain.1 c.in-Err.ensures.stop (c.in-Err.ensures.none refl)))
+    (plain_refused (get_or forms i c.index-self-form.result) text c.in-Err.stop plain c.in-Err.ensures.stop (c.in-Err.ensures.none refl)))
 
 pub loop-form-preserved : goal.loop-form-preserved
 loop-form-preserved c =
@@ -72,20 +72,20 @@ loop-form-preserved c =
     let inside = c.loop-form-test.true in
     let furthest = c.loop-form.furthest in
     let g = get_or forms i d in
-    let plain = plain_at forms i d inside (subst (λ (l : FormList). have_marks l.forms ≡ false) (sym c.self.view_is) c.requires.plain) in
+    let plain = plain_at forms i d inside (subst (λ (l : FormList). have_openings l.forms ≡ false) (sym c.self.view_is) c.requires.plain) in
     elim c.if-not-is_behind.branch [
       | then-not-is_behind+else-is_whole+in-Err w ↦ (
         All-more (λ g. NoneBy (ReadsIn g) text) forms i d inside c.loop-form.invariant.0
-            (none_plain g text plain.0 plain.1 (w.in-Err.ensures.none refl)),
+            (none_plain g text plain (w.in-Err.ensures.none refl)),
         subst (IsLed forms text (i + 1)) (sym w.furthest-is)
             (subst (λ (l : FormList). IsLed l.forms text (i + 1) w.further_on-furthest.result) (sym c.self.view_is) w.further_on-furthest.ensures),
       )
       | else-not-is_behind w ↦ (
         All-more (λ g. NoneBy (ReadsIn g) text) forms i d inside c.loop-form.invariant.0
-            (none_plain g text plain.0 plain.1
+            (none_plain g text plain
             (subst (λ (g : Grammar). NoLiteral (notation_of g) text) c.grammar.ensures.value (c.is_behind.ensures.none w.if-not-is_behind.false))),
         subst (IsLed forms text (i + 1)) (sym w.furthest-is) (led_out forms text i furthest c.loop-form.invariant.1
-            (at_index (IsLeftOut text furthest) forms forms d i refl inside (left_plain g text plain.0 plain.1 furthest
+            (at_index (IsLeftOut text furthest) forms forms d i refl inside (left_plain g text plain furthest
             (subst (λ (g : Grammar). IsBehind (notation_of g) text furthest) c.grammar.ensures.value
             (c.is_behind.ensures.near w.if-not-is_behind.false))))),
       )

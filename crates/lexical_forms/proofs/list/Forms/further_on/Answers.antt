@@ -1,7 +1,7 @@
 -- A form leads those that do not go beyond the first byte behind the sign.
 use Rattle.lexical_forms.proofs.Common.{IsLed, IsLeftOut, IsRefusedAt, None, arith, slice_get, subst}
 use Rattle.lexical_forms.proofs.FormLemmas.{each, leads_first, led_out}
-use Rattle.lexical_forms.proofs.MarkLemmas.{reach_most}
+use Rattle.lexical_forms.proofs.BehindLemmas.{reach_most}
 use Rattle.lexical_forms.proofs.list.Forms.further_on.Goals as goal
 
 pub returns-in-None : goal.returns-in-None

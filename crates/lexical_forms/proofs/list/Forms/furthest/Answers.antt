@@ -2,9 +2,9 @@
 use Rattle.lexical_forms.proofs.Common.{FormList, Grammar, IsLow, IsNoBetter, IsRefusedAt, IsSomeAnd, Leads, NoForm, arith, get_or, nat_tests, notation_of}
 use Rattle.lexical_forms.proofs.Common.{refl, slice_get, subst, sym, ◌+◌}
 use Rattle.lexical_forms.proofs.FormLemmas.{at_index, leads_all, leads_first, left_out}
-use Rattle.lexical_forms.proofs.MarkLemmas.{low_plain}
+use Rattle.lexical_forms.proofs.BehindLemmas.{low_plain}
 use Rattle.lexical_forms.proofs.list.Forms.furthest.Goals as goal
-use Rattle.lexical_forms.proofs.list.Forms.furthest.Goals.{then-is_marked, else-is_marked+else-not-is_settled}
+use Rattle.lexical_forms.proofs.list.Forms.furthest.Goals.{then-has_opening, else-has_opening+else-not-is_settled}
 
 pub loop-form-init : goal.loop-form-init
 loop-form-init c =
@@ -31,14 +31,13 @@ loop-form-preserved c =
     let text = c.args.text.now in
     let i = c.loop-form.form in
     let best = c.loop-form.furthest in
-    elim c.if-is_marked.branch [
-      | then-is_marked w ↦ subst (Leads forms text (i + 1)) (sym w.furthest-is)
+    elim c.if-has_opening.branch [
+      | then-has_opening w ↦ subst (Leads forms text (i + 1)) (sym w.furthest-is)
           (subst (λ (l : FormList). Leads l.forms text (i + 1) w.further-furthest.result) (sym c.self.view_is) w.further-furthest.ensures)
-      | else-is_marked+else-not-is_settled w ↦ subst (Leads forms text (i + 1)) (sym w.furthest-is) (left_out forms text i best c.loop-form.invariant
+      | else-has_opening+else-not-is_settled w ↦ subst (Leads forms text (i + 1)) (sym w.furthest-is) (left_out forms text i best c.loop-form.invariant
           (at_index (IsLow text best.stop.size) forms forms c.index-self-form.result i refl c.loop-form-test.true
           (low_plain (get_or forms i c.index-self-form.result) text
-          (let marked = c.is_marked.ensures in let no = w.if-is_marked.false in grind (arith, nat_tests))
-          (let marked = c.is_marked.ensures in let no = w.if-is_marked.false in grind (arith, nat_tests)) best.stop.size
+          (let opened = c.has_opening.ensures in let no = w.if-has_opening.false in grind (arith, nat_tests)) best.stop.size
           (subst (λ (g : Grammar). IsNoBetter (notation_of g) text best.stop.size) w.grammar.ensures.value
           (w.is_settled.ensures.better w.if-not-is_settled.false)))))
     ]

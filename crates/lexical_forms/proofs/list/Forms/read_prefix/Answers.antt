@@ -1,25 +1,30 @@
 -- The front has the parts that were counted.
-use Rattle.lexical_forms.proofs.Common.{Form, IsFrontIn, IsSomeAnd, ReadsForm, ReadsIn, Some, ap, arith, behind, front_cut, front_read, length, length-take-le}
-use Rattle.lexical_forms.proofs.Common.{slice_get, subst, sym, take, ◌+◌, ◌-◌, ◌∙◌, ◌≡◌}
+use Rattle.lexical_forms.proofs.Common.{Form, IsFrontIn, IsSomeAnd, ReadsForm, ReadsIn, Some, ap, arith, behind, front_cut, front_read}
+use Rattle.lexical_forms.proofs.Common.{List, drop, length, length-take-le, ℕ, slice_get, subst, sym, take, ◌-◌, ◌∙◌, ◌≡◌}
 use Rattle.lexical_forms.proofs.FormLemmas.{form_at, inside_of}
-use Rattle.lexical_forms.proofs.MarkLemmas.{front_in, inner_is, read_in}
+use Rattle.lexical_forms.proofs.BehindLemmas.{front_in, inner_is, read_in}
 use Rattle.lexical_forms.proofs.list.Forms.read_prefix.Goals as goal
 
-pub inner-requires : goal.inner-requires
-inner-requires c =
+-- What is behind as many bytes as the opening has.
+inside_of_front : (g : Form) (front inside : List ℕ) (size : ℕ) → inside ≡ drop size front → size ≡ g.opening.size → inside ≡ drop g.opening.size front
+inside_of_front g front inside size back same = back ∙ ap (λ k. drop k front) same
+
+pub split_at-requires-in-Ok : goal.split_at-requires-in-Ok
+split_at-requires-in-Ok c =
     let found = c.in-Ok.found in let text = c.args.text.now in let g = c.index-as_slice-form.result in
     let is = subst (λ (g : Form). IsFrontIn text found g) (sym c.index-as_slice-form.is) (form_at (IsFrontIn text found) c.args.self.now.forms
     c.as_slice.result.now c.index-as_slice-form.result c.in-Ok.form c.as_slice.ensures.list c.in-Ok.ensures.found).1 in
     let size = ap length c.split_at.ensures.front ∙ length-take-le found.size text (front_in g text found is).within in
-    let past = is.past in omega (arith, size, past)
+    let past = is.past in omega (arith, size, past, c.size.ensures)
 
 pub summed-requires : goal.summed-requires
 summed-requires c =
     let found = c.in-Ok.found in let text = c.args.text.now in let g = c.index-as_slice-form.result in
     let is = subst (λ (g : Form). IsFrontIn text found g) (sym c.index-as_slice-form.is) (form_at (IsFrontIn text found) c.args.self.now.forms
     c.as_slice.result.now c.index-as_slice-form.result c.in-Ok.form c.as_slice.ensures.list c.in-Ok.ensures.found).1 in
-    front_cut g.syntax (behind g text) c.inner.result.now (found.size - (g.opening.size + g.closing.size)) found.counts
-    (inner_is g text found is c.split_at.result.0.now c.inner.result.now c.split_at.ensures.front c.inner.ensures) is.front
+    front_cut g.syntax (behind g text) c.split_at-in-Ok.result.1.now (found.size - g.opening.size) found.counts
+    (inner_is g text found is c.split_at.result.0.now c.split_at-in-Ok.result.1.now c.split_at.ensures.front
+    (inside_of_front g _ _ _ c.split_at-in-Ok.ensures.back c.size.ensures)) is.front
 
 pub of_form-literal-requires : goal.of_form-literal-requires
 of_form-literal-requires c = inside_of _ c.args.self.now.forms c.in-Ok.form c.in-Ok.ensures.found
@@ -30,8 +35,9 @@ returns-in-Ok c =
     let form = subst (λ (g : Form). (slice_get forms c.in-Ok.form ≡ Some g) × IsFrontIn text found g) (sym c.index-as_slice-form.is)
     (form_at (IsFrontIn text found) forms c.as_slice.result.now g c.in-Ok.form c.as_slice.ensures.list c.in-Ok.ensures.found) in
     let read = c.summed.result in
-    let is = front_read g.syntax (behind g text) c.inner.result.now (found.size - (g.opening.size + g.closing.size)) found.counts
-    (inner_is g text found form.1 c.split_at.result.0.now c.inner.result.now c.split_at.ensures.front c.inner.ensures) form.1.front read
+    let is = front_read g.syntax (behind g text) c.split_at-in-Ok.result.1.now (found.size - g.opening.size) found.counts
+    (inner_is g text found form.1 c.split_at.result.0.now c.split_at-in-Ok.result.1.now c.split_at.ensures.front
+    (inside_of_front g _ _ _ c.split_at-in-Ok.ensures.back c.size.ensures)) form.1.front read
     c.summed.ensures in
     let own = c.of_form-literal.result in (
       found.size,

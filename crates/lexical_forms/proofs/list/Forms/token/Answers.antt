@@ -1,16 +1,16 @@
--- The token that reading the forms once tells, of a list without openings and closings.
-use Rattle.lexical_forms.proofs.Common.{FormList, IsReadByTokens, Ok, ap, are_marked, false, refl, subst, sym, ◌∙◌, ◌≡◌}
+-- The token that reading the forms once tells, of a list without openings.
+use Rattle.lexical_forms.proofs.Common.{FormList, IsReadByTokens, Ok, ap, are_opened, false, refl, subst, sym, ◌∙◌, ◌≡◌}
 use Rattle.lexical_forms.proofs.FormLemmas.{bare_list}
 use Rattle.lexical_forms.proofs.list.Forms.token.Goals as goal
 
 pub leading-requires-clause-plain : goal.leading-requires-clause-plain
 leading-requires-clause-plain c = bare_list c.args.self.now c.in-Some.tokens
-    (subst (λ (l : FormList). are_marked l.forms l.tokens ≡ false) c.self.view_is (sym c.self.invariant.1 ∙ c.if-self.false))
+    (subst (λ (l : FormList). are_opened l.forms l.tokens ≡ false) c.self.view_is (sym c.self.invariant.1 ∙ c.if-self.false))
     (sym (ap (λ (l : FormList). l.tokens) c.self.view_is) ∙ c.in-Some.is)
 
 pub leading-requires-2-clause-plain : goal.leading-requires-2-clause-plain
 leading-requires-2-clause-plain c = bare_list c.args.self.now c.in-Some.tokens
-    (subst (λ (l : FormList). are_marked l.forms l.tokens ≡ false) c.self.view_is (sym c.self.invariant.1 ∙ c.if-self.false))
+    (subst (λ (l : FormList). are_opened l.forms l.tokens ≡ false) c.self.view_is (sym c.self.invariant.1 ∙ c.if-self.false))
     (sym (ap (λ (l : FormList). l.tokens) c.self.view_is) ∙ c.in-Some.is)
 
 pub returns-then-self : goal.returns-then-self

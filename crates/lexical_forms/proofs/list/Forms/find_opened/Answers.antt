@@ -1,7 +1,7 @@
 -- The first form that reads the text.
 use Rattle.lexical_forms.proofs.Common.{All-more, FormList, IsNone, NoForm, NoneBy, ReadsIn, refl, subst, sym}
 use Rattle.lexical_forms.proofs.FormLemmas.{all_tried, found_is}
-use Rattle.lexical_forms.proofs.list.Forms.find_marked.Goals as goal
+use Rattle.lexical_forms.proofs.list.Forms.find_opened.Goals as goal
 
 pub returns-in-Some : goal.returns-in-Some
 returns-in-Some c = rw (← c.self.view_is) (found_is c.self.inside.forms.now c.args.text.now c.loop-form.form c.index-self-form.result

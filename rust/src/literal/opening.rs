@@ -1,44 +1,45 @@
-// Made by rust/tools/erase.py from crates/lexical_forms/src/affix.rt: change that file.
+// Made by rust/tools/erase.py from crates/lexical_forms/src/opening.rt: change that file.
 
-//! What stands before and behind the literals of a form, such as `16#` and `#`.
+//! What stands before the literals of a form, such as `16#`.
 
 use crate::literal::step::other_case;
 
-/// Up to 8 bytes of ASCII that stand before each literal of a form, its *opening*, such as `$`, `16r` or `#x`, or behind it, its
-/// *closing*, such as `#` or `'`. An empty one is none. Letters are in either case, unless
-/// [`case_sensitive`][Self::case_sensitive] says otherwise.
+/// Up to 8 bytes of ASCII that stand before each literal of a form, such as `$`, `16r` or `#x`. An empty opening is none. Letters are in
+/// either case, unless [`case_sensitive`][Self::case_sensitive] says otherwise.
 ///
-/// A text is a literal of a form if it is the opening, then a literal of the syntax, and then the closing. So a sign stands behind the
-/// opening, and a [`Literal`][crate::literal::literal::Literal] is what is between both.
+/// A text is a literal of a form if it is the opening, and then a literal of the syntax. So a sign stands behind the opening, and a
+/// [`Literal`][crate::literal::literal::Literal] is what is behind it. What has to stand behind the digits is a
+/// [required base suffix][crate::literal::syntax::Conditions::required_base_suffix].
 ///
 /// ```
-/// use peltzivar::literal::{Affix, Form, Forms, Syntax};
+/// use core::num::NonZeroU8;
+/// use peltzivar::literal::{Conditions, Form, Forms, Opening, Syntax};
 /// use peltzivar::NumberFormatBuilder;
 ///
-/// let [opening, closing] = [b"16#", &b"#"[..]].map(|it| Affix::new(it).unwrap());
-/// let syntax = Syntax::integers(NumberFormatBuilder::new().radix(16).build_format_or_panic());
-/// let forms = [Form::new("hexadecimal", syntax).with_opening(opening).with_closing(closing).unwrap()];
+/// let format = NumberFormatBuilder::new().radix(16).base_suffix(NonZeroU8::new(b'#')).build_format_or_panic();
+/// let syntax = Syntax::integers(format).with_conditions_or_panic(Conditions::NONE.required_base_suffix(true));
+/// let forms = [Form::new("hexadecimal", syntax).with_opening(Opening::new(b"16#").unwrap())];
 /// let list = Forms::new_or_panic(&forms);
 /// assert_eq!(list.parse("16#FF#"), Ok(255));
 /// let error = list.read("16rFF").unwrap_err();
 /// assert_eq!((error.span(), error.to_string()), (2..3, "expected the opening `16#`".into()));
 /// let error = list.read("16#FF").unwrap_err();
-/// assert_eq!((error.span(), error.to_string()), (5..5, "expected the closing `#`".into()));
+/// assert_eq!((error.span(), error.to_string()), (5..5, "expected the suffix #".into()));
 /// ```
 #[derive(Debug, Clone, Copy, PartialEq, Eq, Hash)]
-pub struct Affix {
+pub struct Opening {
     bytes: [u8; 8],
     pub(crate) size: u8,
     case_sensitive: bool,
 }
 
-impl Affix {
+impl Opening {
     /// No bytes.
-    pub const NONE: Affix = Affix { bytes: [0; 8], size: 0, case_sensitive: false };
+    pub const NONE: Opening = Opening { bytes: [0; 8], size: 0, case_sensitive: false };
 
-    /// Returns an affix with these bytes, letters of which are in either case, or `None` if they are more than 8, or not all ASCII.
+    /// Returns the opening with these bytes, letters of which are in either case, or `None` if they are more than 8, or not all ASCII.
     #[must_use]
-    pub const fn new(bytes: &[u8]) -> Option<Affix> {
+    pub const fn new(bytes: &[u8]) -> Option<Opening> {
         if bytes.len() > 8 || !is_ascii(bytes) {
             return None;
         }
@@ -48,14 +49,14 @@ impl Affix {
             own[size] = bytes[size];
             size += 1;
         }
-        Some(Affix { bytes: own, size: size as u8, case_sensitive: false })
+        Some(Opening { bytes: own, size: size as u8, case_sensitive: false })
     }
 
     /// Sets whether letters have the case in which they are given.
     #[must_use]
-    pub const fn case_sensitive(self, sensitive: bool) -> Affix {
+    pub const fn case_sensitive(self, sensitive: bool) -> Opening {
         let bytes = self.bytes;
-        Affix { bytes, size: self.size, case_sensitive: sensitive }
+        Opening { bytes, size: self.size, case_sensitive: sensitive }
     }
 
     /// Returns whether letters have the case in which they are given.
@@ -104,12 +105,6 @@ impl Affix {
     const fn spells(&self, index: usize, byte: u8) -> bool {
         let own = self.bytes[index];
         byte == own || (!self.case_sensitive && byte == other_case(own))
-    }
-
-    // Returns the first byte, or 0 if there is none.
-    #[inline(always)]
-    pub(crate) const fn first(&self) -> u8 {
-        self.bytes[0]
     }
 }
 

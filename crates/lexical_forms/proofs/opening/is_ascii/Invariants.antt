@@ -1,5 +1,5 @@
 use Rattle.lexical_forms.proofs.Common.{All, length, take, ◌-◌, ◌<◌}
-use Rattle.lexical_forms.proofs.affix.is_ascii.Given as goal
+use Rattle.lexical_forms.proofs.opening.is_ascii.Given as goal
 
 abbrev pub invariant-loop-index : goal.invariant-loop-index
 invariant-loop-index l = All (λ byte. byte < 128) (take l.index l.bytes)

@@ -1,5 +1,5 @@
 use Rattle.lexical_forms.proofs.Common.{Begins, length, ◌-◌, ◌≤◌}
-use Rattle.lexical_forms.proofs.affix.Affix.opened.Given as goal
+use Rattle.lexical_forms.proofs.opening.Opening.opened.Given as goal
 
 abbrev pub invariant-loop-size : goal.invariant-loop-size
 invariant-loop-size l = (l.size ≤ l.self.size) × Begins l.self l.text l.size

@@ -1,5 +1,5 @@
 use Rattle.lexical_forms.proofs.Common.{NoForm, length, take, ◌-◌}
-use Rattle.lexical_forms.proofs.list.Forms.find_marked.Given as goal
+use Rattle.lexical_forms.proofs.list.Forms.find_opened.Given as goal
 
 abbrev pub invariant-loop-form : goal.invariant-loop-form
 invariant-loop-form l = NoForm (take l.form l.self-inside.forms.now) l.text
