@@ -1133,7 +1133,7 @@ _style.__qualname__ = "format_column"
 _FACTORS = {2**twos * 5**fives: (twos, fives) for twos in range(6) for fives in range(3)}
 _MOST_DIGITS = 10**6
 # The members of a form behind its syntax, if it has the kind `Kind()`, and nothing else.
-_PLAIN = 0, 0, 0, 0, None, None, None, 0, 0, 0
+_PLAIN = 0, 0, 0, 0, None, None, 0, 0
 _TOO_LONG = "the exact value has more than 10^6 digits"
 # The status of a cell with such a value, which no call of C returns.
 _LONG = 255

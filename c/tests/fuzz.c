@@ -273,7 +273,7 @@ static void test_literals(peltzivar_word word) {
     /* A lawful syntax as a form reads the same, and a column has the values of its texts. */
     static const peltzivar_stop stops[] = {{"1", "-.", "1", {0}}};
     const peltzivar_suffixes suffixes = {"e ux", "f", "_", "ux", NULL, 0, stops, 1, true, len % 7 == 0, {0}, len % 2 ? "-" : NULL};
-    const peltzivar_form form = {"it", syntax, 0, 0, 0, 0, false, false, false, {0}, &suffixes, NULL, NULL};
+    const peltzivar_form form = {"it", syntax, 0, 0, 0, 0, false, false, {0}, &suffixes, NULL};
     const peltzivar_tokens rules = {&form, 1, "if", len % 2 == 0, len % 3 == 0, len % 5 == 0, {0}};
     const peltzivar_forms forms = {&form, 1, {NULL, NULL, NULL, {0}}, NULL, {0}, &rules};
     const char *const language = peltzivar_language_name(draw() % 32);

@@ -129,6 +129,7 @@ never_whole read kinds.Float none =
     ap (λ float. if float then None else integer_worth read.kind.integers (raw read.format).byte read.literal) (none 0 0)
 never_whole read kinds.TooLarge none = whole_is read None (none 0 0).0 (above _ _ (λ w. w.0 ≡ false) (λ most. (none 0 most).1))
 never_whole read kinds.TooSmall none = whole_is read None (none 0 0).0 (above _ _ (λ w. w.0 ≡ true) (λ most. (none most 0).1))
+never_whole read kinds.Zero none = absurd (none 0 0)
 never_whole read kinds.Vanishes none = absurd (none 0 0)
 never_whole read kinds.UnsupportedRadix none = absurd (none 0 0)
 never_whole read kinds.Special none = absurd (none 0 0)

@@ -33,7 +33,7 @@ returns-in-None-clause-text g c =
     let l = all.0 in (
       l,
       subst (λ s. g.N.Writable.writes c.args.number.now c.args.style s (Ok l)) c.syntax.ensures all.1,
-      subst (λ text. IsPut text c.put_number-end.new.buffer c.in_ok-end.end) ((λ i. opening i ++ text_of l) ∙ sym (append-nil _)
+      subst (λ text. IsPut text c.put_number.new.buffer c.in_ok-end.end) ((λ i. opening i ++ text_of l) ∙ sym (append-nil _)
           ∙ (λ i. (spelling c.args.form.now.opening ++ text_of l) ++ unwrap_or (bytes_of_word (sym c.in-None.is i)) []))
           all.2,
     )
