@@ -106,6 +106,7 @@ pub exact_error : (least largest : ℕ) (r : Record) (l : Literal) (error : Valu
 exact_error least largest r l kinds.Float is = is
 exact_error least largest r l kinds.TooLarge (whole, (sign, above)) = (whole, sign, above)
 exact_error least largest r l kinds.TooSmall (whole, (sign, below)) = (whole, sign, below)
+exact_error least largest r l kinds.Zero is = is
 exact_error least largest r l kinds.Vanishes is = is
 exact_error least largest r l kinds.UnsupportedRadix is = is
 exact_error least largest r l kinds.Special is = is
