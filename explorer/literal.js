@@ -223,7 +223,7 @@ class Trial {
             const advice = readers.length ? "" : ` ${this.withOffers(it).advice[0]?.words ?? ""}`.trimEnd();
             return `${inCode(it)} is a number in ${counted(readers)}${words && `: ${words}`}.${advice}`;
         });
-        if (answers.length < 2) return answers.length ? sentences : [`Languages read numbers of up to ${MOST_CHARACTERS} characters here.`];
+        if (answers.length < 2) return answers.length ? sentences : [`Numbers of up to ${MOST_CHARACTERS} characters show their languages.`];
         const [all, refused] = [this.readersOf(answers), answers.filter(({ isRefused }) => isRefused).length];
         const parts = [answers.length > refused && `read ${answers.length - refused}`, refused && `refuse ${refused}`].filter(Boolean);
         const whole = counted(all).replace("none", "None");
