@@ -21,8 +21,6 @@ use suggest::{lines_of, offers, Line, State};
 mod forms;
 mod suggest;
 
-/// How many digits of an integer of more than 128 bits are passed.
-const MOST_DIGITS: usize = 1001;
 const INPUT_SIZE: usize = 1 << 18;
 const HEAP_SIZE: usize = 1 << 26;
 
@@ -255,7 +253,7 @@ fn told(read: Result<Number<'_>, FormError>, text: &[u8]) -> String {
             let long = number.literal().filter(is_long).map_or(String::new(), |it| {
                 let (sign, radix) = (if it.is_negative() { "-" } else { "" }, it.radix(Part::Integer));
                 let digits = it.digits(Part::Integer).filter_map(|it| char::from_digit(it.into(), 36));
-                format!(r#""long":["{sign}","{}",{radix}],"#, digits.take(MOST_DIGITS).collect::<String>())
+                format!(r#""long":["{sign}","{}",{radix}],"#, digits.collect::<String>())
             });
             format!(r#""is":"{is}",{long}{},"form":{}"#, value(value_of(number)), number.form().unwrap_or(0))
         }

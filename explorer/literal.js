@@ -66,19 +66,20 @@ class Trial {
 
     /* Returns the answer with what is offered in words: up to three states, those last that change other numbers, and advice. */
     withOffers(answer) {
-        if (answer.isExpected || answer.refused) return { ...answer, offers: [], advice: [] };
+        if (answer.isExpected || answer.refused) return { ...answer, offers: [], advice: [], isFound: true };
         const lines = [answer, ...this.answers].map(({ line }) => line).join("\n");
         const offered = this.library.call("offered", this.list, lines).map((it) => this.worded(answer, it));
         const all = offered.toSorted((a, b) => Boolean(a.lost) - Boolean(b.lost));
         const most = Math.max(...all.map(({ rank }) => rank));
-        const advice = answer.isRefused ? [] : this.adviceOf(answer, all);
+        const advice = answer.isRefused ? [] : this.adviceOf(answer, all.length > 0);
         /* What only takes back the last offer is not offered. */
         const isBack = ({ ways: [[, { forms }]] }) => this.before?.numbers === this.state.numbers && isSame(forms, this.before.forms);
-        return { ...answer, offers: all.filter((it) => it.rank === most && !isBack(it)), advice };
+        return { ...answer, offers: all.filter((it) => it.rank === most && !isBack(it)), advice, isFound: all.length + advice.length > 0 };
     }
 
     /* Returns an offer in words, with its ways into the state: in the form that it changes, in all if other ones read what must be
-     * refused, or as a form of its own, whose prefix is required. This is the first way if others change what is read of a number. */
+     * refused, or as a form of its own, whose prefix is required. This is the first way if another one changes the radix or what is
+     * read of a number, and the only one if a mark shows the radix, without which numbers would have other values. */
     worded(answer, offer) {
         const [{ forms }, { library, answers }, at] = [this.state, this, answer.form];
         const isFlag = ({ isByte, isText }) => Number(!isByte && !isText);
@@ -95,39 +96,42 @@ class Trial {
         const expected = (all) => all.filter(({ isExpected }) => isExpected).length;
         const read = readings(one);
         const index = answers.findIndex((it, place) => it.isExpected && !it.isRefused && valueText(it) !== valueText(read[place]));
-        const lost = index >= 0 && `${inCode(answers[index])} ${read[index].error ? "is refused" : `becomes ${valueText(read[index])}`}`;
-        const isOwn = lost && !answer.isRefused;
-        const isWorse = expected(read) <= this.expected || changes.some(({ name }) => name === "mantissa_radix");
+        const lost = index < 0 ? "" : `${inCode(answers[index])} ${read[index].error ? "is refused" : `becomes ${valueText(read[index])}`}`;
+        const hasRadix = changes.some(({ name }) => name === "mantissa_radix");
+        const isOwn = (lost || hasRadix) && !answer.isRefused;
         const place = isInAll ? " in all forms" : forms.length > 1 ? ` in ${this.forms[at].name}` : "";
         const words = changeWords(library, offer, changes);
-        const ways = isOwn ? [[`${words}, as a form of its own`, other], [`or${place || " in the one form"}: ${lost}`, one]]
-            : [[words + place, one], ...(isWorse && !answer.isRefused ? [["or as a form of its own", other]] : [])];
+        const inOne = hasRadix && (affixes.length || offer.opening) ? [] : [[`or${place || " in the one form"}${lost && `: ${lost}`}`, one]];
+        const ways = isOwn ? [[`${words}, as a form of its own`, other], ...inOne] : [[words + place, one]];
         const then = isOwn ? readings(other) : read;
         const count = expected(then);
         const counted = answers.length > 1 && `${count} of ${answers.length} as expected`;
         const told = [this.told(reading(then)), counted, !isOwn && lost].filter(Boolean).join("; ");
         const rank = reading(then).isExpected * MOST_LINES + count;
-        return { ways, lost, changes, then: told, rank, isBetter: count > this.expected };
+        return { ways, lost: !isOwn && lost, changes, then: told, rank, isBetter: count > this.expected };
     }
 
     /* Returns what else can be done for a text, each with words and, at most, the label of a button and what it does. */
-    adviceOf(answer, offers) {
-        const { text, place } = answer;
-        const language = this.page.languageOf(this.state);
-        const isOwn = (it) => language !== undefined && it?.name === language.name;
+    adviceOf({ text, place }, isOffered) {
         if (text.length > MOST_CHARACTERS) return [];
+        const language = this.page.languageOf(this.state);
         const [{ readers, tokens }] = this.withReaders([{ text }]);
-        /* Of tokens, the one with the longest number counts, and first that of the language. */
-        const [first] = tokens.toSorted((a, b) => isOwn(b) - isOwn(a) || a.suffix.length - b.suffix.length);
-        const { suffix } = first ?? {};
-        const same = isOwn(first) ? [first] : tokens.filter((it) => it.suffix === suffix);
-        const words = `\`${visible(suffix ?? "")}\` is a suffix in ${titlesOf(same)}: ${TOKEN}.`;
-        const ofToken = suffix && (isOwn(first) || !readers.length) ? [{ words, text: text.slice(0, -suffix.length) }] : undefined;
+        /* In a language, its own token counts, and else, if none reads the text, the one with the longest number. */
+        const known = tokens.filter(({ name }) => (language ? name === language.name : !readers.length));
+        const [first] = known.toSorted((a, b) => a.suffix.length - b.suffix.length);
+        const same = known.filter(({ suffix }) => suffix === first.suffix);
+        /* The button has no other value than the token. */
+        const [rest] = first ? this.read([{ text: text.slice(0, -first.suffix.length) }]) : [];
+        const isTried = rest && (rest.error || isSameValue(valueText(rest), valueText(first)));
+        const words = `\`${visible(first?.suffix ?? "")}\` is a suffix in ${titlesOf(same)}: ${TOKEN}.`;
+        const ofToken = first && { words, text: isTried ? rest.text : undefined };
         const numbers = this.state.numbers.split("\n");
         const replace = (other) => this.page.change({ numbers: numbers.with(place, other).join("\n") });
         const isOperator = language && this.hasOperator(text, language);
         const ofSign = isOperator ? [{ words: `In ${language.title}, \`-\` is an operator, so that numbers have no sign.` }] : [];
-        return [...adviceFor(text, offers.length > 0, ofToken), ...ofSign].map((it) => {
+        const isSpecial = /^[+-]?(nan|inf(inity)?)$/i.test(text) && this.list.specials?.some(Boolean) === false;
+        const ofSpecial = isSpecial ? [{ words: "The language of these forms has no literals for NaN and infinity." }] : [];
+        return [...adviceFor(text, isOffered, ofToken, language), ...ofSign, ...ofSpecial].map((it) => {
             return it.text === undefined ? it : { ...it, label: `try ${it.text}`, act: () => replace(it.text) };
         });
     }
@@ -170,7 +174,7 @@ class Trial {
 
     /* Returns the row of a number with its details. */
     row(answer) {
-        const { text, place, isRefused, isExpected, mask = 0n, form, offers, advice } = answer;
+        const { text, place, isRefused, isExpected, mask = 0n, form, offers, advice, isFound } = answer;
         const told = element("p", { class: isExpected ? "good" : "bad" }, visible(this.told(answer)));
         const fields = this.library.namesOf(mask);
         if (this.forms.length > 1 && answer.error) {
@@ -179,7 +183,7 @@ class Trial {
         }
         const line = element("div", {}, element("span", { class: "written" }, this.pieces(answer)), told);
         const nothing = isRefused ? "No flag alone refuses it." : "No change of a few fields was found that accepts it.";
-        const none = isExpected || answer.refused || offers.length || advice.length ? [] : [element("li", {}, nothing)];
+        const none = isFound ? [] : [element("li", {}, nothing)];
         const advised = ({ words, label, act }) => {
             return element("li", {}, element("span", {}, withCode(words)), label ? [button("use", label, act)] : []);
         };
@@ -202,26 +206,24 @@ class Trial {
     showSummary(unexpected) {
         const bad = this.forms.find(({ problems }) => problems.length);
         const none = bad && this.lines.length ? `Nothing is read: ${bad.problems[0].text}.` : WELCOME;
-        const told = () => (this.isChosen ? this.chosenWords(unexpected) : this.languageWords());
-        const sentences = this.answers.length ? told() : [none];
+        const sentences = !this.answers.length ? [none] : this.isChosen ? this.chosenWords(unexpected) : this.languageWords();
         find("summary").replaceChildren(...sentences.map((it) => element("p", { class: it.endsWith(BUTTON) ? "screen" : "" }, withCode(it))));
     }
 
     /* Returns in how many and which languages the numbers are as their lines ask, and each by itself, with its values if these differ. */
     languageWords() {
         const answers = this.withReaders(this.answers.filter(({ text }) => text.length <= MOST_CHARACTERS).slice(0, MOST_READ));
-        const isGood = ({ refused }) => !refused;
         const counted = (all) => `${all.length || "none"} of ${this.languages.length} languages`;
         const sentences = answers.slice(0, MOST_OPEN).map((it) => {
-            const readers = it.readers.filter(isGood);
+            const readers = it.readers.filter(({ refused }) => !refused);
             const none = this.languages.filter(({ name }) => !readers.some((reader) => reader.name === name));
             if (it.isRefused && none.length) return `${inCode(it)} is not a number in ${counted(none)}: ${titlesOf(none)}.`;
             const values = [...Map.groupBy(readers, valueText)];
             const words = values.map(([value, all]) => (values.length > 1 ? `${value} in ${titlesOf(all)}` : titlesOf(all))).join("; ");
-            const advice = readers.length ? "" : ` ${this.adviceOf(it, [])[0]?.words ?? ""}`.trimEnd();
+            const advice = readers.length ? "" : ` ${this.withOffers(it).advice[0]?.words ?? ""}`.trimEnd();
             return `${inCode(it)} is a number in ${counted(readers)}${words && `: ${words}`}.${advice}`;
         });
-        if (answers.length < 2) return sentences;
+        if (answers.length < 2) return answers.length ? sentences : [`Numbers of up to ${MOST_CHARACTERS} characters show their languages.`];
         const [all, refused] = [this.readersOf(answers), answers.filter(({ isRefused }) => isRefused).length];
         const parts = [answers.length > refused && `read ${answers.length - refused}`, refused && `refuse ${refused}`].filter(Boolean);
         const whole = counted(all).replace("none", "None");
@@ -230,13 +232,14 @@ class Trial {
 
     /* Returns a clause for each form with the languages that read its numbers, and what is not as expected. */
     chosenWords(unexpected) {
-        const isRead = (it) => !it.isRefused && !it.error && it.text.length <= MOST_CHARACTERS;
+        const isRead = (it) => !it.isRefused && !it.error && !it.refused && it.text.length <= MOST_CHARACTERS;
         const read = this.withReaders(this.answers.filter(isRead));
         const groups = Map.groupBy(read, (it) => (it.is === "special value" ? this.forms.length : it.form));
         const isOther = ({ name }) => Number(name !== this.state.language);
         const sentences = [...groups].sort(([a], [b]) => a - b).map(([form, answers]) => {
             const readers = this.readersOf(answers).sort((a, b) => isOther(a) - isOther(b));
-            const same = readers.filter((it) => this.hasValues(it, answers));
+            const isSame = (it, { name }) => isSameValue(valueText(it.readers.find((one) => one.name === name)), valueText(it));
+            const same = readers.filter((reader) => answers.every((it) => isSame(it, reader)));
             const others = readers.filter((it) => !same.includes(it));
             const [what, other] = answers.length > 1 ? ["them", "other values"] : ["it", "another value"];
             const does = (all, verb) => `${titlesOf(all) || "no language"} ${verb}${all.length > 1 ? "" : "s"} ${what}`;
@@ -283,12 +286,6 @@ class Trial {
         }));
     }
 
-    /* Returns whether a language that reads the texts of answers gives them the same values. */
-    hasValues({ name }, answers) {
-        const valueIn = ({ readers }) => valueText(readers.find((it) => it.name === name));
-        return answers.every((it) => isSameValue(valueIn(it), valueText(it)));
-    }
-
     /* Shows the languages that read each number, those first that read all, by value and form; and the others, by reason. */
     showReaders() {
         const { languages } = this;
@@ -305,7 +302,7 @@ class Trial {
         const common = all.length < 2 ? [] : this.readersOf(all).filter(isFound);
         const cut = `The first ${all.length} of ${this.answers.length} numbers, with up to ${MOST_CHARACTERS} characters:`;
         const first = [...(all.length < this.answers.length ? [line(cut, [])] : []),
-            ...(common.length ? [line(`All ${all.length}, as expected:`, common)] : [])];
+            ...(common.length ? [line(`All ${all.length}, as asked:`, common)] : [])];
         const nodes = all.flatMap(({ text, readers, tokens, others }) => {
             const name = ({ forms, form, is }) => (is === "special value" ? is : forms[form].name);
             const title = (it) => `${it.refused ? "refused, " : ""}${valueText(it)}, ${name(it)}:`;
@@ -313,8 +310,7 @@ class Trial {
             const count = `Read by formats of ${good.length || "none"} of ${languages.length} languages`;
             const head = element("h3", {}, element("code", {}, visible(text)), ` ${count}`);
             const unsigned = others.filter((it) => this.hasOperator(text, it));
-            const words = `In ${titlesOf(unsigned)}, - is an operator before the number.`;
-            const told = unsigned.length ? [element("p", { class: "meaning" }, words)] : [];
+            const told = unsigned.length ? [element("p", { class: "meaning" }, `In ${titlesOf(unsigned)}, - is an operator before the number.`)] : [];
             const reasons = element("details", all[1] && !sought ? {} : { open: "" }, element("summary", {}, `Refused by ${others.length}`),
                 grouped(others, ({ error }) => `${error}:`));
             const ofTokens = grouped(tokens, (it) => `${valueText(it)} with the suffix ${it.suffix}, as a token:`);
@@ -338,19 +334,20 @@ class Trial {
         return `accepted${isRefused ? " as" : ":"} ${is}${value}${name}${isRefused ? ", but it must be refused" : ""}`;
     }
 
-    /* Returns the text with its parts, in which what is wrong is marked, or a place if nothing is. */
-    pieces({ text, parts, start, end }) {
+    /* Returns the text near what is wrong, or from its start, with its parts. What is wrong is marked, or a place if nothing is. */
+    pieces({ text, parts, error, start = 0, end = 0 }) {
         let next = 0;
         const all = [...parts, { runs: [text] }].flatMap(({ kind, runs }) => runs.map((run, index) => {
             return { kind: index % 2 ? "digit_separator" : kind, first: next, last: next += run.length };
         }));
         const cut = (from, to) => all.flatMap(({ kind, first, last }) => {
             const piece = text.slice(Math.max(first, from), Math.min(last, to));
-            return piece && kind ? [element("span", { class: kind, title: kind.replace("_", " ") }, piece)] : piece;
+            return !piece ? [] : kind ? [element("span", { class: kind, title: kind.replace("_", " ") }, piece)] : [piece];
         });
-        if (start === undefined) return cut(0, text.length);
-        const marked = element("mark", {}, start < end ? cut(start, end) : "\u00a0");
-        return [...cut(0, start), marked, ...cut(end, text.length)];
+        const marked = error ? [element("mark", {}, start < end ? cut(start, end) : "\u00a0")] : [];
+        const [first, last] = [start - MOST_CHARACTERS, end + MOST_CHARACTERS];
+        const dots = (isCut) => (isCut ? ["\u2026"] : []);
+        return [...dots(first > 0), ...cut(first, start), ...marked, ...cut(end, last), ...dots(last < text.length)];
     }
 
     /* Returns a form that is offered, as buttons in words, with what the number is then. The settings are told behind the words. */

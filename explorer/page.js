@@ -151,9 +151,8 @@ class Page {
 
     /* Starts from a form of a language, or from the first with its own numbers in place of those of others or the example. */
     start(name, form) {
-        const { languages } = this.data;
         const { forms, numbers } = this.library.listOf(name);
-        const isOwn = this.state.numbers && ![EXAMPLE, ...languages.map((it) => it.numbers)].includes(this.state.numbers);
+        const isOwn = this.state.numbers && ![EXAMPLE, ...this.data.languages.map((it) => it.numbers)].includes(this.state.numbers);
         const kept = isOwn || form !== undefined ? this.state.numbers : numbers;
         this.enter({ forms, at: form ?? 0, language: name, numbers: kept });
         this.open("code");

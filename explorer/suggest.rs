@@ -432,14 +432,15 @@ fn separator(state: State, text: &[u8], byte: u8) -> Option<State> {
     is_separator.then(|| State { point, ..state.with(DIGIT_SEPARATOR, byte) })
 }
 
-/// The last byte is the base suffix: with the radix that its letter shows, and with the same radix. It is not one if it is a factor.
+/// The last byte is the base suffix, with the radix that its letter shows or the same one, but no factor, and not behind an exponent.
 fn suffixes(state: State, text: &[u8]) -> [Option<State>; 2] {
     let Some((&last, digits)) = text.split_last() else { return [None; 2] };
-    if last.is_ascii_digit() || is_mark(last) || b"+-xX%kKMG".contains(&last) {
+    if last.is_ascii_digit() || is_mark(last) || b"+-xX%kKMGTm".contains(&last) {
         return [None; 2];
     }
     let is_shown = |&radix: &u8| radix != 10 && radix_of(digits, 2).is_some_and(|least| least <= radix);
     let shown = shown_radix(last).filter(is_shown);
     let with = |radix| state.with_radix(radix).with(BASE_SUFFIX, last);
-    [shown.map(with), Some(state.with(BASE_SUFFIX, last))]
+    let has_exponent = digits.last().is_some_and(|it| it.eq_ignore_ascii_case(&state.exponent));
+    [shown.map(with), Some(state.with(BASE_SUFFIX, last)).filter(|_| last != b'B' && !has_exponent)]
 }

@@ -60,7 +60,7 @@ function test_each_language_is_below_what_it_reads() {
             return it.tagName === "P" ? textsOf("button", it).map((title) => `${it.firstChild.textContent} ${title}`) : it.textContent;
         });
         const hasAll = (list) => numbers.map((text) => reads(list, text)).every(({ error, refused }) => !error && !refused);
-        const wanted = [...languages.filter(hasAll).map(({ title }) => `All 2, as expected: ${title}`), ...numbers.flatMap((text) => {
+        const wanted = [...languages.filter(hasAll).map(({ title }) => `All 2, as asked: ${title}`), ...numbers.flatMap((text) => {
             const told = languages.map((list) => [list, reads(list, text)]);
             const readers = told.filter(([, it]) => !it.error && !it.refused).length;
             const tokens = page.library.call("readers", text)[0].map((it) => it.suffix && `${valueText(it)} with the suffix ${it.suffix}, as a token`);

@@ -28,16 +28,18 @@ function outOfView() {
 /* Returns the controls that are shown, the width of the page, and what looks wrong, by the name of a check. */
 function looks() {
     const controls = [...document.querySelectorAll("button, input, select")].filter((it) => it.id && it.checkVisibility());
+    for (const it of document.querySelectorAll("[role=status]:empty, [role=alert]:empty")) it.append("a message");
     const checks = { faint, misleading, beyond, narrow, small, cutOff, wordless, wronglyMarked, pointless };
     const wrong = Object.entries(checks).flatMap(([name, check]) => check().map((it) => `${name}: ${it.outerHTML?.slice(0, 99) ?? it}`));
     return [controls.map(({ id }) => id), document.documentElement.scrollWidth, wrong];
 }
 
+const ownText = (it) => [...it.childNodes].filter((node) => node.nodeType === 3).map(({ data }) => data.trim()).join(" ").trim();
+
 /* Returns the texts that are shown, and whether each is a control that is refused. */
 function shownTexts() {
-    const own = (it) => [...it.childNodes].filter((node) => node.nodeType === 3).map(({ data }) => data.trim()).join(" ").trim();
-    const all = [...document.querySelectorAll("body *")].filter((it) => it.checkVisibility({ visibilityProperty: true }) && (own(it) || it.ariaInvalid));
-    return all.map((it) => `${own(it)} ${it.ariaInvalid ?? ""}`);
+    const all = [...document.querySelectorAll("body *")].filter((it) => it.checkVisibility({ visibilityProperty: true }) && (ownText(it) || it.ariaInvalid));
+    return all.map((it) => `${ownText(it)} ${it.ariaInvalid ?? ""}`);
 }
 
 /* Returns the kinds of parts of numbers whose colour and line are those of another kind, but for digits. */
@@ -107,9 +109,8 @@ function beyond() {
 
 /* Returns the long texts that are squeezed into a few letters a line. */
 function narrow() {
-    return [...document.querySelectorAll("body :not(option)")].filter((it) => it.checkVisibility({ opacityProperty: true })
-    && [...it.childNodes].some((node) => node.nodeType === 3 && node.data.trim()) && it.textContent.trim().length > 20
-    && it.getBoundingClientRect().width < 50);
+    return [...document.querySelectorAll("body :not(option)")].filter((it) => it.checkVisibility({ opacityProperty: true }) && ownText(it)
+        && it.textContent.trim().length > 20 && it.getBoundingClientRect().width < 50);
 }
 
 /* Returns the parts of numbers in another colour than the dots of their fields, and what is good in red or bad in green. */
@@ -175,8 +176,7 @@ function faint() {
         const [one, other] = [ground, [...ground, colour]].map((it) => luminance(it) + 0.05);
         return Math.max(one / other, other / one);
     };
-    const hasText = (node) => node.value || [...node.childNodes].some((it) => it.nodeType === 3 && it.data.trim());
-    const isFaint = (node) => hasText(node) && contrast(grounds(node), getComputedStyle(node).color) < 4.5;
+    const isFaint = (node) => (node.value || ownText(node)) && contrast(grounds(node), getComputedStyle(node).color) < 4.5;
     const lines = (node, style = getComputedStyle(node)) => [
         ...["Top", "Right", "Bottom", "Left"].filter((it) => !node.matches(rules) && parseFloat(style[`border${it}Width`]))
             .map((it) => style[`border${it}Color`]),

@@ -60,7 +60,8 @@ class Look(Walk):
             self.load("#language=RUST&tab=edit")
             self.run_script("find('decimal_first_digit').scrollIntoView()")
             self.find("#decimal_first_digit").click()
-            self.assertEqual(self.run_script(told), "The format is not that of Rust any more. Undo brings it back.")
+            lost = "The format is not that of Rust any more. Undo brings it back."
+            self.assertEqual((self.run_script(told), self.click("#undo"), self.text("#told")), (lost, None, ""))
             self.load(f"#forms={MIXED_FORM}&tab=edit")
             for text in ("5", "xyz"):
                 self.find("#base_prefix").send_keys(Keys.CONTROL, "a")

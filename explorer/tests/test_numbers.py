@@ -23,16 +23,12 @@ class Numbers(Walk):
         self.assertEqual((self.texts("#read mark"), self.texts("#read mark span")), (["001", "+", " ", "\U0001f600"], ["0"]))
         self.assertEqual(self.texts("#read .use"), ["allow 01", "allow +1", "allow 5.", "try 1"])
 
-    def test_numbers_are_shown_as_they_are_typed_and_with_their_values(self):
-        shown = """page.change({ forms: [page.library.usual], at: 0, language: "", numbers: arguments[0] });
-            return [find("read").querySelector(".written").innerText, ...[...find("read").querySelectorAll("p")].map((it) => it.textContent)]"""
-        for text in (" 1", "1 ", "1  0", "  "):
-            self.assertEqual(self.run_script(shown, text)[0], text)
-        for number in (-(2**127) - 1, 2**128):
-            self.assertEqual(self.run_script(shown, str(number)), [str(number), f"accepted: integer = {number}"])
+    def test_numbers_are_shown_as_they_are_typed(self):
+        shown = "page.change({ numbers: arguments[0] }); return find('read').querySelector('.written').innerText"
+        for text in (" 1", "1 ", "1  0", "  ", 1010 * "1"):
+            self.assertEqual(self.run_script(shown, text), text.replace(1010 * "1", 1000 * "1" + "\u2026"))
 
     def test_an_example_is_replaced_by_what_is_typed(self):
-        self.load()
         self.assertEqual((self.texts("#read > li"), self.find("#clear").is_displayed()), ([], False))
         self.click("#example")
         self.assertEqual((len(self.texts("#read > li")), self.focused()), (4, "literal"))

@@ -27,7 +27,7 @@ function test_large_inputs_are_read_at_once() {
         [500, [usual], "", (run) => range(1, 20000).map((it) => `${run}_${it}.5`).join("\n")],
         [500, julia.forms, "JULIA", (run) => range(1, 100).map((it) => `${"1_0".repeat(196)}x${run}${it}`).join("\n")],
         [200, languages.flatMap((it) => it.forms).slice(0, 64), "", (run) => `0x1Fg${run}`],
-        [500, [usual], "", (run) => `${run}${"1_0".repeat(15000)}`],
+        ...[[usual], julia.forms].map((forms) => [500, forms, "", (run) => `${run}${"1_0".repeat(15000)}`]),
     ];
     const timeOf = (call) => -performance.now() + (call(), performance.now());
     return rows.map(([most, forms, language, numbersOf]) => {
@@ -69,9 +69,9 @@ function test_failures_are_told() {
     const shown = [find("failed").textContent, find("pane-code").checkVisibility(), find("read").children.length];
     page.change({ numbers: "2" });
     follow("#forms=0xC");
-    shown.push(find("summary").textContent, find("read").children.length, find("told").textContent.slice(0, 15));
+    shown.push(find("summary").textContent, find("read").children.length, find("told").textContent.slice(0, 15), textsOf("#readers h3").length);
     const words = "This cannot be shown: spent";
-    return json(shown) === json([words, false, 1, words, 0, "This link fails"]) ? [] : shown;
+    return json(shown) === json([words, false, 1, words, 0, "This link fails", 0]) ? [] : shown;
 }
 
 /* Each field in which forms can differ is set, alone and with each other one. No answer is that of another form or number. */

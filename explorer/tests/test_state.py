@@ -125,7 +125,7 @@ class State(Walk):
         self.run_script("page.change({ numbers: '0x1F' })")
         self.select("#add", "copy")
         self.assertEqual((self.run_script(count), self.text("#told")[:29]), (64, "A list has up to 64 forms, an"))
-        self.click("#read .use", "or as a form of its own")
+        self.click("#read .use")
         self.assertEqual((self.run_script(count), self.value("#literal")), (64, "0x1F"))
         self.click("#remove")
         self.select("#add", "copy")
