@@ -993,7 +993,7 @@ class _Reader(_peltzivar.Reader):
         if isinstance(self, _Several) and (special := _special_of(value)):
             return self._spelled_as(special)
         radix = 10 if isinstance(self, _Several) else syntaxes[0].format.mantissa_radix
-        syntax = next((it for it in syntaxes if it.point), syntaxes[0])
+        syntax = next((it for it in syntaxes if it.point and it.format.mantissa_radix == 10), syntaxes[0])
         return str(self._write((_writable(value, radix, syntax, style),), style, None)[0])
 
     def parse(self, text: Union[str, bytes], type: Type[Number] = cast(Any, float)) -> Number:
@@ -1294,7 +1294,7 @@ def _writable(value: Any, radix: int, syntax: Syntax, style: Tuple[int, ...]) ->
     # numpy has a bool of its own, with one name or the other.
     if kind.__name__ in ("bool", "bool_") or not (hasattr(kind, "__float__") or hasattr(kind, "__index__")):
         raise TypeError(f"value must be a number or a Literal, not {kind.__name__}")
-    is_rounded = has_decimals and radix == 10 and syntax.point is not None
+    is_rounded = has_decimals and syntax.format.mantissa_radix == 10 and syntax.point is not None
     is_literal = isinstance(value, _peltzivar.Found)
     if is_literal and not is_rounded:
         return value

@@ -6,6 +6,7 @@ import random
 import struct
 import sys
 import unittest
+from decimal import ROUND_HALF_UP, Context
 from fractions import Fraction
 
 sys.path.insert(0, str(pathlib.Path(__file__).resolve().parent.parent))
@@ -117,11 +118,12 @@ class Writing(unittest.TestCase):
                 continue
             size, is_negative = exact(literal)
             self.assertEqual(math.copysign(float(size), -is_negative), value, (literal, target, wishes))
-            # In radix 10, the digits are the fewest that are read as the value.
+            # In radix 10, the digits are the fewest that are read as the value, the nearest of these, or the upper one of two.
             if of.mantissa_radix == 10:
-                shown = repr(abs(value)).partition("e")[0].replace(".", "")
+                fewest = len(repr(abs(value)).partition("e")[0].replace(".", "").strip("0"))
+                nearest = Context(fewest or 1, ROUND_HALF_UP).create_decimal_from_float(abs(value))
                 found = literal.digits(Part.INTEGER) + literal.digits(Part.FRACTION)
-                self.assertEqual(found.strip("0"), shown.strip("0"), (literal, target))
+                self.assertEqual(found.strip("0"), "".join(map(str, nearest.as_tuple().digits)).strip("0"), (literal, target))
 
 
 if __name__ == "__main__":
