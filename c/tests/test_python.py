@@ -4,6 +4,7 @@ import concurrent.futures
 import contextlib
 import copy
 import doctest
+import functools
 import gc
 import importlib.util
 import inspect

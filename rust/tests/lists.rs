@@ -382,6 +382,7 @@ fn no_word_follows_a_decimal_point() {
 
 /// An error of a scaled value names the limit as it would be in the text.
 #[test]
+#[allow(clippy::unnecessary_cast, reason = "it is for each type")]
 fn limits_of_scaled_values_have_a_point() {
     for places in 0..=45 {
         let limit = |size: u128| {
