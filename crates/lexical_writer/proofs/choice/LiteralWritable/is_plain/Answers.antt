@@ -15,7 +15,7 @@ returns-clause-plain c equal read kind word float has =
     let all = parts c.is_exact.result c.is_exact-2.result c.is_float.result c.args.float equal in
     plain_number c.args.self.now c.args._syntax.now read (sym c.kind.ensures ∙ c.is_exact.ensures.exact all.0)
     (kind ∙ c.is_exact-2.ensures.exact all.1) word
-    (elim all.2 [ inl own ↦ inl (sym c.is_float.ensures.value ∙ own) | inr none ↦ inr (float ∙ none) ]) has.1 has.2
+    (elim all.2 [ inl own ↦ inl (sym c.is_float.ensures.value ∙ own) | inr none ↦ inr (float ∙ none) ]) has.1
 
 all_true : (a b c d : Bool) → ((a && b) && (c || not d)) ≡ false → a ≡ true → b ≡ true → (c ≡ true) ⊎ (d ≡ false) → ⊥
 all_true true true true d none first second third = false≢true (sym none)
