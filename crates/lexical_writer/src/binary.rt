@@ -99,7 +99,10 @@ impl Binary {
             ⊎ ((least ≤ result.1.places) × (0 < result.0 * (2 ^ self.now.bits) ^ result.1.after % 2 ^ self.now.bits)) }
         ensures exponent { result.1.exponent ≡ exponent }
     {
-        let places = low.saturating_sub(self.power).div_ceil(self.bits).max(least);
+        let places = low
+            .saturating_sub(self.power)
+            .div_ceil(self.bits)
+            .max(least);
         let up = self.power + self.bits * places - low;
         let shape = Shape {
             after: (up / self.bits) as usize,
