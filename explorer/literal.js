@@ -101,7 +101,7 @@ class Trial {
         const isOwn = (lost || hasRadix) && !answer.isRefused;
         const place = isInAll ? " in all forms" : forms.length > 1 ? ` in ${this.forms[at].name}` : "";
         const words = changeWords(library, offer, changes);
-        const inOne = hasRadix && (affixes.length || offer.opening) ? [] : [[`or${place || " in the one form"}${lost && `: ${lost}`}`, one]];
+        const inOne = hasRadix && (around.length || offer.opening) ? [] : [[`or${place || " in the one form"}${lost && `: ${lost}`}`, one]];
         const ways = isOwn ? [[`${words}, as a form of its own`, other], ...inOne] : [[words + place, one]];
         const then = isOwn ? readings(other) : read;
         const count = expected(then);
