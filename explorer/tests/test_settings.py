@@ -7,7 +7,7 @@ class Settings(Walk):
         self.type("#base_prefix", "x")
         self.type("#mantissa_radix", "16")
         self.assertEqual(self.value(), "0x0000100078000000000000000000000C")
-        self.assertEqual(self.texts("#bytes .other"), ["", "", "", "", "means 16", "means 16", *4 * [""]])
+        self.assertEqual(self.texts("#bytes .other"), ["", "", "", "", "means 16", "means 16", *3 * [""]])
         self.assertEqual(self.texts(".reason > span"), ["the exponent character 'e' is a digit in radix 16"])
         fields = {"exponent character": "exponent", "mantissa_radix": "mantissa_radix", "exponent_radix": "exponent_radix"}
         self.assertEqual(self.texts(".reason .link"), [*fields])
