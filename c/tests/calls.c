@@ -267,7 +267,11 @@ static void test_columns(void) {
 
 /* Numbers are written as literals, also by forms, and a buffer that is too short has the beginning. fuzz.c reads them back. */
 static void test_writing(void) {
-    static const peltzivar_style styles[] = {{3, 0, false, false, 0, 0, {0}, false, 0, {0}}, {3, 0, true, false, 0, 0, {0}, false, 0, {0}}}, bare = {0, 0, true, false, 0, 0, {0}, false, 0, {0}};
+    static const peltzivar_style styles[] = {
+        {3, 0, false, false, 0, 0, {0}, false, 0, {0}},
+        {3, 0, true, false, 0, 0, {0}, false, 0, {0}},
+    };
+    static const peltzivar_style bare = {0, 0, true, false, 0, 0, {0}, false, 0, {0}};
     static const peltzivar_style ones = {1, 1, false, false, 255, PELTZIVAR_STYLE_ALWAYS, {0}, false, 0, {0}};
     static const peltzivar_i128 least = {0, INT64_MIN}, wide = {1234567, 0};
     const peltzivar_syntax json = first_form("JSON"), english = first_form("CSV_EN");

@@ -112,7 +112,8 @@ class Columns(unittest.TestCase):
         self.assertEqual(Syntax.of(radix=5, exponent="^").column(["1.3"], Decimal).values, [Decimal("1.6")])
         offsets = Language.CSV_DE.column((b"1,5-7", array("i", [0, 3, 5])), Decimal).values
         self.assertEqual(offsets, [Decimal("1.5"), Decimal(-7)])
-        for wishes, values in itertools.product(({}, {"group": 3}, {"decimals": 2}, {"exponent": "always"}), ([1234.5, 7, Decimal("-0.125"), 10**30], [1e16, -0.0])):
+        numbers = [1234.5, 7, Decimal("-0.125"), 10**30], [1e16, -0.0]
+        for wishes, values in itertools.product(({}, {"group": 3}, {"decimals": 2}, {"exponent": "always"}), numbers):
             self.assertEqual(Language.JSON.format_column(values, **wishes), [Language.JSON.format_number(it, **wishes) for it in values])
         self.assertEqual(Language.CSV_DE.format_column([math.nan, None, 1.5], fill="-"), ["-", "-", "1,5"])
         self.assertRaisesRegex(ValueError, "NaN or infinity", Language.CSV_DE.format_column, [math.nan])

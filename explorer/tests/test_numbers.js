@@ -122,8 +122,13 @@ function test_languages_are_counted_before_a_choice() {
 }
 
 function test_long_integers_and_reasons_have_their_type() {
-    const rows = [...[10n ** 40n, 2n ** 128n, ~(2n ** 127n), -(2n ** 128n)].map((it) => ["", `${it}`, `accepted: integer = ${it}`]), ["C", "1e999", "Infinity"],
-        ["PYTHON", `0x${"f".repeat(40)}`, `integer = ${16n ** 40n - 1n}`], ["", "1".repeat(1200), "integer: above"], ["FORTRAN", "1e53", "above the largest f32"]];
+    const rows = [
+        ...[10n ** 40n, 2n ** 128n, ~(2n ** 127n), -(2n ** 128n)].map((it) => ["", `${it}`, `accepted: integer = ${it}`]),
+        ["C", "1e999", "Infinity"],
+        ["PYTHON", `0x${"f".repeat(40)}`, `integer = ${16n ** 40n - 1n}`],
+        ["", "1".repeat(1200), "integer: above"],
+        ["FORTRAN", "1e53", "above the largest f32"],
+    ];
     return rows.filter(([name, text, told]) => {
         show(page.library.listOf(name).forms, text, name);
         return !find("read").textContent.includes(told) || find("summary").textContent.includes("no language");
