@@ -406,7 +406,6 @@ enum {
     PELTZIVAR_WRITE_RADIX = 1,
     PELTZIVAR_WRITE_NEGATIVE = 2, /* No literal has the sign `-`. */
     PELTZIVAR_WRITE_FRACTION = 3, /* Literals are integers, and the number is not whole. */
-    PELTZIVAR_WRITE_FLOAT = 5, /* Each literal has an exponent, and the number is of an integer type. */
     PELTZIVAR_WRITE_SPECIAL = 6, /* The number is NaN or infinity, and no spelling is read back as it. */
     PELTZIVAR_WRITE_BUFFER = 7, /* The buffer is too short. */
     /* The syntax, the list, the literal or the spellings are null, one of them, the style or the special value is
@@ -422,29 +421,28 @@ typedef uint8_t peltzivar_exponent_style;
 enum {
     PELTZIVAR_STYLE_AS_NUMBER = 0, /* A literal keeps its exponent, and an integer has none. */
     PELTZIVAR_STYLE_NEVER = 1, /* A literal is written by its value, if it is known. */
-    PELTZIVAR_STYLE_ALWAYS = 2 /* A number without an exponent has the exponent 0. */
+    PELTZIVAR_STYLE_ALWAYS = 2 /* A float has one. */
 };
 
 /* As a group of a style, no separators. */
 #define PELTZIVAR_NO_GROUPS 255
 
 /* How numbers are written where a syntax leaves a choice. Zeros make no wish, and a null pointer is the same as zeros.
- * What the syntax forbids is not done, and what it requires is. `group` and `fraction_group` are how many digits a
- * group of the integer and the fraction has, unless the syntax has a size. With 0, there are groups only where it has
- * one. `without_base` leaves out the base prefix and the base suffix. `lowercase` writes digits in lowercase.
+ * What the syntax forbids is not done, and what it requires is. `group` is how many digits a group of the integer has,
+ * unless the syntax has a size. With 0, there are groups only where it has one. A fraction has only groups that the
+ * syntax requires. `without_base` leaves out the base prefix and suffix. `lowercase` writes digits in lowercase.
  * `min_digits` is how many integer digits there are at least, with zeros before the others. With `has_decimals`, a
  * float is rounded in decimal floats to as many digits behind the point as `decimals`, to the nearest, or to the even
  * one if two are as near, and has no exponent that neither the syntax nor the style requires. In integers alone, and in
  * another radix than 10, it has no effect. */
 typedef struct {
-    uint8_t group, fraction_group;
+    uint8_t group;
     bool without_base, lowercase;
     uint8_t min_digits;
     peltzivar_exponent_style exponent;
-    uint8_t reserved_wishes[7];
     bool has_decimals;
     uint8_t decimals;
-    uint8_t reserved[9];
+    uint8_t reserved[17];
 } peltzivar_style;
 
 /* The sizes of buffers for any number that a list writes, unless a spelling has more than 4095 bytes, for any integer

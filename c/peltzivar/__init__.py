@@ -936,7 +936,7 @@ class _Reader(_peltzivar.Reader):
 
     def format_number(
         self, value: Union[SupportsIndex, SupportsFloat, Special], *, group: Optional[int] = None,
-        fraction_group: Optional[int] = None, without_base: bool = False, lowercase: bool = False, min_digits: int = 0,
+        without_base: bool = False, lowercase: bool = False, min_digits: int = 0,
         exponent: Optional[typing.Literal["never", "always"]] = None, decimals: Optional[int] = None
     ) -> str:
         """Returns a number as a literal, or as NaN or infinity of several forms. Reading the text returns the same
@@ -952,13 +952,13 @@ class _Reader(_peltzivar.Reader):
         one from 1E+401 on and below 1E-400. Where no exponent is allowed, and in another radix or base, a `Literal` is
         written by its value.
 
-        The other arguments are wishes: what the syntax forbids is not done, and what it requires is. `group` and
-        `fraction_group` (0 to 254) are the digits in a group of the integer, from the right, and of the fraction. 0 is
-        no groups, and None those of the size of the syntax, if it has one. `without_base` leaves out the base prefix
-        and suffix. `lowercase` writes digits in lowercase, and `min_digits` (0 to 255) at least so many integer digits.
-        `exponent` is "never", for a value without one, or "always". `decimals` (0 to 255) rounds each number, a
-        `Literal` by its `value`, to so many digits behind the point, as `format(value, ".2f")` does: to the nearest, or
-        to the even one if two are as near. In integers alone, and in another radix than 10, it has no effect.
+        The other arguments are wishes: what the syntax forbids is not done, and what it requires is. `group` (0 to 254)
+        is how many digits a group of the integer has, from the right. 0 is no groups, and None those of the size of the
+        syntax, if it has one. `without_base` leaves out the base prefix and suffix. `lowercase` writes digits in
+        lowercase, and `min_digits` (0 to 255) at least so many integer digits. `exponent` is "never", for a value
+        without one, or "always", for floats. `decimals` (0 to 255) rounds each number, a `Literal` by its `value`, to
+        so many digits behind the point, as `format(value, ".2f")` does: to the nearest, or to the even one if two are
+        as near. In integers alone, and in another radix than 10, it has no effect.
 
         Of several forms, as those of a Language, the first is taken whose text all of them read as the same integer, as
         a float that is equal to it, or as the same float. Forms of the radix of a `Literal`, or else decimal ones, are
@@ -972,8 +972,7 @@ class _Reader(_peltzivar.Reader):
         27 digits or, of an int, 128 bits, of a number of another radix than that of the syntax, which is 10 for a float
         and a Decimal, and, of a float, for another exponent base.
         """
-        wishes = group, fraction_group, without_base, lowercase, min_digits, exponent, decimals
-        return self._text_of(value, _style(*wishes))
+        return self._text_of(value, _style(group, without_base, lowercase, min_digits, exponent, decimals))
 
     def format_column(self, numbers: Iterable[Any], *, fill: Optional[str] = None, **wishes: Any) -> List[str]:
         """Returns a list, or an array of numpy, as texts, as `format_number` does with the same wishes, several times
@@ -1111,18 +1110,17 @@ def _texts_of(cells: Any) -> Tuple[Tuple[Any, ...], bytes, Any]:
 
 
 def _style(
-    group: Any = None, fraction_group: Any = None, without_base: Any = False, lowercase: Any = False,
-    min_digits: Any = 0, exponent: Any = None, decimals: Any = None
+    group: Any = None, without_base: Any = False, lowercase: Any = False, min_digits: Any = 0, exponent: Any = None,
+    decimals: Any = None
 ) -> Tuple[int, ...]:
     """Returns wishes as the members of a style."""
-    sizes = ("group", group), ("fraction_group", fraction_group)
-    groups = [0 if it is None else _number(name, it, 255, "a number from 0 to 254") or 255 for name, it in sizes]
+    size = 0 if group is None else _number("group", group, 255, "a number from 0 to 254") or 255
     flags = ("without_base", without_base), ("lowercase", lowercase)
     flags_of, least = [_typed(name, it, bool) for name, it in flags], _number("min_digits", min_digits)
     if exponent not in (None, "never", "always"):
         raise ValueError(f'exponent must be "never" or "always", not {exponent!r}')
     places = 0 if decimals is None else _number("decimals", decimals)
-    return *groups, *flags_of, least, (None, "never", "always").index(exponent), decimals is not None, places
+    return size, *flags_of, least, (None, "never", "always").index(exponent), decimals is not None, places
 
 
 # An error names the method whose wishes are passed on.

@@ -72,8 +72,8 @@ IS(form) S(form, name) OF('>', form, syntax, syntax) B(form, integer_kind) B(for
 IS(tokens) ARRAY(tokens, forms, count, form) S(tokens, following) B(tokens, gives_points_back)
     B(tokens, gives_points_to_letters) B(tokens, any_word_follows) }};
 IS(forms) ARRAY(forms, forms, count, form) OF('>', forms, specials, specials) OF('*', forms, tokens, tokens) }};
-IS(style) B(style, group) B(style, fraction_group) B(style, without_base) B(style, lowercase)
-    B(style, min_digits) B(style, exponent) B(style, has_decimals) B(style, decimals) }};
+IS(style) B(style, group) B(style, without_base) B(style, lowercase) B(style, min_digits) B(style, exponent)
+    B(style, has_decimals) B(style, decimals) }};
 IS(fields) M('8', fields, flags) B(fields, digit_separator) B(fields, base_prefix) B(fields, base_suffix)
     B(fields, mantissa_radix) B(fields, exponent_base) B(fields, exponent_radix) }};
 IS(edit) B(edit, setter) B(edit, value) }};
@@ -535,8 +535,7 @@ static const struct {
     char kind;
     size_t at;
 } WISHES[] = {{"decimals", 'd', AT(style, decimals)}, {"group", 'g', AT(style, group)},
-    {"fraction_group", 'g', AT(style, fraction_group)}, {"without_base", 'b', AT(style, without_base)},
-    {"lowercase", 'b', AT(style, lowercase)},
+    {"without_base", 'b', AT(style, without_base)}, {"lowercase", 'b', AT(style, lowercase)},
     {"min_digits", 'd', AT(style, min_digits)}};
 
 /* Finds a wish. Returns false for one that is left to Python. */

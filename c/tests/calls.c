@@ -268,11 +268,11 @@ static void test_columns(void) {
 /* Numbers are written as literals, also by forms, and a buffer that is too short has the beginning. fuzz.c reads them back. */
 static void test_writing(void) {
     static const peltzivar_style styles[] = {
-        {3, 0, false, false, 0, 0, {0}, false, 0, {0}},
-        {3, 0, true, false, 0, 0, {0}, false, 0, {0}},
+        {3, false, false, 0, 0, false, 0, {0}},
+        {3, true, false, 0, 0, false, 0, {0}},
     };
-    static const peltzivar_style bare = {0, 0, true, false, 0, 0, {0}, false, 0, {0}};
-    static const peltzivar_style ones = {1, 1, false, false, 255, PELTZIVAR_STYLE_ALWAYS, {0}, false, 0, {0}};
+    static const peltzivar_style bare = {0, true, false, 0, 0, false, 0, {0}};
+    static const peltzivar_style ones = {1, false, false, 255, PELTZIVAR_STYLE_ALWAYS, false, 0, {0}};
     static const peltzivar_i128 least = {0, INT64_MIN}, wide = {1234567, 0};
     const peltzivar_syntax json = first_form("JSON"), english = first_form("CSV_EN");
     char integer[PELTZIVAR_INTEGER_SIZE], real[PELTZIVAR_FLOAT_SIZE];
@@ -295,7 +295,7 @@ static void test_writing(void) {
         CHECK(IN_GROUPS("0x1.234.567,5", 1234567.5, f64) && IN_GROUPS("0x1.234.567", &literal, literal));
     }
     memset(&literal, 0, sizeof literal);
-    CHECK(make_syntax("radix=2\nrequired_fraction_digits=true\nrequired_exponent_sign=true\nno_exponent_without_fraction=true" LONGEST, &other)
+    CHECK(make_syntax("radix=2\nrequired_exponent_notation=true\nrequired_exponent_sign=true\nno_exponent_without_fraction=true" LONGEST, &other)
         && !peltzivar_format_i128(&other, least, &ones, integer, sizeof integer, &needed));
     CHECK(needed == sizeof integer && make_syntax("radix=2\nno_exponent_notation=true" LONGEST, &other));
     CHECK(!peltzivar_format_f64(&other, -DBL_MAX, &ones, real, sizeof real, &needed) && needed <= sizeof real);

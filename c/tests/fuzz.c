@@ -139,7 +139,7 @@ static bool draw_syntax(peltzivar_word word, peltzivar_syntax *syntax) {
  * reason. In any other syntax, it may be refused. */
 static void test_written(const peltzivar_syntax *syntax, bool is_lawful, const peltzivar_literal *literal) {
     const peltzivar_style style = {
-        .group = (uint8_t)(draw() % 5 ? draw() % 5 : PELTZIVAR_NO_GROUPS), .fraction_group = (uint8_t)(draw() % 5), .without_base = draw() % 2,
+        .group = (uint8_t)(draw() % 5 ? draw() % 5 : PELTZIVAR_NO_GROUPS), .without_base = draw() % 2,
         .lowercase = draw() % 2, .min_digits = (uint8_t)(draw() % 2 ? draw() : 0),
     };
     peltzivar_syntax other;

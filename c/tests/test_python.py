@@ -647,7 +647,7 @@ KINDS = [
 ]
 LIMITS = {sign * (2**it + more) for it in (*BITS, 7, 31, 63, 127, 128) for more in (-1, 0, 1) for sign in (1, -1)}
 # These are values of each argument of format_number.
-WISHES = {"group": (3, 0, 254), "fraction_group": (2, 0), "min_digits": (8, 255), "decimals": (0, 1, 255)}
+WISHES = {"group": (3, 0, 254), "min_digits": (8, 255), "decimals": (0, 1, 255)}
 WISHES |= {"exponent": ("never", "always"), "without_base": (True,), "lowercase": (True,)}
 SYNTAX = Syntax.of(base_prefix="x", base_suffix="h", digit_separator="_", internal_digit_separator=True, exponent="^")
 # With a value in CHANGES, and with those in NEEDS, an object is another one than with those in FIRST alone.
@@ -704,8 +704,6 @@ def written(wishes, number, exponent):
     elif exponent is not None and style == "never" and abs(exponent) < 20:
         number, exponent = f"{Decimal(f'{number}e{exponent}'):f}", None
         number += ".0" * ("." not in number)
-    elif exponent is None and style == "always":
-        exponent = 0
     integer, point, fraction = number.partition(".")
     integer = integer.rjust(wishes.get("min_digits", 0), "0")
     integer = re.sub(rf"(?<=\w)(?=(\w{{{size}}})+$)", "_", integer)
@@ -786,10 +784,8 @@ class Lists(unittest.TestCase):
         pairs = [one | more for one, more in itertools.combinations_with_replacement(each, 2)]
         for wishes, (syntax, *literal, given, floats) in itertools.product(pairs, rows):
             sizes = {"group": syntax.integer_group_size, "fraction_group": syntax.fraction_group_size}
-            own = {name: size for name, size in sizes.items() if size and wishes.get(name) != 0}
-            # A list may drop the wish for an exponent, since a float is not 2^53 + 1.
-            is_float = "exponent" not in wishes or literal[0] != str(whole)
-            for by in (syntax, *[Forms({"": syntax})] * is_float):
+            own = {name: size for name, size in sizes.items() if size and wishes.get("group") != 0}
+            for by in (syntax, Forms({"": syntax})):
                 # Nothing is rounded in radix 16, and only floats have one digit before the point with an exponent.
                 rounded = {it: wishes[it] for it in wishes if it != "decimals" or syntax is not hexadecimal}
                 if not {"decimals", "exponent"} <= {*rounded}:

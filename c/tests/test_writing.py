@@ -14,7 +14,7 @@ from peltzivar import Part, Syntax
 from test_notations import random_syntax
 
 # These are values of the arguments of format_number that leave the value as it is.
-WISHES = {"group": range(5), "fraction_group": range(5), "min_digits": range(12), "exponent": ("never", "always")}
+WISHES = {"group": range(5), "min_digits": range(12), "exponent": ("never", "always")}
 WISHES |= {it: (True,) for it in ("without_base", "lowercase")}
 RADIX = "in this radix or without an exponent, the number has too many digits, or none that are known"
 NEGATIVE = "no literal has the sign '-'"

@@ -216,7 +216,7 @@ fn an_integer_has_an_exponent_where_it_stays_the_same_number() {
     }
 }
 
-/// No type reads an exponent of a radix without floats: a wish for one is dropped, and where each literal has one, none is written.
+/// An integer has an exponent only where each literal has one, and not in a radix without floats, where no type reads it.
 #[test]
 fn an_integer_has_no_exponent_in_a_radix_without_floats() {
     for (radix, required) in (2..=36).flat_map(|radix| [(radix, false), (radix, true)]) {
@@ -233,7 +233,8 @@ fn an_integer_has_no_exponent_in_a_radix_without_floats() {
                     (forms.parse::<i64>(&text).ok(), forms.parse::<f64>(&text).ok())
                 });
                 let wanted = match (has_floats, required) {
-                    (true, _) => Ok((None, Some(8.0))),
+                    (true, true) => Ok((None, Some(8.0))),
+                    (true, false) => Ok((Some(8), Some(8.0))),
                     (false, false) => Ok((Some(8), None)),
                     (false, true) => Err(WriteError::ReadBack),
                 };

@@ -299,7 +299,7 @@ fn names_and_sentences_are_known() {
     let mut named = roles.map(|it| (it.name(), format!("{it:?}"))).into_iter().chain(parts);
     assert!(named.all(|(name, variant)| name == variant.to_lowercase()));
     use WriteError::*;
-    let written = [Special, TooLarge, Negative, Fraction, Float, Radix, Buffer(12), ReadBack];
+    let written = [Special, TooLarge, Negative, Fraction, Radix, Buffer(12), ReadBack];
     let tokens = [TokenError::NoTokens, TokenError::NotAToken { end: 1 }].map(|it| (format!("{it:?}"), it.to_string()));
     let found = written.map(|it| (format!("{it:?}"), it.to_string())).into_iter().chain(tokens);
     let rows = include_str!("errors.txt").lines().filter(|row| !row.starts_with('#'));

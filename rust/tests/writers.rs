@@ -34,7 +34,6 @@ fn style_of(wishes: &str) -> Style {
         let number = value.parse::<u8>();
         match (name, value) {
             ("group", _) => style.group(number.unwrap().into()),
-            ("fraction_group", _) => style.fraction_group(number.unwrap().into()),
             ("min_digits", _) => style.min_digits(number.unwrap()),
             ("lowercase", "true") => style.lowercase(),
             ("without_base", "true") => style.without_base(),
@@ -72,7 +71,6 @@ fn literals_are_written_as_the_rows_say() {
         // An integer of Rust is written as the literal that std prints of it, if there is one without an exponent.
         if let Some(value) = text.parse::<i128>().ok().filter(|it| source.is_empty() && it.to_string() == text) {
             let target = syntax_of(target);
-            let wanted = if target.format().required_exponent_notation() { "!Float" } else { wanted };
             assert_eq!(shown(target.format_integer(value, style_of(style))), wanted, "{line}");
         }
     }

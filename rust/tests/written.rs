@@ -15,7 +15,7 @@ use std::num::NonZeroU8;
 /// Styles that do not round.
 const STYLES: [Style; 5] = [
     Style::PLAIN,
-    Style::PLAIN.group(3).fraction_group(2).lowercase(),
+    Style::PLAIN.group(3).lowercase(),
     Style::PLAIN.without_base().min_digits(5),
     Style::PLAIN.exponent(ExponentStyle::Never),
     Style::PLAIN.exponent(ExponentStyle::Always),

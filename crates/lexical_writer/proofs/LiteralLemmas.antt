@@ -21,7 +21,7 @@ use Rattle.lexical_literal.specs.Run.{is_run}
 use Rattle.lexical_literal.specs.Syntax.{FitIfAny, contradiction, fault, first_fault, forbids_zeros, limits, missing}
 use Rattle.lexical_literal.specs.declared.syntax.Condition.{Condition}
 use Rattle.lexical_literal.specs.declared.syntax.ConditionsError.{ConditionsError}
-use Rattle.lexical_writer.specs.Layout.{after_zero, base_byte, fraction_pattern, fraction_text, has_zero, integer_pattern, least_digits, led_digits, options_of}
+use Rattle.lexical_writer.specs.Layout.{after_zero, base_byte, fraction_pattern, fraction_text, integer_pattern, lacks_zero, least_digits, led_digits, options_of}
 use Rattle.lexical_writer.specs.Layout.{pattern_of, sign_of, takes_zeros}
 use Rattle.lexical_literal.proofs.RunLemmas.{rest_of_none}
 use Rattle.lexical_util.specs.Layout as layout
@@ -73,7 +73,7 @@ unfolding fault
 unset r c d is none set = grind (arith, nat_tests)
 
 no_led_digits : (r : Record) (c : Conditions) (float : Bool) (digits : List ℕ) → contradiction r c ≡ None
-    → r.flag (if float then layout.no_float_leading_zeros else layout.no_integer_leading_zeros) ≡ true → led_digits c false digits ≡ 0
+    → r.flag (if float then layout.no_float_leading_zeros else layout.no_integer_leading_zeros) ≡ true → led_digits c false digits ≡ 1
 no_led_digits r c float digits none set =
     let some = some_flag float set in
     let (prefix, (suffix, (sign, (last, (higher, (fraction, (zero, (decimal, end)))))))) = each_none r c all_conditions none in
@@ -85,7 +85,7 @@ no_led_digits r c float digits none set =
     some_flag false set = or_left _ _ set
 
     neither : (zero decimal other : Bool) (n : ℕ) → zero ≡ false → decimal ≡ false
-        → (if not false && (zero || (decimal && other)) then n else 0) ≡ 0
+        → (if not false && (zero || (decimal && other)) then n else 1) ≡ 1
     neither zero decimal other n first second = grind arith
 
 record AreRequired (m : Notation) (pattern : Pattern) : Type 0 where
@@ -118,9 +118,9 @@ no_refusal : (n a b : Bool) → (if n then Some errors.Negative else (if a then 
     → (n ≡ false) × (a ≡ false) × (b ≡ false)
 no_refusal n a b none = (grind arith, grind arith, grind arith)
 
-exponent_none : (lacks forbidden required some wish : Bool) → (forbidden && required) ≡ false → ((lacks || forbidden) && some) ≡ false
-    → (lacks || forbidden) ≡ true → (some || ((required && not lacks) || (wish && not (lacks || forbidden)))) ≡ false
-exponent_none lacks forbidden required some wish agree can none = grind arith
+exponent_none : (lacks forbidden required some : Bool) → (forbidden && required) ≡ false → ((lacks || forbidden) && some) ≡ false
+    → (lacks || forbidden) ≡ true → (some || (required && not lacks)) ≡ false
+exponent_none lacks forbidden required some agree can none = grind arith
 
 one_byte : (S : ByteSet) (lacks test : Bool) (byte : ℕ) → (lacks ≡ true → test ≡ false) → (lacks ≡ false → S byte ≡ true)
     → is_none_or_one S (option_to_list (only_if test byte)) ≡ true
@@ -129,17 +129,8 @@ one_byte S lacks test byte none some = grind arith
 absent_unless : (b : Bool) (byte : ℕ) → is_absent (option_to_list (only_if b byte)) ≡ not b
 absent_unless b byte = grind arith
 
-zero_or_digits : (zero required integer absent least some : Bool) → zero ≡ (required || (integer || absent)) → (zero ≡ true → least ≡ true)
-    → ((least || some) || not absent) ≡ true
-zero_or_digits true required integer absent least some is more = let there = more refl in grind arith
-zero_or_digits false required integer absent least some is more = grind arith
-
-or_more : (integer zero some : Bool) → (integer || some) ≡ true → (integer || (zero || some)) ≡ true
-or_more integer zero some is = grind arith
-
-fraction_digits_present : (point required some : Bool) (byte : ℕ) → required ≡ true
-    → (is_absent (option_to_list (only_if point byte)) || (nat_lt 0 (one_if (point && required)) || some)) ≡ true
-fraction_digits_present point required some byte is = grind (arith, nat_tests)
+fraction_digits_present : (point some : Bool) (byte : ℕ) → (is_absent (option_to_list (only_if point byte)) || (nat_lt 0 (one_if point) || some)) ≡ true
+fraction_digits_present point some byte = grind (arith, nat_tests)
 
 -- A plus sign is written where a sign is required, if `here` is true.
 no_plus : (here negative forbidden required : Bool) → (forbidden && required) ≡ false → forbidden ≡ true
@@ -205,8 +196,8 @@ internal_allowed r parts.Exponent set = grind arith
 within_test : (count most size : ℕ) → 0 < count → count ≤ most → most ≡ size → (nat_lt 0 count && nat_le count size) ≡ true
 within_test count most size some within same = grind (arith, nat_tests)
 
-least_some : (zero : Bool) (other : ℕ) → zero ≡ true → nat_lt 0 (max (one_if zero) other) ≡ true
-least_some zero other is = grind (arith, nat_tests)
+least_some : (lacks : Bool) (count other : ℕ) → nat_lt 0 (max (if lacks then count + 1 else 1) other) ≡ true
+least_some lacks count other = grind (arith, nat_tests)
 
 point_if : (exponent flag fraction : Bool) (a b : ℕ) → flag ≡ true
     → (is_absent (option_to_list (only_if exponent a)) || is_present (option_to_list (only_if (fraction || (exponent && flag)) b))) ≡ true
@@ -226,13 +217,11 @@ least_one : (r : Record) (c : Conditions) (style : Style) (float : Bool) (amount
 least_one r c style float amount none set =
     let radix = r.byte layout.mantissa_radix in
     let digits = digits_of radix (size_of radix amount.integer) in
-    go _ set (has_zero r amount) (led_digits c false digits)
-    style.min_digits (no_led_digits r c float digits none set)
+    go _ set (led_digits c false digits) style.min_digits (no_led_digits r c float digits none set)
   where
-    go : (flag : Bool) → flag ≡ true → (zero : Bool) (led wish : ℕ) → led ≡ 0 → max (one_if zero) (max led (if false || not flag then wish else 0)) ≤ 1
-    go true set true led wish is = omega (arith, is)
-    go true set false led wish is = omega (arith, is)
-    go false set zero led wish is = absurd (false≢true set)
+    go : (flag : Bool) → flag ≡ true → (led wish : ℕ) → led ≡ 1 → max led (if not flag then wish else 0) ≤ 1
+    go true set led wish is = omega (arith, is)
+    go false set led wish is = absurd (false≢true set)
 
 -- What begins with a digit that a condition allows.
 begins_more : (A : ByteSet) (x y : List ℕ) → begins_with A x ≡ true → begins_with A (x ++ y) ≡ true
@@ -253,16 +242,16 @@ decimal_character true d below = agree_below_at (λ d. nat_le (character true d)
 decimal_character false d below = agree_below_at (λ d. nat_le (character false d) 57) (λ _. true) 10 d refl below
 
 -- How many digits there are with the zero that a condition requires.
-zero_least : (zero decimal other : Bool) (n a b : ℕ) → zero ≡ true → n < max a (max (if not false && (zero || (decimal && other)) then n + 1 else 0) b)
-zero_least true decimal other n a b set = omega arith
-zero_least false decimal other n a b set = absurd (false≢true set)
+zero_least : (zero decimal other : Bool) (n b : ℕ) → zero ≡ true → n < max (if not false && (zero || (decimal && other)) then n + 1 else 1) b
+zero_least true decimal other n b set = omega arith
+zero_least false decimal other n b set = absurd (false≢true set)
 
-decimal_least : (zero decimal begins : Bool) (n a b : ℕ) → decimal ≡ true
-    → (n < max a (max (if not false && (zero || (decimal && not begins)) then n + 1 else 0) b)) ⊎ (begins ≡ true)
-decimal_least true decimal begins n a b set = inl (omega arith)
-decimal_least false true true n a b set = inr refl
-decimal_least false true false n a b set = inl (omega arith)
-decimal_least false false begins n a b set = absurd (false≢true set)
+decimal_least : (zero decimal begins : Bool) (n b : ℕ) → decimal ≡ true
+    → (n < max (if not false && (zero || (decimal && not begins)) then n + 1 else 1) b) ⊎ (begins ≡ true)
+decimal_least true decimal begins n b set = inl (omega arith)
+decimal_least false true true n b set = inr refl
+decimal_least false true false n b set = inl (omega arith)
+decimal_least false false begins n b set = absurd (false≢true set)
 
 zero_led : (D : ByteSet) (prefix : Option ℕ) (run : List ℕ) → (is_some prefix ≡ false → has_leading_zero D run ≡ false)
     → not (is_absent (after_zero prefix) && has_leading_zero D run) ≡ true
@@ -292,19 +281,19 @@ module _ (g : Grammar) (style : Style) (amount : Amount) (is : IsSyntax g)
   pattern = integer_pattern r g.conditions style
 
   abbrev exponent : Bool
-  exponent = has_exponent g style amount
+  exponent = has_exponent g amount
 
   abbrev point : Bool
-  point = has_point g style amount
+  point = has_point g amount
 
   abbrev prefix : Option ℕ
-  prefix = base_byte (style.prefix || has g.conditions conditions.BasePrefix) (r.byte layout.base_prefix)
+  prefix = base_byte (style.base || has g.conditions conditions.BasePrefix) (r.byte layout.base_prefix)
 
   abbrev least_integer : ℕ
   least_integer = least_digits r g.conditions style (is_some prefix) (point || exponent) amount
 
   abbrev least_fraction : ℕ
-  least_fraction = one_if (point && r.flag layout.required_fraction_digits)
+  least_fraction = one_if point
 
   abbrev fraction_digits : List ℕ
   fraction_digits = at_least least_fraction (values_of radix (given_fraction amount))
@@ -371,7 +360,7 @@ module _ (g : Grammar) (style : Style) (amount : Amount) (is : IsSyntax g)
   has_number = record {
     sign = minus amount.negative _;
     integer = same_number radix _ _ l.integer (radixes g.word is.lawful parts.Integer).0 integer_run.1;
-    zero = point && r.flag layout.required_fraction_digits;
+    zero = point;
     fraction = fraction_run.1;
     exponent_sign = minus (given_power amount).negative _;
     exponent = same_number exponent_radix _ _ l.exponent (radixes g.word is.lawful parts.Exponent).0 exponent_run.1;
@@ -422,7 +411,7 @@ module _ (g : Grammar) (style : Style) (amount : Amount) (is : IsSyntax g)
 
   no_exponent : (lacks_options g.options || r.flag layout.no_exponent_notation) ≡ true → exponent ≡ false
   no_exponent none =
-      exponent_none (lacks_options g.options) (r.flag layout.no_exponent_notation) _ (is_some amount.exponent) _ (agree g.word is.lawful).0 allowed.2 none
+      exponent_none (lacks_options g.options) (r.flag layout.no_exponent_notation) _ (is_some amount.exponent) (agree g.word is.lawful).0 allowed.2 none
 
   integer_present : is_present l.integer ≡ (nat_lt 0 least_integer || is_present (digits_of radix (size_of radix amount.integer)))
   integer_present = grouped_present pattern least_integer (digits_of radix (size_of radix amount.integer))
@@ -430,13 +419,9 @@ module _ (g : Grammar) (style : Style) (amount : Amount) (is : IsSyntax g)
   fraction_present : is_present l.fraction ≡ (nat_lt 0 least_fraction || is_present (values_of radix (given_fraction amount)))
   fraction_present = grouped_present fraction_groups least_fraction (values_of radix (given_fraction amount))
 
-  -- A 0 stands for absent digits.
-  some_zero : has_zero r amount ≡ true → nat_lt 0 least_integer ≡ true
-  some_zero zero = least_some (has_zero r amount) _ zero
-
-  some_digits : (is_present l.integer || is_present (values_of radix (given_fraction amount))) ≡ true
-  some_digits = rw integer_present (zero_or_digits (has_zero r amount) (r.flag layout.required_integer_digits) _
-      (is_absent (values_of radix (given_fraction amount))) _ _ refl some_zero)
+  -- The integer has a digit.
+  integer_some : is_present l.integer ≡ true
+  integer_some = integer_present ∙ or_left _ _ (least_some (lacks_zero g.conditions (is_some prefix) (digits_of radix (size_of radix amount.integer))) _ _)
 
   no_lead : (float : Bool) → (point || exponent) ≡ float → r.flag (if float then layout.no_float_leading_zeros else layout.no_integer_leading_zeros) ≡ true
       → not (is_zero_led m l) ≡ true
@@ -460,10 +445,10 @@ module _ (g : Grammar) (style : Style) (amount : Amount) (is : IsSyntax g)
       (digits_if exponent _ _)
 
   met : (f : Flag) → IsTrue (m.flag f) → IsTrue (requirement f m l)
-  met layout.required_integer_digits set = integer_present ∙ or_left _ _ (some_zero (or_left _ _ set))
-  met layout.required_fraction_digits set = rw fraction_present (fraction_digits_present point _ _ _ set)
+  met layout.required_integer_digits set = integer_some
+  met layout.required_fraction_digits set = rw fraction_present (fraction_digits_present point _ _)
   met layout.required_exponent_digits set = exponent_digits
-  met layout.required_mantissa_digits set = rw fraction_present (or_more (is_present l.integer) _ _ some_digits)
+  met layout.required_mantissa_digits set = or_left _ _ integer_some
   met layout.no_positive_mantissa_sign set = no_plus true amount.negative _ _ (agree g.word is.lawful).1 set
   met layout.required_mantissa_sign set = some_sign true amount.negative _ 0 set
   met layout.no_exponent_notation set = absent_unless exponent _ ∙ ap not (no_exponent (or_right (lacks_options g.options) _ set))
@@ -481,20 +466,19 @@ module _ (g : Grammar) (style : Style) (amount : Amount) (is : IsSyntax g)
 
   -- How many digits the style wants where there is no prefix.
   abbrev wish : ℕ
-  wish = if takes_zeros r false (point || exponent)
-      then style.min_digits else 0
+  wish = if takes_zeros r (point || exponent) then style.min_digits else 0
 
   zero_more : (prefixed : Bool) → prefixed ≡ false → has g.conditions conditions.LeadingZero ≡ true
       → length integer_digits < least_digits r g.conditions style prefixed (point || exponent) amount
   zero_more true none set = absurd (false≢true (sym none))
   zero_more false none set = zero_least (has g.conditions conditions.LeadingZero) (has g.conditions conditions.DecimalFirstDigit)
-      (not (begins_decimal integer_digits)) (length integer_digits) (one_if (has_zero r amount)) wish set
+      (not (begins_decimal integer_digits)) (length integer_digits) wish set
 
   decimal_more : (prefixed : Bool) → prefixed ≡ false → has g.conditions conditions.DecimalFirstDigit ≡ true
       → (length integer_digits < least_digits r g.conditions style prefixed (point || exponent) amount) ⊎ (begins_decimal integer_digits ≡ true)
   decimal_more true none set = absurd (false≢true (sym none))
   decimal_more false none set = decimal_least (has g.conditions conditions.LeadingZero) (has g.conditions conditions.DecimalFirstDigit)
-      (begins_decimal integer_digits) (length integer_digits) (one_if (has_zero r amount)) wish set
+      (begins_decimal integer_digits) (length integer_digits) wish set
 
   zero_begins : (c : Condition) → may_begin c 48 ≡ true
       → (m.digit parts.Integer (character pattern.lowercase 0) && may_begin c (character pattern.lowercase 0)) ≡ true
@@ -548,7 +532,7 @@ module _ (g : Grammar) (style : Style) (amount : Amount) (is : IsSyntax g)
   spelled : IsSpelled m l
   spelled = record {
     sign = one_sign amount.negative _;
-    prefix = one_prefix (style.prefix || has g.conditions conditions.BasePrefix);
+    prefix = one_prefix (style.base || has g.conditions conditions.BasePrefix);
     integer = integer_run.0;
     point = one_byte (point_of g.options) (lacks_options g.options) (point) _ no_point (λ some. (in_role g.options is.fit some).0);
     fraction = fraction_run.0;
@@ -556,10 +540,10 @@ module _ (g : Grammar) (style : Style) (amount : Amount) (is : IsSyntax g)
         (λ lacks. no_exponent (or_left _ _ lacks)) (λ some. (in_role g.options is.fit some).1);
     exponent_sign = one_sign (given_power amount).negative _;
     exponent = exponent_run.0;
-    suffix = one_suffix (style.suffix || has g.conditions conditions.BaseSuffix);
+    suffix = one_suffix (style.base || has g.conditions conditions.BaseSuffix);
     after_point = no_fraction r g.conditions style amount _ (options_of g).point;
     after_character = no_power amount _ _ style.lowercase (options_of g).exponent exponent_radix;
-    some_number = fraction_is_float (is_present l.integer) amount _ (is_present l.exponent_character) radix (options_of g).point some_digits;
+    some_number = fraction_is_float (is_present l.integer) amount _ (is_present l.exponent_character) radix (options_of g).point (or_left _ _ integer_some);
     requirements = met;
   }
 

@@ -5,7 +5,7 @@ use Rattle.std.proofs.lemmas.List.{length-map}
 use Rattle.std.proofs.lemmas.Option.{slice_get-map}
 use Rattle.lexical_forms.specs.FormList.{FormList}
 use Rattle.lexical_writer.proofs.Common.{ArePassed, AreBefore, Bool, Form, Grammar, IsRefused, IsSearched, IsSomeAnd, List, Literal, None, Option, Options, Read, Result}
-use Rattle.lexical_writer.proofs.Common.{Some, Style, WriteError, [], ap, arith, cases_lt, false, false≢true, if◌then◌else◌, is_short, lacks_options, not, suc, unwished, ways, words_of}
+use Rattle.lexical_writer.proofs.Common.{Some, WriteError, [], ap, arith, cases_lt, false, false≢true, if◌then◌else◌, is_short, lacks_options, not, suc, ways, words_of}
 use Rattle.lexical_writer.proofs.Common.{inl, inr, is_some, length, refl, slice_get, subst, sym, true, unwrap_or, ℕ, ◌+◌, ◌<◌, ◌∙◌, ◌≡◌, ◌≤◌, ◌⊎◌}
 use Rattle.std.proofs.lemmas.Option.{slice_get_within}
 
@@ -92,42 +92,45 @@ module _ (P : ℕ → Form → WriteError → Type 0) (asked : ℕ → Form → 
           }
 
 -- The ways in which a form is asked to write a number, in their order.
-module _ (writes : Style → Grammar → Result Literal WriteError → Type 0) (keeps : Style → Bool → Read → Type 0) (room : ℕ) (list : FormList)
-    (integer : Bool) (style : Style) (index : ℕ) (form : Form) where
-  pub passed_none : ArePassed writes keeps room list integer style index form 0
-  passed_none at way less there = absurd (omega (arith, less))
+module _ (writes : Grammar → Result Literal WriteError → Type 0) (keeps : Bool → Read → Type 0) (room : ℕ) (list : FormList) (integer : Bool)
+    (index : ℕ) (form : Form) where
+  pub passed_none : ArePassed writes keeps room list integer index form 0
+  passed_none at word less there = absurd (omega (arith, less))
 
   -- The form does not write the number in the next way either.
-  pub passed_more : (n : ℕ) (way : Style × Option (List ℕ)) (error : WriteError) → slice_get (ways integer style form) n ≡ Some way
-      → IsRefused writes keeps room list index form way error → is_short error ≡ false → ArePassed writes keeps room list integer style index form n
-      → ArePassed writes keeps room list integer style index form (n + 1)
-  passed_more n way error here refused fits old at it less there = elim (cases_lt at n) [
+  pub passed_more : (n : ℕ) (word : Option (List ℕ)) (error : WriteError) → slice_get (ways integer form) n ≡ Some word
+      → IsRefused writes keeps room list integer index form word error → is_short error ≡ false → ArePassed writes keeps room list integer index form n
+      → ArePassed writes keeps room list integer index form (n + 1)
+  passed_more n word error here refused fits old at it less there = elim (cases_lt at n) [
     | inl earlier ↦ old at it earlier there
     | inr least ↦
         let same : n ≡ at = omega (arith, less, least) in
-        let one : way ≡ it = ap (λ o. unwrap_or o way) (sym here ∙ ap (slice_get (ways integer style form)) same ∙ there) in
-        subst (λ way. (error : WriteError) × IsRefused writes keeps room list index form way error × (is_short error ≡ false)) one (error, refused, fits)
+        let one : word ≡ it = ap (λ o. unwrap_or o word) (sym here ∙ ap (slice_get (ways integer form)) same ∙ there) in
+        subst (λ word. (error : WriteError) × IsRefused writes keeps room list integer index form word error × (is_short error ≡ false)) one
+        (error, refused, fits)
   ]
 
--- Behind the two ways without a word, an integer has those with its words.
-pub word_way : (integer : Bool) (style : Style) (form : Form) (n : ℕ) (word : Bor (List ℕ)) → integer ≡ true
-    → slice_get (words_of form.suffixes) n ≡ Some word → slice_get (ways integer style form) (n + 2) ≡ Some (unwished integer style, Some word.now)
-word_way integer style form n word whole here =
-    let plain = unwished integer style in
+  -- Without a word, it does not.
+  pub passed_first : (error : WriteError) → IsRefused writes keeps room list integer index form None error → is_short error ≡ false
+      → ArePassed writes keeps room list integer index form 1
+  passed_first error refused fits = passed_more 0 None error refl refused fits passed_none
+
+-- Behind the way without a word, an integer has those with its words.
+pub word_way : (integer : Bool) (form : Form) (n : ℕ) (word : Bor (List ℕ)) → integer ≡ true
+    → slice_get (words_of form.suffixes) n ≡ Some word → slice_get (ways integer form) (n + 1) ≡ Some (Some word.now)
+word_way integer form n word whole here =
     let rest : List (Bor (List ℕ)) = if integer then words_of form.suffixes else [] in
     let all : rest ≡ words_of form.suffixes = ap (λ b. if b then words_of form.suffixes else []) whole in
-    ap (slice_get (ways integer style form)) {x = n + 2} {y = suc (suc n)} (omega arith)
-    ∙ slice_get-map (λ (word : Bor (List ℕ)). (plain, Some word.now)) rest n
-    ∙ ap (λ words. option_map (λ (word : Bor (List ℕ)). (plain, Some word.now)) (slice_get words n)) all
-    ∙ ap (option_map (λ (word : Bor (List ℕ)). (plain, Some word.now))) here
+    ap (slice_get (ways integer form)) {x = n + 1} {y = suc n} (omega arith)
+    ∙ slice_get-map (λ (word : Bor (List ℕ)). Some word.now) rest n
+    ∙ ap (λ words. option_map (λ (word : Bor (List ℕ)). Some word.now) (slice_get words n)) all
+    ∙ ap (option_map (λ (word : Bor (List ℕ)). Some word.now)) here
 
--- An integer has two ways and one for each word, and another number has two.
-pub ways_count : (integer : Bool) (style : Style) (form : Form) → integer ≡ true
-    → length (ways integer style form) ≡ length (words_of form.suffixes) + 2
-ways_count integer style form whole =
-    let plain = unwished integer style in
+-- An integer has a way without a word, and one for each word.
+pub ways_count : (integer : Bool) (form : Form) → integer ≡ true → length (ways integer form) ≡ length (words_of form.suffixes) + 1
+ways_count integer form whole =
     let rest : List (Bor (List ℕ)) = if integer then words_of form.suffixes else [] in
-    let size = length-map {B = Style × Option (List ℕ)} rest (λ word. (plain, Some word.now)) in
+    let size = length-map {B = Option (List ℕ)} rest (λ word. Some word.now) in
     let all = ap (λ b. length (if b then words_of form.suffixes else [])) whole in
     omega (arith, size, all)
 

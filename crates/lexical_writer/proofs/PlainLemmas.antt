@@ -96,13 +96,13 @@ integer_value r parts g fraction exponent lawful l has = same_amount r parts g _
 -- Units of the last of so many digits behind the point, split at the point, with `more` digits behind it, are worth what they are.
 split_worth : (radix places more units num den : ℕ) → 2 ≤ radix → units * den ≡ num * 10 ^ places
     → ((places ≡ 0) × (more ≡ 1)) ⊎ ((radix ≡ 10) × (more ≡ places)) → let fraction = at_least more (digits_of radix (units % 10 ^ places)) in
-    number_from_digits radix (at_least 1 (digits_of radix (units / 10 ^ places)) ++ fraction) * den ≡ num * radix ^ length fraction
+    number_from_digits radix (digits_of radix (units / 10 ^ places) ++ fraction) * den ≡ num * radix ^ length fraction
 split_worth radix places more units num den two is sides =
     let i = units / 10 ^ places in
     let f = units % 10 ^ places in
-    let front = at_least 1 (digits_of radix i) in
+    let front = digits_of radix i in
     let fraction = at_least more (digits_of radix f) in
-    let before = least_number radix 1 (digits_of radix i) ∙ number_digits_of radix i two in
+    let before = number_digits_of radix i two in
     let behind = least_number radix more (digits_of radix f) ∙ number_digits_of radix f two in
     let both = joined sides in
     let count : length fraction ≡ more = least_length more (digits_of radix f) ∙ omega (arith, length-digits_of-le radix more f two both.0) in
@@ -162,7 +162,7 @@ units_value r parts g places (found.Whole units) few = λ l lawful has.
     go : (integers : Bool) → (places ≤ (if integers || not (radix == 10) then 0 else 255)) × (units * den ≡ num * 10 ^ places) → 2 ≤ radix
         → IsWorth radix (record {
           negative = is_minus parts.sign.now;
-          integer = sources.Least (units / 10 ^ places) 1;
+          integer = sources.Number (units / 10 ^ places);
           fraction = if integers then None else Some (sources.Least (units % 10 ^ places) (max places 1));
           exponent = None;
         }) num den
@@ -170,7 +170,7 @@ units_value r parts g places (found.Whole units) few = λ l lawful has.
         let none : places ≡ 0 = omega (arith, known.0) in
         let one : 10 ^ places ≡ 1 = ap (λ k. 10 ^ k) none ∙ pow-zero 10 in
         let whole : units / 10 ^ places ≡ units = ap (λ p. units / p) one ∙ omega arith in
-        ap (λ n. n * den) (ap (number_from_digits radix) (append-nil (at_least 1 (digits_of radix (units / 10 ^ places))))
-        ∙ least_number radix 1 (digits_of radix (units / 10 ^ places)) ∙ number_digits_of radix (units / 10 ^ places) two ∙ whole)
+        ap (λ n. n * den) (ap (number_from_digits radix) (append-nil (digits_of radix (units / 10 ^ places)))
+        ∙ number_digits_of radix (units / 10 ^ places) two ∙ whole)
         ∙ known.1 ∙ ap (λ p. num * p) (one ∙ sym (pow-zero radix))
     go false known two = split_worth radix places (max places 1) units num den two known.1 (more (sides known.0))

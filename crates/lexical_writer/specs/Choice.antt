@@ -25,9 +25,6 @@ use Rattle.lexical_number.specs.Numeral.{with_sign}
 use Rattle.lexical_value.specs.Float.{is_binary, is_decimal, nearest}
 use Rattle.lexical_value.specs.Kind.{IsWorth, float_worth, integer_worth, is_exact}
 use Rattle.lexical_writer.specs.Conversion.{SameFraction}
-use Rattle.lexical_writer.specs.Layout.{wants_exponent}
-use Rattle.lexical_writer.specs.declared.layout.ExponentStyle.TheVariants as exponents
-use Rattle.lexical_writer.specs.declared.layout.Style.{Style}
 use Rattle.lexical_writer.specs.declared.layout.WriteError.{WriteError}
 use Rattle.lexical_writer.specs.declared.layout.WriteError.TheVariants as errors
 
@@ -135,64 +132,55 @@ abbrev pub IsReadWith : FormList → Option (List ℕ) → List ℕ → (Read �
 IsReadWith list None text P = IsReadBack list text P
 IsReadWith list (Some word) text P = IsTokenOf list word text P
 
--- `unwished integer style` is `style` or, for an integer, `style` without a wish for an exponent.
-abbrev pub unwished : Bool → Style → Style
-unwished integer style = if integer && wants_exponent style.exponent then record style { exponent = exponents.AsNumber } else style
-
--- `ways integer style form` are the ways in which a form is asked to write a number, in their order: by a style, and with the bytes of a word behind it, if
--- there is one. A form is asked without a word, in `style` and without the wish for an exponent, and then with each of its words.
-abbrev pub ways : Bool → Style → Form → List (Style × Option (List ℕ))
-ways integer style form = (style, None) ∷ ((unwished integer style, None)
-    ∷ map (λ word. (unwished integer style, Some word.now)) (if integer then words_of form.suffixes else []))
+-- `ways integer form` are the ways in which a form is asked to write a number, in their order: without a word, and an integer then with the bytes of each
+-- of the form's words.
+abbrev pub ways : Bool → Form → List (Option (List ℕ))
+ways integer form = None ∷ map (λ word. Some word.now) (if integer then words_of form.suffixes else [])
 
 -- These are about a number, with what is written for it and what surely keeps it, and a form of a list, by a buffer with some `room`.
-module _ (writes : Style → Grammar → Result Literal WriteError → Type 0) (keeps : Style → Bool → Read → Type 0) (room : ℕ) (list : FormList)
+module _ (writes : Grammar → Result Literal WriteError → Type 0) (keeps : Bool → Read → Type 0) (room : ℕ) (list : FormList) (integer : Bool)
     (index : ℕ) (form : Form) where
-  -- `IsMisread style word text error` holds if `error` is why `text`, which the form writes, is not used: the list reads it as no literal that surely keeps
+  -- `IsMisread word text error` holds if `error` is why `text`, which the form writes, is not used: the list reads it as no literal that surely keeps
   -- the number or, with a word, has no such token.
-  abbrev pub IsMisread : Style → Option (List ℕ) → List ℕ → WriteError → Type 0
-  IsMisread style None text error = IsReadElse (λ own. keeps style (not (has_opening form) && own)) list.forms index text error
+  abbrev pub IsMisread : Option (List ℕ) → List ℕ → WriteError → Type 0
+  IsMisread None text error = IsReadElse (λ own. keeps (not (has_opening form) && own)) list.forms index text error
       ⊎ (NoForm list.forms text × (error ≡ errors.ReadBack))
-  IsMisread style (Some word) text error = IsNoToken (keeps style) list word text error
+  IsMisread (Some word) text error = IsNoToken keeps list word text error
 
-  -- `IsUnusable style word text error` holds if `error` is why `text` is not used: it is longer than the room, or it is misread.
-  abbrev pub IsUnusable : Style → Option (List ℕ) → List ℕ → WriteError → Type 0
-  IsUnusable style word text error =
+  -- `IsUnusable word text error` holds if `error` is why `text` is not used: it is longer than the room, or it is misread.
+  abbrev pub IsUnusable : Option (List ℕ) → List ℕ → WriteError → Type 0
+  IsUnusable word text error =
       (((room < length text) ⊎ (2 ^ 64 - 1 ≤ length text)) × (error ≡ errors.Buffer (min (length text) (2 ^ 64 - 1))))
-      ⊎ ((length text ≤ room) × IsMisread style word text error)
+      ⊎ ((length text ≤ room) × IsMisread word text error)
 
-  -- `IsRefused way error` holds if `error` is why the form does not write the number in this way: no literal is written for it, or the text of the one that
-  -- is written is not used.
-  abbrev pub IsRefused : Style × Option (List ℕ) → WriteError → Type 0
-  IsRefused way error = writes way.0 form.syntax (Err error)
-      ⊎ ((l : Literal) × writes way.0 form.syntax (Ok l) × IsUnusable way.0 way.1 (text_by form way.1 l) error)
+  -- `IsRefused word error` holds if `error` is why the form does not write the number, with a word or without: no literal is written for it, or the text
+  -- of the one that is written is not used.
+  abbrev pub IsRefused : Option (List ℕ) → WriteError → Type 0
+  IsRefused word error = writes form.syntax (Err error)
+      ⊎ ((l : Literal) × writes form.syntax (Ok l) × IsUnusable word (text_by form word l) error)
 
--- These are about a number that a form of a list is asked to write in a style, in its `ways`.
-module _ (writes : Style → Grammar → Result Literal WriteError → Type 0) (keeps : Style → Bool → Read → Type 0) (room : ℕ) (list : FormList)
-    (integer : Bool) (style : Style) (index : ℕ) (form : Form) where
   -- `ArePassed n` holds if the form does not write the number in its first `n` ways, for reasons that do not end the search.
   abbrev pub ArePassed : ℕ → Type 0
-  ArePassed n = (at : ℕ) → (way : Style × Option (List ℕ)) → at < n → slice_get (ways integer style form) at ≡ Some way
-      → (error : WriteError) × IsRefused writes keeps room list index form way error × (is_short error ≡ false)
+  ArePassed n = (at : ℕ) → (word : Option (List ℕ)) → at < n → slice_get (ways integer form) at ≡ Some word
+      → (error : WriteError) × IsRefused word error × (is_short error ≡ false)
 
   -- `IsReached P` holds if `P` holds of one of the ways, and the form does not write the number in one before.
-  abbrev pub IsReached : (Style × Option (List ℕ) → Type 0) → Type 0
-  IsReached P = (n : ℕ) × ArePassed n × IsSomeAnd (slice_get (ways integer style form) n) P
+  abbrev pub IsReached : (Option (List ℕ) → Type 0) → Type 0
+  IsReached P = (n : ℕ) × ArePassed n × IsSomeAnd (slice_get (ways integer form) n) P
 
   -- `IsStopped error` holds if `error` is that a text of the form is too long, which ends the search.
   abbrev pub IsStopped : WriteError → Type 0
-  IsStopped error = (is_short error ≡ true) × IsReached (λ way. IsRefused writes keeps room list index form way error)
+  IsStopped error = (is_short error ≡ true) × IsReached (λ word. IsRefused word error)
 
-  -- `IsPassedOver error` holds if the form does not write the number in any way, and if `error` is why it does not in the last one without a word.
+  -- `IsPassedOver error` holds if the form does not write the number in any way, and if `error` is why it does not without a word.
   abbrev pub IsPassedOver : WriteError → Type 0
-  IsPassedOver error = (is_short error ≡ false) × ArePassed (length (ways integer style form))
-      × IsRefused writes keeps room list index form (unwished integer style, None) error
+  IsPassedOver error = (is_short error ≡ false) × ArePassed (length (ways integer form)) × IsRefused None error
 
-  -- `IsChosen is it word text` holds if the form writes the number as `text`, in the style `it` and with a word or without, and does not in a way before. The
-  -- list reads the text as a literal of which `is` holds.
-  abbrev pub IsChosen : (Style → Grammar → Literal → Read → Type 0) → Style → Option (List ℕ) → List ℕ → Type 0
-  IsChosen is it word text = IsReached (λ way. way ≡ (it, word))
-      × ((l : Literal) × writes it form.syntax (Ok l) × (text ≡ text_by form word l) × IsReadWith list word text (is it form.syntax l))
+  -- `IsChosen is word text` holds if the form writes the number as `text`, with a word or without, and does not in a way before. The list reads the text as
+  -- a literal of which `is` holds.
+  abbrev pub IsChosen : (Grammar → Literal → Read → Type 0) → Option (List ℕ) → List ℕ → Type 0
+  IsChosen is word text = IsReached (λ way. way ≡ word)
+      × ((l : Literal) × writes form.syntax (Ok l) × (text ≡ text_by form word l) × IsReadWith list word text (is form.syntax l))
 
 -- `IsExactly z read` holds if `read` is worth an `f64` that is exactly the integer `z`, or -0 for 0.
 abbrev pub IsExactly : ℤ → Read → Type 0

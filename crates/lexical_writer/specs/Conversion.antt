@@ -89,7 +89,7 @@ most_places g = if lacks_options g.options || not ((raw g.word).byte layout.mant
 abbrev pub by_units : Bool → Bool → ℕ → Units → Result Amount WriteError
 by_units negative integers places (found.Whole units) = Ok (record {
   negative = negative;
-  integer = sources.Least (units / 10 ^ places) 1;
+  integer = sources.Number (units / 10 ^ places);
   fraction = if integers then None else Some (sources.Least (units % 10 ^ places) (max places 1));
   exponent = None;
 })

@@ -18,8 +18,6 @@ use Rattle.lexical_writer.specs.declared.integer.WrittenInteger.{WrittenInteger}
 use Rattle.lexical_writer.specs.declared.layout.Amount.{Amount}
 use Rattle.lexical_writer.specs.declared.layout.Grouping.{Grouping}
 use Rattle.lexical_writer.specs.declared.layout.Grouping.TheVariants as groupings
-use Rattle.lexical_writer.specs.declared.layout.ExponentStyle.{ExponentStyle}
-use Rattle.lexical_writer.specs.declared.layout.ExponentStyle.TheVariants as exponents
 use Rattle.lexical_writer.specs.declared.layout.Layout.{Layout}
 use Rattle.lexical_writer.specs.declared.layout.Power.{Power}
 use Rattle.lexical_writer.specs.declared.layout.Style.{Style}
@@ -95,11 +93,17 @@ integer_pattern r c style =
     let last = group_size (number_of c conditions.IntegerGroupSize) style.group in
     pattern_of r (r.flag layout.integer_internal_digit_separator) last (either (number_of c conditions.HigherGroupSize) last) style.lowercase
 
+-- `fraction_size size group` is the number of digits of a group of a fraction where a condition requires `size`, or 0 if there are no groups.
+abbrev pub fraction_size : ℕ → Grouping → ℕ
+fraction_size size groupings.AsSyntax = size
+fraction_size size groupings.None = 0
+fraction_size size (groupings.Of other) = if other == 0 then 0 else size
+
 -- `fraction_pattern r c style count` is the pattern of a fraction of `count` digits. Its groups have the size that the conditions `c`
--- require, or that of `style`. They are counted from the left, so the last one has what is left.
+-- require. They are counted from the left, so the last one has what is left.
 abbrev pub fraction_pattern : Record → Conditions → Style → ℕ → Pattern
 fraction_pattern r c style count =
-    let size = group_size (number_of c conditions.FractionGroupSize) style.fraction_group in
+    let size = fraction_size (number_of c conditions.FractionGroupSize) style.group in
     pattern_of r (r.flag layout.fraction_internal_digit_separator) (if size == 0 then 0 else (count - 1) % size + 1) size style.lowercase
 
 -- `needs_exponent g` is true if each literal of `g` has an exponent.
@@ -110,51 +114,37 @@ needs_exponent g = (raw g.word).flag layout.required_exponent_notation && not (l
 abbrev pub allows_exponent : Grammar → Bool
 allows_exponent g = not (lacks_options g.options || (raw g.word).flag layout.no_exponent_notation)
 
--- `wants_exponent wish` is true if a number without an exponent is to have one.
-abbrev pub wants_exponent : ExponentStyle → Bool
-wants_exponent exponents.Always = true
-wants_exponent _ = false
+-- `has_exponent g amount` is true if `amount` has an exponent, or if each literal has one.
+abbrev pub has_exponent : Grammar → Amount → Bool
+has_exponent g amount = is_some amount.exponent || needs_exponent g
 
--- `has_exponent g style amount` is true if `amount` has an exponent, if each literal has one, or if `style` wants one that is allowed.
-abbrev pub has_exponent : Grammar → Style → Amount → Bool
-has_exponent g style amount = is_some amount.exponent || (needs_exponent g || (wants_exponent style.exponent && allows_exponent g))
-
--- `has_point g style amount` is true if `amount` has a fraction, or if an exponent requires one.
-abbrev pub has_point : Grammar → Style → Amount → Bool
-has_point g style amount = is_some amount.fraction || (has_exponent g style amount && (raw g.word).flag layout.no_exponent_without_fraction)
-
--- `has_zero r amount` is true if a 0 stands for absent integer digits: if they are required, if `amount` has integer digits,
--- which are zeros, or if it has no digits at all.
-abbrev pub has_zero : Record → Amount → Bool
-has_zero r amount =
-    let radix = r.byte layout.mantissa_radix in
-    r.flag layout.required_integer_digits || (is_present (values_of radix amount.integer) || is_absent (values_of radix (given_fraction amount)))
+-- `has_point g amount` is true if `amount` has a fraction, or if an exponent requires one.
+abbrev pub has_point : Grammar → Amount → Bool
+has_point g amount = is_some amount.fraction || (has_exponent g amount && (raw g.word).flag layout.no_exponent_without_fraction)
 
 -- `one_if condition` is 1 if `condition` is true, and 0 otherwise.
 abbrev pub one_if : Bool → ℕ
 one_if condition = if condition then 1 else 0
 
--- `takes_zeros r prefix float` is true if the integer of a float or of another number may have leading zeros in the format `r`. Behind
--- a base prefix, it may.
-abbrev pub takes_zeros : Record → Bool → Bool → Bool
-takes_zeros r prefix float = prefix || not (r.flag (if float then layout.no_float_leading_zeros else layout.no_integer_leading_zeros))
+-- `takes_zeros r float` is true if the integer of a float or of another number may have leading zeros in the format `r`.
+abbrev pub takes_zeros : Record → Bool → Bool
+takes_zeros r float = not (r.flag (if float then layout.no_float_leading_zeros else layout.no_integer_leading_zeros))
 
 -- `lacks_zero c prefix digits` is true if a zero is written before the integer digits `digits`, of which the first is not 0, since the
 -- conditions `c` allow no other first digit. Behind a base prefix, none is.
 abbrev pub lacks_zero : Conditions → Bool → List ℕ → Bool
 lacks_zero c prefix digits = not prefix && (has c conditions.LeadingZero || (has c conditions.DecimalFirstDigit && not (begins_decimal digits)))
 
--- `led_digits c prefix digits` is the number of `digits` with this zero, or 0 if none is written.
+-- `led_digits c prefix digits` is the number of `digits` with this zero, or 1 if none is written.
 abbrev pub led_digits : Conditions → Bool → List ℕ → ℕ
-led_digits c prefix digits = if lacks_zero c prefix digits then length digits + 1 else 0
+led_digits c prefix digits = if lacks_zero c prefix digits then length digits + 1 else 1
 
--- `least_digits r c style prefix float amount` is how many integer digits are written at least: with the zero that the conditions `c`
--- require, those that `style` wants, where leading zeros are allowed, and a 0 that stands for absent digits.
+-- `least_digits r c style prefix float amount` is how many integer digits are written at least: one, with the zero that the conditions `c`
+-- require, and those that `style` wants, where leading zeros are allowed.
 abbrev pub least_digits : Record → Conditions → Style → Bool → Bool → Amount → ℕ
 least_digits r c style prefix float amount =
     let radix = r.byte layout.mantissa_radix in
-    max (one_if (has_zero r amount)) (max (led_digits c prefix (digits_of radix (size_of radix amount.integer)))
-    (if takes_zeros r prefix float then style.min_digits else 0))
+    max (led_digits c prefix (digits_of radix (size_of radix amount.integer))) (if takes_zeros r float then style.min_digits else 0)
 
 -- `integer_text r c style prefix float amount` is the integer that is written, behind a base prefix or not, of a float or not.
 abbrev pub integer_text : Record → Conditions → Style → Bool → Bool → Amount → List ℕ
@@ -167,21 +157,20 @@ abbrev pub exponent_text : Record → Style → Bool → Source → List ℕ
 exponent_text r style exponent source = grouped (no_groups style.lowercase)
     (at_least (one_if exponent) (digits_of (effective_exponent_radix r) (size_of (effective_exponent_radix r) source)))
 
--- `fraction_text r c style point amount` is the fraction that is written, with a decimal point or not. It has no more digits than
--- `amount`, except for a 0 where digits are required.
+-- `fraction_text r c style point amount` is the fraction that is written, with a decimal point or not: that of `amount`, or a 0 behind a
+-- point if it has no digits.
 abbrev pub fraction_text : Record → Conditions → Style → Bool → Amount → List ℕ
 fraction_text r c style point amount =
-    let digits = at_least (one_if (point && r.flag layout.required_fraction_digits))
-    (values_of (r.byte layout.mantissa_radix) (given_fraction amount)) in
+    let digits = at_least (one_if point) (values_of (r.byte layout.mantissa_radix) (given_fraction amount)) in
     grouped (fraction_pattern r c style (length digits)) digits
 
 -- `laid_out g style amount` is the literal of `g` that is written for `amount`.
 abbrev pub laid_out : Grammar → Style → Amount → Literal
 laid_out g style amount =
     let r = raw g.word in
-    let point = has_point g style amount in
-    let exponent = has_exponent g style amount in
-    let prefix = base_byte (style.prefix || has g.conditions conditions.BasePrefix) (r.byte layout.base_prefix) in
+    let point = has_point g amount in
+    let exponent = has_exponent g amount in
+    let prefix = base_byte (style.base || has g.conditions conditions.BasePrefix) (r.byte layout.base_prefix) in
     record {
       sign = option_to_list (sign_of amount.negative (r.flag layout.required_mantissa_sign));
       prefix = after_zero prefix;
@@ -191,7 +180,7 @@ laid_out g style amount =
       exponent_character = option_to_list (only_if exponent (options_of g).exponent);
       exponent_sign = option_to_list (sign_of (given_power amount).negative (exponent && r.flag layout.required_exponent_sign));
       exponent = exponent_text r style exponent (given_power amount).source;
-      suffix = option_to_list (base_byte (style.suffix || has g.conditions conditions.BaseSuffix) (r.byte layout.base_suffix));
+      suffix = option_to_list (base_byte (style.base || has g.conditions conditions.BaseSuffix) (r.byte layout.base_suffix));
     }
 
 -- `first_error sign fraction last error` is the error of the first of the three that is refused. That of the last one is `error`.
@@ -236,12 +225,9 @@ pub record HasValue (r : Record) (l : Literal) (z : ℤ) : Type 0 where
   pub sign : z ≡ with_sign (is_minus l.sign) size
   pub fraction : size * denominator r.byte l ≡ numerator r.byte l
 
--- `whole_refusal g z` is why the integer `z` cannot be written as a literal of `g`, or `None` if it can: `z` is below 0 and no literal
--- is, or else each literal has an exponent.
+-- `whole_refusal g z` is why the integer `z` cannot be written as a literal of `g`, or `None` if it can: `z` is below 0, and no literal is.
 abbrev pub whole_refusal : Grammar → ℤ → Option WriteError
-whole_refusal g z =
-    if (whole z).negative && has g.conditions conditions.NegativeSign then Some errors.Negative
-    else (if needs_exponent g then Some errors.Float else None)
+whole_refusal g z = if (whole z).negative && has g.conditions conditions.NegativeSign then Some errors.Negative else None
 
 -- `IsWhole g style z l` holds if `l` is what is written for the integer `z`.
 abbrev pub IsWhole : Grammar → Style → ℤ → Literal → Type 0

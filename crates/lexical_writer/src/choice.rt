@@ -20,7 +20,7 @@ ghost use Rattle.lexical_forms.specs.declared.form.Form.{Form as Asked};
 ghost use Rattle.lexical_writer.specs.Layout.{integer_literal, laid_out, literal_of as written, number_of_size};
 ghost use Rattle.lexical_writer.specs.Choice.{ArePassed, IsChosen, IsFound, IsNoToken, IsPassedOver, IsReadBack, IsReadElse, IsReadWith, IsReal};
 ghost use Rattle.lexical_writer.specs.Choice.{IsRefused, IsSearched, IsStopped, IsTokenOf, IsWhole, bytes_of_word, has_floats, has_worth, is_asked};
-ghost use Rattle.lexical_writer.specs.Choice.{has_opening, is_own, is_short, steps, text_by, unasked, unwished, ways, whole_of};
+ghost use Rattle.lexical_writer.specs.Choice.{has_opening, is_own, is_short, steps, text_by, unasked, ways, whole_of};
 ghost use Rattle.lexical_writer.specs.Private.{IsPut};
 ghost use Rattle.lexical_writer.specs.declared.layout.WriteError.{WriteError as Reason};
 ghost use Rattle.lexical_writer.specs.declared.layout.WriteError.TheVariants as errors;
@@ -29,7 +29,7 @@ ghost use Rattle.lexical_writer.specs.declared.layout.Style.{Style as Wishes};
 use crate::float::{format_float, is_integer};
 use crate::float_digits::FloatDigits;
 use crate::integer::WrittenInteger;
-use crate::layout::{ExponentStyle, Layout, Style, WriteError, wants_exponent};
+use crate::layout::{Layout, Style, WriteError};
 use crate::literal::format_literal;
 use lexical_forms::form::Form;
 use lexical_forms::list::{Forms, Number};
@@ -513,8 +513,6 @@ pub struct Chosen {
     pub word: Option<&'static &'static [u8]>,
     /// The length of the text, with the word.
     pub length: usize,
-    /// The style.
-    pub style: Style,
 }
 
 /// Writes a number by the first form whose text the list reads as this number, to the beginning of a buffer. The number's own forms
@@ -536,17 +534,17 @@ pub fn choose<N: Writable>(
     ensures length { IfOk result (λ it. it.length ≤ length buffer.new) }
     // The text is what a form that is asked writes, and the list reads it as the number. Each form that is asked before is passed over.
     ensures text { IfOk result (λ it. IsFound
-        (IsPassedOver (N.writes number.now) (N.keeps number.now) (length buffer.old) forms.now (N.integer number.now) style)
-        (λ at form. (at ≡ it.form) × IsChosen (N.writes number.now) (N.keeps number.now) (length buffer.old) forms.now (N.integer number.now) style
-        at form (N.is number.now) it.style (bytes_of_word it.word) (take it.length buffer.new))
+        (IsPassedOver (N.writes number.now style) (N.keeps number.now style) (length buffer.old) forms.now (N.integer number.now))
+        (λ at form. (at ≡ it.form) × IsChosen (N.writes number.now style) (N.keeps number.now style) (length buffer.old) forms.now (N.integer number.now)
+        at form (N.is number.now style) (bytes_of_word it.word) (take it.length buffer.new))
         (is_asked (N.base number.now) (N.integer number.now)) forms.now.forms (steps (N.rounded number.now style))) }
     // The error is that of a text that is too long, which ends the search, or else that of the form that is asked first.
     ensures error { IfErr result (λ error. IsFound
-        (IsPassedOver (N.writes number.now) (N.keeps number.now) (length buffer.old) forms.now (N.integer number.now) style)
-        (λ at form. IsStopped (N.writes number.now) (N.keeps number.now) (length buffer.old) forms.now (N.integer number.now) style at form error)
+        (IsPassedOver (N.writes number.now style) (N.keeps number.now style) (length buffer.old) forms.now (N.integer number.now))
+        (λ at form. IsStopped (N.writes number.now style) (N.keeps number.now style) (length buffer.old) forms.now (N.integer number.now) at form error)
         (is_asked (N.base number.now) (N.integer number.now)) forms.now.forms (steps (N.rounded number.now style))
         ⊎ ((first : Option Reason) × IsSearched
-        (IsPassedOver (N.writes number.now) (N.keeps number.now) (length buffer.old) forms.now (N.integer number.now) style)
+        (IsPassedOver (N.writes number.now style) (N.keeps number.now style) (length buffer.old) forms.now (N.integer number.now))
         (is_asked (N.base number.now) (N.integer number.now)) forms.now.forms (steps (N.rounded number.now style)) 0 first
         × (error ≡ unwrap_or first (unasked (N.rounded number.now style))))) }
 {
@@ -664,91 +662,28 @@ fn write_form<N: Writable>(
     ensures length { IfOk result (λ it. it.length ≤ length buffer.new) }
     ensures room { length buffer.new ≡ length buffer.old }
     ensures form { IfOk result (λ it. it.form ≡ index) }
-    ensures text { IfOk result (λ it. IsChosen (N.writes number.now) (N.keeps number.now) (length buffer.old) forms.now (N.integer number.now) style
-        index form.now (N.is number.now) it.style (bytes_of_word it.word) (take it.length buffer.new)) }
+    ensures text { IfOk result (λ it. IsChosen (N.writes number.now style) (N.keeps number.now style) (length buffer.old) forms.now (N.integer number.now)
+        index form.now (N.is number.now style) (bytes_of_word it.word) (take it.length buffer.new)) }
     ensures passed { IfErr result (λ error. is_short error ≡ false
-        → IsPassedOver (N.writes number.now) (N.keeps number.now) (length buffer.old) forms.now (N.integer number.now) style index form.now error) }
+        → IsPassedOver (N.writes number.now style) (N.keeps number.now style) (length buffer.old) forms.now (N.integer number.now) index form.now error) }
     ensures stopped { IfErr result (λ error. is_short error ≡ true
-        → IsStopped (N.writes number.now) (N.keeps number.now) (length buffer.old) forms.now (N.integer number.now) style index form.now error) }
-{
-    let error = match write_in(forms, index, form, number, style, buffer) {
-        Ok(chosen) => return Ok(chosen),
-        Err(error) => error,
-    };
-    if is_short(error) {
-        return Err(error);
-    }
-    if !number.is_integer() {
-        return Err(error);
-    }
-    match write_words(forms, index, form, number, style, buffer) {
-        Ok(chosen) => Ok(chosen),
-        Err(other) if is_short(other) => Err(other),
-        Err(_) => Err(error),
-    }
-}
-
-// Writes a number by one form, without a word, or returns why it is not used.
-fn write_in<N: Writable>(
-    forms: &Forms,
-    index: usize,
-    form: &Form,
-    number: &N,
-    style: Style,
-    buffer: &mut [u8],
-) -> Result<Chosen, WriteError>
-    requires { slice_get forms.now.forms index ≡ Some form.now }
-    ensures length { IfOk result (λ it. it.length ≤ length buffer.new) }
-    ensures room { length buffer.new ≡ length buffer.old }
-    ensures form { IfOk result (λ it. it.form ≡ index) }
-    ensures text { IfOk result (λ it. IsChosen (N.writes number.now) (N.keeps number.now) (length buffer.old) forms.now (N.integer number.now) style
-        index form.now (N.is number.now) it.style (bytes_of_word it.word) (take it.length buffer.new)) }
-    ensures passed { IfErr result (λ error. is_short error ≡ false
-        → ArePassed (N.writes number.now) (N.keeps number.now) (length buffer.old) forms.now (N.integer number.now) style index form.now 2
-        × IsRefused (N.writes number.now) (N.keeps number.now) (length buffer.old) forms.now index form.now
-        (unwished (N.integer number.now) style, None) error) }
-    ensures stopped { IfErr result (λ error. is_short error ≡ true
-        → IsStopped (N.writes number.now) (N.keeps number.now) (length buffer.old) forms.now (N.integer number.now) style index form.now error) }
+        → IsStopped (N.writes number.now style) (N.keeps number.now style) (length buffer.old) forms.now (N.integer number.now) index form.now error) }
 {
     let error = match write_by(forms, index, form, number, style, buffer) {
         Ok(length) => return Ok(Chosen {
             form: index,
             word: None,
             length,
-            style,
         }),
         Err(error) => error,
     };
-    let wished = number.is_integer() & wants_exponent(style.exponent);
-    if is_short(error) {
+    if is_short(error) || !number.is_integer() {
         return Err(error);
     }
-    if !wished {
-        return Err(error);
-    }
-    let plain = without_wish(style);
-    match write_by(forms, index, form, number, plain, buffer) {
-        Ok(length) => Ok(Chosen {
-            form: index,
-            word: None,
-            length,
-            style: plain,
-        }),
-        Err(error) => Err(error),
-    }
-}
-
-// Returns the style of an integer without a wish for an exponent.
-const fn without_wish(style: Style) -> Style
-    ensures { result ≡ unwished true style }
-{
-    if wants_exponent(style.exponent) {
-        Style {
-            exponent: ExponentStyle::AsNumber,
-            ..style
-        }
-    } else {
-        style
+    match write_words(forms, index, form, number, style, buffer) {
+        Ok(chosen) => Ok(chosen),
+        Err(other) if is_short(other) => Err(other),
+        Err(_) => Err(error),
     }
 }
 
@@ -763,29 +698,27 @@ fn write_words<N: Writable>(
     buffer: &mut [u8],
 ) -> Result<Chosen, WriteError>
     requires integer { N.integer number.now ≡ true }
-    requires passed { ArePassed (N.writes number.now) (N.keeps number.now) (length buffer.now) forms.now (N.integer number.now) style index form.now 2 }
+    requires passed { ArePassed (N.writes number.now style) (N.keeps number.now style) (length buffer.now) forms.now (N.integer number.now) index form.now 1 }
     ensures length { IfOk result (λ it. it.length ≤ length buffer.new) }
     ensures room { length buffer.new ≡ length buffer.old }
     ensures form { IfOk result (λ it. it.form ≡ index) }
-    ensures text { IfOk result (λ it. IsChosen (N.writes number.now) (N.keeps number.now) (length buffer.old) forms.now (N.integer number.now) style
-        index form.now (N.is number.now) it.style (bytes_of_word it.word) (take it.length buffer.new)) }
-    ensures passed { IfErr result (λ error. is_short error ≡ false → ArePassed (N.writes number.now) (N.keeps number.now) (length buffer.old) forms.now
-        (N.integer number.now) style index form.now (length (ways (N.integer number.now) style form.now))) }
+    ensures text { IfOk result (λ it. IsChosen (N.writes number.now style) (N.keeps number.now style) (length buffer.old) forms.now (N.integer number.now)
+        index form.now (N.is number.now style) (bytes_of_word it.word) (take it.length buffer.new)) }
+    ensures passed { IfErr result (λ error. is_short error ≡ false → ArePassed (N.writes number.now style) (N.keeps number.now style) (length buffer.old) forms.now (N.integer number.now)
+        index form.now (length (ways (N.integer number.now) form.now))) }
     ensures stopped { IfErr result (λ error. is_short error ≡ true
-        → IsStopped (N.writes number.now) (N.keeps number.now) (length buffer.old) forms.now (N.integer number.now) style index form.now error) }
+        → IsStopped (N.writes number.now style) (N.keeps number.now style) (length buffer.old) forms.now (N.integer number.now) index form.now error) }
 {
     let Some(suffixes) = form.suffixes() else {
         return Err(WriteError::ReadBack);
     };
-    let plain = without_wish(style);
     let words = suffixes.written();
     for word in words {
-        match write_around(forms, form, number, plain, Some(word), buffer) {
+        match write_around(forms, form, number, style, Some(word), buffer) {
             Ok(length) => return Ok(Chosen {
                 form: index,
                 word: Some(word),
                 length,
-                style: plain,
             }),
             Err(error) if is_short(error) => return Err(error),
             Err(_) => {}
@@ -810,8 +743,8 @@ fn write_around<N: Writable>(
     ensures text { IfOk result (λ size. (l : Parts) × N.writes number.now style form.now.syntax (Ok l)
         × (take size buffer.new ≡ text_by form.now (bytes_of_word word.entry) l)
         × IsReadWith forms.now (bytes_of_word word.entry) (take size buffer.new) (N.is number.now style form.now.syntax l)) }
-    ensures error { (index : ℕ) → IfErr result (IsRefused (N.writes number.now) (N.keeps number.now) (length buffer.old) forms.now index form.now
-        (style, bytes_of_word word.entry)) }
+    ensures error { (index : ℕ) → IfErr result (IsRefused (N.writes number.now style) (N.keeps number.now style) (length buffer.old) forms.now
+        (N.integer number.now) index form.now (bytes_of_word word.entry)) }
 {
     let end = put_text(form, number, style, word, buffer)?;
     // A text that is longer than a `usize` has the size `usize::MAX`.
@@ -948,7 +881,8 @@ fn write_by<N: Writable>(
     ensures room { length buffer.new ≡ length buffer.old }
     ensures text { IfOk result (λ size. (l : Parts) × N.writes number.now style form.now.syntax (Ok l) × (take size buffer.new ≡ text_by form.now None l)
         × IsReadBack forms.now (take size buffer.new) (N.is number.now style form.now.syntax l)) }
-    ensures error { IfErr result (IsRefused (N.writes number.now) (N.keeps number.now) (length buffer.old) forms.now index form.now (style, None)) }
+    ensures error { IfErr result (IsRefused (N.writes number.now style) (N.keeps number.now style) (length buffer.old) forms.now (N.integer number.now)
+        index form.now None) }
 {
     if form.has_opening() {
         return write_around(forms, form, number, style, None, buffer);

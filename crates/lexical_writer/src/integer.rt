@@ -8,10 +8,10 @@ ghost use Rattle.lexical_literal.specs.Syntax.{IsSyntax};
 ghost use Rattle.lexical_value.specs.Integer.{IsInteger};
 ghost use Rattle.lexical_writer.specs.Buffer.{IsTaken};
 ghost use Rattle.lexical_writer.specs.Layout.{HasNumber, HasValue, IsWhole, integer_literal, laid_out, literal_of, number_of_size, plain_text, refusal};
-ghost use Rattle.lexical_writer.specs.Layout.{wants_exponent, whole_refusal};
+ghost use Rattle.lexical_writer.specs.Layout.{needs_exponent, whole_refusal};
 
 use crate::digits::put_if_any;
-use crate::layout::{Amount, Layout, Style, WriteError, forbids_minus, needs_exponent, sign_of};
+use crate::layout::{Amount, Layout, Style, WriteError, needs_exponent, sign_of};
 use crate::patterns::{integer_pattern, no_groups};
 use crate::run::{Run, Source};
 use crate::sink::Window;
@@ -33,8 +33,7 @@ pub struct WrittenInteger {
 ///
 /// # Errors
 ///
-/// [`WriteError::Negative`] if the value is below 0 and no literal has the sign `-`, and otherwise
-/// [`WriteError::Float`] if each literal of `syntax` has an exponent.
+/// [`WriteError::Negative`] if the value is below 0 and no literal has the sign `-`.
 #[inline(always)]
 pub fn format_integer<T: Integer>(
     syntax: &Syntax,
@@ -44,20 +43,14 @@ pub fn format_integer<T: Integer>(
     // What is written is a literal, and its value is that of the integer.
     ensures literal { IfOk result (λ it. Reads (notation_of syntax.now) (integer_literal it) (text_of (integer_literal it))) }
     ensures value { IfOk result (λ it. HasValue (raw syntax.now.word) (integer_literal it) (T.range.value value)) }
-    // It has neither a decimal point nor an exponent, unless the style is to have one.
-    ensures integer { wants_exponent style.exponent ≡ false
+    // It has neither a decimal point nor an exponent, unless each literal has one.
+    ensures integer { needs_exponent syntax.now ≡ false
         → IfOk result (λ it. IsInteger (bytes_of syntax.now.word) (integer_literal it) (T.range.value value)) }
     ensures parts { IfOk result (λ it. IsWhole syntax.now style (T.range.value value) (integer_literal it)) }
-    // Each integer can be written, unless it is below 0 and no literal is, or each literal has an exponent.
+    // Each integer can be written, unless it is below 0 and no literal is.
     ensures error { IfErr result (λ error. whole_refusal syntax.now (T.range.value value) ≡ Some error) }
 {
     let (negative, size) = value.sign_and_size();
-    if negative && forbids_minus(syntax) {
-        return Err(WriteError::Negative);
-    }
-    if needs_exponent(syntax) {
-        return Err(WriteError::Float);
-    }
     WrittenInteger::of_size(negative, size, syntax, style)
 }
 
@@ -102,7 +95,7 @@ impl WrittenInteger {
         ensures { result ≡ is_float (integer_literal self.now) }
     {
         let amount = self.amount();
-        amount.has_point(&self.syntax, self.style) | amount.has_exponent(&self.syntax, self.style)
+        amount.has_point(&self.syntax) | amount.has_exponent(&self.syntax)
     }
 
     /// Returns the parts of the literal.
@@ -165,7 +158,7 @@ impl WrittenInteger {
         let leads = conditions.has(Condition::LeadingZero)
             | conditions.has(Condition::DecimalFirstDigit)
             | (self.style.min_digits > 1);
-        let exponent = self.amount().has_exponent(&self.syntax, self.style);
+        let exponent = needs_exponent(&self.syntax);
         (format.mantissa_radix() == 10)
             & (base_prefix(format.word()) == 0)
             & (base_suffix(format.word()) == 0)

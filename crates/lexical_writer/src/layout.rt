@@ -10,8 +10,8 @@ ghost use Rattle.lexical_literal.specs.Syntax.{IsSyntax};
 ghost use Rattle.lexical_literal.specs.declared.syntax.Condition.TheVariants as conditions;
 ghost use Rattle.lexical_writer.specs.Digits.{no_groups, only_if, run_text, size_of, values_of};
 ghost use Rattle.lexical_writer.specs.Layout.{HasNumber, IsLaidOut, allows_exponent, base_byte, exponent_text, first_error, fraction_pattern, fraction_text};
-ghost use Rattle.lexical_writer.specs.Layout.{has_exponent, has_point, has_zero, integer_pattern, integer_text, laid_out};
-ghost use Rattle.lexical_writer.specs.Layout.{least_digits, led_digits, literal_of, needs_exponent, number_of_size, one_if, refusal, sign_of, wants_exponent};
+ghost use Rattle.lexical_writer.specs.Layout.{has_exponent, has_point, integer_pattern, integer_text, laid_out};
+ghost use Rattle.lexical_writer.specs.Layout.{least_digits, led_digits, literal_of, needs_exponent, number_of_size, one_if, refusal, sign_of};
 ghost use Rattle.lexical_writer.specs.Buffer.{IsTaken};
 
 use crate::digits::{only_if, put_if_any, without_zeros};
@@ -19,7 +19,6 @@ use crate::patterns::{fraction_pattern, integer_pattern, no_groups};
 use crate::run::{Run, Source};
 use crate::sink::{Sink, Window};
 use lexical_literal::syntax::{Condition, Conditions, Options, Syntax};
-use lexical_number::small::count;
 use lexical_util::format::{NumberFormat, base_prefix, base_suffix};
 use lexical_util::laws::byte_facts;
 
@@ -58,14 +57,11 @@ pub enum ExponentStyle {
 /// ```
 #[derive(Debug, Clone, Copy, PartialEq, Eq, Hash)]
 pub struct Style {
-    /// How many digits a group of the integer has, counted from the right.
+    /// How many digits a group of the integer has, counted from the right. A group of the fraction has as many as a condition says,
+    /// unless there are no groups.
     pub group: Grouping,
-    /// How many digits a group of the fraction has, counted from the left.
-    pub fraction_group: Grouping,
-    /// Whether the base prefix is written, if the format has one.
-    pub prefix: bool,
-    /// Whether the base suffix is written, if the format has one.
-    pub suffix: bool,
+    /// Whether the base prefix and the base suffix are written, if the format has them.
+    pub base: bool,
     /// Whether digits that are letters are in lowercase.
     pub lowercase: bool,
     /// How many digits the integer has at least. Zeros are added where the format allows leading zeros.
@@ -81,9 +77,7 @@ impl Style {
     /// the format has them, uppercase digits, no zeros that are not required, and the exponent that the number has.
     pub const PLAIN: Style = Style {
         group: Grouping::AsSyntax,
-        fraction_group: Grouping::AsSyntax,
-        prefix: true,
-        suffix: true,
+        base: true,
         lowercase: false,
         min_digits: 0,
         exponent: ExponentStyle::AsNumber,
@@ -102,8 +96,6 @@ pub enum WriteError {
     Negative,
     /// The number is not whole, and the literals of the syntax are integers.
     Fraction,
-    /// The number is an integer of Rust, and each literal has an exponent.
-    Float,
     /// A limit: the literal has another radix or another exponent base, or no literal has its exponent, and its value is not
     /// known to be a number with 27 digits in this radix and without an exponent, or an integer with 128 bits.
     Radix,
@@ -228,20 +220,6 @@ fn lean<'a>(source: Source<'a>, radix: u32) -> Source<'a>
     }
 }
 
-// Returns whether a source has digits.
-#[inline]
-fn has_digits(source: Source, radix: u32) -> bool
-    requires { IsRadix radix }
-    ensures { result ≡ is_present (values_of radix source.entry) }
-{
-    match source {
-        Source::Bytes(bytes) => count(bytes, radix) > 0,
-        Source::Number(number) => number > 0,
-        Source::Least(..) => source.count(radix) > 0,
-        Source::Padded(padded) => padded.count(radix) > 0,
-    }
-}
-
 impl Amount<'_> {
     // Returns a number without a fraction and an exponent.
     pub(crate) const fn of_size(negative: bool, size: u128) -> Amount<'static>
@@ -300,10 +278,10 @@ impl<'a> Amount<'a> {
             negative: false,
             source: Source::Number(0),
         });
-        let exponent = self.has_exponent(syntax, style);
-        let point = self.has_point(syntax, style);
+        let exponent = self.has_exponent(syntax);
+        let point = self.has_point(syntax);
         let prefix = base_byte(
-            style.prefix | conditions.has(Condition::BasePrefix),
+            style.base | conditions.has(Condition::BasePrefix),
             base_prefix(format.word()),
         );
         let float = point | exponent;
@@ -317,7 +295,7 @@ impl<'a> Amount<'a> {
             exponent_sign: sign_of(power.negative, exponent & format.required_exponent_sign()),
             exponent: exponent_run(power.source, format, style, exponent),
             suffix: base_byte(
-                style.suffix | conditions.has(Condition::BaseSuffix),
+                style.base | conditions.has(Condition::BaseSuffix),
                 base_suffix(format.word()),
             ),
         }
@@ -325,22 +303,19 @@ impl<'a> Amount<'a> {
 
     // Returns whether there is an exponent character.
     #[inline]
-    pub(crate) fn has_exponent(&self, syntax: &Syntax, style: Style) -> bool
-        ensures { result ≡ has_exponent syntax.now style self.now }
+    pub(crate) fn has_exponent(&self, syntax: &Syntax) -> bool
+        ensures { result ≡ has_exponent syntax.now self.now }
     {
-        self.exponent.is_some()
-            || needs_exponent(syntax)
-            || wants_exponent(style.exponent) && allows_exponent(syntax)
+        self.exponent.is_some() || needs_exponent(syntax)
     }
 
     // Returns whether there is a decimal point.
     #[inline]
-    pub(crate) fn has_point(&self, syntax: &Syntax, style: Style) -> bool
-        ensures { result ≡ has_point syntax.now style self.now }
+    pub(crate) fn has_point(&self, syntax: &Syntax) -> bool
+        ensures { result ≡ has_point syntax.now self.now }
     {
         self.fraction.is_some()
-            || self.has_exponent(syntax, style)
-                && syntax.format().view().no_exponent_without_fraction()
+            || self.has_exponent(syntax) && syntax.format().view().no_exponent_without_fraction()
     }
 
     // Returns the integer, behind a base prefix or not, of a float or not.
@@ -365,7 +340,7 @@ impl<'a> Amount<'a> {
         }
     }
 
-    // Returns the fraction, which has a point or not.
+    // Returns the fraction, which has a digit behind a point.
     #[inline]
     fn fraction_run(
         &self,
@@ -381,7 +356,7 @@ impl<'a> Amount<'a> {
         let run = Run {
             source: self.fraction.unwrap_or(Source::Number(0)),
             radix,
-            least: one_if(point & format.required_fraction_digits()),
+            least: one_if(point),
             pattern: no_groups(style.lowercase),
         };
         let pattern = fraction_pattern(format, conditions, style, &run);
@@ -409,19 +384,7 @@ impl<'a> Amount<'a> {
         )
     }
 
-    // Returns whether a 0 stands for absent integer digits.
-    #[inline]
-    fn has_zero(&self, format: NumberFormat) -> bool
-        requires { Lawful format }
-        ensures { result ≡ has_zero (raw format) self.now }
-    {
-        let radix = format.mantissa_radix();
-        format.required_integer_digits()
-            || has_digits(self.integer, radix)
-            || !has_digits(self.fraction.unwrap_or(Source::Number(0)), radix)
-    }
-
-    // Returns how many integer digits there are with the zero that the conditions require before them, or 0 if they require
+    // Returns how many integer digits there are with the zero that the conditions require before them, or 1 if they require
     // none.
     #[inline]
     fn led_digits(&self, radix: u32, conditions: Conditions, prefix: bool) -> u128
@@ -432,7 +395,7 @@ impl<'a> Amount<'a> {
             || !(conditions.has(Condition::LeadingZero)
                 || conditions.has(Condition::DecimalFirstDigit))
         {
-            0
+            1
         } else {
             self.count_led(radix, conditions)
         }
@@ -450,7 +413,7 @@ impl<'a> Amount<'a> {
         if needs_zero || (needs_decimal && !digits.begins_decimal(radix)) {
             digits.count(radix) + 1
         } else {
-            0
+            1
         }
     }
 
@@ -468,16 +431,16 @@ impl<'a> Amount<'a> {
         ensures { result ≡ least_digits (raw format) conditions style prefix float self.now }
     {
         let radix = format.mantissa_radix();
-        let zero = one_if(self.has_zero(format)).max(self.led_digits(radix, conditions, prefix));
+        let least = self.led_digits(radix, conditions, prefix);
         let forbidden = if float {
             format.no_float_leading_zeros()
         } else {
             format.no_integer_leading_zeros()
         };
-        if forbidden && !prefix {
-            return zero;
+        if forbidden {
+            return least;
         }
-        zero.max(style.min_digits as u128)
+        least.max(style.min_digits as u128)
     }
 }
 
@@ -531,13 +494,6 @@ pub(crate) fn allows_exponent(syntax: &Syntax) -> bool
     ensures { result ≡ allows_exponent syntax.now }
 {
     syntax.options().is_some() && !syntax.format().view().no_exponent_notation()
-}
-
-// Returns whether a number without an exponent is to have one.
-pub(crate) const fn wants_exponent(wish: ExponentStyle) -> bool
-    ensures { result ≡ wants_exponent wish }
-{
-    matches!(wish, ExponentStyle::Always)
 }
 
 // Returns the error of the first that is refused: of a sign, of a fraction, or `error`.

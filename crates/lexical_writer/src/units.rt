@@ -104,7 +104,7 @@ fn amount_of(
     let (integer, fraction) = split(units, places);
     Ok(Amount {
         negative,
-        integer: Source::Least(integer, 1),
+        integer: Source::Number(integer),
         fraction: if integers {
             None
         } else {

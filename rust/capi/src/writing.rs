@@ -23,7 +23,6 @@ texts! {
         1 => b"in this radix or without an exponent, the number has too many digits, or none that are known",
         2 => b"no literal has the sign '-'",
         3 => b"literals are integers, and the number is not whole",
-        5 => b"each literal has an exponent, and an integer has none",
         6 => b"no literal is NaN or infinity, and no spelling is read back as it",
         7 => b"the buffer is too short",
         8 => b"the syntax, the forms, the style, the spellings or the special value is refused, or no call has made the literal",
@@ -38,15 +37,13 @@ texts! {
 #[repr(C)]
 pub struct Style {
     group: u8,
-    fraction_group: u8,
     without_base: u8,
     lowercase: u8,
     min_digits: u8,
     exponent: u8,
-    reserved_wishes: [u8; 7],
     has_decimals: u8,
     decimals: u8,
-    reserved: [u8; 9],
+    reserved: [u8; 17],
 }
 
 const _: () = assert!(size_of::<Style>() == 24, "the size in the header");
@@ -63,9 +60,8 @@ impl Style {
             _ => Grouping::Of(size.into()),
         };
         let mut style = literal::Style::PLAIN.min_digits(self.min_digits);
-        (style.group, style.fraction_group) = (group(self.group), group(self.fraction_group));
-        (style.prefix, style.suffix) = (self.without_base == 0, self.without_base == 0);
-        style.lowercase = self.lowercase != 0;
+        style.group = group(self.group);
+        (style.base, style.lowercase) = (self.without_base == 0, self.lowercase != 0);
         style.decimals = (self.has_decimals != 0).then_some(self.decimals);
         let exponent = match self.exponent {
             0 => ExponentStyle::AsNumber,
@@ -73,7 +69,7 @@ impl Style {
             2 => ExponentStyle::Always,
             _ => return None,
         };
-        ((self.reserved_wishes, self.reserved) == ([0; 7], [0; 9])).then_some(style.exponent(exponent))
+        (self.reserved == [0; 17]).then_some(style.exponent(exponent))
     }
 }
 
@@ -108,7 +104,6 @@ fn status_of(error: WriteError) -> WriteStatus {
         WriteError::Radix => 1,
         WriteError::Negative => 2,
         WriteError::Fraction => 3,
-        WriteError::Float => 5,
         WriteError::Buffer(_) => 9,
         WriteError::ReadBack => 10,
         WriteError::TooLarge => 11,

@@ -62,18 +62,10 @@ impl Style {
         self
     }
 
-    /// Writes the fraction digits in groups of `size` digits, counted from the left, under the same rules as
-    /// [`group`][Self::group].
-    #[must_use]
-    pub const fn fraction_group(mut self, size: usize) -> Style {
-        self.fraction_group = Grouping::Of(size);
-        self
-    }
-
     /// Leaves out the base prefix and the base suffix, unless a condition of the syntax requires them.
     #[must_use]
     pub const fn without_base(mut self) -> Style {
-        (self.prefix, self.suffix) = (false, false);
+        self.base = false;
         self
     }
 
@@ -105,7 +97,7 @@ impl Style {
     ///     syntax.format_literal(&literal, Style::PLAIN.exponent(exponent)).unwrap().to_string()
     /// };
     /// assert_eq!(write("1.5e3", ExponentStyle::Never), "1500.0");
-    /// assert_eq!(write("1.5", ExponentStyle::Always), "1.5e0");
+    /// assert_eq!(write("1.5", ExponentStyle::Always), "1.5");
     /// assert_eq!(write("1.5e3", ExponentStyle::AsNumber), "1.5e3");
     /// ```
     #[must_use]
@@ -155,7 +147,7 @@ defaults! { Style::PLAIN Grouping::AsSyntax ExponentStyle::AsNumber }
 
 impl Syntax {
     /// Returns the value of an integer as a literal of this syntax. [Parsing][Syntax::parse] the text returns
-    /// the same value, with [`ExponentStyle::Always`] as a float: `5e0` has no value of an integer type.
+    /// the same value or, where each literal has an exponent, as a float: `5e0` has no value of an integer type.
     ///
     /// A `+` is written only where a sign is required. Digits are in uppercase.
     ///
@@ -171,8 +163,7 @@ impl Syntax {
     ///
     /// # Errors
     ///
-    /// [`WriteError::Negative`] if the value is below 0 and the syntax forbids `-`, and [`WriteError::Float`] if each literal
-    /// has an exponent.
+    /// [`WriteError::Negative`] if the value is below 0 and the syntax forbids `-`.
     #[inline(always)]
     pub fn format_integer<T: WriteInteger>(&self, value: T, style: Style) -> Result<Written<'static>, WriteError> {
         integer::format_integer(self, value, style).map(|integer| Written::of(Text::Integer(integer)))
@@ -329,14 +320,10 @@ impl<'a> Forms<'a> {
     pub fn format_literal<'b>(&self, literal: &Literal<'b>, style: Style) -> Result<Written<'b>, WriteError> {
         match literal.other_value() {
             None => {
-                let Chosen { form, word, style, .. } = self.choose_long(literal, style, |chosen, _| chosen)?;
+                let Chosen { form, word, .. } = self.choose_long(literal, style, |chosen, _| chosen)?;
                 let form = &self[form];
-                let mut written = form.syntax().format_literal(literal, style)?;
-                if let Text::Value(value) = &mut written.text {
-                    // Its short text lacks the opening.
-                    value.length = usize::MAX;
-                }
-                Ok(Written { opening: form.opening(), word, ..written })
+                let text = Text::Number(literal::format_literal(literal, &form.syntax(), style)?);
+                Ok(Written { text, opening: form.opening(), word })
             }
             Some(Other::Integer(value)) => self.format_integer(value, style),
             Some(Other::Single(value)) => self.format_value(&Real { value }, Value::of_float(value), style),
@@ -368,7 +355,7 @@ impl<'a> Forms<'a> {
     fn format_value(&self, number: &impl Writable, value: Value, style: Style) -> Result<Written<'static>, WriteError> {
         let mut text = [0; 40];
         match choose(self, number, style, &mut text) {
-            Ok(chosen) => Ok(self.written_value(value, chosen, text)),
+            Ok(chosen) => Ok(self.written_value(value, style, chosen, text)),
             Err(WriteError::Buffer(_)) => self.format_long(number, value, style),
             Err(error) => Err(error),
         }
@@ -382,13 +369,13 @@ impl<'a> Forms<'a> {
             let mut text = [0; 40];
             let size = chosen.length.min(text.len());
             text[..size].copy_from_slice(&long[..size]);
-            self.written_value(value, chosen, text)
+            self.written_value(value, style, chosen, text)
         })
     }
 
     /// Returns a value, with the text if it is short.
-    fn written_value(&self, value: Value, chosen: Chosen, text: [u8; 40]) -> Written<'static> {
-        let Chosen { form, word, length, style } = chosen;
+    fn written_value(&self, value: Value, style: Style, chosen: Chosen, text: [u8; 40]) -> Written<'static> {
+        let Chosen { form, word, length } = chosen;
         let form = &self.as_slice()[form];
         let (syntax, opening) = (form.syntax(), form.opening());
         Written { text: Text::Value(ValueText { value, syntax, style, text, length }), opening, word }
@@ -479,7 +466,6 @@ impl fmt::Display for WriteError {
             WriteError::TooLarge => "the literal is too large for its kind",
             WriteError::Negative => "no literal has the sign '-'",
             WriteError::Fraction => "literals are integers, and the number is not whole",
-            WriteError::Float => "each literal has an exponent, and an integer of Rust has none",
             WriteError::Special => "no literal is NaN or infinity, and no spelling is read back as it",
             WriteError::Buffer(length) => return write!(f, "the text has {length} bytes"),
             WriteError::ReadBack => "the text is read as another number",

@@ -16,7 +16,7 @@ use crate::literal::value::number::numeral::Magnitude;
 use crate::literal::writer::float::{format_float, is_integer};
 use crate::literal::writer::float_digits::FloatDigits;
 use crate::literal::writer::integer::WrittenInteger;
-use crate::literal::writer::layout::{wants_exponent, ExponentStyle, Layout, Style, WriteError};
+use crate::literal::writer::layout::{Layout, Style, WriteError};
 use crate::literal::writer::literal::format_literal;
 
 /// A number that a list of forms is asked to write.
@@ -331,8 +331,6 @@ pub struct Chosen {
     pub word: Option<&'static &'static [u8]>,
     /// The length of the text, with the word.
     pub length: usize,
-    /// The style.
-    pub style: Style,
 }
 
 /// Writes a number by the first form whose text the list reads as this number, to the beginning of a buffer. The number's own forms
@@ -447,56 +445,17 @@ fn write_form<N: Writable + ?Sized>(
     style: Style,
     buffer: &mut [u8],
 ) -> Result<Chosen, WriteError> {
-    let error = match write_in(forms, index, form, number, style, buffer) {
-        Ok(chosen) => return Ok(chosen),
+    let error = match write_by(forms, index, form, number, style, buffer) {
+        Ok(length) => return Ok(Chosen { form: index, word: None, length }),
         Err(error) => error,
     };
-    if is_short(error) {
-        return Err(error);
-    }
-    if !number.is_integer() {
+    if is_short(error) || !number.is_integer() {
         return Err(error);
     }
     match write_words(forms, index, form, number, style, buffer) {
         Ok(chosen) => Ok(chosen),
         Err(other) if is_short(other) => Err(other),
         Err(_) => Err(error),
-    }
-}
-
-// Writes a number by one form, without a word, or returns why it is not used.
-fn write_in<N: Writable + ?Sized>(
-    forms: &Forms,
-    index: usize,
-    form: &Form,
-    number: &N,
-    style: Style,
-    buffer: &mut [u8],
-) -> Result<Chosen, WriteError> {
-    let error = match write_by(forms, index, form, number, style, buffer) {
-        Ok(length) => return Ok(Chosen { form: index, word: None, length, style }),
-        Err(error) => error,
-    };
-    let wished = number.is_integer() & wants_exponent(style.exponent);
-    if is_short(error) {
-        return Err(error);
-    }
-    if !wished {
-        return Err(error);
-    }
-    let plain = without_wish(style);
-    match write_by(forms, index, form, number, plain, buffer) {
-        Ok(length) => Ok(Chosen { form: index, word: None, length, style: plain }),
-        Err(error) => Err(error),
-    }
-}
-
-// Returns the style of an integer without a wish for an exponent.
-const fn without_wish(style: Style) -> Style {
-    if wants_exponent(style.exponent) {
-        Style { exponent: ExponentStyle::AsNumber, ..style }
-    } else {
-        style
     }
 }
 
@@ -513,11 +472,10 @@ fn write_words<N: Writable + ?Sized>(
     let Some(suffixes) = form.suffixes() else {
         return Err(WriteError::ReadBack);
     };
-    let plain = without_wish(style);
     let words = suffixes.written();
     for word in words {
-        match write_around(forms, form, number, plain, Some(word), buffer) {
-            Ok(length) => return Ok(Chosen { form: index, word: Some(word), length, style: plain }),
+        match write_around(forms, form, number, style, Some(word), buffer) {
+            Ok(length) => return Ok(Chosen { form: index, word: Some(word), length }),
             Err(error) if is_short(error) => return Err(error),
             Err(_) => {}
         }

@@ -5,7 +5,7 @@
 use crate::literal::syntax::{Condition, Syntax};
 use crate::literal::value::number::integer::Integer;
 use crate::literal::writer::digits::put_if_any;
-use crate::literal::writer::layout::{forbids_minus, needs_exponent, sign_of, Amount, Layout, Style, WriteError};
+use crate::literal::writer::layout::{needs_exponent, sign_of, Amount, Layout, Style, WriteError};
 use crate::literal::writer::patterns::{integer_pattern, no_groups};
 use crate::literal::writer::run::{Run, Source};
 use crate::literal::writer::sink::Window;
@@ -24,17 +24,10 @@ pub struct WrittenInteger {
 ///
 /// # Errors
 ///
-/// [`WriteError::Negative`] if the value is below 0 and no literal has the sign `-`, and otherwise
-/// [`WriteError::Float`] if each literal of `syntax` has an exponent.
+/// [`WriteError::Negative`] if the value is below 0 and no literal has the sign `-`.
 #[inline(always)]
 pub fn format_integer<T: Integer>(syntax: &Syntax, value: T, style: Style) -> Result<WrittenInteger, WriteError> {
     let (negative, size) = value.sign_and_size();
-    if negative && forbids_minus(syntax) {
-        return Err(WriteError::Negative);
-    }
-    if needs_exponent(syntax) {
-        return Err(WriteError::Float);
-    }
     WrittenInteger::of_size(negative, size, syntax, style)
 }
 
@@ -62,7 +55,7 @@ impl WrittenInteger {
     // Returns whether there is a decimal point or an exponent.
     pub(crate) fn is_float(&self) -> bool {
         let amount = self.amount();
-        amount.has_point(&self.syntax, self.style) | amount.has_exponent(&self.syntax, self.style)
+        amount.has_point(&self.syntax) | amount.has_exponent(&self.syntax)
     }
 
     /// Returns the parts of the literal.
@@ -105,7 +98,7 @@ impl WrittenInteger {
         let leads = conditions.has(Condition::LeadingZero)
             | conditions.has(Condition::DecimalFirstDigit)
             | (self.style.min_digits > 1);
-        let exponent = self.amount().has_exponent(&self.syntax, self.style);
+        let exponent = needs_exponent(&self.syntax);
         (format.mantissa_radix() == 10)
             & (base_prefix(format.word()) == 0)
             & (base_suffix(format.word()) == 0)

@@ -3,7 +3,6 @@
 //! Numbers are laid out as literals.
 
 use crate::literal::syntax::{Condition, Conditions, Options, Syntax};
-use crate::literal::value::number::small::count;
 use crate::literal::writer::digits::{only_if, put_if_any, without_zeros};
 use crate::literal::writer::patterns::{fraction_pattern, integer_pattern, no_groups};
 use crate::literal::writer::run::{Run, Source};
@@ -48,14 +47,11 @@ pub enum ExponentStyle {
 #[derive(Debug, Clone, Copy, PartialEq, Eq, Hash)]
 #[non_exhaustive]
 pub struct Style {
-    /// How many digits a group of the integer has, counted from the right.
+    /// How many digits a group of the integer has, counted from the right. A group of the fraction has as many as a condition says,
+    /// unless there are no groups.
     pub group: Grouping,
-    /// How many digits a group of the fraction has, counted from the left.
-    pub fraction_group: Grouping,
-    /// Whether the base prefix is written, if the format has one.
-    pub prefix: bool,
-    /// Whether the base suffix is written, if the format has one.
-    pub suffix: bool,
+    /// Whether the base prefix and the base suffix are written, if the format has them.
+    pub base: bool,
     /// Whether digits that are letters are in lowercase.
     pub lowercase: bool,
     /// How many digits the integer has at least. Zeros are added where the format allows leading zeros.
@@ -71,9 +67,7 @@ impl Style {
     /// the format has them, uppercase digits, no zeros that are not required, and the exponent that the number has.
     pub const PLAIN: Style = Style {
         group: Grouping::AsSyntax,
-        fraction_group: Grouping::AsSyntax,
-        prefix: true,
-        suffix: true,
+        base: true,
         lowercase: false,
         min_digits: 0,
         exponent: ExponentStyle::AsNumber,
@@ -93,8 +87,6 @@ pub enum WriteError {
     Negative,
     /// The number is not whole, and the literals of the syntax are integers.
     Fraction,
-    /// The number is an integer of Rust, and each literal has an exponent.
-    Float,
     /// A limit: the literal has another radix or another exponent base, or no literal has its exponent, and its value is not
     /// known to be a number with 27 digits in this radix and without an exponent, or an integer with 128 bits.
     Radix,
@@ -198,17 +190,6 @@ fn lean<'a>(source: Source<'a>, radix: u32) -> Source<'a> {
     }
 }
 
-// Returns whether a source has digits.
-#[inline]
-fn has_digits(source: Source, radix: u32) -> bool {
-    match source {
-        Source::Bytes(bytes) => count(bytes, radix) > 0,
-        Source::Number(number) => number > 0,
-        Source::Least(..) => source.count(radix) > 0,
-        Source::Padded(padded) => padded.count(radix) > 0,
-    }
-}
-
 impl Amount<'_> {
     // Returns a number without a fraction and an exponent.
     pub(crate) const fn of_size(negative: bool, size: u128) -> Amount<'static> {
@@ -243,9 +224,9 @@ impl<'a> Amount<'a> {
         let conditions = syntax.conditions();
         let options = syntax.options().unwrap_or(Options { exponent: 0, point: 0 });
         let power = self.exponent.unwrap_or(Power { negative: false, source: Source::Number(0) });
-        let exponent = self.has_exponent(syntax, style);
-        let point = self.has_point(syntax, style);
-        let prefix = base_byte(style.prefix | conditions.has(Condition::BasePrefix), base_prefix(format.word()));
+        let exponent = self.has_exponent(syntax);
+        let point = self.has_point(syntax);
+        let prefix = base_byte(style.base | conditions.has(Condition::BasePrefix), base_prefix(format.word()));
         let float = point | exponent;
         Layout {
             sign: sign_of(self.negative, format.required_mantissa_sign()),
@@ -256,21 +237,20 @@ impl<'a> Amount<'a> {
             exponent_character: only_if(exponent, options.exponent),
             exponent_sign: sign_of(power.negative, exponent & format.required_exponent_sign()),
             exponent: exponent_run(power.source, format, style, exponent),
-            suffix: base_byte(style.suffix | conditions.has(Condition::BaseSuffix), base_suffix(format.word())),
+            suffix: base_byte(style.base | conditions.has(Condition::BaseSuffix), base_suffix(format.word())),
         }
     }
 
     // Returns whether there is an exponent character.
     #[inline]
-    pub(crate) fn has_exponent(&self, syntax: &Syntax, style: Style) -> bool {
-        self.exponent.is_some() || needs_exponent(syntax) || wants_exponent(style.exponent) && allows_exponent(syntax)
+    pub(crate) fn has_exponent(&self, syntax: &Syntax) -> bool {
+        self.exponent.is_some() || needs_exponent(syntax)
     }
 
     // Returns whether there is a decimal point.
     #[inline]
-    pub(crate) fn has_point(&self, syntax: &Syntax, style: Style) -> bool {
-        self.fraction.is_some()
-            || self.has_exponent(syntax, style) && syntax.format().view().no_exponent_without_fraction()
+    pub(crate) fn has_point(&self, syntax: &Syntax) -> bool {
+        self.fraction.is_some() || self.has_exponent(syntax) && syntax.format().view().no_exponent_without_fraction()
     }
 
     // Returns the integer, behind a base prefix or not, of a float or not.
@@ -292,14 +272,14 @@ impl<'a> Amount<'a> {
         }
     }
 
-    // Returns the fraction, which has a point or not.
+    // Returns the fraction, which has a digit behind a point.
     #[inline]
     fn fraction_run(&self, format: FormatView, conditions: Conditions, style: Style, point: bool) -> Run<'a> {
         let radix = format.mantissa_radix();
         let run = Run {
             source: self.fraction.unwrap_or(Source::Number(0)),
             radix,
-            least: one_if(point & format.required_fraction_digits()),
+            least: one_if(point),
             pattern: no_groups(style.lowercase),
         };
         let pattern = fraction_pattern(format, conditions, style, &run);
@@ -319,21 +299,12 @@ impl<'a> Amount<'a> {
         )
     }
 
-    // Returns whether a 0 stands for absent integer digits.
-    #[inline]
-    fn has_zero(&self, format: FormatView) -> bool {
-        let radix = format.mantissa_radix();
-        format.required_integer_digits()
-            || has_digits(self.integer, radix)
-            || !has_digits(self.fraction.unwrap_or(Source::Number(0)), radix)
-    }
-
-    // Returns how many integer digits there are with the zero that the conditions require before them, or 0 if they require
+    // Returns how many integer digits there are with the zero that the conditions require before them, or 1 if they require
     // none.
     #[inline]
     fn led_digits(&self, radix: u32, conditions: Conditions, prefix: bool) -> u128 {
         if prefix || !(conditions.has(Condition::LeadingZero) || conditions.has(Condition::DecimalFirstDigit)) {
-            0
+            1
         } else {
             self.count_led(radix, conditions)
         }
@@ -348,7 +319,7 @@ impl<'a> Amount<'a> {
         if needs_zero || (needs_decimal && !digits.begins_decimal(radix)) {
             digits.count(radix) + 1
         } else {
-            0
+            1
         }
     }
 
@@ -363,12 +334,12 @@ impl<'a> Amount<'a> {
         float: bool,
     ) -> u128 {
         let radix = format.mantissa_radix();
-        let zero = one_if(self.has_zero(format)).max(self.led_digits(radix, conditions, prefix));
+        let least = self.led_digits(radix, conditions, prefix);
         let forbidden = if float { format.no_float_leading_zeros() } else { format.no_integer_leading_zeros() };
-        if forbidden && !prefix {
-            return zero;
+        if forbidden {
+            return least;
         }
-        zero.max(style.min_digits as u128)
+        least.max(style.min_digits as u128)
     }
 }
 
@@ -401,11 +372,6 @@ pub(crate) fn needs_exponent(syntax: &Syntax) -> bool {
 #[inline]
 pub(crate) fn allows_exponent(syntax: &Syntax) -> bool {
     syntax.options().is_some() && !syntax.format().view().no_exponent_notation()
-}
-
-// Returns whether a number without an exponent is to have one.
-pub(crate) const fn wants_exponent(wish: ExponentStyle) -> bool {
-    matches!(wish, ExponentStyle::Always)
 }
 
 // Returns the error of the first that is refused: of a sign, of a fraction, or `error`.

@@ -16,11 +16,12 @@ pub(crate) const fn integer_pattern(format: FormatView, conditions: Conditions, 
     pattern_of(format, allowed, last, higher, style.lowercase)
 }
 
-// Returns the pattern of a fraction with the digits of `run`. Its groups are counted from the left.
+// Returns the pattern of a fraction with the digits of `run`. It has groups, which are counted from the left, only where a condition requires
+// them.
 #[inline]
 pub(crate) fn fraction_pattern(format: FormatView, conditions: Conditions, style: Style, run: &Run) -> Pattern {
     let condition = conditions.number(Condition::FractionGroupSize);
-    let size = group_size(condition, style.fraction_group);
+    let size = fraction_size(condition, style.group);
     let last = if size == 0 { 0 } else { (run.length().saturating_sub(1) % size as u128) as usize + 1 };
     let allowed = format.fraction_internal_digit_separator();
     pattern_of(format, allowed, last, size, style.lowercase)
@@ -46,6 +47,14 @@ const fn group_size(size: u8, group: Grouping) -> usize {
         Grouping::AsSyntax => size as usize,
         Grouping::None | Grouping::Of(0) => 0,
         Grouping::Of(other) => either(size, other),
+    }
+}
+
+// Returns how many digits a group of a fraction has, where a condition requires `size` digits, or 0 for digits without groups.
+const fn fraction_size(size: u8, group: Grouping) -> usize {
+    match group {
+        Grouping::None | Grouping::Of(0) => 0,
+        Grouping::AsSyntax | Grouping::Of(_) => size as usize,
     }
 }
 

@@ -76,7 +76,7 @@ fn amount_of(negative: bool, integers: bool, places: u16, it: Units) -> Result<A
     let (integer, fraction) = split(units, places);
     Ok(Amount {
         negative,
-        integer: Source::Least(integer, 1),
+        integer: Source::Number(integer),
         fraction: if integers { None } else { Some(Source::Least(fraction, (places as usize).max(1))) },
         exponent: None,
     })

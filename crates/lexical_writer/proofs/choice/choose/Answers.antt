@@ -18,8 +18,8 @@ loop-index-preserved g c =
     let index = c.loop-index.index in
     let form = c.index-list-index.result in
     let integer = g.N.Writable.integer c.args.number.now in
-    let P : ℕ → ℕ → Form → WriteError → Type 0 = λ n. IsPassedOver (g.N.Writable.writes c.args.number.now) (g.N.Writable.keeps c.args.number.now) n c.args.forms.now
-    integer c.args.style in
+    let P : ℕ → ℕ → Form → WriteError → Type 0 = λ n. IsPassedOver (g.N.Writable.writes c.args.number.now c.args.style) (g.N.Writable.keeps c.args.number.now c.args.style) n
+    c.args.forms.now integer in
     let asked = is_asked (g.N.Writable.base c.args.number.now) integer in
     let room = length c.args.buffer.now in
     let here : slice_get forms index ≡ Some form = subst (λ forms. slice_get forms index ≡ Some form) c.as_slice-list.ensures.list
@@ -74,8 +74,8 @@ returns-in-Ok-clause-text g c =
         sym now ∙ c.if-is_asked.true,
         (
           sym c.in-Ok.ensures.form,
-          subst (λ n. IsChosen (g.N.Writable.writes number) (g.N.Writable.keeps number) n
-              c.args.forms.now integer c.args.style index form (g.N.Writable.is number) chosen.style (bytes_of_word chosen.word)
+          subst (λ n. IsChosen (g.N.Writable.writes number c.args.style) (g.N.Writable.keeps number c.args.style) n
+              c.args.forms.now integer index form (g.N.Writable.is number c.args.style) (bytes_of_word chosen.word)
               (take chosen.length c.write_form.new.buffer)) c.loop-index.invariant.room c.in-Ok.ensures.text,
         ),
       ),
@@ -100,8 +100,8 @@ returns-in-Err-clause-error g c =
       c.loop-index.invariant.searched.passed,
       rw here (
         sym now ∙ c.if-is_asked.true,
-        subst (λ n. IsStopped (g.N.Writable.writes number) (g.N.Writable.keeps number) n c.args.forms.now integer
-            c.args.style index form c.in-Err.other) c.loop-index.invariant.room (c.in-Err.ensures.stopped (sym c.is_short.ensures ∙ c.if-is_short.true)),
+        subst (λ n. IsStopped (g.N.Writable.writes number c.args.style) (g.N.Writable.keeps number c.args.style) n c.args.forms.now
+            integer index form c.in-Err.other) c.loop-index.invariant.room (c.in-Err.ensures.stopped (sym c.is_short.ensures ∙ c.if-is_short.true)),
       ),
     )
 
@@ -112,8 +112,8 @@ returns-clause-error g c =
     let last : c.loop-step.step ≡ c.steps-end.result = omega (arith, c.loop-step-test.false, c.loop-step.invariant.most) in
     inr (
       c.loop-step.error,
-      subst (λ step. IsSearched (IsPassedOver (g.N.Writable.writes number) (g.N.Writable.keeps number) (length c.args.buffer.now) c.args.forms.now integer
-          c.args.style) (is_asked (g.N.Writable.base number) integer) c.args.forms.now.forms step 0 c.loop-step.error)
+      subst (λ step. IsSearched (IsPassedOver (g.N.Writable.writes number c.args.style) (g.N.Writable.keeps number c.args.style)
+          (length c.args.buffer.now) c.args.forms.now integer) (is_asked (g.N.Writable.base number) integer) c.args.forms.now.forms step 0 c.loop-step.error)
           (last ∙ c.steps-end.ensures ∙ ap steps c.is_rounded-rounded.ensures) c.loop-step.invariant.searched,
       c.unwrap_or-2.ensures ∙ ap (unwrap_or c.loop-step.error) (c.unasked.ensures ∙ ap unasked c.is_rounded-rounded.ensures),
     )

@@ -7,11 +7,11 @@ use Rattle.lexical_writer.proofs.choice.write_around.Goals as goal
 
 pub returns-in_err-read_alone-in-None-clause-error : goal.returns-in_err-read_alone-in-None-clause-error
 returns-in_err-read_alone-in-None-clause-error g c index =
-    let writes = g.N.Writable.writes c.args.number.now in
-    let keeps = g.N.Writable.keeps c.args.number.now in
+    let writes = g.N.Writable.writes c.args.number.now c.args.style in
+    let keeps = g.N.Writable.keeps c.args.number.now c.args.style in
+    let integer = g.N.Writable.integer c.args.number.now in
     let room = length c.args.buffer.now in
     let form = c.args.form.now in
-    let style = c.args.style in
     let forms = c.args.forms.now.forms in
     let written = c.in_ok-end.ensures.text in
     let l = written.0 in
@@ -20,18 +20,18 @@ returns-in_err-read_alone-in-None-clause-error g c index =
     (put_whole _ _ c.in_ok-end.end written.2 c.if-end-buffer.false c.if-end.false) in
     let size = length-take c.in_ok-end.end c.put_text.new.buffer in
     let long : length (text_by form None l) ≡ length bytes = ap length whole in
-    residual c.from_residual-in_err-read_alone-in-None.result _ (IsRefused writes keeps room c.args.forms.now index form (style, bytes_of_word c.args.word))
+    residual c.from_residual-in_err-read_alone-in-None.result _ (IsRefused writes keeps room c.args.forms.now integer index form (bytes_of_word c.args.word))
     c.from_residual-in_err-read_alone-in-None.ensures.1
-    (λ error same. subst (λ w. IsRefused writes keeps room c.args.forms.now index form (style, bytes_of_word w) error) (sym c.in-None.is)
+    (λ error same. subst (λ w. IsRefused writes keeps room c.args.forms.now integer index form (bytes_of_word w) error) (sym c.in-None.is)
     (inr (
       l,
       written.1,
       inr (
         omega (arith, long, size, c.in_ok-end.ensures.room),
         elim c.in_err-read_alone-in-None.ensures.error [
-          | inl else ↦ inl (subst (λ b. IsReadElse (λ own. keeps style (not b && own)) forms index (text_by form None l) error) (sym (c.requires c.in-None.is))
-              (subst (λ text. IsReadElse (λ own. keeps style false) forms 0 text error) (sym whole)
-              (subst (λ e. IsReadElse (λ own. keeps style false) forms 0 bytes e) (sym same) else)))
+          | inl else ↦ inl (subst (λ b. IsReadElse (λ own. keeps (not b && own)) forms index (text_by form None l) error) (sym (c.requires c.in-None.is))
+              (subst (λ text. IsReadElse (λ own. keeps false) forms 0 text error) (sym whole)
+              (subst (λ e. IsReadElse (λ own. keeps false) forms 0 bytes e) (sym same) else)))
           | inr none ↦ inr (subst (NoForm forms) (sym whole) none.0, same ∙ none.1)
         ],
       ),
@@ -39,12 +39,12 @@ returns-in_err-read_alone-in-None-clause-error g c index =
 
 pub returns-in_err-read_token-in-Some-clause-error : goal.returns-in_err-read_token-in-Some-clause-error
 returns-in_err-read_token-in-Some-clause-error g c index =
-    let writes = g.N.Writable.writes c.args.number.now in
-    let keeps = g.N.Writable.keeps c.args.number.now in
+    let writes = g.N.Writable.writes c.args.number.now c.args.style in
+    let keeps = g.N.Writable.keeps c.args.number.now c.args.style in
+    let integer = g.N.Writable.integer c.args.number.now in
     let room = length c.args.buffer.now in
     let list = c.args.forms.now in
     let form = c.args.form.now in
-    let style = c.args.style in
     let word = c.in-Some.word.now.now in
     let written = c.in_ok-end.ensures.text in
     let l = written.0 in
@@ -53,16 +53,16 @@ returns-in_err-read_token-in-Some-clause-error g c index =
     (put_whole _ _ c.in_ok-end.end written.2 c.if-end-buffer.false c.if-end.false) in
     let size = length-take c.in_ok-end.end c.put_text.new.buffer in
     let long : length (text_by form (Some word) l) ≡ length bytes = ap length whole in
-    residual c.from_residual-in_err-read_token-in-Some.result _ (IsRefused writes keeps room list index form (style, bytes_of_word c.args.word))
+    residual c.from_residual-in_err-read_token-in-Some.result _ (IsRefused writes keeps room list integer index form (bytes_of_word c.args.word))
     c.from_residual-in_err-read_token-in-Some.ensures.1
-    (λ error same. subst (λ w. IsRefused writes keeps room list index form (style, bytes_of_word w) error) (sym c.in-Some.is)
+    (λ error same. subst (λ w. IsRefused writes keeps room list integer index form (bytes_of_word w) error) (sym c.in-Some.is)
     (inr (
       l,
       written.1,
       inr (
         omega (arith, long, size, c.in_ok-end.ensures.room),
-        subst (λ text. IsNoToken (keeps style) list word text error) (sym whole)
-            (subst (IsNoToken (keeps style) list word bytes) (sym same) c.in_err-read_token-in-Some.ensures.error),
+        subst (λ text. IsNoToken keeps list word text error) (sym whole)
+            (subst (IsNoToken keeps list word bytes) (sym same) c.in_err-read_token-in-Some.ensures.error),
       ),
     )))
 

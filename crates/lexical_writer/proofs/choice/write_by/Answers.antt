@@ -23,11 +23,11 @@ returns-then-has_opening-clause-error g c = c.write_around.ensures.error c.args.
 
 pub returns-in_err-size-clause-error : goal.returns-in_err-size-clause-error
 returns-in_err-size-clause-error g c =
-    let writes = g.N.Writable.writes c.args.number.now in
-    residual c.from_residual.result _ (IsRefused writes (g.N.Writable.keeps c.args.number.now) (length c.args.buffer.now) c.args.forms.now c.args.index
-    c.args.form.now (c.args.style, None)) c.from_residual.ensures.1
-    (λ error same. inl (subst (λ g. writes c.args.style g (Err error)) c.syntax.ensures
-    (subst (λ error. writes c.args.style c.syntax.result (Err error)) (sym same) c.in_err-size.ensures.error)))
+    let writes = g.N.Writable.writes c.args.number.now c.args.style in
+    residual c.from_residual.result _ (IsRefused writes (g.N.Writable.keeps c.args.number.now c.args.style) (length c.args.buffer.now) c.args.forms.now
+    (g.N.Writable.integer c.args.number.now) c.args.index c.args.form.now None) c.from_residual.ensures.1
+    (λ error same. inl (subst (λ g. writes g (Err error)) c.syntax.ensures
+    (subst (λ error. writes c.syntax.result (Err error)) (sym same) c.in_err-size.ensures.error)))
 
 -- What is written is a literal of the form.
 of_form : (P : Literal → Type 0) (writes : Grammar → Literal → Type 0) (g h : Grammar) (l : Literal) → g ≡ h → Reads (notation_of g) l (text_of l)
@@ -44,8 +44,9 @@ returns-then-size-clause-error g c =
     inr (
       l,
       subst (λ s. g.N.Writable.writes c.args.number.now c.args.style s (Ok l)) c.syntax.ensures written.2,
-      subst (λ text. IsUnusable (g.N.Writable.writes c.args.number.now) (g.N.Writable.keeps c.args.number.now) (length c.args.buffer.now) c.args.forms.now
-          c.args.index form c.args.style None text (errors.Buffer c.in_ok-size.size)) (sym (plain_by form l none))
+      subst (λ text. IsUnusable (g.N.Writable.writes c.args.number.now c.args.style) (g.N.Writable.keeps c.args.number.now c.args.style)
+          (length c.args.buffer.now) c.args.forms.now (g.N.Writable.integer c.args.number.now) c.args.index form None text
+          (errors.Buffer c.in_ok-size.size)) (sym (plain_by form l none))
           (inl (
             elim c.then-size.either [
               | inl most ↦ inr (omega (arith, most, written.3.counted))
@@ -61,19 +62,19 @@ returns-in-Err-clause-error g c =
     let l = written.0 in
     let none = no_size _ c.has_opening.result c.has_opening.ensures c.if-has_opening.false in
     let form = c.args.form.now in
-    let keeps = g.N.Writable.keeps c.args.number.now in
+    let keeps = g.N.Writable.keeps c.args.number.now c.args.style in
     let whole = taken (text_of l) c.args.buffer.now c.write.new.buffer c.in_ok-size.size written.3 c.if-size-buffer.false c.if-size.false in
     let error = c.in-Err.error in
     inr (
       l,
       subst (λ s. g.N.Writable.writes c.args.number.now c.args.style s (Ok l)) c.syntax.ensures written.2,
-      subst (λ text. IsUnusable (g.N.Writable.writes c.args.number.now) keeps (length c.args.buffer.now) c.args.forms.now
-          c.args.index form c.args.style None text error) (sym (plain_by form l none))
+      subst (λ text. IsUnusable (g.N.Writable.writes c.args.number.now c.args.style) keeps (length c.args.buffer.now) c.args.forms.now
+          (g.N.Writable.integer c.args.number.now) c.args.index form None text error) (sym (plain_by form l none))
           (inr (
             omega (arith, written.3.counted, c.if-size-buffer.false, c.if-size.false, c.in_ok-size.ensures.room),
-            inl (subst (λ b. IsReadElse (λ own. keeps c.args.style (not b && own)) c.args.forms.now.forms c.args.index (text_of l) error)
+            inl (subst (λ b. IsReadElse (λ own. keeps (not b && own)) c.args.forms.now.forms c.args.index (text_of l) error)
                 (sym (sym c.has_opening.ensures ∙ c.if-has_opening.false))
-                (subst (λ text. IsReadElse (keeps c.args.style) c.args.forms.now.forms c.args.index text error) (sym whole) c.in-Err.ensures.error)),
+                (subst (λ text. IsReadElse keeps c.args.forms.now.forms c.args.index text error) (sym whole) c.in-Err.ensures.error)),
           )),
     )
 

@@ -3,7 +3,7 @@ use Rattle.lexical_writer.proofs.Common.{Bool, Err, Grammar, HasNumber, IfErr, I
 use Rattle.lexical_writer.proofs.Common.{has_exponent, has_point, integer_literal, is_float, laid_out, needs_exponent, notation_of, number_of_size, raw, refl}
 use Rattle.lexical_writer.proofs.Common.{refusal, subst, suc, sym, text_of, true, with_sign, zero, ℕ, ℤ, ◌&&◌, ◌<◌, ◌||◌, ◌∙◌, ◌≡◌}
 use Rattle.lexical_value.specs.Integer.{IsInteger}
-use Rattle.lexical_writer.specs.Layout.{wants_exponent, whole, whole_refusal}
+use Rattle.lexical_writer.specs.Layout.{whole, whole_refusal}
 use Rattle.lexical_writer.specs.declared.integer.WrittenInteger.{WrittenInteger}
 use Rattle.lexical_util.specs.Layout as layouts
 use Rattle.lexical_writer.proofs.LiteralLemmas.{float_if}
@@ -17,24 +17,20 @@ amount_is false size z value some = ap whole value
 amount_is true zero z value some = absurd (let none = some refl in omega arith)
 amount_is true (suc n) z value some = ap whole value
 
-refused : (g : Grammar) (z : ℤ) → needs_exponent g ≡ false → (result : Result WrittenInteger WriteError)
+refused : (g : Grammar) (z : ℤ) → (result : Result WrittenInteger WriteError)
     → IfErr result (λ error. refusal g (whole z) ≡ Some error) → IfErr result (λ error. whole_refusal g z ≡ Some error)
-refused g z none (Ok it) is = tt
-refused g z none (Err error) is = grind arith
-
-no_exponent : (needs wants allows : Bool) → needs ≡ false → wants ≡ false → (false || (needs || (wants && allows))) ≡ false
-no_exponent needs wants allows none unwanted = grind arith
+refused g z (Ok it) is = tt
+refused g z (Err error) is = grind arith
 
 integer : (g : Grammar) (style : Style) (negative : Bool) (n : ℕ) (z : ℤ) → with_sign negative n ≡ z → needs_exponent g ≡ false
-    → wants_exponent style.exponent ≡ false → (result : Result WrittenInteger WriteError)
+    → (result : Result WrittenInteger WriteError)
     → IfOk result (λ it. integer_literal it ≡ laid_out g style (number_of_size negative n))
     → IfOk result (λ it. Reads (notation_of g) (integer_literal it) (text_of (integer_literal it))
     × HasNumber g (number_of_size negative n) (integer_literal it))
     → IfOk result (λ it. IsInteger (raw g.word).byte (integer_literal it) z)
-integer g style negative n z is needs wants (Err error) out has = tt
-integer g style negative n z is needs wants (Ok it) out has =
-    let none : has_exponent g style (number_of_size negative n) ≡ false = no_exponent _ _ _ needs wants in
-    let point : has_point g style (number_of_size negative n) ≡ false =
+integer g style negative n z is none (Err error) out has = tt
+integer g style negative n z is none (Ok it) out has =
+    let point : has_point g (number_of_size negative n) ≡ false =
     ap (λ exponent. false || (exponent && (raw g.word).flag layouts.no_exponent_without_fraction)) none in
     (ap is_float out ∙ float_if _ _ _ _ ∙ (λ i. point i || none i), sym is ∙ (λ i. with_sign (sym has.1.sign i) (sym has.1.integer i)))
 
@@ -48,7 +44,7 @@ returns-clause-parts h c =
 
 pub returns-clause-error : goal.returns-clause-error
 returns-clause-error h c =
-    refused c.args.syntax.now _ (sym c.needs_exponent.ensures ∙ c.if-needs_exponent.false) c.of_size.result
+    refused c.args.syntax.now _ c.of_size.result
     (subst (λ amount. IfErr c.of_size.result (λ error. refusal c.args.syntax.now amount ≡ Some error))
     (amount_is _ _ _ c.sign_and_size-negative.ensures.value c.sign_and_size-negative.ensures.zero) c.of_size.ensures.error)
 
@@ -59,6 +55,6 @@ returns-clause-value h c =
     c.of_size.ensures.written
 
 pub returns-clause-integer : goal.returns-clause-integer
-returns-clause-integer h c wants =
-    integer c.args.syntax.now c.args.style _ _ _ c.sign_and_size-negative.ensures.value (sym c.needs_exponent.ensures ∙ c.if-needs_exponent.false) wants
+returns-clause-integer h c none =
+    integer c.args.syntax.now c.args.style _ _ _ c.sign_and_size-negative.ensures.value none
     c.of_size.result c.of_size.ensures.parts c.of_size.ensures.written

@@ -23,9 +23,6 @@ no_character r None (byte ∷ []) lacks one = absurd (false≢true one)
 no_character r None (byte ∷ next ∷ bytes) lacks one = absurd (false≢true one)
 no_character r (Some o) bytes lacks one = absurd (false≢true lacks)
 
-some_exponent : (flag lacks point exponent : Bool) → (flag && not lacks) ≡ true → (flag ≡ true → (lacks || exponent) ≡ true) → (point || exponent) ≡ false → ⊥
-some_exponent flag lacks point exponent set there none = let is : flag ≡ true = grind arith in let some = there is in grind arith
-
 pub returns-clause-negative : goal.returns-clause-negative
 returns-clause-negative c g l text set reads = no_minus l.sign (reads.literal.conditions conditions.NegativeSign set)
 
@@ -40,8 +37,3 @@ returns-clause-fraction c g l text lacks reads =
     (λ i. r.byte layout.mantissa_radix ^ length (digits_in (r.byte layout.mantissa_radix) (fraction i)) *
     (if is_minus (exponent.0 i) then power r.byte l else 1))
     ∙ ap (λ p. p * 1) (pow-zero (r.byte layout.mantissa_radix)) ∙ omega arith
-
-pub returns-clause-float : goal.returns-clause-float
-returns-clause-float c g l text z needs reads is =
-    some_exponent _ (lacks_options g.options) (is_present l.point) (is_present l.exponent_character) needs
-    (reads.literal.spelled.requirements layout.required_exponent_notation) is.0

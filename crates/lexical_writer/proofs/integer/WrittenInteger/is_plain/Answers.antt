@@ -2,7 +2,7 @@
 use Rattle.lexical_writer.proofs.Common.{Bool, Grammar, None, Pattern, Record, Style, ap, append-nil, arith, at_least, digits_of, false, false≢true, grouped}
 use Rattle.lexical_writer.proofs.Common.{has, has_exponent, has_point, if◌then◌else◌, is_some, laid_out, max, nat_lt, nat_tests, no_groups, no_power, not}
 use Rattle.lexical_writer.proofs.Common.{number_of_size, only_if, option_to_list, raw, refl, sym, text_of, true, ℕ, ◌&&◌, ◌++◌, ◌==◌, ◌||◌, ◌∙◌, ◌≡◌, ◌≤◌}
-use Rattle.lexical_writer.specs.Layout.{after_zero, base_byte, either, exponent_text, fraction_text, group_size, has_zero, integer_pattern, integer_text}
+use Rattle.lexical_writer.specs.Layout.{after_zero, base_byte, either, exponent_text, fraction_text, group_size, integer_pattern, integer_text}
 use Rattle.lexical_writer.specs.Layout.{least_digits, led_digits, options_of, pattern_of, sign_of, takes_zeros}
 use Rattle.lexical_literal.specs.Notation.{number_of}
 use Rattle.lexical_util.specs.Layout as layout
@@ -21,22 +21,18 @@ pattern_is : (r : Record) (allowed lowercase : Bool) (last higher : ℕ) → (pa
 pattern_is r allowed lowercase last higher is = ungrouped _ last higher _ lowercase (λ none. grind arith) is
 
 -- One digit is written at least.
-one : (zero : Bool) (led wish : ℕ) (takes : Bool) → zero ≡ true → led ≡ 0 → wish ≤ 1 → max (if zero then 1 else 0) (max led (if takes then wish else 0)) ≡ 1
-one true led wish true some none most = omega (arith, none, most)
-one true led wish false some none most = omega (arith, none)
-one false led wish takes some none most = absurd (false≢true some)
+one : (led wish : ℕ) (takes : Bool) → led ≡ 1 → wish ≤ 1 → max led (if takes then wish else 0) ≡ 1
+one led wish true none most = omega (arith, none, most)
+one led wish false none most = omega (arith, none)
 
-unled : (lead decimal first : Bool) (count : ℕ) → (lead || decimal) ≡ false → (if not false && (lead || (decimal && not first)) then count else 0) ≡ 0
+unled : (lead decimal first : Bool) (count : ℕ) → (lead || decimal) ≡ false → (if not false && (lead || (decimal && not first)) then count else 1) ≡ 1
 unled lead decimal first count none = grind arith
-
-zero : (required some : Bool) → (required || (some || true)) ≡ true
-zero required some = grind arith
 
 unbased : (some : Bool) (byte : ℕ) → byte ≡ 0 → base_byte some byte ≡ None
 unbased some byte is = grind (arith, nat_tests)
 
 -- The parts of the literal.
-plain : (g : Grammar) (style : Style) (negative : Bool) (n : ℕ) → has_exponent g style (number_of_size negative n) ≡ false
+plain : (g : Grammar) (style : Style) (negative : Bool) (n : ℕ) → has_exponent g (number_of_size negative n) ≡ false
     → (raw g.word).byte layout.mantissa_radix ≡ 10 → (raw g.word).byte layout.base_prefix ≡ 0 → (raw g.word).byte layout.base_suffix ≡ 0
     → (integer_pattern (raw g.word) g.conditions style).last ≡ 0
     → (has g.conditions conditions.LeadingZero || has g.conditions conditions.DecimalFirstDigit) ≡ false → style.min_digits ≤ 1
@@ -47,15 +43,15 @@ plain g style negative n none radix prefix suffix groups leads most =
     let c = g.conditions in
     let amount = number_of_size negative n in
     let l = laid_out g style amount in
-    let point : has_point g style amount ≡ false = ap (λ exponent. false || (exponent && r.flag layout.no_exponent_without_fraction)) none in
-    let before = unbased (style.prefix || has c conditions.BasePrefix) _ prefix in
-    let behind = unbased (style.suffix || has c conditions.BaseSuffix) _ suffix in
+    let point : has_point g amount ≡ false = ap (λ exponent. false || (exponent && r.flag layout.no_exponent_without_fraction)) none in
+    let before = unbased (style.base || has c conditions.BasePrefix) _ prefix in
+    let behind = unbased (style.base || has c conditions.BaseSuffix) _ suffix in
     let last = group_size (number_of c conditions.IntegerGroupSize) style.group in
     let pattern = pattern_is r (r.flag layout.integer_internal_digit_separator) style.lowercase last
     (either (number_of c conditions.HigherGroupSize) last) groups in
     let least : least_digits r c style false false amount ≡ 1 =
-    one (has_zero r amount) (led_digits c false (digits_of (r.byte layout.mantissa_radix) n)) style.min_digits (takes_zeros r false false)
-    (zero (r.flag layout.required_integer_digits) _) (unled (has c conditions.LeadingZero) (has c conditions.DecimalFirstDigit) _ _ leads) most in
+    one (led_digits c false (digits_of (r.byte layout.mantissa_radix) n)) style.min_digits (takes_zeros r false)
+    (unled (has c conditions.LeadingZero) (has c conditions.DecimalFirstDigit) _ _ leads) most in
     let integer : l.integer ≡ grouped (no_groups style.lowercase) (at_least 1 (digits_of 10 n)) =
     (λ i. integer_text r c style (is_some (before i)) (point i || none i) amount)
     ∙ (λ i. grouped (pattern i) (at_least (least i) (digits_of (radix i) n))) in
@@ -78,7 +74,7 @@ returns c is =
     let a = all _ _ _ _ c.has.result c.has-2.result (nat_lt 1 it.style.min_digits) _ is in
     let own = c.conditions-conditions.ensures in
     plain it.syntax it.style it.negative it.size
-    (sym (c.has_exponent-exponent.ensures ∙ ap (has_exponent it.syntax it.style) c.amount.ensures) ∙ a.6)
+    (sym c.needs_exponent-exponent.ensures ∙ a.6)
     (sym (c.mantissa_radix.ensures.value ∙ ap (λ w. (raw w).byte layout.mantissa_radix) word) ∙ a.0)
     (sym (c.base_prefix.ensures ∙ ap (λ w. (raw w).byte layout.base_prefix) (c.word.ensures ∙ word)) ∙ a.1)
     (sym (c.base_suffix.ensures ∙ ap (λ w. (raw w).byte layout.base_suffix) (c.word-2.ensures ∙ word)) ∙ a.2)
