@@ -449,7 +449,7 @@ typedef struct {
  * by a syntax, and for any float of peltzivar_format_f64. A literal by a syntax can be of any length. */
 #define PELTZIVAR_FORMS_SIZE 4097
 #define PELTZIVAR_INTEGER_SIZE 519
-#define PELTZIVAR_FLOAT_SIZE 2662
+#define PELTZIVAR_FLOAT_SIZE 2125
 
 /* Write an integer by the first form whose text all forms read as the same integer, or as a double that is exactly this
  * integer, or by the first of its words of peltzivar_suffixes, which peltzivar_forms_token reads and the other calls

@@ -297,7 +297,7 @@ static void test_writing(void) {
     memset(&literal, 0, sizeof literal);
     CHECK(make_syntax("radix=2\nrequired_exponent_notation=true\nrequired_exponent_sign=true\nno_exponent_without_fraction=true" LONGEST, &other)
         && !peltzivar_format_i128(&other, least, &ones, integer, sizeof integer, &needed));
-    CHECK(needed == sizeof integer && make_syntax("radix=2\nno_exponent_notation=true" LONGEST, &other));
+    CHECK(needed == sizeof integer && make_syntax("radix=2\nno_exponent_notation=true\nfraction_group_size=2" LONGEST, &other));
     CHECK(!peltzivar_format_f64(&other, -DBL_MAX, &ones, real, sizeof real, &needed) && needed <= sizeof real);
     CHECK(!peltzivar_format_f64(&other, -5e-324, &ones, real, sizeof real, &needed) && needed == sizeof real);
     CHECK(!peltzivar_format_u64(&hexadecimal, UINT64_MAX, NULL, text, sizeof text, NULL) && !strcmp(text, "0xFFFFFFFFFFFFFFFF"));
@@ -481,7 +481,7 @@ static void test_room(void) {
         {BYTES(behind.syntax.reserved), "", TOKEN}, {BYTES(behind.reserved), "", TOKEN}, {BYTES(behind.integer_kind), "\1\2\3\4", TOKEN}, {BYTES(behind.float_limits), "\1\2", TOKEN},
         {BYTES(suffixes.reserved), "", TOKEN}, {BYTES(stop.reserved), "", TOKEN}, {BYTES(tokens.reserved), "", TOKEN},
         {BYTES(kind.reserved), "", TOKEN}, {BYTES(kind.integer_kind), "\1\2\3\4", TOKEN}, {BYTES(kind.float_kind), "\1", TOKEN}, {BYTES(kind.float_limits), "\1\2", TOKEN},
-        {BYTES(style.reserved_wishes), "", WRITE | FORMAT}, {BYTES(style.reserved), "", WRITE | FORMAT}, {BYTES(style.exponent), "\1\2", WRITE | FORMAT},
+        {BYTES(style.reserved), "", WRITE | FORMAT}, {BYTES(style.exponent), "\1\2", WRITE | FORMAT},
         {BYTES(special.spelling), "\1\2\3", SHOW}, {BYTES(special.sign), "+-", SHOW},
     };
     struct filled it;
