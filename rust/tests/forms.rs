@@ -13,6 +13,7 @@ use peltzivar::literal::{
 };
 use peltzivar::{Format, NumberFormatBuilder, Part};
 use random::Random;
+use std::iter;
 
 /// What a lexer gets of the text that begins with a number: its value and the rest, or the bytes to blame.
 #[test]
@@ -159,24 +160,21 @@ fn number_of(language: Language, text: &str, suffix: &str) -> Option<i128> {
 }
 
 /// Returns what a list writes for a decimal integer: the first text that is this integer by the limits of the language. Decimal
-/// forms come first, and each form writes it in the style, without a wish for an exponent, and with its words.
-fn integer_in(language: Language, literal: &Literal, value: i128, style: Style) -> Option<String> {
+/// forms come first, and each form writes it without a word and then with its words.
+fn integer_in(language: Language, literal: &Literal, value: i128) -> Option<String> {
     let forms = language.forms();
-    let text_of = |form: &Form, style| form.syntax().format_literal(literal, style).ok().map(|text| text.to_string());
-    let plain = style.exponent(ExponentStyle::AsNumber);
-    let is_value = |text: &str, suffix| number_of(language, text, suffix) == Some(value);
+    let is_value = |text: &str, word| number_of(language, text, word) == Some(value);
     let asked = |decimal| forms.into_iter().filter(move |it| (it.syntax().format().mantissa_radix() == 10) == decimal);
     asked(true).chain(asked(false)).find_map(|form| {
-        let mut texts = [style, plain].into_iter().filter_map(|style| text_of(form, style));
-        let with = || {
-            let words = form.suffixes()?.written().iter().filter_map(|word| std::str::from_utf8(word).ok());
-            let mut texts = words.filter_map(|word| Some((text_of(form, plain)? + word, word)));
-            texts.find(|(text, word)| is_value(text, word)).map(|it| it.0)
-        };
-        texts.find(|text| is_value(text, "")).or_else(with)
+        let text = form.syntax().format_literal(literal, Style::PLAIN).ok()?.to_string();
+        let words = form.suffixes().into_iter().flat_map(|it| it.written());
+        let words = words.filter_map(|word| std::str::from_utf8(word).ok());
+        let mut texts = iter::once("").chain(words).map(|word| (format!("{text}{word}"), word));
+        texts.find(|(text, word)| is_value(text, word)).map(|it| it.0)
     })
 }
 
+/// No wish for an exponent changes what is written.
 #[test]
 fn an_integer_never_becomes_another_number() {
     let state = &mut Random::new(20_261_202);
@@ -187,13 +185,13 @@ fn an_integer_never_becomes_another_number() {
         let (forms, value) = (language.forms(), if state.one_in(2) { value } else { -value });
         let digits = value.to_string();
         let literal = Language::YAML.read(&digits).unwrap().literal().unwrap();
+        let wanted = integer_in(*language, &literal, value).ok_or_else(|| match forms.read(&digits) {
+            Ok(Number::Literal { literal, .. }) if literal.to_i128().is_err() => WriteError::TooLarge,
+            Ok(_) => WriteError::ReadBack,
+            Err(_) => WriteError::Negative,
+        });
         for wish in [ExponentStyle::AsNumber, ExponentStyle::Always, ExponentStyle::Never] {
             let style = Style::PLAIN.exponent(wish);
-            let wanted = integer_in(*language, &literal, value, style).ok_or_else(|| match forms.read(&digits) {
-                Ok(Number::Literal { literal, .. }) if literal.to_i128().is_err() => WriteError::TooLarge,
-                Ok(_) => WriteError::ReadBack,
-                Err(_) => WriteError::Negative,
-            });
             for written in [forms.format_integer(value, style), forms.format_literal(&literal, style)] {
                 assert_eq!(written.map(|text| text.to_string()), wanted, "{language}: {value}, {wish:?}");
             }
