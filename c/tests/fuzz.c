@@ -163,8 +163,11 @@ static void test_written(const peltzivar_syntax *syntax, bool is_lawful, const p
     const peltzivar_i128 wide = {draw() >> draw() % 64, (int64_t)draw() >> draw() % 64};
     const double real = (double)(int64_t)draw() * (draw() % 2 ? 1e-310 : draw() % 2 ? 1e289 : 1e-9);
     peltzivar_write_status status = peltzivar_format_i128(syntax, wide, &style, text, PELTZIVAR_INTEGER_SIZE, &needed);
-    if (!status) CHECK_LAWFUL(peltzivar_read(syntax, text, needed - 1, &again, NULL) && !peltzivar_to_i128(&again, &values[0].wide));
-    CHECK_LAWFUL(status != PELTZIVAR_WRITE_BUFFER && (status || !memcmp(&wide, &values[0].wide, sizeof wide)));
+    if (!status) CHECK_LAWFUL(peltzivar_read(syntax, text, needed - 1, &again, NULL));
+    /* Where each literal has an exponent, it is a float. */
+    const bool is_float = !status && peltzivar_to_i128(&again, &values[0].wide) == PELTZIVAR_VALUE_FLOAT;
+    CHECK_LAWFUL(!is_float || peltzivar_fields_of(syntax->format).flags >> PELTZIVAR_SET_REQUIRED_EXPONENT_NOTATION & 1);
+    CHECK_LAWFUL(status != PELTZIVAR_WRITE_BUFFER && (status || is_float || !memcmp(&wide, &values[0].wide, sizeof wide)));
     status = peltzivar_format_f64(syntax, real, &style, text, PELTZIVAR_FLOAT_SIZE, &needed);
     if (!status) CHECK_LAWFUL(peltzivar_read(syntax, text, needed - 1, &again, NULL) && !peltzivar_to_f64(&again, &values[0].real));
     CHECK_LAWFUL(status != PELTZIVAR_WRITE_BUFFER && (status || !memcmp(&real, &values[0].real, sizeof real)));
