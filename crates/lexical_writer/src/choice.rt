@@ -677,7 +677,10 @@ fn write_form<N: Writable>(
         }),
         Err(error) => error,
     };
-    if is_short(error) || !number.is_integer() {
+    if is_short(error) {
+        return Err(error);
+    }
+    if !number.is_integer() {
         return Err(error);
     }
     match write_words(forms, index, form, number, style, buffer) {
