@@ -214,7 +214,10 @@ module _ (g : Form) where
     plain_reached size = go (nat_lt size n) refl where
       go : (b : Bool) → nat_lt size n ≡ b → (if b then size else n + reach m (drop n text) (size - n)) ≡ reach m text size
       go true is = absurd (grind (arith, nat_tests))
-      go false is = ap (λ k. k + reach m (drop k text) (size - k)) none ∙ ap (reach m text) (let same : size - 0 ≡ size = omega arith in same)
+      go false is =
+          let all : reach m (drop n text) (size - n) ≡ reach m text size =
+          ap (λ k. reach m (drop k text) (size - k)) none ∙ ap (reach m text) (let same : size - 0 ≡ size = omega arith in same) in
+          omega (arith, all, none)
 
     pub low_plain : (size : ℕ) → IsNoFurther m text size → IsLow text size g
     low_plain size is k reaches =
