@@ -128,15 +128,18 @@ module _ (g : Form) where
 
     -- Without an opening, the syntax stops where the form does.
     pub plain_refused : (stop : Stopped) → n ≡ 0 → IsStopped m text stop → NoLiteral m text → IsRefusedAt text stop g
-    plain_refused stop none stopped refused = (subst (GoesTo text g) (let same : n + stop.size ≡ stop.size = omega (arith, none) in same)
-        (valid_behind text g stop.size (no_opening g.opening text none) (subst (λ k. IsValidUpTo m (drop k text) stop.size) (sym none) stopped.valid)), inr
-        (record {
-      opened = no_opening g.opening text none;
-      past = omega (arith, none);
-      stopped = subst (λ k. IsStopped m (drop k text) (record stop { size = stop.size - k })) (sym none) (subst (IsStopped m text)
-          (ap (λ k. record stop { size = k }) (let same : stop.size ≡ stop.size - 0 = omega arith in same)) stopped);
-      none = subst (λ k. NoLiteral m (drop k text)) (sym none) refused;
-    }))
+    plain_refused stop none stopped refused = (
+      subst (GoesTo text g) (let same : n + stop.size ≡ stop.size = omega (arith, none) in same)
+          (valid_behind text g stop.size (no_opening g.opening text none) (subst (λ k. IsValidUpTo m (drop k text) stop.size) (sym none) stopped.valid)),
+      inr
+          (record {
+            opened = no_opening g.opening text none;
+            past = omega (arith, none);
+            stopped = subst (λ k. IsStopped m (drop k text) (record stop { size = stop.size - k })) (sym none) (subst (IsStopped m text)
+                (ap (λ k. record stop { size = k }) (let same : stop.size ≡ stop.size - 0 = omega arith in same)) stopped);
+            none = subst (λ k. NoLiteral m (drop k text)) (sym none) refused;
+          }),
+    )
 
     -- BEHIND THE OPENING
 
@@ -162,15 +165,17 @@ module _ (g : Form) where
       pub refused_behind : (inner stop : Stopped) → IsStopped m part inner → NoneBy (ReadsIn g) text
           → stop ≡ record inner { size = opened + inner.size } → IsRefusedAt text stop g
       refused_behind inner stop stopped none same =
-          let size : stop.size ≡ opened + inner.size = ap (λ (s : Stopped). s.size) same in
-          (goes_behind inner.size stop.size stopped.valid size, inr (record {
-            opened = opening_is;
-            past = omega (arith, size, whole);
-            stopped = subst (IsStopped m rest) (sym (ap (λ (s : Stopped). record s { size = s.size - n }) same
-                ∙ ap (λ k. record inner { size = k }) (let back : opened + inner.size - n ≡ inner.size = omega (arith, whole) in back)))
-                (subst (λ t. IsStopped m t inner) at_rest stopped);
-            none = λ l reads. none l (opening_is, reads);
-          }))
+          let size : stop.size ≡ opened + inner.size = ap (λ (s : Stopped). s.size) same in (
+            goes_behind inner.size stop.size stopped.valid size,
+            inr (record {
+              opened = opening_is;
+              past = omega (arith, size, whole);
+              stopped = subst (IsStopped m rest) (sym (ap (λ (s : Stopped). record s { size = s.size - n }) same
+                  ∙ ap (λ k. record inner { size = k }) (let back : opened + inner.size - n ≡ inner.size = omega (arith, whole) in back)))
+                  (subst (λ t. IsStopped m t inner) at_rest stopped);
+              none = λ l reads. none l (opening_is, reads);
+            }),
+          )
 
       pub past_longer : (size most : ℕ) → most ≡ size - opened → NoFrontPast m part most → NonePast text size g
       past_longer size most same none = past_behind text g size (subst (λ t. NoFrontPast m t (size - n)) at_rest

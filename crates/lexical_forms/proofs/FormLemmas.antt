@@ -3,10 +3,10 @@ use Rattle.lexical_forms.proofs.Common.{All, All-more, AreBare, AreBelow, Bool, 
 use Rattle.lexical_forms.proofs.Common.{IsErrorOfForm, IsFirst, IsFirstOf, IsFormError, IsFoundForm, IsFoundFrontForm, IsFrontIn, IsGreatest, IsLed, IsLeftOut}
 use Rattle.lexical_forms.proofs.Common.{HasOpening, IsLongestPast, IsLow, IsReadByForms, IsRefusedAt, IsSomeAnd, Leads, List}
 use Rattle.lexical_forms.proofs.Common.{NoForm, NoFrontBy, NoFrontPast, None, NonePast, Notation, Ok, Option, Reaches, Read, ReadsForm, ReadsIn, Some}
-use Rattle.lexical_forms.proofs.Common.{Stopped, Tokens, [], ap, are_opened, arith, behind, cases_lt, common_steps, false, false≢true, get_or, get_or-take}
-use Rattle.lexical_forms.proofs.Common.{further, have_openings, if◌then◌else◌, inl, inr, length, length-take-le, nat_lt, nat_tests, not}
+use Rattle.lexical_forms.proofs.Common.{Stopped, Tokens, [], are_opened, arith, behind, cases_lt, common_steps, false, false≢true, get_or, get_or-take}
+use Rattle.lexical_forms.proofs.Common.{further, have_openings, if◌then◌else◌, inl, inr, length, length-take-le, nat_lt, nat_tests}
 use Rattle.lexical_forms.proofs.Common.{refl, sign_size, slice_get, slice_get-get_or, slice_get_within, subst, sym, take, take_all, true, ℕ}
-use Rattle.lexical_forms.proofs.Common.{◌+◌, ◌<◌, ◌==◌, ◌||◌, ◌∷◌, ◌≡◌, ◌≤◌}
+use Rattle.lexical_forms.proofs.Common.{◌+◌, ◌<◌, ◌||◌, ◌∷◌, ◌≡◌, ◌≤◌}
 use Rattle.lexical_forms.proofs.BehindLemmas.{front_in, goes_most, no_size, none_empty_in, none_in, one_reach}
 use Rattle.lexical_forms.proofs.OpeningLemmas.{one_size}
 use Rattle.lexical_forms.specs.declared.list.FormError.{FormError}
@@ -316,24 +316,27 @@ module _ (forms : List Form) (text : List ℕ) where
   pub error_is : (best : Furthest) → Leads forms text (length forms) best → (error : FormError) → error.form ≡ best.form
       → IsSomeAnd (slice_get forms best.form) (IsErrorOfForm text error) → IsFormError forms text error
   error_is best is error same own = record {
-    furthest = (best.reach, record {
-      here = subst (λ k. IsSomeAnd (slice_get forms k) (λ g. Reaches text g best.reach)) (sym same) is.reach;
-      before = subst (λ k. All (λ g. (n : ℕ) → Reaches text g n → n < best.reach) (take k forms)) (sym same)
-          (λ k d below n reaches.
-          let within = inside_of (IsErrorOfForm text error) forms best.form own in
-          let size = length-take-le best.form forms (omega (arith, within)) in
-          let inside : k < best.form = omega (arith, below, size) in
-          is.before k d (omega arith) inside n (subst (λ g. Reaches text g n) (get_or-take best.form forms k d inside) reaches));
-      others = λ k d below. elim (cases_lt k best.form) [
-        | inl before ↦ (λ n reaches. let less = is.before k d (omega arith) before n reaches in omega (arith, less))
-        | inr past ↦ (elim (cases_lt best.form k) [
-          | inl behind ↦ (λ n reaches. let less = is.behind k d (omega (arith, behind)) below n reaches in omega (arith, less))
-          | inr here ↦ (λ n reaches. let most = one_below best.form (best.reach + 1)
-              (each (λ g. Reaches text g best.reach) (λ g. (n : ℕ) → Reaches text g n → n < best.reach + 1) (slice_get forms best.form)
-              (λ g is n reaches. let one = one_reach g text n best.reach reaches is in omega (arith, one)) is.reach) k d past (omega (arith, here))
-              n reaches in omega (arith, most))
-        ])
-      ];
-    });
+    furthest = (
+      best.reach,
+      record {
+        here = subst (λ k. IsSomeAnd (slice_get forms k) (λ g. Reaches text g best.reach)) (sym same) is.reach;
+        before = subst (λ k. All (λ g. (n : ℕ) → Reaches text g n → n < best.reach) (take k forms)) (sym same)
+            (λ k d below n reaches.
+            let within = inside_of (IsErrorOfForm text error) forms best.form own in
+            let size = length-take-le best.form forms (omega (arith, within)) in
+            let inside : k < best.form = omega (arith, below, size) in
+            is.before k d (omega arith) inside n (subst (λ g. Reaches text g n) (get_or-take best.form forms k d inside) reaches));
+        others = λ k d below. elim (cases_lt k best.form) [
+          | inl before ↦ (λ n reaches. let less = is.before k d (omega arith) before n reaches in omega (arith, less))
+          | inr past ↦ (elim (cases_lt best.form k) [
+            | inl behind ↦ (λ n reaches. let less = is.behind k d (omega (arith, behind)) below n reaches in omega (arith, less))
+            | inr here ↦ (λ n reaches. let most = one_below best.form (best.reach + 1)
+                (each (λ g. Reaches text g best.reach) (λ g. (n : ℕ) → Reaches text g n → n < best.reach + 1) (slice_get forms best.form)
+                (λ g is n reaches. let one = one_reach g text n best.reach reaches is in omega (arith, one)) is.reach) k d past (omega (arith, here))
+                n reaches in omega (arith, most))
+          ])
+        ];
+      },
+    );
     refusal = subst (λ k. IsSomeAnd (slice_get forms k) (IsErrorOfForm text error)) (sym same) own;
   }

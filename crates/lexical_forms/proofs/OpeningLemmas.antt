@@ -2,9 +2,9 @@
 use Rattle.lexical_forms.proofs.Common.{Begins, BeginsBy, Bool, Form, IsFront, IsOpened, IsOpenedTo, IsValidBy, IsValidUpTo, List, Literal, NoFrontPast}
 use Rattle.lexical_forms.proofs.Common.{NoLiteral, NoneBy, NonePast, Notation, ReadsIn, Reads, ReadsFront, ReadsFrontBy, [], ap, append-nil}
 use Rattle.lexical_forms.proofs.Common.{append_assoc, arith, behind, cases_lt, drop, drop-append-le, drop-take, drop_all, drop_at, false, false≢true, get_or}
-use Rattle.lexical_forms.proofs.Common.{get_or-append_right, get_or-drop, get_or-take, get_or_append_left, if◌then◌else◌, inl, inr, is_absent, is_present}
+use Rattle.lexical_forms.proofs.Common.{get_or-append_right, get_or-drop, get_or-take, get_or_append_left, inl, inr, is_absent, is_present}
 use Rattle.lexical_forms.proofs.Common.{le_antisymm, length, length-append, length-drop, length-take-le, nat_tests, not, notation_of, refl}
-use Rattle.lexical_forms.proofs.Common.{spelling, spells, subst, sym, take, true, ℕ, ◌&&◌, ◌*◌, ◌++◌, ◌+◌, ◌-◌, ◌<◌, ◌||◌, ◌∙◌, ◌∷◌, ◌≡◌, ◌≤◌}
+use Rattle.lexical_forms.proofs.Common.{spelling, spells, subst, sym, take, true, ℕ, ◌&&◌, ◌++◌, ◌+◌, ◌-◌, ◌<◌, ◌||◌, ◌∙◌, ◌∷◌, ◌≡◌, ◌≤◌}
 use Rattle.lexical_forms.specs.declared.opening.Opening.{Opening}
 
 -- A text has one longest front that some literal begins with, and one that is a literal. A literal begins with itself.

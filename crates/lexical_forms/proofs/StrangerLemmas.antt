@@ -4,13 +4,13 @@ use Rattle.lexical_forms.proofs.Common.{IsValidUpTo, List, NoLiteral, Notation, 
 use Rattle.lexical_forms.proofs.Common.{arith, cases_lt, false, false≢true, get_or, if◌then◌else◌, inl, inr, is_in, is_none_or_one, is_other_prefix, not, ◌&&◌}
 use Rattle.lexical_forms.proofs.Common.{is_none_or_prefix, le_antisymm, length, nat_lt, nat_tests, notation_of, other_case, position}
 use Rattle.lexical_forms.proofs.Common.{radix_of, raw, reach, refl, set_of_role, sign_size, signs, slice_get, slice_get-get_or, subst, sym, take, text_of, true}
-use Rattle.lexical_forms.proofs.Common.{unwrap_or, ℕ, ◌++◌, ◌+◌, ◌<◌, ◌==◌, ◌||◌, ◌∙◌, ◌∷◌, ◌≡◌, ◌≤◌}
+use Rattle.lexical_forms.proofs.Common.{unwrap_or, ℕ, ◌++◌, ◌+◌, ◌<◌, ◌==◌, ◌∙◌, ◌∷◌, ◌≡◌, ◌≤◌}
 use Rattle.lexical_base.specs.Digits.{byte_value, digit_characters, uppercase}
 use Rattle.lexical_util.specs.Layout as layout
 use Rattle.lexical_util.specs.Unfoldable.{cased}
 use Rattle.lexical_util.specs.declared.feature_format.roles.Role.TheVariants as roles
 use Rattle.lexical_util.specs.declared.format_flags.Part.TheVariants as parts
-use Rattle.lexical_forms.proofs.ExcludeLemmas.{longer, near_no_role, no_role_excludes, rest_known, rest_of, same_byte, same_sign}
+use Rattle.lexical_forms.proofs.ExcludeLemmas.{longer, near_no_role, rest_known, rest_of, same_byte, same_sign}
 
 module _ (m : Notation) where
   behind_at : (xs ys rest : List ℕ) (i : ℕ) → length xs + length ys ≤ i → i < length (xs ++ (ys ++ rest)) → All (λ b. IsSpare m b → ⊥) rest
@@ -94,8 +94,8 @@ module _ (m : Notation) (text : List ℕ) where
       → IsNoFurther m text size
   silent_is size inside own other = near_or size (λ n valid. near_no_role m text n valid size own) (reach_other size
       (ap (is_in (is_other_prefix m)) (slice_get-get_or text size 0 inside) ∙ no_other (m.prefix (get_or text size 0)) _ (other.none roles.Prefix))) where
-    no_other : (a b : Bool) → b ≡ false → (not a && b) ≡ false
-    no_other a b is = grind arith
+        no_other : (a b : Bool) → b ≡ false → (not a && b) ≡ false
+        no_other a b is = grind arith
 
   -- A stranger.
   pub stranger_is : (size : ℕ) → sign_size text + 1 < size → size < length text → IsStranger m (get_or text size 0) → IsNoFurther m text size

@@ -508,7 +508,11 @@ impl<'a> Forms<'a> {
             Some(best) => Some(self.further(text, best, form, stop)),
             None => {
                 let other = self.reached(text, form, stop);
-                if other.reach > sign_size(text) + 2 { Some(other) } else { None }
+                if other.reach > sign_size(text) + 2 {
+                    Some(other)
+                } else {
+                    None
+                }
             }
         }
     }
@@ -523,7 +527,11 @@ impl<'a> Forms<'a> {
             return best;
         }
         let other = self.reached(text, form, stop);
-        if best.reach < other.reach { other } else { best }
+        if best.reach < other.reach {
+            other
+        } else {
+            best
+        }
     }
 
     // Returns how far the form with the index `form` goes, which stops at `stop`.

@@ -8,10 +8,12 @@ use Rattle.lexical_forms.proofs.list.Forms.first_leads.Goals as goal
 pub loop-form-init : goal.loop-form-init
 loop-form-init c =
     let forms = c.self.inside.forms.now in let text = c.args.text.now in let stop = c.args.stop in
-    let here = subst (λ (l : FormList). IsSomeAnd (slice_get l.forms 0) (IsRefusedAt text stop)) (sym c.self.view_is) c.requires in
-    (first_none forms text stop here, leads forms text 0 stop c.reached-first.result c.reached-first.ensures.form c.reached-first.ensures.stop here
-    (subst (λ (l : FormList). IsSomeAnd (slice_get l.forms 0) (λ g. Reaches text g c.reached-first.result.reach)) (sym c.self.view_is)
-    c.reached-first.ensures.reach) (λ k d low below. absurd (omega (arith, below))))
+    let here = subst (λ (l : FormList). IsSomeAnd (slice_get l.forms 0) (IsRefusedAt text stop)) (sym c.self.view_is) c.requires in (
+      first_none forms text stop here,
+      leads forms text 0 stop c.reached-first.result c.reached-first.ensures.form c.reached-first.ensures.stop here
+          (subst (λ (l : FormList). IsSomeAnd (slice_get l.forms 0) (λ g. Reaches text g c.reached-first.result.reach)) (sym c.self.view_is)
+          c.reached-first.ensures.reach) (λ k d low below. absurd (omega (arith, below))),
+    )
 
 pub loop-form-preserved : goal.loop-form-preserved
 loop-form-preserved c =
