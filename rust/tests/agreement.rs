@@ -5,8 +5,8 @@
 mod random;
 
 use peltzivar::literal::{
-    Condition, Form, FormError, Forms, FromLiteral, Kind, Language, Literal, Number, Opening, ParseError, ReadError,
-    ReadErrorKind, Special, Specials, Suffixes, Tokens,
+    Form, FormError, Forms, FromLiteral, Kind, Language, Literal, Number, Opening, ParseError, Special, Specials,
+    Suffixes, Tokens,
 };
 use random::Random;
 use std::cmp::Reverse;
@@ -123,9 +123,9 @@ fn right(form: &Form, text: &[u8]) -> usize {
     (0..=text.len()).rev().find(|size| is_front(form, &text[..*size])).unwrap()
 }
 
-/// Why a text is not a literal of a form: how many bytes are right, whether the cause is stray, the bytes to show, and
-/// the sentence.
-type Why = (usize, bool, Range<usize>, [String; 2]);
+/// Why a text is not a literal of a form: how many bytes are right, how many if a base prefix is right in either case, the
+/// bytes to show, and the sentence.
+type Why = (usize, usize, Range<usize>, [String; 2]);
 
 fn why(form: &Form, text: &[u8]) -> Why {
     let right = right(form, text);
@@ -134,20 +134,21 @@ fn why(form: &Form, text: &[u8]) -> Why {
     if right < opened {
         let opening = form.opening();
         let sentence = format!("expected the opening `{}`", std::str::from_utf8(opening.as_bytes()).unwrap());
-        return (right, true, right..right + shown, [sentence.clone(), sentence]);
+        return (right, right, right..right + shown, [sentence.clone(), sentence]);
     }
-    let is_stray = |it: &ReadError| it.kind() == ReadErrorKind::Byte || it.conditions().has(Condition::BasePrefix);
     let it = form.syntax().read(&text[opened..]).err().unwrap();
+    let is_prefix =
+        |byte: &u8| form.syntax().format().base_prefix().is_some_and(|it| it.get().eq_ignore_ascii_case(byte));
+    let zero = matches!(&text[opened..right], [b'0'] | [b'+' | b'-', b'0']);
+    let reach = right + usize::from(zero && text.get(right).is_some_and(is_prefix));
     let span = opened + it.span().start..opened + it.span().end;
-    (right, is_stray(&it), span, [format!("{it}"), format!("{it:#}")])
+    (right, reach, span, [format!("{it}"), format!("{it:#}")])
 }
 
-/// Returns the error of the form that goes furthest, with its index. Of several, it is the first whose cause is not a
-/// wrong byte and that does not lack an opening or a required prefix, or the first if there is none.
+/// Returns the error of the first form that goes furthest, with its index.
 fn error_of(errors: &[Why]) -> (usize, Why) {
-    let furthest = errors.iter().map(|it| it.0).max().unwrap();
-    let goes = |it: &Why| it.0 == furthest;
-    let first = errors.iter().position(|it| goes(it) && !it.1).or(errors.iter().position(goes)).unwrap();
+    let furthest = errors.iter().map(|it| it.1).max().unwrap();
+    let first = errors.iter().position(|it| it.1 == furthest).unwrap();
     (first, errors[first].clone())
 }
 

@@ -1,13 +1,13 @@
 -- Forms with an opening: what a syntax reads behind it, and where a text stops.
-use Rattle.lexical_forms.proofs.Common.{Begins, BeginsBy, Bool, Form, Found, Furthest, GoesTo, IsBehind, IsCountedFront, IsErrorIn, IsFront, IsFrontIn}
-use Rattle.lexical_forms.proofs.Common.{IsInside, IsLeftOut, IsLow, IsNearSign, IsNoBetter, IsOpened, IsOpenedTo, IsRefusal, IsRefusedAt, IsStopped}
-use Rattle.lexical_forms.proofs.Common.{IsStoppedBefore, IsStoppedBehind, IsValidUpTo, List, Literal, NoFrontBy, NoFrontPast, NoLiteral, None, NoneBy}
-use Rattle.lexical_forms.proofs.Common.{NonePast, Notation, Option, Reaches, Reads, ReadsFront, ReadsFrontBy, ReadsIn, Refusal, Some, Stopped, [], ap, arith}
-use Rattle.lexical_forms.proofs.Common.{behind, drop, false, false≢true, get_or, if◌then◌else◌, inl, inr, is_stray, length, nat_tests, not}
-use Rattle.lexical_forms.proofs.Common.{notation_of, one_refusal, reach, reach_in, sign_size, spells, subst, sym, take, take_all, true, ℕ, ◌*◌}
-use Rattle.lexical_forms.proofs.Common.{◌+◌, ◌-◌, ◌<◌, ◌==◌, ◌∙◌, ◌≡◌, ◌≤◌}
+use Rattle.lexical_forms.proofs.Common.{Begins, Bool, Form, Found, Furthest, GoesTo, IsBehind, IsCountedFront, IsErrorIn, IsFront, IsFrontIn, IsInside}
+use Rattle.lexical_forms.proofs.Common.{IsLeftOut, IsLow, IsNoFurther, IsOpened, IsOpenedTo, IsRefusal, IsRefusedAt, IsStopped, IsStoppedBefore}
+use Rattle.lexical_forms.proofs.Common.{IsStoppedBehind, IsValidUpTo, List, Literal, NoFrontBy, NoFrontPast, NoLiteral, None, NoneBy, NonePast, Notation}
+use Rattle.lexical_forms.proofs.Common.{Option, Reaches, Reads, ReadsFront, ReadsFrontBy, ReadsIn, Refusal, Some, Stopped, [], ap, arith, behind, drop, false}
+use Rattle.lexical_forms.proofs.Common.{false≢true, get_or, if◌then◌else◌, inl, inr, length, nat_lt, nat_tests, not, notation_of, reach, reached, refl}
+use Rattle.lexical_forms.proofs.Common.{sign_size, spells, subst, sym, take, take_all, true, ℕ, ◌++◌, ◌+◌, ◌-◌, ◌<◌, ◌==◌, ◌∙◌, ◌≡◌, ◌≤◌}
 use Rattle.lexical_forms.proofs.OpeningLemmas.{behind_take, front_opened, no_opening, none_empty, not_longer, not_opened, one_valid, opened_front}
-use Rattle.lexical_forms.proofs.OpeningLemmas.{past_behind, reach_within, valid_behind}
+use Rattle.lexical_forms.proofs.OpeningLemmas.{past_behind, valid_behind}
+use Rattle.lexical_forms.proofs.StrangerLemmas.{reach_least, reach_most}
 
 -- A form without an opening.
 pub no_size : (n : ℕ) (some : Bool) → some ≡ not (n == 0) → some ≡ false → n ≡ 0
@@ -43,67 +43,38 @@ module _ (g : Form) where
 
     -- A text that is refused is not a literal.
     pub none_in : (stop : Stopped) → IsRefusedAt text stop g → NoneBy (ReadsIn g) text
-    none_in stop (inl is) l reads = not_opened g.opening text stop.size is.opened is.short reads.0
-    none_in stop (inr is) l reads = is.none l reads.1
+    none_in stop (valid, inl is) l reads = not_opened g.opening text stop.size is.opened is.short reads.0
+    none_in stop (valid, inr is) l reads = is.none l reads.1
 
-    -- Two errors have one reach.
-    pub one_reach : (a b : ℕ) (x y : Option Refusal) → IsErrorIn g text a x → IsErrorIn g text b y → reach_in a x ≡ reach_in b y
-    one_reach a b None None is other = ap (λ k. 2 * k) (one_valid (ReadsIn g) text a b is.0 other.0)
-    one_reach a b None (Some y) is other = absurd (is.1 other.1)
-    one_reach a b (Some x) None is other = absurd (other.1 is.1)
-    one_reach a b (Some x) (Some y) is other = let one = ap reach (one_refusal m rest x y is.2 other.2) in omega (arith, one, is.0, other.0)
+    -- A form goes so far, and no further.
+    pub one_reach : (a b : ℕ) → Reaches text g a → Reaches text g b → a ≡ b
+    one_reach a b one other = one.2 ∙ ap (reached g text) (one_valid (ReadsIn g) text one.0 other.0 one.1 other.1) ∙ sym other.2
 
-    -- Some literal of the syntax is in one of the form.
-    some_literal : (size : ℕ) → BeginsBy (ReadsIn g) (take size text) → IsFront m []
-    some_literal size is = record { more = _; literal = is.literal; reads = is.reads.1 }
+    reached_near : (size : ℕ) → (size ≤ reached g text size) × (reached g text size ≤ size + 1)
+    reached_near size = go (nat_lt size n) refl where
+      go : (b : Bool) → nat_lt size n ≡ b → (size ≤ (if b then size else n + reach m rest (size - n))) × ((if b then size else n + reach m rest
+          (size - n)) ≤ size + 1)
+      go true is = (omega arith, omega arith)
+      go false is = let low : n ≤ size = grind (arith, nat_tests) in
+          let least = reach_least m rest (size - n) in let most = reach_most m rest (size - n) in (omega (arith, low, least), omega (arith, low, most))
 
-    -- The reach of a form in whose opening reading stops.
-    reaches_before : (stop : Stopped) → IsStoppedBefore text stop g → (k : ℕ) → Reaches text g k → k ≡ 2 * stop.size
-    reaches_before stop is k (right, None, error, same) =
-        let one = one_valid (ReadsIn g) text right stop.size error.0
-        (goes_before (some_literal right error.0.front) stop.size is.opened is.short) in omega (arith, one, same)
-    reaches_before stop is k (right, Some refusal, error, same) = absurd (not_opened g.opening text stop.size is.opened is.short error.1)
+    module _ (stop : Stopped) (refused : IsRefusedAt text stop g) (k : ℕ) (reaches : Reaches text g k) where
+      reached_there : k ≡ reached g text stop.size
+      reached_there = reaches.2 ∙ ap (reached g text) (one_valid (ReadsIn g) text reaches.0 stop.size reaches.1 refused.0)
+
+      pub goes_least : stop.size ≤ k
+      goes_least = let near = reached_near stop.size in omega (arith, near.0, reached_there)
+
+      pub goes_most : k ≤ stop.size + 1
+      goes_most = let near = reached_near stop.size in omega (arith, near.1, reached_there)
 
     -- The error of a form in whose opening reading stops.
-    pub lacks_opening : (stop : Stopped) → IsFront m [] → IsStoppedBefore text stop g → IsErrorIn g text stop.size None
-    lacks_opening stop some is =
-        (goes_before some stop.size is.opened is.short, λ opened. not_opened g.opening text stop.size is.opened is.short opened)
-
-    -- That of one whose syntax stops.
-    reaches_behind : (stop : Stopped) → IsStoppedBehind text stop g → (k : ℕ) → Reaches text g k
-        → (error : Refusal) × IsRefusal m rest error × (k ≡ 2 * n + reach error) × (n + error.valid_up_to ≡ stop.size)
-    reaches_behind stop is k (right, None, error, same) = absurd (error.1 is.opened)
-    reaches_behind stop is k (right, Some refusal, error, same) =
-        let one = one_valid (Reads m) rest refusal.valid_up_to (stop.size - n) error.2.valid_up_to is.stopped.valid in
-        (refusal, error.2, omega (arith, same, error.0), omega (arith, one, is.past))
-
-    module _ (stop : Stopped) where
-      pub reach_least : IsRefusedAt text stop g → (k : ℕ) → Reaches text g k → 2 * stop.size ≤ k
-      reach_least (inl is) k reaches = let same = reaches_before stop is k reaches in omega (arith, same)
-      reach_least (inr is) k reaches = let (error, refusal, same, size) = reaches_behind stop is k reaches in
-          let least = (reach_within error).0 in omega (arith, least, same, size)
-
-      pub reach_most : IsRefusedAt text stop g → (k : ℕ) → Reaches text g k → k ≤ 2 * stop.size + 1
-      reach_most (inl is) k reaches = let same = reaches_before stop is k reaches in omega (arith, same)
-      reach_most (inr is) k reaches = let (error, refusal, same, size) = reaches_behind stop is k reaches in
-          let most = (reach_within error).1 in omega (arith, most, same, size)
-
-      pub stray_before : IsStoppedBefore text stop g → (k : ℕ) → Reaches text g k → k ≡ 2 * stop.size + 0
-      stray_before is k reaches = let same = reaches_before stop is k reaches in omega (arith, same)
-
-      pub stray_behind : (b : Bool) → IsStoppedBehind text stop g → ((error : Refusal) → IsRefusal m rest error → is_stray error ≡ b)
-          → (k : ℕ) → Reaches text g k → k ≡ 2 * stop.size + (if b then 0 else 1)
-      stray_behind b is stray k reaches = let (error, refusal, same, size) = reaches_behind stop is k reaches in
-          let one = ap (λ (b : Bool). 2 * error.valid_up_to + (if b then 0 else 1)) (stray error refusal) in
-          omega (arith, one, same, size)
+    pub lacks_opening : (stop : Stopped) → GoesTo text g stop.size → IsStoppedBefore text stop g → IsErrorIn g text stop.size None
+    lacks_opening stop valid is = (valid, λ opened. not_opened g.opening text stop.size is.opened is.short opened)
 
     -- WITHOUT AN OPENING
 
     module _ (none : n ≡ 0) where
-      plain : (k : ℕ) → Reaches text g k → (error : Refusal) × IsRefusal m text error × (k ≡ reach error)
-      plain k (right, None, error, same) = absurd (error.1 (no_opening g.opening text none))
-      plain k (right, Some refusal, error, same) = (refusal, subst (λ i. IsRefusal m (drop i text) refusal) none error.2, omega (arith, same, error.0, none))
-
       -- It reads what its syntax reads.
       pub plain_of : (l : Literal) → ReadsIn g l text → Reads m l text
       plain_of l reads = subst (λ i. Reads m l (drop i text)) none reads.1
@@ -113,17 +84,6 @@ module _ (g : Form) where
 
       pub none_plain : NoLiteral m text → NoneBy (ReadsIn g) text
       none_plain is l reads = is l (plain_of l reads)
-
-      pub low_plain : (size : ℕ) → IsNoBetter m text size → IsLow text size g
-      low_plain size is k reaches = let (error, refusal, same) = plain k reaches in let most = is error refusal in omega (arith, most, same)
-
-      near_plain : ((size : ℕ) → IsValidUpTo m text size → size ≤ sign_size text + 1) → IsNearSign text g
-      near_plain is k reaches = let (error, refusal, same) = plain k reaches in
-          let most = (reach_within error).1 in let size = is error.valid_up_to refusal.valid_up_to in omega (arith, most, same, size)
-
-      pub left_plain : (furthest : Option Furthest) → IsBehind m text furthest → IsLeftOut text furthest g
-      left_plain None is = near_plain is
-      left_plain (Some best) is = low_plain best.stop.size is
 
     -- FRONTS
 
@@ -143,12 +103,12 @@ module _ (g : Form) where
 
     -- It stops in the opening, or behind it.
     pub before_of : (stop : Stopped) → IsRefusedAt text stop g → stop.size < n → IsStoppedBefore text stop g
-    before_of stop (inl is) short = is
-    before_of stop (inr is) short = absurd (let past = is.past in omega (arith, past, short))
+    before_of stop (valid, inl is) short = is
+    before_of stop (valid, inr is) short = absurd (let past = is.past in omega (arith, past, short))
 
     pub behind_of : (stop : Stopped) → IsRefusedAt text stop g → n ≤ stop.size → IsStoppedBehind text stop g
-    behind_of stop (inl is) past = absurd (let short = is.short in omega (arith, past, short))
-    behind_of stop (inr is) past = is
+    behind_of stop (valid, inl is) past = absurd (let short = is.short in omega (arith, past, short))
+    behind_of stop (valid, inr is) past = is
 
     -- Where the syntax stops.
     module _ (stop at : Stopped) (part : List ℕ) (refused : IsRefusedAt text stop g) (past : n ≤ stop.size) (size : ℕ) (size_is : size ≡ n)
@@ -166,20 +126,20 @@ module _ (g : Form) where
       pub part_error : (error : Refusal) → IsRefusal m part error → IsErrorIn g text size (Some error)
       part_error error is = (size_is, (behind_of stop refused past).opened, subst (λ t. IsRefusal m t error) part_behind is)
 
-      pub part_stray : (b : Bool) → ((error : Refusal) → IsRefusal m part error → is_stray error ≡ b)
-          → (k : ℕ) → Reaches text g k → k ≡ 2 * stop.size + (if b then 0 else 1)
-      part_stray b stray = stray_behind stop b (behind_of stop refused past)
-          (λ error is. stray error (subst (λ t. IsRefusal m t error) (sym part_behind) is))
-
     -- Without an opening, the syntax stops where the form does.
     pub plain_refused : (stop : Stopped) → n ≡ 0 → IsStopped m text stop → NoLiteral m text → IsRefusedAt text stop g
-    plain_refused stop none stopped refused = inr (record {
-      opened = no_opening g.opening text none;
-      past = omega (arith, none);
-      stopped = subst (λ k. IsStopped m (drop k text) (record stop { size = stop.size - k })) (sym none) (subst (IsStopped m text)
-          (ap (λ k. record stop { size = k }) (let same : stop.size ≡ stop.size - 0 = omega arith in same)) stopped);
-      none = subst (λ k. NoLiteral m (drop k text)) (sym none) refused;
-    })
+    plain_refused stop none stopped refused = (
+      subst (GoesTo text g) (let same : n + stop.size ≡ stop.size = omega (arith, none) in same)
+          (valid_behind text g stop.size (no_opening g.opening text none) (subst (λ k. IsValidUpTo m (drop k text) stop.size) (sym none) stopped.valid)),
+      inr
+          (record {
+            opened = no_opening g.opening text none;
+            past = omega (arith, none);
+            stopped = subst (λ k. IsStopped m (drop k text) (record stop { size = stop.size - k })) (sym none) (subst (IsStopped m text)
+                (ap (λ k. record stop { size = k }) (let same : stop.size ≡ stop.size - 0 = omega arith in same)) stopped);
+            none = subst (λ k. NoLiteral m (drop k text)) (sym none) refused;
+          }),
+    )
 
     -- BEHIND THE OPENING
 
@@ -198,22 +158,24 @@ module _ (g : Form) where
       inside_is = record { opened = opening_is; is = at_rest }
 
       -- The same of what the code finds there.
-      pub refused_behind : (inner stop : Stopped) → IsStopped m part inner → NoneBy (ReadsIn g) text
-          → stop ≡ record inner { size = opened + inner.size } → IsRefusedAt text stop g
-      refused_behind inner stop stopped none same =
-          let size : stop.size ≡ opened + inner.size = ap (λ (s : Stopped). s.size) same in
-          inr (record {
-            opened = opening_is;
-            past = omega (arith, size, whole);
-            stopped = subst (IsStopped m rest) (sym (ap (λ (s : Stopped). record s { size = s.size - n }) same
-                ∙ ap (λ k. record inner { size = k }) (let back : opened + inner.size - n ≡ inner.size = omega (arith, whole) in back)))
-                (subst (λ t. IsStopped m t inner) at_rest stopped);
-            none = λ l reads. none l (opening_is, reads);
-          })
-
       pub goes_behind : (size stop : ℕ) → IsValidUpTo m part size → stop ≡ opened + size → GoesTo text g stop
       goes_behind size stop valid same = subst (GoesTo text g) (let is : n + size ≡ stop = omega (arith, whole, same) in is)
           (valid_behind text g size opening_is (subst (λ t. IsValidUpTo m t size) at_rest valid))
+
+      pub refused_behind : (inner stop : Stopped) → IsStopped m part inner → NoneBy (ReadsIn g) text
+          → stop ≡ record inner { size = opened + inner.size } → IsRefusedAt text stop g
+      refused_behind inner stop stopped none same =
+          let size : stop.size ≡ opened + inner.size = ap (λ (s : Stopped). s.size) same in (
+            goes_behind inner.size stop.size stopped.valid size,
+            inr (record {
+              opened = opening_is;
+              past = omega (arith, size, whole);
+              stopped = subst (IsStopped m rest) (sym (ap (λ (s : Stopped). record s { size = s.size - n }) same
+                  ∙ ap (λ k. record inner { size = k }) (let back : opened + inner.size - n ≡ inner.size = omega (arith, whole) in back)))
+                  (subst (λ t. IsStopped m t inner) at_rest stopped);
+              none = λ l reads. none l (opening_is, reads);
+            }),
+          )
 
       pub past_longer : (size most : ℕ) → most ≡ size - opened → NoFrontPast m part most → NonePast text size g
       past_longer size most same none = past_behind text g size (subst (λ t. NoFrontPast m t (size - n)) at_rest
@@ -235,3 +197,38 @@ module _ (g : Form) where
     -- The first byte is not that of the opening.
     pub none_excluded : (byte : ℕ) → byte ≡ get_or text 0 0 → (0 < n) × (spells g.opening 0 byte ≡ false) → NoneBy (ReadsIn g) text
     none_excluded byte same is l reads = false≢true (sym is.1 ∙ ap (spells g.opening 0) same ∙ reads.0.each 0 is.0)
+
+  -- Without an opening, the form goes as far as its syntax.
+  module _ (text : List ℕ) (none : n ≡ 0) where
+    plain_valid : (size : ℕ) → GoesTo text g size → IsValidUpTo m text size
+    plain_valid size is = record {
+      within = is.within;
+      front = record {
+        more = is.front.more;
+        literal = is.front.literal;
+        reads = plain_of (take size text ++ is.front.more) none is.front.literal is.front.reads;
+      };
+      no_longer = λ more past inside front. is.no_longer more past inside (record {
+        more = front.more;
+        literal = front.literal;
+        reads = plain_in (take more text ++ front.more) none front.literal front.reads;
+      });
+    }
+
+    plain_reached : (size : ℕ) → reached g text size ≡ reach m text size
+    plain_reached size = go (nat_lt size n) refl where
+      go : (b : Bool) → nat_lt size n ≡ b → (if b then size else n + reach m (drop n text) (size - n)) ≡ reach m text size
+      go true is = absurd (grind (arith, nat_tests))
+      go false is =
+          let all : reach m (drop n text) (size - n) ≡ reach m text size =
+          ap (λ k. reach m (drop k text) (size - k)) none ∙ ap (reach m text) (let same : size - 0 ≡ size = omega arith in same) in
+          omega (arith, all, none)
+
+    pub low_plain : (size : ℕ) → IsNoFurther m text size → IsLow text size g
+    low_plain size is k reaches =
+        let most = is reaches.0 (plain_valid reaches.0 reaches.1) in omega (arith, most, reaches.2 ∙ plain_reached reaches.0)
+
+    pub left_plain : (furthest : Option Furthest) → IsBehind m text furthest → IsLeftOut text furthest g
+    left_plain None is = low_plain (sign_size text + 2)
+        (λ size valid. let near = is size valid in let most = reach_most m text size in omega (arith, near, most))
+    left_plain (Some best) is = low_plain best.reach is

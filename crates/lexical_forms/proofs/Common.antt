@@ -1,17 +1,16 @@
 -- The names that most proofs of this crate cite, passed on from one place. Declares nothing.
 pub use Rattle.lexical_forms.specs.Additions.Forms.{AreBelow, AreFalse, GoesTo, IsBehind, IsFirstOf, IsInside, IsFoundForm, IsFoundFrontForm}
-pub use Rattle.lexical_forms.specs.Additions.Forms.{IsFrontIn, IsLed, IsLeftOut, IsLongestPast, IsLow, IsNearSign, IsNoBetter, IsOpened}
+pub use Rattle.lexical_forms.specs.Additions.Forms.{IsFrontIn, IsLed, IsLeftOut, IsLongestPast, IsLow, IsNoFurther, IsOpened}
 pub use Rattle.lexical_forms.specs.Additions.Forms.{IsOpenedTo, IsRefusedAt, IsSpare, IsStoppedBefore, IsStoppedBehind, IsStranger, LacksZero, Leads}
-pub use Rattle.lexical_forms.specs.Additions.Forms.{NoFrontPast, NonePast, PlaysNoRole, Reaches, behind, further, limit, reach}
-pub use Rattle.lexical_forms.specs.Additions.Forms.{right_in}
-pub use Rattle.lexical_forms.specs.Additions.Forms.{sign_size, special_separator, spells}
+pub use Rattle.lexical_forms.specs.Additions.Forms.{NoFrontPast, NonePast, PlaysNoRole, behind, further}
+pub use Rattle.lexical_forms.specs.Additions.Forms.{special_separator, spells}
 pub use Rattle.lexical_forms.specs.Additions.Token.{AreBare, AreNear, FrontsWithin, HasFrontOfSyntax, IsBestMade, IsBestOf, IsCounted, IsEnd, IsLeading, IsMade}
 pub use Rattle.lexical_forms.specs.Additions.Token.{IsNear, IsOwn, IsPicked, IsWithin, NoOwn, better, go_on_with, goes_on, has_float, has_prefix}
 pub use Rattle.lexical_forms.specs.Additions.Token.{is_in_word, suffixed, whole}
 pub use Rattle.lexical_forms.specs.FormList.{FormList, are_opened, have_openings}
 pub use Rattle.lexical_forms.specs.Forms.{Begins, HasFront, IsErrorIn, IsErrorOfForm, IsFirst, IsFormError, IsGreatest, IsReadByForms, NoForm}
 pub use Rattle.lexical_forms.specs.Opening.{spelling}
-pub use Rattle.lexical_forms.specs.Forms.{HasOpening, ReadsForm, ReadsIn, reach_in, refusal_in}
+pub use Rattle.lexical_forms.specs.Forms.{HasOpening, Reaches, ReadsForm, ReadsIn, is_other_prefix, reach, reached, refusal_in, sign_size}
 pub use Rattle.lexical_forms.specs.Specials.{is_spelled, letter_of, signed, special_behind, special_of}
 pub use Rattle.lexical_forms.specs.Suffix.{begins, byte_before, is_followed, is_stopped, is_word_byte, kind_with, meets, more_of, stop_end, suffix_size}
 pub use Rattle.lexical_forms.specs.Suffix.{suffix_words, word_size}
@@ -30,7 +29,7 @@ pub use Rattle.lexical_literal.specs.Additions.GroupSize.{goes, with_rules}
 pub use Rattle.lexical_literal.specs.Additions.Literal.{AreSums, HasSums, before_exponent, cut}
 pub use Rattle.lexical_literal.specs.Additions.Step.{Cuts, HasLengths, cuts_of, role_at}
 pub use Rattle.lexical_literal.specs.Additions.Stop.{IsCountedFront, IsFronted, IsMeasured, IsStopped}
-pub use Rattle.lexical_literal.specs.Cause.{Explained, IsCause, IsRefusal, bare, is_byte, is_in, is_stray}
+pub use Rattle.lexical_literal.specs.Cause.{Explained, IsCause, IsRefusal, bare, is_in}
 pub use Rattle.lexical_literal.specs.Front.{BeginsBy, IsFront, IsValidBy, IsValidUpTo, NoFront, NoFrontBy, NoLiteral, NoneBy, ReadsFront, ReadsFrontBy}
 pub use Rattle.lexical_literal.specs.Literal.{Literal, Reads, begins_with, is_absent, is_float, is_none_or_one, is_none_or_prefix, is_present, may_begin}
 pub use Rattle.lexical_literal.specs.Literal.{text_of}

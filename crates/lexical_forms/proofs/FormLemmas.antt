@@ -1,14 +1,14 @@
 -- Several forms: what has been found in the first of them, and what one form more adds.
 use Rattle.lexical_forms.proofs.Common.{All, All-more, AreBare, AreBelow, Bool, Bor, Form, FormList, Found, Furthest, GoesTo, HasFront, IsCountedFront}
 use Rattle.lexical_forms.proofs.Common.{IsErrorOfForm, IsFirst, IsFirstOf, IsFormError, IsFoundForm, IsFoundFrontForm, IsFrontIn, IsGreatest, IsLed, IsLeftOut}
-use Rattle.lexical_forms.proofs.Common.{HasOpening, IsLongestPast, IsLow, IsNearSign, IsReadByForms, IsRefusedAt, IsSomeAnd, Leads, List}
+use Rattle.lexical_forms.proofs.Common.{HasOpening, IsLongestPast, IsLow, IsReadByForms, IsRefusedAt, IsSomeAnd, Leads, List}
 use Rattle.lexical_forms.proofs.Common.{NoForm, NoFrontBy, NoFrontPast, None, NonePast, Notation, Ok, Option, Reaches, Read, ReadsForm, ReadsIn, Some}
-use Rattle.lexical_forms.proofs.Common.{Stopped, Tokens, [], ap, are_opened, arith, behind, cases_lt, common_steps, false, false≢true, get_or, get_or-take}
-use Rattle.lexical_forms.proofs.Common.{further, have_openings, if◌then◌else◌, inl, inr, length, length-take-le, limit, nat_lt, nat_tests}
-use Rattle.lexical_forms.proofs.Common.{reach_in, refl, refusal_in, slice_get, slice_get-get_or, slice_get_within, subst, sym, take, take_all, true, ℕ, ◌*◌}
+use Rattle.lexical_forms.proofs.Common.{Stopped, Tokens, [], are_opened, arith, behind, cases_lt, common_steps, false, false≢true, get_or, get_or-take}
+use Rattle.lexical_forms.proofs.Common.{further, have_openings, if◌then◌else◌, inl, inr, length, length-take-le, nat_lt, nat_tests}
+use Rattle.lexical_forms.proofs.Common.{refl, sign_size, slice_get, slice_get-get_or, slice_get_within, subst, sym, take, take_all, true, ℕ}
 use Rattle.lexical_forms.proofs.Common.{◌+◌, ◌<◌, ◌||◌, ◌∷◌, ◌≡◌, ◌≤◌}
-use Rattle.lexical_forms.proofs.BehindLemmas.{front_in, no_size, none_empty_in, none_in, one_reach, reach_least, reach_most}
-use Rattle.lexical_forms.proofs.OpeningLemmas.{bit_within, one_size}
+use Rattle.lexical_forms.proofs.BehindLemmas.{front_in, goes_most, no_size, none_empty_in, none_in, one_reach}
+use Rattle.lexical_forms.proofs.OpeningLemmas.{one_size}
 use Rattle.lexical_forms.specs.declared.list.FormError.{FormError}
 use Rattle.lexical_forms.specs.declared.list.Number.TheVariants as numbers
 
@@ -231,9 +231,6 @@ pub no_front : (forms : List Form) (text : List ℕ) → IsLongestPast forms tex
 no_front forms text none k d below ℕ.zero within l reads = none_empty_in (get_or forms k d) l reads
 no_front forms text none k d below (ℕ.suc n) within l reads = none k d below (ℕ.suc n) (omega arith) within l reads
 
-pub limit_within : (best : Furthest) → (2 * best.stop.size ≤ limit best) × (limit best ≤ 2 * best.stop.size + 1)
-limit_within best = bit_within (2 * best.stop.size) 1 0 best.settled (omega arith) (omega arith)
-
 -- The first form does not read the text.
 pub first_none : (forms : List Form) (text : List ℕ) (stop : Stopped) → IsSomeAnd (slice_get forms 0) (IsRefusedAt text stop) → NoForm (take 1 forms) text
 first_none [] text stop here k d below = absurd here
@@ -255,98 +252,53 @@ module _ (forms : List Form) (text : List ℕ) where
   weaker : (a b most more : ℕ) → most ≤ more → AreBelow forms text a b most → AreBelow forms text a b more
   weaker a b most more less below k d low high n reaches = let is = below k d low high n reaches in omega (arith, is, less)
 
-  -- The form with the index `i` leads, if those before it have lower reaches.
-  pub leads : (i : ℕ) (stop : Stopped) (settled : Bool) → IsSomeAnd (slice_get forms i) (IsRefusedAt text stop)
-      → IsSomeAnd (slice_get forms i) (λ g. (n : ℕ) → Reaches text g n → 2 * stop.size + (if settled then 1 else 0) ≤ n)
-      → AreBelow forms text 0 i (2 * stop.size + (if settled then 1 else 0))
-      → Leads forms text (i + 1) (record { form = i; stop = stop; settled = settled })
-  leads i stop settled here low before =
-      record { here = here; low = low; before = before; behind = λ k d past below n reaches. absurd (omega (arith, past, below)) }
-
-  pub leads_first : (i : ℕ) (stop : Stopped) → IsSomeAnd (slice_get forms i) (IsRefusedAt text stop) → AreBelow forms text 0 i (2 * stop.size)
-      → Leads forms text (i + 1) (record { form = i; stop = stop; settled = false })
-  leads_first i stop here before = leads i stop false here
-      (each (IsRefusedAt text stop) (λ g. (n : ℕ) → Reaches text g n → 2 * stop.size + 0 ≤ n) (slice_get forms i)
-      (λ g is n reaches. let least = reach_least g text stop is n reaches in omega (arith, least)) here)
-      (weaker 0 i (2 * stop.size) (2 * stop.size + 0) (omega arith) before)
+  -- The form with the index `i` leads, if those before it go less far.
+  pub leads : (i : ℕ) (stop : Stopped) (best : Furthest) → best.form ≡ i → best.stop ≡ stop → IsSomeAnd (slice_get forms i) (IsRefusedAt text stop)
+      → IsSomeAnd (slice_get forms i) (λ g. Reaches text g best.reach) → AreBelow forms text 0 i best.reach → Leads forms text (i + 1) best
+  leads i stop best at is here reach before = record {
+    here = subst (λ k. IsSomeAnd (slice_get forms k) (IsRefusedAt text best.stop)) (sym at)
+        (subst (λ s. IsSomeAnd (slice_get forms i) (IsRefusedAt text s)) (sym is) here);
+    reach = subst (λ k. IsSomeAnd (slice_get forms k) (λ g. Reaches text g best.reach)) (sym at) reach;
+    before = subst (λ k. AreBelow forms text 0 k best.reach) (sym at) before;
+    behind = λ k d past below n reaches. absurd (omega (arith, past, below, at));
+  }
 
   module _ (i : ℕ) (best : Furthest) (old : Leads forms text i best) where
-    -- One form more has no greater reach.
-    pub kept : IsSomeAnd (slice_get forms i) (λ g. (n : ℕ) → Reaches text g n → n ≤ limit best) → Leads forms text (i + 1) best
-    kept most = record {
+    -- One form more goes no further.
+    pub left_out : IsSomeAnd (slice_get forms i) (IsLow text best.reach) → Leads forms text (i + 1) best
+    left_out most = record {
       here = old.here;
-      low = old.low;
+      reach = old.reach;
       before = old.before;
-      behind = both_below (best.form + 1) i (i + 1) (limit best + 1) old.behind (one_below i (limit best + 1)
-          (each (λ g. (n : ℕ) → Reaches text g n → n ≤ limit best) (λ g. (n : ℕ) → Reaches text g n → n < limit best + 1) (slice_get forms i)
+      behind = both_below (best.form + 1) i (i + 1) (best.reach + 1) old.behind (one_below i (best.reach + 1)
+          (each (IsLow text best.reach) (λ g. (n : ℕ) → Reaches text g n → n < best.reach + 1) (slice_get forms i)
           (λ g is n reaches. let most = is n reaches in omega (arith, most)) most));
     }
 
-    -- Its cause is not stray.
-    pub settle : IsSomeAnd (slice_get forms best.form) (λ g. (n : ℕ) → Reaches text g n → 2 * best.stop.size + 1 ≤ n) → limit best ≤ 2 * best.stop.size + 1
-        → Leads forms text i (record best { settled = true })
-    settle low less = record {
-      here = old.here;
-      low = low;
-      before = weaker 0 best.form (limit best) (2 * best.stop.size + 1) less old.before;
-      behind = weaker (best.form + 1) i (limit best + 1) (2 * best.stop.size + 1 + 1) (omega (arith, less)) old.behind;
-    }
+    pub no_further : (stop : Stopped) → IsSomeAnd (slice_get forms i) (IsRefusedAt text stop) → stop.size < best.reach → Leads forms text (i + 1) best
+    no_further stop here less = left_out (each (IsRefusedAt text stop) (IsLow text best.reach) (slice_get forms i)
+        (λ g is n reaches. let most = goes_most g text stop is n reaches in omega (arith, most, less)) here)
 
-    -- All forms so far have lower reaches.
-    pub all_below : (most : ℕ) → limit best < most → IsSomeAnd (slice_get forms best.form) (λ g. (n : ℕ) → Reaches text g n → n < most)
-        → AreBelow forms text 0 i most
-    all_below most less own = both_below 0 best.form i most (weaker 0 best.form (limit best) most (omega (arith, less)) old.before)
-        (both_below best.form (best.form + 1) i most (one_below best.form most own)
-        (weaker (best.form + 1) i (limit best + 1) most (omega (arith, less)) old.behind))
+    pub stays : (reach : ℕ) → IsSomeAnd (slice_get forms i) (λ g. Reaches text g reach) → reach ≤ best.reach → Leads forms text (i + 1) best
+    stays reach other less = left_out (each (λ g. Reaches text g reach) (IsLow text best.reach) (slice_get forms i)
+        (λ g is n reaches. let same = one_reach g text n reach reaches is in omega (arith, same, less)) other)
 
-    -- One form more is left out.
-    pub left_out : IsSomeAnd (slice_get forms i) (IsLow text best.stop.size) → Leads forms text (i + 1) best
-    left_out is = kept (each (IsLow text best.stop.size) (λ g. (n : ℕ) → Reaches text g n → n ≤ limit best) (slice_get forms i)
-        (λ g is n reaches. let most = is n reaches in let least = (limit_within best).0 in omega (arith, most, least)) is)
+    -- All forms so far go less far.
+    all_below : (most : ℕ) → best.reach < most → AreBelow forms text 0 i most
+    all_below most less = both_below 0 best.form i most (weaker 0 best.form best.reach most (omega (arith, less)) old.before)
+        (both_below best.form (best.form + 1) i most (one_below best.form most
+        (each (λ g. Reaches text g best.reach) (λ g. (n : ℕ) → Reaches text g n → n < most) (slice_get forms best.form)
+        (λ g is n reaches. let same = one_reach g text n best.reach reaches is in omega (arith, same, less)) old.reach))
+        (weaker (best.form + 1) i (best.reach + 1) most (omega (arith, less)) old.behind))
 
-  -- One form more stops at `stop`.
-  module _ (i : ℕ) (best : Furthest) (old : Leads forms text i best) (stop : Stopped) (here : IsSomeAnd (slice_get forms i) (IsRefusedAt text stop)) where
-    pub no_further : 2 * stop.size + 1 ≤ limit best → Leads forms text (i + 1) best
-    no_further less = kept i best old (each (IsRefusedAt text stop) (λ g. (n : ℕ) → Reaches text g n → n ≤ limit best) (slice_get forms i)
-        (λ g is n reaches. let most = reach_most g text stop is n reaches in omega (arith, most, less)) here)
-
-    pub goes_further : best.stop.size < stop.size → Leads forms text (i + 1) (record { form = i; stop = stop; settled = false })
-    goes_further far = leads_first i stop here (all_below i best old (2 * stop.size) (let most = (limit_within best).1 in omega (arith, most, far))
-        (each (IsRefusedAt text best.stop) (λ g. (n : ℕ) → Reaches text g n → n < 2 * stop.size) (slice_get forms best.form)
-        (λ g is n reaches. let most = reach_most g text best.stop is n reaches in omega (arith, most, far)) old.here))
-
-    -- The causes are not stray, or stray.
-    pub settles : stop.size ≤ best.stop.size
-        → IsSomeAnd (slice_get forms best.form) (λ g. (n : ℕ) → Reaches text g n → n ≡ 2 * best.stop.size + 1)
-        → Leads forms text (i + 1) (record best { settled = true })
-    settles near own = kept i (record best { settled = true }) (settle i best old
-        (each (λ g. (n : ℕ) → Reaches text g n → n ≡ 2 * best.stop.size + 1) (λ g. (n : ℕ) → Reaches text g n → 2 * best.stop.size + 1 ≤ n)
-        (slice_get forms best.form) (λ g is n reaches. let same = is n reaches in omega (arith, same)) own) (limit_within best).1)
-        (each (IsRefusedAt text stop) (λ g. (n : ℕ) → Reaches text g n → n ≤ 2 * best.stop.size + 1) (slice_get forms i)
-        (λ g is n reaches. let most = reach_most g text stop is n reaches in omega (arith, most, near)) here)
-
-    pub stays : stop.size ≤ best.stop.size → IsSomeAnd (slice_get forms i) (λ g. (n : ℕ) → Reaches text g n → n ≡ 2 * stop.size + 0)
-        → Leads forms text (i + 1) best
-    stays near other = kept i best old
-        (each (λ g. (n : ℕ) → Reaches text g n → n ≡ 2 * stop.size + 0) (λ g. (n : ℕ) → Reaches text g n → n ≤ limit best) (slice_get forms i)
-        (λ g is n reaches. let same = is n reaches in let least = (limit_within best).0 in omega (arith, same, least, near)) other)
-
-    pub takes : best.stop.size ≤ stop.size → best.settled ≡ false
-        → IsSomeAnd (slice_get forms best.form) (λ g. (n : ℕ) → Reaches text g n → n ≡ 2 * best.stop.size + 0)
-        → IsSomeAnd (slice_get forms i) (λ g. (n : ℕ) → Reaches text g n → n ≡ 2 * stop.size + 1)
-        → Leads forms text (i + 1) (record { form = i; stop = stop; settled = true })
-    takes far unsettled own other = leads i stop true here
-        (each (λ g. (n : ℕ) → Reaches text g n → n ≡ 2 * stop.size + 1) (λ g. (n : ℕ) → Reaches text g n → 2 * stop.size + 1 ≤ n) (slice_get forms i)
-        (λ g is n reaches. let same = is n reaches in omega (arith, same)) other)
-        (all_below i best old (2 * stop.size + 1)
-        (let same : limit best ≡ 2 * best.stop.size + 0 = ap (λ (b : Bool). 2 * best.stop.size + (if b then 1 else 0)) unsettled in omega (arith, same, far))
-        (each (λ g. (n : ℕ) → Reaches text g n → n ≡ 2 * best.stop.size + 0) (λ g. (n : ℕ) → Reaches text g n → n < 2 * stop.size + 1)
-        (slice_get forms best.form) (λ g is n reaches. let same = is n reaches in omega (arith, same, far)) own))
+    pub goes_further : (stop : Stopped) (other : Furthest) → other.form ≡ i → other.stop ≡ stop → IsSomeAnd (slice_get forms i) (IsRefusedAt text stop)
+        → IsSomeAnd (slice_get forms i) (λ g. Reaches text g other.reach) → best.reach < other.reach → Leads forms text (i + 1) other
+    goes_further stop other at is here reach less = leads i stop other at is here reach (all_below other.reach less)
 
   pub leads_all : (i : ℕ) → length forms ≤ i → (best : Furthest) → Leads forms text i best → Leads forms text (length forms) best
   leads_all i end best is = record {
     here = is.here;
-    low = is.low;
+    reach = is.reach;
     before = is.before;
     behind = λ k d low high. is.behind k d low (omega (arith, high, end));
   }
@@ -356,7 +308,7 @@ module _ (forms : List Form) (text : List ℕ) where
   led_out i None old is = λ k d below n reaches. elim (cases_lt k i) [
     | inl before ↦ old k d before n reaches
     | inr past ↦ (let same : k ≡ i = omega (arith, below, past) in
-        here_at (IsNearSign text) forms i d is n (subst (λ k. Reaches text (get_or forms k d) n) same reaches))
+        here_at (IsLow text (sign_size text + 2)) forms i d is n (subst (λ k. Reaches text (get_or forms k d) n) same reaches))
   ]
   led_out i (Some best) old is = left_out i best old is
 
@@ -364,36 +316,27 @@ module _ (forms : List Form) (text : List ℕ) where
   pub error_is : (best : Furthest) → Leads forms text (length forms) best → (error : FormError) → error.form ≡ best.form
       → IsSomeAnd (slice_get forms best.form) (IsErrorOfForm text error) → IsFormError forms text error
   error_is best is error same own = record {
-    furthest = record {
-      here = subst (λ k. IsSomeAnd (slice_get forms k) (λ g. Reaches text g reached)) (sym same)
-          (each (IsErrorOfForm text error) (λ g. Reaches text g reached) (slice_get forms best.form)
-          (λ g is. (error.opened, refusal_in error, is.refusal, refl)) own);
-      before = subst (λ k. All (λ g. (n : ℕ) → Reaches text g n → n < reached) (take k forms)) (sym same)
-          (λ k d below n reaches.
-          let within = inside_of (IsErrorOfForm text error) forms best.form own in
-          let size = length-take-le best.form forms (omega (arith, within)) in
-          let inside : k < best.form = omega (arith, below, size) in
-          let less = is.before k d (omega arith) inside n (subst (λ g. Reaches text g n) (get_or-take best.form forms k d inside) reaches) in
-          omega (arith, less, least));
-      others = λ k d below. elim (cases_lt k best.form) [
-        | inl before ↦ (λ n reaches. let less = is.before k d (omega arith) before n reaches in omega (arith, less, least))
-        | inr past ↦ (elim (cases_lt best.form k) [
-          | inl behind ↦ (λ n reaches. let less = is.behind k d (omega (arith, behind)) below n reaches in omega (arith, less, least))
-          | inr here ↦ (λ n reaches. let most = one_below best.form (reached + 1)
-              (each (IsErrorOfForm text error) (λ g. (n : ℕ) → Reaches text g n → n < reached + 1) (slice_get forms best.form)
-              (λ g is n reaches. let one = one_reach g text reaches.0 error.opened reaches.1 (refusal_in error) reaches.2 is.refusal in
-              omega (arith, one, reaches.3)) own) k d past (omega (arith, here)) n reaches in omega (arith, most))
-        ])
-      ];
-    };
+    furthest = (
+      best.reach,
+      record {
+        here = subst (λ k. IsSomeAnd (slice_get forms k) (λ g. Reaches text g best.reach)) (sym same) is.reach;
+        before = subst (λ k. All (λ g. (n : ℕ) → Reaches text g n → n < best.reach) (take k forms)) (sym same)
+            (λ k d below n reaches.
+            let within = inside_of (IsErrorOfForm text error) forms best.form own in
+            let size = length-take-le best.form forms (omega (arith, within)) in
+            let inside : k < best.form = omega (arith, below, size) in
+            is.before k d (omega arith) inside n (subst (λ g. Reaches text g n) (get_or-take best.form forms k d inside) reaches));
+        others = λ k d below. elim (cases_lt k best.form) [
+          | inl before ↦ (λ n reaches. let less = is.before k d (omega arith) before n reaches in omega (arith, less))
+          | inr past ↦ (elim (cases_lt best.form k) [
+            | inl behind ↦ (λ n reaches. let less = is.behind k d (omega (arith, behind)) below n reaches in omega (arith, less))
+            | inr here ↦ (λ n reaches. let most = one_below best.form (best.reach + 1)
+                (each (λ g. Reaches text g best.reach) (λ g. (n : ℕ) → Reaches text g n → n < best.reach + 1) (slice_get forms best.form)
+                (λ g is n reaches. let one = one_reach g text n best.reach reaches is in omega (arith, one)) is.reach) k d past (omega (arith, here))
+                n reaches in omega (arith, most))
+          ])
+        ];
+      },
+    );
     refusal = subst (λ k. IsSomeAnd (slice_get forms k) (IsErrorOfForm text error)) (sym same) own;
-  } where
-    reached : ℕ
-    reached = reach_in error.opened (refusal_in error)
-
-    least : limit best ≤ reached
-    least = go (slice_get forms best.form) own is.low where
-      go : (o : Option Form) → IsSomeAnd o (IsErrorOfForm text error) → IsSomeAnd o (λ g. (n : ℕ) → Reaches text g n → limit best ≤ n)
-          → limit best ≤ reached
-      go (Some form) own low = low reached (error.opened, refusal_in error, own.refusal, refl)
-      go None own low = absurd own
+  }

@@ -13,7 +13,7 @@ use Rattle.lexical_forms.proofs.Common.{unwrap_or, word_size, ℕ, ◌&&◌, ◌
 use Rattle.lexical_forms.proofs.ExcludeLemmas.{BeginsPrefixed, front_sign, no_role_excludes, prefix_begins}
 use Rattle.lexical_forms.proofs.FormLemmas.{all_at, no_one, plain_at}
 use Rattle.lexical_forms.proofs.BehindLemmas.{plain_in, plain_of}
-use Rattle.lexical_forms.proofs.OpeningLemmas.{begins_whole, both, front_byte}
+use Rattle.lexical_forms.proofs.OpeningLemmas.{begins_whole, both, front_byte, no_opening}
 use Rattle.lexical_forms.proofs.TokenLemmas.{float_in, some_is, token_is}
 use Rattle.lexical_forms.specs.declared.suffix.Suffixes.{Suffixes}
 use Rattle.lexical_literal.specs.declared.literal.Sums.{Sums}
@@ -288,7 +288,9 @@ module _ (text : List ℕ) (form : Form) (bare : IsBare form) where
 
   counted_plain : (size : ℕ) (counts : List ℕ) → IsMeasured (notation_of form.syntax) (take size text) counts → IsCounted form (take size text) counts
   counted_plain size counts is = record {
-    literal = (is.literal.0, plain_in form (take size text) bare is.literal.0 is.literal.1);
+    literal = is.literal.0;
+    opened = no_opening form.opening (take size text) bare;
+    reads = (plain_in form (take size text) bare is.literal.0 is.literal.1).1;
     measured = subst (λ k. IsMeasured (notation_of form.syntax) (drop k (take size text)) counts) (sym bare) is;
   }
 
@@ -374,10 +376,10 @@ module _ (list : FormList) (t : Tokens) (text : List ℕ) (index : ℕ) (form : 
       longest = is.longest;
       front = form_front text form own_bare is.longest is.front;
       size_is = is.size_is;
-      literal = counted.literal.0;
-      reads = counted.literal.1;
+      literal = counted.literal;
+      reads = (counted.opened, counted.reads);
       end_is = ap (λ n. size + n) more_is ∙ ap (λ b. size + suffix_size form.suffixes b (drop size text))
-          (float_in form (take size text) counts counted counted.literal.0 counted.literal.1);
+          (float_in form (take size text) counts counted counted.literal (counted.opened, counted.reads));
       suffixed = λ needed. absurd (false≢true needed);
     }
 

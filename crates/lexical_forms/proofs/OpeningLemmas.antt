@@ -1,10 +1,10 @@
 -- Forms with an opening: what a syntax reads behind it, in the text before which it stands.
 use Rattle.lexical_forms.proofs.Common.{Begins, BeginsBy, Bool, Form, IsFront, IsOpened, IsOpenedTo, IsValidBy, IsValidUpTo, List, Literal, NoFrontPast}
-use Rattle.lexical_forms.proofs.Common.{NoLiteral, NoneBy, NonePast, Notation, ReadsIn, Reads, ReadsFront, ReadsFrontBy, Refusal, [], ap, append-nil}
+use Rattle.lexical_forms.proofs.Common.{NoLiteral, NoneBy, NonePast, Notation, ReadsIn, Reads, ReadsFront, ReadsFrontBy, [], ap, append-nil}
 use Rattle.lexical_forms.proofs.Common.{append_assoc, arith, behind, cases_lt, drop, drop-append-le, drop-take, drop_all, drop_at, false, false≢true, get_or}
-use Rattle.lexical_forms.proofs.Common.{get_or-append_right, get_or-drop, get_or-take, get_or_append_left, if◌then◌else◌, inl, inr, is_absent, is_present}
-use Rattle.lexical_forms.proofs.Common.{is_stray, le_antisymm, length, length-append, length-drop, length-take-le, nat_tests, not, notation_of, reach, refl}
-use Rattle.lexical_forms.proofs.Common.{spelling, spells, subst, sym, take, true, ℕ, ◌&&◌, ◌*◌, ◌++◌, ◌+◌, ◌-◌, ◌<◌, ◌||◌, ◌∙◌, ◌∷◌, ◌≡◌, ◌≤◌}
+use Rattle.lexical_forms.proofs.Common.{get_or-append_right, get_or-drop, get_or-take, get_or_append_left, inl, inr, is_absent, is_present}
+use Rattle.lexical_forms.proofs.Common.{le_antisymm, length, length-append, length-drop, length-take-le, nat_tests, not, notation_of, refl}
+use Rattle.lexical_forms.proofs.Common.{spelling, spells, subst, sym, take, true, ℕ, ◌&&◌, ◌++◌, ◌+◌, ◌-◌, ◌<◌, ◌||◌, ◌∙◌, ◌∷◌, ◌≡◌, ◌≤◌}
 use Rattle.lexical_forms.specs.declared.opening.Opening.{Opening}
 
 -- A text has one longest front that some literal begins with, and one that is a literal. A literal begins with itself.
@@ -43,11 +43,6 @@ none_empty g l reads = no_empty (notation_of g.syntax) l
 pub both : (a b : Bool) → (a && b) ≡ true → (a ≡ true) × (b ≡ true)
 both true b is = (refl, is)
 both false b is = absurd (false≢true is)
-
--- A number and at most 1 more.
-pub bit_within : (n a b : ℕ) (t : Bool) → a ≤ 1 → b ≤ 1 → (n ≤ n + (if t then a else b)) × (n + (if t then a else b) ≤ n + 1)
-bit_within n a b true most other = (omega arith, omega (arith, most))
-bit_within n a b false most other = (omega arith, omega (arith, other))
 
 -- A front of a text with more bytes behind it has the bytes of the text.
 pub front_byte : (text more : List ℕ) (size index : ℕ) → index < size → size ≤ length text → get_or (take size text ++ more) index 0 ≡ get_or text index 0
@@ -139,9 +134,6 @@ behind_more : (n size : ℕ) (text more : List ℕ) → n ≤ size → size ≤ 
 behind_more n size text more less within =
     let same = length-take-le size text within in
     drop-append-le n (take size text) more (omega (arith, same, less)) ∙ ap (λ xs. xs ++ more) (behind_take n size text less)
-
-pub reach_within : (error : Refusal) → (2 * error.valid_up_to ≤ reach error) × (reach error ≤ 2 * error.valid_up_to + 1)
-reach_within error = bit_within (2 * error.valid_up_to) 0 1 (is_stray error) (omega arith) (omega arith)
 
 module _ (text : List ℕ) (g : Form) where
   abbrev m : Notation

@@ -1,20 +1,16 @@
 -- A stranger: a byte that plays no role behind the base prefix, and its other case neither.
-use Rattle.lexical_forms.proofs.Common.{All, All-get_or, AreFalse, Bool, Flag, Grammar, IsCause, IsFront, IsNoBetter, IsSpare, IsStranger, IsTrue}
-use Rattle.lexical_forms.proofs.Common.{IsValidUpTo, List, NoLiteral, Notation, PlaysNoRole, ReadErrorKind, Reads, Refusal, Role, Some, [], ap}
-use Rattle.lexical_forms.proofs.Common.{append_assoc, arith, bare, cases_lt, false, false≢true, get_or, has, if◌then◌else◌, inl, inr, is_byte, is_none_or_one}
-use Rattle.lexical_forms.proofs.Common.{is_none_or_prefix, is_stray, le_antisymm, length, length-take-le, nat_lt, nat_tests, notation_of, other_case, position}
+use Rattle.lexical_forms.proofs.Common.{All, All-get_or, AreFalse, Bool, Grammar, IsNoFurther, IsSpare, IsStranger, IsTrue}
+use Rattle.lexical_forms.proofs.Common.{IsValidUpTo, List, NoLiteral, Notation, PlaysNoRole, Role, [], ap}
+use Rattle.lexical_forms.proofs.Common.{arith, cases_lt, false, false≢true, get_or, if◌then◌else◌, inl, inr, is_in, is_none_or_one, is_other_prefix, not, ◌&&◌}
+use Rattle.lexical_forms.proofs.Common.{is_none_or_prefix, le_antisymm, length, nat_lt, nat_tests, notation_of, other_case, position}
 use Rattle.lexical_forms.proofs.Common.{radix_of, raw, reach, refl, set_of_role, sign_size, signs, slice_get, slice_get-get_or, subst, sym, take, text_of, true}
-use Rattle.lexical_forms.proofs.Common.{unwrap_or, with_rules, ℕ, ◌*◌, ◌++◌, ◌+◌, ◌<◌, ◌==◌, ◌||◌, ◌∙◌, ◌∷◌, ◌≡◌, ◌≤◌}
+use Rattle.lexical_forms.proofs.Common.{unwrap_or, ℕ, ◌++◌, ◌+◌, ◌<◌, ◌==◌, ◌∙◌, ◌∷◌, ◌≡◌, ◌≤◌}
 use Rattle.lexical_base.specs.Digits.{byte_value, digit_characters, uppercase}
 use Rattle.lexical_util.specs.Layout as layout
 use Rattle.lexical_util.specs.Unfoldable.{cased}
-use Rattle.lexical_literal.specs.declared.syntax.Condition.{Condition}
-use Rattle.lexical_literal.specs.declared.syntax.Condition.TheVariants as conditions
-use Rattle.std.proofs.Math.Seq.{get_or-append_seam}
 use Rattle.lexical_util.specs.declared.feature_format.roles.Role.TheVariants as roles
 use Rattle.lexical_util.specs.declared.format_flags.Part.TheVariants as parts
-use Rattle.lexical_literal.specs.declared.cause.ReadErrorKind.TheVariants as causes
-use Rattle.lexical_forms.proofs.ExcludeLemmas.{longer, near_no_role, no_role_excludes, rest_known, rest_of, same_byte, same_sign}
+use Rattle.lexical_forms.proofs.ExcludeLemmas.{longer, near_no_role, rest_known, rest_of, same_byte, same_sign}
 
 module _ (m : Notation) where
   behind_at : (xs ys rest : List ℕ) (i : ℕ) → length xs + length ys ≤ i → i < length (xs ++ (ys ++ rest)) → All (λ b. IsSpare m b → ⊥) rest
@@ -43,25 +39,6 @@ module _ (m : Notation) where
         behind_at l.sign l.prefix (rest_of l) i (omega (arith, size, far)) (subst (λ t. i < length t) whole below) (rest_known m l text reads)
         (subst (λ t. IsSpare m (get_or t i 0)) whole none)
 
--- A byte goes on from a front only if some literal has both.
-front_apart : (m : Notation) (front : List ℕ) (b : ℕ) → ((more : List ℕ) → NoLiteral m (front ++ (b ∷ more))) → IsFront m (front ++ b ∷ []) → ⊥
-front_apart m front b none is = none is.more is.literal (subst (Reads m is.literal) (append_assoc front (b ∷ []) is.more) is.reads)
-
-below : (front more : List ℕ) (b : ℕ) → length front < length (front ++ (b ∷ more))
-below [] more b = omega arith
-below (x ∷ front) more b = let rest = below front more b in omega (arith, rest)
-
-spare_front : (m : Notation) (front : List ℕ) (b : ℕ) → sign_size front + 1 < length front → IsSpare m b → IsFront m (front ++ b ∷ []) → ⊥
-spare_front m front b far none = front_apart m front b (λ more. spare_excludes m (front ++ (b ∷ more)) (length front) (sign_in front more far)
-    (below front more b) (subst (IsSpare m) (sym (get_or-append_seam front b more 0)) none)) where
-      sign_in : (front more : List ℕ) → sign_size front + 1 < length front → sign_size (front ++ (b ∷ more)) + 1 < length front
-      sign_in [] more far = absurd (omega (arith, far))
-      sign_in (x ∷ front) more far = far
-
-silent_front : (m : Notation) (front : List ℕ) (b : ℕ) → PlaysNoRole m b → IsFront m (front ++ b ∷ []) → ⊥
-silent_front m front b none = front_apart m front b (λ more. no_role_excludes m (front ++ (b ∷ more)) (length front) (below front more b)
-    (subst (PlaysNoRole m) (sym (get_or-append_seam front b more 0)) none))
-
 -- A literal ends before a spare byte behind the place of the prefix.
 pub near_spare : (m : Notation) (text : List ℕ) (n : ℕ) → IsValidUpTo m text n → (i : ℕ) → sign_size text + 1 < i → IsSpare m (get_or text i 0) → n ≤ i
 near_spare m text n is i far none = elim (cases_lt i n) [
@@ -74,70 +51,56 @@ near_spare m text n is i far none = elim (cases_lt i n) [
   | inr near ↦ near
 ]
 
--- The cause is a wrong byte if no literal goes on with the byte, whatever the flags and the conditions, and none with its other case.
-module _ (m : Notation) (front : List ℕ) (b : ℕ)
-    (none : (flag : Flag → Bool) (condition : Condition → Bool) → IsFront (with_rules m flag condition) (front ++ b ∷ []) → ⊥)
-    (other : IsFront (bare m) (front ++ other_case b ∷ []) → ⊥) where
-  kind_is : (kind : ReadErrorKind) (flags : Flag → Bool) → IsCause m front (Some b) kind flags → is_byte kind ≡ true
-  kind_is causes.Requirement flags is = absurd (none _ _ is.allowed)
-  kind_is (causes.Separator part place) flags is = absurd (none _ _ ((is.each is.some.0).0 is.some.1).1)
-  kind_is causes.Case flags is = absurd (other ((is.each is.some.0).0 is.some.1).1)
-  kind_is causes.Byte flags is = refl
-  kind_is (causes.Missing part) flags is = absurd is
+-- How far a syntax goes where `n` bytes are right.
+module _ (m : Notation) (text : List ℕ) where
+  pub reach_most : (n : ℕ) → reach m text n ≤ n + 1
+  reach_most n = go _ where
+    go : (b : Bool) → (if b then n + 1 else n) ≤ n + 1
+    go true = omega arith
+    go false = omega arith
 
--- What is added to twice a number of bytes.
-at_most : (error : Refusal) → reach error ≤ 2 * error.valid_up_to + 1
-at_most error = go (is_stray error) where
-  go : (b : Bool) → 2 * error.valid_up_to + (if b then 0 else 1) ≤ 2 * error.valid_up_to + 1
-  go true = omega arith
-  go false = omega arith
+  pub reach_least : (n : ℕ) → n ≤ reach m text n
+  reach_least n = go _ where
+    go : (b : Bool) → n ≤ (if b then n + 1 else n)
+    go true = omega arith
+    go false = omega arith
 
-no_more : (n size : ℕ) (b lacks : Bool) → b ≡ true → n ≡ size → 2 * n + (if b || lacks then 0 else 1) ≤ 2 * size
-no_more n size true lacks is same = omega (arith, same)
-no_more n size false lacks is same = absurd (false≢true is)
+  reach_far : (n : ℕ) → (n ≡ sign_size text + 1 → ⊥) → reach m text n ≤ n
+  reach_far n other = go (n == sign_size text + 1) _ refl where
+    go : (a b : Bool) → (n == sign_size text + 1) ≡ a → (if a && b then n + 1 else n) ≤ n
+    go true b is = absurd (other (grind (arith, nat_tests)))
+    go false b is = omega arith
 
--- An error goes no further than to such a byte, and there it is a wrong byte.
-module _ (m : Notation) (text : List ℕ) (size : ℕ) where
-  no_better : (inside : size < length text) → ((n : ℕ) → IsValidUpTo m text n → n ≤ size)
-      → ((flag : Flag → Bool) (condition : Condition → Bool) → IsFront (with_rules m flag condition) (take size text ++ get_or text size 0 ∷ []) → ⊥)
-      → (IsFront (bare m) (take size text ++ other_case (get_or text size 0) ∷ []) → ⊥) → IsNoBetter m text size
-  no_better inside near none other error is = elim (cases_lt error.valid_up_to size) [
-    | inl below ↦ (let most = at_most error in omega (arith, below, most))
-    | inr past ↦ at_size (le_antisymm past (near error.valid_up_to is.valid_up_to))
-  ] where
-    at_size : size ≡ error.valid_up_to → reach error ≤ 2 * size
-    at_size same =
-        let here = slice_get-get_or text size 0 inside in
-        let cause = subst (λ n. IsCause m (take n text) (slice_get text n) error.kind (raw error.mask).flag) (sym same) is.cause in
-        let byte = kind_is m (take size text) (get_or text size 0) none other error.kind (raw error.mask).flag
-        (subst (λ next. IsCause m (take size text) next error.kind (raw error.mask).flag) here cause) in
-        no_more error.valid_up_to size (is_byte error.kind) (has error.conditions conditions.BasePrefix) byte (sym same)
+  reach_other : (n : ℕ) → is_in (is_other_prefix m) (slice_get text n) ≡ false → reach m text n ≤ n
+  reach_other n none = go _ _ _ none where
+    go : (a b c : Bool) → c ≡ false → (if a && (b && c) then n + 1 else n) ≤ n
+    go a b true is = absurd (false≢true (sym is))
+    go true true false is = omega arith
+    go true false false is = omega arith
+    go false b false is = omega arith
+
+  -- It goes up to less than `size`, or up to there, where it goes no further.
+  near_or : (size : ℕ) → ((n : ℕ) → IsValidUpTo m text n → n ≤ size) → reach m text size ≤ size → IsNoFurther m text size
+  near_or size near here n valid = elim (cases_lt n size) [
+    | inl below ↦ (let most = reach_most n in omega (arith, below, most))
+    | inr past ↦ subst (λ k. reach m text k ≤ size) (le_antisymm past (near n valid)) here
+  ]
+
+  pub near_is : (size : ℕ) → ((n : ℕ) → IsValidUpTo m text n → n < size) → IsNoFurther m text size
+  near_is size near n valid = let up = near n valid in let most = reach_most n in omega (arith, up, most)
 
   -- A byte that plays no role, and its other case neither.
-  pub silent_is : size < length text → PlaysNoRole m (get_or text size 0) → PlaysNoRole m (other_case (get_or text size 0)) → IsNoBetter m text size
-  silent_is inside own other = no_better inside (λ n valid. near_no_role m text n valid size own)
-      (λ flag condition. silent_front (with_rules m flag condition) (take size text) (get_or text size 0) (silent_by flag condition own))
-      (silent_front (bare m) (take size text) (other_case (get_or text size 0)) (silent_by _ _ other)) where
-        silent_by : {b : ℕ} (flag : Flag → Bool) (condition : Condition → Bool) → PlaysNoRole m b → PlaysNoRole (with_rules m flag condition) b
-        silent_by flag condition none = record { not_zero = none.not_zero; none = λ r. none.none r }
-
-  -- An error that goes less far.
-  pub near_is : ((n : ℕ) → IsValidUpTo m text n → n < size) → IsNoBetter m text size
-  near_is near error is = let up = near error.valid_up_to is.valid_up_to in let most = at_most error in omega (arith, up, most)
+  pub silent_is : (size : ℕ) → size < length text → PlaysNoRole m (get_or text size 0) → PlaysNoRole m (other_case (get_or text size 0))
+      → IsNoFurther m text size
+  silent_is size inside own other = near_or size (λ n valid. near_no_role m text n valid size own) (reach_other size
+      (ap (is_in (is_other_prefix m)) (slice_get-get_or text size 0 inside) ∙ no_other (m.prefix (get_or text size 0)) _ (other.none roles.Prefix))) where
+        no_other : (a b : Bool) → b ≡ false → (not a && b) ≡ false
+        no_other a b is = grind arith
 
   -- A stranger.
-  module _ (far : sign_size text + 1 < size) where
-    pub stranger_is : size < length text → IsStranger m (get_or text size 0) → IsNoBetter m text size
-    stranger_is inside stranger = no_better inside (λ n valid. near_spare m text n valid size far stranger.0)
-        (λ flag condition. spare_front (with_rules m flag condition) (take size text) (get_or text size 0) front stranger.0)
-        (spare_front (bare m) (take size text) (other_case (get_or text size 0)) front stranger.1) where
-          sign_at : (text : List ℕ) (size : ℕ) → sign_size text + 1 < size → size < length text → sign_size (take size text) + 1 < size
-          sign_at [] size far inside = absurd (omega (arith, inside))
-          sign_at (x ∷ text) ℕ.zero far inside = absurd (omega (arith, far))
-          sign_at (x ∷ text) (ℕ.suc size) far inside = far
-
-          front : sign_size (take size text) + 1 < length (take size text)
-          front = subst (λ n. sign_size (take size text) + 1 < n) (sym (length-take-le size text (omega (arith, inside)))) (sign_at text size far inside)
+  pub stranger_is : (size : ℕ) → sign_size text + 1 < size → size < length text → IsStranger m (get_or text size 0) → IsNoFurther m text size
+  stranger_is size far inside stranger = near_or size (λ n valid. near_spare m text n valid size far stranger.0)
+      (reach_far size (λ same. omega (arith, far, same)))
 
 other_case-twice : (b : ℕ) → other_case (other_case b) ≡ b
 other_case-twice b = grind (arith, nat_tests)

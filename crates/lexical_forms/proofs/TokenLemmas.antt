@@ -102,8 +102,10 @@ literal_size form (byte ∷ text) l reads = omega arith
 -- The parts of a front are counted behind the opening.
 counted_in : (form : Form) (text : List ℕ) (found : Found) → IsFrontIn text found form → IsCounted form (take found.size text) found.counts
 counted_in form text found is =
-    let inside = inner_is form text found is (take found.size text) _ refl refl in record {
-      literal = (is.front.literal, (front_in form text found is).reads);
+    let inside = inner_is form text found is (take found.size text) _ refl refl in let reads = (front_in form text found is).reads in record {
+      literal = is.front.literal;
+      opened = reads.0;
+      reads = reads.1;
       measured = subst (λ t. IsMeasured (notation_of form.syntax) t found.counts) (sym inside)
           (record { literal = (is.front.literal, is.front.reads.reads); counted = is.front.counted });
     }
@@ -202,10 +204,10 @@ module _ (back : PointsBack) (needs : Bool) (text : List ℕ) (form : Form) (fou
       longest = found.size;
       front = (is.front.literal, front_in form text found is);
       size_is = owned.size;
-      literal = owned.counted.literal.0;
-      reads = owned.counted.literal.1;
+      literal = owned.counted.literal;
+      reads = (owned.counted.opened, owned.counted.reads);
       end_is = ap (λ b. own.size + suffix_size form.suffixes b (drop own.size text))
-          (float_in form (take own.size text) own.counts owned.counted owned.counted.literal.0 owned.counted.literal.1);
+          (float_in form (take own.size text) own.counts owned.counted owned.counted.literal (owned.counted.opened, owned.counted.reads));
       suffixed = enough;
     }
 
@@ -426,8 +428,8 @@ module _ (list : FormList) (t : Tokens) (text : List ℕ) where
         module _ (other : ((c.size == c.end) && is_in is_ascii_digit (slice_get text c.size)) ≡ false) where
           pub ended : (error : TokenError) → IsEnd form text index c error → IsTokenError list t text error
           ended (errors.UnknownSuffix i start end suffixes) e =
-              let l = is.counted.literal.0 in
-              let reads = is.counted.literal.1 in
+              let l = is.counted.literal in
+              let reads : ReadsIn form l (take c.size text) = (is.counted.opened, is.counted.reads) in
               let here = sym e.2 in (
                 form,
                 c.end,

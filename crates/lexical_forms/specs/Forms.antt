@@ -1,12 +1,12 @@
 -- Several forms of numbers: which form has a text, and which error a text has that is of no form.
-use Rattle.std.specs.Prelude.{ℕ, ◌≡◌, ◌+◌, ◌*◌, ◌<◌, ◌≤◌, if◌then◌else◌, IfErr, IsSomeAnd, List, Option, Some, None, Result, Ok, Err, All}
-use Rattle.std.specs.Prelude.{drop, length, option_and_then, option_map, slice_get, take, ◌==◌, ◌||◌, not, ◌&&◌, true, get_or}
+use Rattle.std.specs.Prelude.{ℕ, ◌≡◌, ◌+◌, ◌<◌, ◌≤◌, if◌then◌else◌, IfErr, IsSomeAnd, List, Option, Some, None, Result, Ok, Err, All}
+use Rattle.std.specs.Prelude.{drop, length, option_and_then, option_map, slice_get, take, ◌==◌, ◌||◌, not, ◌&&◌, true, get_or, nat_lt, ◌-◌, [], ◌∷◌}
 use Rattle.std.specs.Result.{result_ok}
 use Rattle.std.specs.Borrow.{Bor}
-use Rattle.lexical_literal.specs.Cause.{Explained, IsRefusal, is_stray, tail_of}
+use Rattle.lexical_literal.specs.Cause.{Explained, IsRefusal, is_in, tail_of}
 use Rattle.lexical_literal.specs.Front.{IsValidBy, NoFrontBy, NoneBy, ReadsFrontBy}
 use Rattle.lexical_literal.specs.Literal.{Literal, Reads}
-use Rattle.lexical_literal.specs.Notation.{notation_of}
+use Rattle.lexical_literal.specs.Notation.{Notation, notation_of}
 use Rattle.lexical_literal.specs.Read.{Read}
 use Rattle.lexical_forms.specs.Specials.{special_of}
 use Rattle.lexical_forms.specs.FormList.{FormList}
@@ -16,7 +16,8 @@ use Rattle.lexical_forms.specs.declared.list.FormError.{FormError}
 use Rattle.lexical_forms.specs.declared.list.Number.{Number}
 use Rattle.lexical_forms.specs.declared.list.Number.TheVariants as numbers
 use Rattle.lexical_forms.specs.declared.specials.Special.{Special}
-use Rattle.lexical_util.specs.Roles.{other_case}
+use Rattle.lexical_util.specs.Ascii.{ByteSet}
+use Rattle.lexical_util.specs.Roles.{other_case, signs}
 use Rattle.lexical_forms.specs.declared.opening.Opening.{Opening}
 
 -- `Begins opening text size` holds if the first `size` bytes of `text` are those of `opening`, each in either case unless its case counts.
@@ -59,10 +60,28 @@ pub record IsGreatest (P : Form → ℕ → Type 0) (forms : List Form) (index n
   pub before : All (λ form. (other : ℕ) → P form other → other < n) (take index forms)
   pub others : All (λ form. (other : ℕ) → P form other → other ≤ n) forms
 
--- `reach_in opened error` is twice the number of bytes that are right, and 1 more if the cause is not that a byte is wrong, or a prefix or the opening missing.
-abbrev pub reach_in : ℕ → Option Refusal → ℕ
-reach_in opened None = 2 * opened
-reach_in opened (Some error) = 2 * opened + (2 * error.valid_up_to + (if is_stray error then 0 else 1))
+-- `sign_size text` is the length of the sign with which `text` begins.
+abbrev pub sign_size : List ℕ → ℕ
+sign_size [] = 0
+sign_size (byte ∷ text) = if signs byte then 1 else 0
+
+-- `is_other_prefix m byte` is true if `byte` is the base prefix in its other case alone.
+abbrev pub is_other_prefix : Notation → ByteSet
+is_other_prefix m byte = not (m.prefix byte) && m.prefix (other_case byte)
+
+-- `reach m text size` is `size`, or 1 more if the first `size` bytes of `text` are a sign, if any, and a zero, and the base prefix in its other case is next.
+abbrev pub reach : Notation → List ℕ → ℕ → ℕ
+reach m text size = if (size == sign_size text + 1) && ((get_or text (size - 1) 0 == 48) && is_in (is_other_prefix m) (slice_get text size)) then size + 1 else size
+
+-- `reached form text size` is the same behind the opening of `form`, and `size` where this is not there.
+abbrev pub reached : Form → List ℕ → ℕ → ℕ
+reached form text size = if nat_lt size form.opening.size then size
+    else form.opening.size + reach (notation_of form.syntax) (drop form.opening.size text) (size - form.opening.size)
+
+-- `Reaches text form n` holds if `form` goes up to `n` in `text`: to the most bytes with which some literal of `form` begins, where the base prefix in its
+-- other case counts as one byte more.
+abbrev pub Reaches : List ℕ → Form → ℕ → Type 0
+Reaches text form n = (size : ℕ) × IsValidBy (ReadsIn form) text size × (n ≡ reached form text size)
 
 -- `refusal_in error` is why what is behind the opening is not a literal, or `None` if the opening is not there.
 abbrev pub refusal_in : FormError → Option Refusal
@@ -74,10 +93,9 @@ pub record IsErrorOfForm (text : List ℕ) (error : FormError) (form : Form) : T
   pub refusal : IsErrorIn form text error.opened (refusal_in error)
   pub unopened : IfErr error.error (λ it. (it.byte ≡ slice_get text error.opened) × (it.tail ≡ tail_of text error.opened) × (it.opening ≡ form.opening))
 
--- `IsFormError forms text error` holds if `error` is that of the form with the greatest reach, the first of equals: of one that goes furthest in `text`.
+-- `IsFormError forms text error` holds if `error` is that of the first form that goes furthest in `text`.
 pub record IsFormError (forms : List Form) (text : List ℕ) (error : FormError) : Type 0 where
-  pub furthest : IsGreatest (λ form n. (opened : ℕ) × (it : Option Refusal) × IsErrorIn form text opened it × (reach_in opened it ≡ n)) forms error.form
-      (reach_in error.opened (refusal_in error))
+  pub furthest : (n : ℕ) × IsGreatest (Reaches text) forms error.form n
   pub refusal : IsSomeAnd (slice_get forms error.form) (IsErrorOfForm text error)
 
 -- `special_by list text` is the special value that `text` is by the flags and conditions of the first form, or `None`.

@@ -1,17 +1,17 @@
 //! Forms with an opening: what a syntax reads behind it.
 
-ghost use Rattle.std.specs.Prelude.{ℕ, ◌≡◌, ◌<◌, ◌+◌, ◌-◌, ◌*◌, IfSome, IsNone, None, get_or, if◌then◌else◌};
-ghost use Rattle.lexical_forms.specs.Additions.Forms.{GoesTo, IsFrontIn, IsInside, IsRefusedAt, NonePast, Reaches};
-ghost use Rattle.lexical_forms.specs.Forms.{IsErrorIn, IsErrorOfForm, ReadsForm, ReadsIn};
+ghost use Rattle.std.specs.Prelude.{◌≡◌, ◌<◌, ◌≤◌, IfSome, IsNone, None, get_or, length};
+ghost use Rattle.lexical_forms.specs.Additions.Forms.{GoesTo, IsFrontIn, IsInside, IsRefusedAt, NonePast};
+ghost use Rattle.lexical_forms.specs.Forms.{IsErrorIn, IsErrorOfForm, Reaches, ReadsForm, ReadsIn, reached};
 ghost use Rattle.lexical_literal.specs.Additions.Stop.{IsStopped};
 ghost use Rattle.lexical_literal.specs.Cause.{IsRefusal};
 ghost use Rattle.lexical_util.specs.Roles.{other_case};
 ghost use Rattle.lexical_literal.specs.Front.{NoLiteral, NoneBy};
 ghost use Rattle.lexical_literal.specs.Notation.{notation_of};
 
-use crate::exclude::{excludes, lacks_longer, sign_size};
+use crate::exclude::{excludes, lacks_longer, reach, sign_size};
 use crate::form::Form;
-use crate::list::{FormError, Unopened};
+use crate::list::{FormError, Furthest, Unopened};
 use lexical_literal::cause::ReadError;
 use lexical_literal::laws::literal_facts;
 use lexical_literal::literal::Literal;
@@ -118,17 +118,30 @@ impl Form {
         stop.at(opened + stop.size)
     }
 
-    // Returns whether the cause is stray: it is a wrong byte, or the opening or a required prefix is not there.
-    pub(crate) fn is_stray(&self, text: &[u8], stop: Stopped) -> bool
+    // Returns how far the form goes, which has the index `form` and stops at `stop`.
+    #[inline(always)]
+    pub(crate) fn reached(&self, text: &[u8], form: usize, stop: Stopped) -> Furthest
         requires { IsRefusedAt text.now stop self.now }
-        ensures { (n : ℕ) → Reaches text.now self.now n → n ≡ 2 * stop.size + (if result then 0 else 1) }
+        ensures form { result.form ≡ form }
+        ensures stop { result.stop ≡ stop }
+        ensures reach { Reaches text.now self.now result.reach }
+    {
+        let reach = self.reach(text, stop.size);
+        Furthest { form, stop, reach }
+    }
+
+    // Returns how far the form goes where `size` bytes are right.
+    #[inline(always)]
+    fn reach(&self, text: &[u8], size: usize) -> usize
+        requires { size ≤ length text.now }
+        ensures { result ≡ reached self.now text.now size }
     {
         let opened = self.opening.size();
-        if stop.size < opened {
-            return true;
+        if size < opened {
+            return size;
         }
         let (_, rest) = text.split_at(opened);
-        stop.at(stop.size - opened).is_stray(&self.syntax, rest)
+        opened + reach(self.syntax.grammar(), rest, size - opened)
     }
 
     // Returns why `text` is not a literal of the form, which has the index `form`.
@@ -140,8 +153,6 @@ impl Form {
     {
         let opened = self.opening.size();
         if stop.size < opened {
-            let _syntax = self.syntax();
-            literal_facts();
             return self.lacks_opening(text, form, stop.size);
         }
         let (_, rest) = text.split_at(opened);

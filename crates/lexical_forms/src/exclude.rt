@@ -1,7 +1,9 @@
 //! What excludes that a text is a literal of a form: its first bytes, or a byte that plays no role in the form.
 
 ghost use Rattle.std.specs.Prelude.{ℕ, ◌≡◌, ◌+◌, ◌<◌, ◌≤◌, Bool, IsTrue, length};
-ghost use Rattle.lexical_forms.specs.Additions.Forms.{AreFalse, IsNoBetter, IsStranger, LacksZero, NoFrontPast, PlaysNoRole, sign_size};
+ghost use Rattle.lexical_forms.specs.Additions.Forms.{AreFalse, IsNoFurther, IsStranger, LacksZero, NoFrontPast, PlaysNoRole};
+ghost use Rattle.lexical_forms.specs.Forms.{is_other_prefix, reach, sign_size};
+ghost use Rattle.lexical_literal.specs.Cause.{is_in};
 ghost use Rattle.lexical_forms.specs.Additions.Token.{IsWithin, has_prefix};
 ghost use Rattle.lexical_literal.specs.Front.{IsValidUpTo, NoFront, NoLiteral};
 ghost use Rattle.lexical_util.specs.Record.{Record};
@@ -28,11 +30,11 @@ pub(crate) const fn excludes(grammar: Grammar, text: &[u8], sign: usize) -> bool
     }
 }
 
-// Returns whether `text` is not a literal of a form, and no error of it goes further than one up to `size` whose cause is a wrong byte: the
-// first bytes exclude the form, or the byte there plays no role.
+// Returns whether `text` is not a literal of a form, which goes no further than `size`: the first bytes exclude it, or the byte there plays
+// no role.
 pub(crate) const fn is_settled(grammar: Grammar, text: &[u8], size: usize) -> bool
     ensures none { IsTrue result → NoLiteral (notation_of grammar) text.now }
-    ensures better { IsTrue result → IsNoBetter (notation_of grammar) text.now size }
+    ensures near { IsTrue result → IsNoFurther (notation_of grammar) text.now size }
 {
     let start = sign_size(text);
     if start < size && lacks_zero(grammar, text, start) {
@@ -106,6 +108,33 @@ const fn is_apart(own: u8, byte: u8, other: u8) -> bool
     ensures { IsTrue result → (counts : Bool) → AreFalse (cased counts own) byte }
 {
     own != byte && own != other
+}
+
+// Returns how far the syntax goes where `size` bytes are right: 1 more if the base prefix in its other case is behind a sign, if any, and a zero.
+pub(crate) const fn reach(grammar: Grammar, text: &[u8], size: usize) -> usize
+    requires { size ≤ length text.now }
+    ensures { result ≡ reach (notation_of grammar) text.now size }
+{
+    if size == sign_size(text) + 1
+        && text[size - 1] == b'0'
+        && has_other_prefix(grammar, byte_at(text, size))
+    {
+        size + 1
+    } else {
+        size
+    }
+}
+
+// Returns whether `byte` is the base prefix in its other case alone.
+const fn has_other_prefix(grammar: Grammar, byte: Option<u8>) -> bool
+    ensures { result ≡ is_in (is_other_prefix (notation_of grammar)) byte }
+{
+    match byte {
+        None => false,
+        Some(byte) => {
+            !grammar.view().is_base_prefix(byte) && grammar.view().is_base_prefix(other_case(byte))
+        }
+    }
 }
 
 // Returns the length of the sign with which `text` begins.

@@ -1,11 +1,11 @@
 //! Numbers that have several forms, such as `10`, `0x1F` and `0b1`.
 
-ghost use Rattle.std.specs.Prelude.{ℕ, ◌≡◌, ◌<◌, ◌+◌, ◌-◌, ◌*◌, IfSome, IsSome, IsSomeAnd, IsTrue, None, Some, SomeIff, false, if◌then◌else◌, length};
+ghost use Rattle.std.specs.Prelude.{◌≡◌, ◌<◌, ◌+◌, IfSome, IsSome, IsSomeAnd, IsTrue, None, Some, SomeIff, false, if◌then◌else◌, length};
 ghost use Rattle.std.specs.Prelude.{slice_get};
-ghost use Rattle.lexical_forms.specs.Additions.Forms.{IsBehind, IsFoundForm, IsFoundFrontForm, IsLed, IsLongestPast, IsRefusedAt, Leads, Reaches, sign_size};
+ghost use Rattle.lexical_forms.specs.Additions.Forms.{IsBehind, IsFoundForm, IsFoundFrontForm, IsLed, IsLongestPast, IsRefusedAt, Leads};
 ghost use Rattle.lexical_forms.specs.Additions.Token.{IsNarrow};
 ghost use Rattle.lexical_forms.specs.FormList.{have_openings};
-ghost use Rattle.lexical_forms.specs.Forms.{IsFormError, IsFrontByForms, IsReadByForms, NoForm, special_by};
+ghost use Rattle.lexical_forms.specs.Forms.{IsFormError, IsFrontByForms, IsReadByForms, NoForm, Reaches, special_by};
 ghost use Rattle.lexical_literal.specs.Front.{NoLiteral};
 ghost use Rattle.lexical_literal.specs.Notation.{notation_of};
 ghost use Rattle.lexical_forms.specs.declared.list.PointsBack.TheVariants as points;
@@ -168,17 +168,17 @@ pub enum Number<'a> {
     Special(Special),
 }
 
-// The form whose error is that of a text, of those that have been asked, and where it stops. If `settled` is true, its cause is known not
-// to be stray: it is neither a wrong byte nor that a required prefix is not there.
+// The form whose error is that of a text, of those that have been asked, where it stops, and how far it goes: up to there, or behind the byte
+// there if this is its base prefix in the other case.
 #[derive(Clone, Copy)]
 pub(crate) struct Furthest {
     pub(crate) form: usize,
     pub(crate) stop: Stopped,
-    pub(crate) settled: bool,
+    pub(crate) reach: usize,
 }
 
-/// Why a text is not a number of any form: the error of the form that goes furthest in the text. Of several, it is the
-/// first whose cause is not a wrong byte and that does not lack a required prefix, or the first if there is none.
+/// Why a text is not a number of any form: the error of the first form that goes furthest in the text. A base prefix in its
+/// other case counts as one byte more.
 ///
 /// ```
 /// use peltzivar::literal::Language;
@@ -294,9 +294,8 @@ impl<'a> Forms<'a> {
     ///
     /// # Errors
     ///
-    /// If `text` is neither, returns the error of the form for which most of it is right. Of several, it is the first whose
-    /// cause is not a wrong byte and that does not lack a required prefix, or the first if there is none. So `0b12` has the
-    /// error of the binary form.
+    /// If `text` is neither, returns the error of the first form for which most of it is right, where a base prefix in its other
+    /// case counts as one byte more. So `0b12` has the error of the binary form.
     pub fn read<'t>(&self, text: &'t [u8]) -> Result<Number<'t>, FormError>
         ensures { IsReadByForms self.now text.now result }
     {
@@ -408,7 +407,7 @@ impl<'a> Forms<'a> {
     }
 
     // Returns the same in a list without openings, where the first form stops at `stop`, if it has been asked. Each form is asked
-    // once, but if it has not been asked and no form goes beyond the first byte behind the sign, all are asked again.
+    // once, but if it has not been asked and no form goes beyond the second byte behind the sign, all are asked again.
     #[inline(always)]
     pub(crate) fn find_plain<'t>(
         &self,
@@ -422,11 +421,7 @@ impl<'a> Forms<'a> {
         let mut furthest = None;
         let mut form = 0;
         if let Some(stop) = stop {
-            furthest = Some(Furthest {
-                form: 0,
-                stop,
-                settled: false,
-            });
+            furthest = Some(self.reached(text, 0, stop));
             form = 1;
         }
         while form < self.forms.len() {
@@ -462,19 +457,16 @@ impl<'a> Forms<'a> {
         if !self.specials.are_none() {
             return None;
         }
+        let first = self.reached(text, 0, stop);
         let mut form = 1;
         while form < self.forms.len() {
             let it = &self.forms[form];
-            if it.has_opening() || !is_settled(it.syntax.grammar(), text, stop.size) {
+            if it.has_opening() || !is_settled(it.syntax.grammar(), text, first.reach) {
                 return None;
             }
             form += 1;
         }
-        Some(Furthest {
-            form: 0,
-            stop,
-            settled: false,
-        })
+        Some(first)
     }
 
     // Returns the form whose error is that of the list, where `text` is no literal.
@@ -485,15 +477,11 @@ impl<'a> Forms<'a> {
         ensures { Leads self.now.forms text.now (length self.now.forms) result }
     {
         let first = self.forms[0].stop(text);
-        let mut furthest = Furthest {
-            form: 0,
-            stop: first,
-            settled: false,
-        };
+        let mut furthest = self.reached(text, 0, first);
         let mut form = 1;
         while form < self.forms.len() {
             let it = &self.forms[form];
-            if it.has_opening() || !is_settled(it.syntax.grammar(), text, furthest.stop.size) {
+            if it.has_opening() || !is_settled(it.syntax.grammar(), text, furthest.reach) {
                 let stop = it.stop(text);
                 furthest = self.further(text, furthest, form, stop);
             }
@@ -502,7 +490,7 @@ impl<'a> Forms<'a> {
         furthest
     }
 
-    // Returns which of two forms has the error of the list, or `None` if there is but one, which does not go beyond the first byte behind
+    // Returns which of two forms has the error of the list, or `None` if there is but one, which does not go beyond the second byte behind
     // the sign.
     #[inline(always)]
     fn further_on(
@@ -518,57 +506,43 @@ impl<'a> Forms<'a> {
     {
         match furthest {
             Some(best) => Some(self.further(text, best, form, stop)),
-            None if stop.size > sign_size(text) + 1 => Some(Furthest {
-                form,
-                stop,
-                settled: false,
-            }),
-            None => None,
+            None => {
+                let other = self.reached(text, form, stop);
+                if other.reach > sign_size(text) + 2 {
+                    Some(other)
+                } else {
+                    None
+                }
+            }
         }
     }
 
-    // Returns which of two forms has the error of the list: the one that goes further. Of equals, it is the first unless its cause is
-    // stray and that of the second is not.
-    #[inline(never)]
+    // Returns which of two forms has the error of the list: the one that goes further, the first of equals.
     fn further(&self, text: &[u8], best: Furthest, form: usize, stop: Stopped) -> Furthest
         requires best { Leads self.now.forms text.now form best }
         requires refused { IsSomeAnd (slice_get self.now.forms form) (IsRefusedAt text.now stop) }
         ensures { Leads self.now.forms text.now (form + 1) result }
     {
-        let other = Furthest {
-            form,
-            stop,
-            settled: false,
-        };
-        if stop.size < best.stop.size {
-            best
-        } else if best.stop.size < stop.size {
+        if stop.size < best.reach {
+            return best;
+        }
+        let other = self.reached(text, form, stop);
+        if best.reach < other.reach {
             other
-        } else if best.settled {
-            best
-        } else if !self.is_stray(text, best) {
-            Furthest {
-                settled: true,
-                ..best
-            }
-        } else if self.is_stray(text, other) {
-            best
         } else {
-            Furthest {
-                settled: true,
-                ..other
-            }
+            best
         }
     }
 
-    // Returns whether the cause is stray where a form stops.
+    // Returns how far the form with the index `form` goes, which stops at `stop`.
     #[tactic(auto, using(crate::proofs::FormLemmas::at_index, crate::proofs::FormLemmas::form_at, crate::proofs::FormLemmas::inside_of))]
-    fn is_stray(&self, text: &[u8], it: Furthest) -> bool
-        requires { IsSomeAnd (slice_get self.now.forms it.form) (IsRefusedAt text.now it.stop) }
-        ensures { IsSomeAnd (slice_get self.now.forms it.form) (λ g. (n : ℕ) → Reaches text.now g n
-            → n ≡ 2 * it.stop.size + (if result then 0 else 1)) }
+    fn reached(&self, text: &[u8], form: usize, stop: Stopped) -> Furthest
+        requires { IsSomeAnd (slice_get self.now.forms form) (IsRefusedAt text.now stop) }
+        ensures form { result.form ≡ form }
+        ensures stop { result.stop ≡ stop }
+        ensures reach { IsSomeAnd (slice_get self.now.forms form) (λ g. Reaches text.now g result.reach) }
     {
-        self.as_slice()[it.form].is_stray(text, it.stop)
+        self.as_slice()[form].reached(text, form, stop)
     }
 
     // Returns the longest front of `text` that is a literal of a form, with the index of the form, the first of equals, or
@@ -644,8 +618,7 @@ const fn are_wide(forms: &[Form]) -> bool
     }
 }
 
-// Returns whether a form need not be asked: its first bytes exclude that `text` is a literal, or no error of it goes further than the
-// furthest form, unless its cause is a wrong byte.
+// Returns whether a form need not be asked: its first bytes exclude that `text` is a literal, or it goes no further than the furthest form.
 #[inline(always)]
 const fn is_behind(grammar: Grammar, text: &[u8], furthest: Option<Furthest>) -> bool
     ensures none { IsTrue result → NoLiteral (notation_of grammar) text.now }
@@ -653,6 +626,6 @@ const fn is_behind(grammar: Grammar, text: &[u8], furthest: Option<Furthest>) ->
 {
     match furthest {
         None => excludes(grammar, text, sign_size(text)),
-        Some(best) => is_settled(grammar, text, best.stop.size),
+        Some(best) => is_settled(grammar, text, best.reach),
     }
 }

@@ -4,7 +4,7 @@ ghost use Rattle.std.specs.Prelude.{◌≡◌, ◌<◌, ◌≤◌, ◌+◌, ◌|
 ghost use Rattle.std.specs.Option.{ForSome};
 ghost use Rattle.std.specs.Char.{is_ascii_alphabetic, is_ascii_digit};
 ghost use Rattle.std.specs.List.{list_any};
-ghost use Rattle.lexical_forms.specs.Additions.Forms.{sign_size};
+ghost use Rattle.lexical_forms.specs.Forms.{sign_size};
 ghost use Rattle.lexical_literal.specs.Additions.Stop.{HasBegun, IsMeasured, IsStopped};
 ghost use Rattle.lexical_literal.specs.Additions.Literal.{AreSums, cut};
 ghost use Rattle.lexical_literal.specs.Additions.Step.{cuts_of};

@@ -15,7 +15,7 @@ pub use Rattle.lexical_literal.specs.Additions.Step.{may_lead, move_by, needs_ex
 pub use Rattle.lexical_literal.specs.Additions.Step.{step, step_by, takes, takes_in, tally, tally_by, walk, walk_by, with_prefix}
 pub use Rattle.lexical_literal.specs.Additions.Stop.{HasBegun, HasFound, IsCountedFront, IsFronted, IsLongest, IsMeasured, IsStopped, IsUnderway}
 pub use Rattle.lexical_literal.specs.Cause.{Allows, IsCause, IsRefusal, IsUnmet, Marks, adding, bare, binds, case_set, error_of, first_unmet, index_behind}
-pub use Rattle.lexical_literal.specs.Cause.{is_at, is_byte, is_one_of, lowest, marks_of, number_separator_flags, requirement_flags, requiring, span_of, tail_of}
+pub use Rattle.lexical_literal.specs.Cause.{is_at, is_one_of, lowest, marks_of, number_separator_flags, requirement_flags, requiring, span_of, tail_of}
 pub use Rattle.lexical_literal.specs.Front.{IsFront, IsValidUpTo, NoFront, NoLiteral, ReadsFront}
 pub use Rattle.lexical_literal.specs.Groups.{has_size, has_sizes, higher, inner_fits, is_grouped, last_fits}
 pub use Rattle.lexical_literal.specs.Literal.{IsLiteral, IsSpelled, Literal, Reads, condition, has_leading_zero, is_absent, is_float, is_minus, is_none_or_one}

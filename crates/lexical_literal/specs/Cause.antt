@@ -294,12 +294,3 @@ pub record IsRefusal (m : Notation) (text : List ℕ) (error : Refusal) : Type 0
 pub record SameBlame (c d : ReadErrorKind) (a b : Flag → Bool) : Type 0 where
   pub kind : c ≡ d
   pub flags : (f : Flag) → a f ≡ b f
-
--- `is_byte kind` is true if the cause is a wrong byte.
-abbrev pub is_byte : ReadErrorKind → Bool
-is_byte causes.Byte = true
-is_byte _ = false
-
--- `is_stray error` is true if the cause is a wrong byte, or if a required prefix is not there.
-abbrev pub is_stray : Refusal → Bool
-is_stray error = is_byte error.kind || has error.conditions conditions.BasePrefix

@@ -9,7 +9,6 @@ ghost use Rattle.lexical_literal.specs.Additions.Explained.{zeros};
 ghost use Rattle.lexical_literal.specs.Additions.GroupSize.{goes, group_allows, role_next, unsized, with_rules};
 ghost use Rattle.lexical_literal.specs.Additions.Step.{part_of, role_at};
 ghost use Rattle.lexical_literal.specs.Cause.{adding, bare, binds, case_set, first_unmet};
-ghost use Rattle.lexical_literal.specs.Cause.{is_byte, is_stray};
 ghost use Rattle.lexical_literal.specs.Notation.{has, kept, notation_of, number_of};
 
 use crate::group_size::{Group, follows, has_size};
@@ -225,15 +224,6 @@ impl Spot {
             options: self.options,
             conditions: self.conditions,
         }
-    }
-
-    // Returns whether the cause is a wrong byte, or a required prefix is not there. It takes less time than all answers.
-    #[inline(always)]
-    #[tactic(auto, using(crate::proofs::NumberLemmas::has_kept))]
-    pub(crate) const fn is_stray(self) -> bool
-        ensures { result ≡ is_stray (refusal_of (notation_of (grammar_at self)) self) }
-    {
-        self.is_byte() || self.is_unmet(Condition::BasePrefix)
     }
 
     // Returns the last group of digits.
@@ -476,18 +466,6 @@ impl Spot {
             case_mask(self.grammar(), other)
         } else {
             0
-        }
-    }
-
-    // Returns whether the cause is a wrong byte.
-    const fn is_byte(self) -> bool
-        ensures { result ≡ is_byte (blame (notation_of (grammar_at self)) self.read (group_at self) self.byte).kind }
-    {
-        match self.byte {
-            None => false,
-            Some(byte) => {
-                !self.goes_on_bare() && self.separators() == 0 && self.case_flags(byte) == 0
-            }
         }
     }
 

@@ -6,7 +6,7 @@ ghost use Rattle.lexical_literal.specs.Additions.Explained.{grammar_at, refusal_
 ghost use Rattle.lexical_literal.specs.Additions.Stop.{HasBegun, IsFronted, IsLongest, IsMeasured, IsStopped, IsUnderway};
 ghost use Rattle.lexical_literal.specs.Additions.GroupSize.{goes};
 ghost use Rattle.lexical_literal.specs.Additions.Step.{HasLengths, count, cuts_of, part_of, role_at};
-ghost use Rattle.lexical_literal.specs.Cause.{IsRefusal, is_stray, tail_of, tail_size};
+ghost use Rattle.lexical_literal.specs.Cause.{IsRefusal, tail_of, tail_size};
 ghost use Rattle.lexical_literal.specs.Front.{NoLiteral};
 ghost use Rattle.lexical_literal.specs.Literal.{Literal, Reads};
 ghost use Rattle.lexical_literal.specs.Notation.{notation_of};
@@ -216,15 +216,6 @@ impl Stopped {
         ensures { result ≡ goes (notation_of grammar) self.read group None }
     {
         is_complete(grammar, self.read) && group_allows(grammar, group, None)
-    }
-
-    // Returns whether the cause is a wrong byte, or a required prefix is not there.
-    pub fn is_stray(self, syntax: &Syntax, text: &[u8]) -> bool
-        requires stopped { IsStopped (notation_of syntax.now) text.now self }
-        requires refused { NoLiteral (notation_of syntax.now) text.now }
-        ensures { (error : Refusal) → IsRefusal (notation_of syntax.now) text.now error → is_stray error ≡ result }
-    {
-        self.spot(syntax, text).is_stray()
     }
 
     // Returns why `text` is not a literal, as the result of the caller, which takes less

@@ -3,9 +3,9 @@
 //! Forms with an opening: what a syntax reads behind it.
 
 use crate::literal::cause::ReadError;
-use crate::literal::exclude::{excludes, lacks_longer, sign_size};
+use crate::literal::exclude::{excludes, lacks_longer, reach, sign_size};
 use crate::literal::form::Form;
-use crate::literal::list::{FormError, Unopened};
+use crate::literal::list::{FormError, Furthest, Unopened};
 use crate::literal::literal::Literal;
 use crate::literal::stop::{byte_at, tail_at, Found, Stopped, BEGIN};
 
@@ -87,14 +87,22 @@ impl Form {
         stop.at(opened + stop.size)
     }
 
-    // Returns whether the cause is stray: it is a wrong byte, or the opening or a required prefix is not there.
-    pub(crate) const fn is_stray(&self, text: &[u8], stop: Stopped) -> bool {
+    // Returns how far the form goes, which has the index `form` and stops at `stop`.
+    #[cfg_attr(not(peltzivar_small), inline(always))]
+    pub(crate) const fn reached(&self, text: &[u8], form: usize, stop: Stopped) -> Furthest {
+        let reach = self.reach(text, stop.size);
+        Furthest { form, stop, reach }
+    }
+
+    // Returns how far the form goes where `size` bytes are right.
+    #[cfg_attr(not(peltzivar_small), inline(always))]
+    const fn reach(&self, text: &[u8], size: usize) -> usize {
         let opened = self.opening.size();
-        if stop.size < opened {
-            return true;
+        if size < opened {
+            return size;
         }
         let (_, rest) = text.split_at(opened);
-        stop.at(stop.size - opened).is_stray(&self.syntax, rest)
+        opened + reach(self.syntax.as_grammar(), rest, size - opened)
     }
 
     // Returns why `text` is not a literal of the form, which has the index `form`.
@@ -102,7 +110,6 @@ impl Form {
     pub(crate) const fn refuse(&self, text: &[u8], form: usize, stop: Stopped) -> FormError {
         let opened = self.opening.size();
         if stop.size < opened {
-            let _syntax = self.syntax();
             return self.lacks_opening(text, form, stop.size);
         }
         let (_, rest) = text.split_at(opened);

@@ -183,12 +183,6 @@ impl Spot {
         Grammar { word: self.word, options: self.options, conditions: self.conditions }
     }
 
-    // Returns whether the cause is a wrong byte, or a required prefix is not there. It takes less time than all answers.
-    #[inline(always)]
-    pub(crate) const fn is_stray(self) -> bool {
-        self.is_byte() || self.is_unmet(Condition::BasePrefix)
-    }
-
     // Returns the last group of digits.
     const fn last_group(self) -> Group {
         Group {
@@ -365,14 +359,6 @@ impl Spot {
             case_mask(self.as_grammar(), other)
         } else {
             0
-        }
-    }
-
-    // Returns whether the cause is a wrong byte.
-    const fn is_byte(self) -> bool {
-        match self.byte {
-            None => false,
-            Some(byte) => !self.goes_on_bare() && self.separators() == 0 && self.case_flags(byte) == 0,
         }
     }
 

@@ -18,8 +18,8 @@ pub(crate) const fn excludes(grammar: Grammar, text: &[u8], sign: usize) -> bool
     }
 }
 
-// Returns whether `text` is not a literal of a form, and no error of it goes further than one up to `size` whose cause is a wrong byte: the
-// first bytes exclude the form, or the byte there plays no role.
+// Returns whether `text` is not a literal of a form, which goes no further than `size`: the first bytes exclude it, or the byte there plays
+// no role.
 #[cfg_attr(not(peltzivar_small), inline(always))]
 pub(crate) const fn is_settled(grammar: Grammar, text: &[u8], size: usize) -> bool {
     let start = sign_size(text);
@@ -73,6 +73,23 @@ const fn is_no_mark(options: Option<Options>, byte: u8, other: u8) -> bool {
 #[inline(always)]
 const fn is_apart(own: u8, byte: u8, other: u8) -> bool {
     own != byte && own != other
+}
+
+// Returns how far the syntax goes where `size` bytes are right: 1 more if the base prefix in its other case is behind a sign, if any, and a zero.
+pub(crate) const fn reach(grammar: Grammar, text: &[u8], size: usize) -> usize {
+    if size == sign_size(text) + 1 && text[size - 1] == b'0' && has_other_prefix(grammar, byte_at(text, size)) {
+        size + 1
+    } else {
+        size
+    }
+}
+
+// Returns whether `byte` is the base prefix in its other case alone.
+const fn has_other_prefix(grammar: Grammar, byte: Option<u8>) -> bool {
+    match byte {
+        None => false,
+        Some(byte) => !grammar.view().is_base_prefix(byte) && grammar.view().is_base_prefix(other_case(byte)),
+    }
 }
 
 // Returns the length of the sign with which `text` begins.

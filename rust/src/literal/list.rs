@@ -113,17 +113,17 @@ pub enum Number<'a> {
     Special(Special),
 }
 
-// The form whose error is that of a text, of those that have been asked, and where it stops. If `settled` is true, its cause is known not
-// to be stray: it is neither a wrong byte nor that a required prefix is not there.
+// The form whose error is that of a text, of those that have been asked, where it stops, and how far it goes: up to there, or behind the byte
+// there if this is its base prefix in the other case.
 #[derive(Clone, Copy)]
 pub(crate) struct Furthest {
     pub(crate) form: usize,
     pub(crate) stop: Stopped,
-    pub(crate) settled: bool,
+    pub(crate) reach: usize,
 }
 
-/// Why a text is not a number of any form: the error of the form that goes furthest in the text. Of several, it is the
-/// first whose cause is not a wrong byte and that does not lack a required prefix, or the first if there is none.
+/// Why a text is not a number of any form: the error of the first form that goes furthest in the text. A base prefix in its
+/// other case counts as one byte more.
 ///
 /// ```
 /// use peltzivar::literal::Language;
@@ -209,9 +209,8 @@ impl<'a> Forms<'a> {
     ///
     /// # Errors
     ///
-    /// If `text` is neither, returns the error of the form for which most of it is right. Of several, it is the first whose
-    /// cause is not a wrong byte and that does not lack a required prefix, or the first if there is none. So `0b12` has the
-    /// error of the binary form.
+    /// If `text` is neither, returns the error of the first form for which most of it is right, where a base prefix in its other
+    /// case counts as one byte more. So `0b12` has the error of the binary form.
     pub const fn read_bytes<'t>(&self, text: &'t [u8]) -> Result<Number<'t>, FormError> {
         self.read_behind(text, None)
     }
@@ -297,7 +296,7 @@ impl<'a> Forms<'a> {
     }
 
     // Returns the same in a list without openings, where the first form stops at `stop`, if it has been asked. Each form is asked
-    // once, but if it has not been asked and no form goes beyond the first byte behind the sign, all are asked again.
+    // once, but if it has not been asked and no form goes beyond the second byte behind the sign, all are asked again.
     #[inline(always)]
     pub(crate) const fn find_plain<'t>(
         &self,
@@ -307,7 +306,7 @@ impl<'a> Forms<'a> {
         let mut furthest = None;
         let mut form = 0;
         if let Some(stop) = stop {
-            furthest = Some(Furthest { form: 0, stop, settled: false });
+            furthest = Some(self.reached(text, 0, stop));
             form = 1;
         }
         while form < self.forms.len() {
@@ -350,15 +349,16 @@ impl<'a> Forms<'a> {
         if !self.specials.are_none() {
             return None;
         }
+        let first = self.reached(text, 0, stop);
         let mut form = 1;
         while form < self.forms.len() {
             let it = &self.forms[form];
-            if it.has_opening() || !is_settled(it.syntax.as_grammar(), text, stop.size) {
+            if it.has_opening() || !is_settled(it.syntax.as_grammar(), text, first.reach) {
                 return None;
             }
             form += 1;
         }
-        Some(Furthest { form: 0, stop, settled: false })
+        Some(first)
     }
 
     // Returns the form whose error is that of the list, where `text` is no literal.
@@ -367,11 +367,11 @@ impl<'a> Forms<'a> {
     #[cfg_attr(peltzivar_small, inline(always))]
     const fn furthest(&self, text: &[u8]) -> Furthest {
         let first = self.forms[0].stop(text);
-        let mut furthest = Furthest { form: 0, stop: first, settled: false };
+        let mut furthest = self.reached(text, 0, first);
         let mut form = 1;
         while form < self.forms.len() {
             let it = &self.forms[form];
-            if it.has_opening() || !is_settled(it.syntax.as_grammar(), text, furthest.stop.size) {
+            if it.has_opening() || !is_settled(it.syntax.as_grammar(), text, furthest.reach) {
                 let stop = it.stop(text);
                 furthest = self.further(text, furthest, form, stop);
             }
@@ -380,7 +380,7 @@ impl<'a> Forms<'a> {
         furthest
     }
 
-    // Returns which of two forms has the error of the list, or `None` if there is but one, which does not go beyond the first byte behind
+    // Returns which of two forms has the error of the list, or `None` if there is but one, which does not go beyond the second byte behind
     // the sign.
     #[inline(always)]
     const fn further_on(
@@ -392,34 +392,33 @@ impl<'a> Forms<'a> {
     ) -> Option<Furthest> {
         match furthest {
             Some(best) => Some(self.further(text, best, form, stop)),
-            None if stop.size > sign_size(text) + 1 => Some(Furthest { form, stop, settled: false }),
-            None => None,
+            None => {
+                let other = self.reached(text, form, stop);
+                if other.reach > sign_size(text) + 2 {
+                    Some(other)
+                } else {
+                    None
+                }
+            }
         }
     }
 
-    // Returns which of two forms has the error of the list: the one that goes further. Of equals, it is the first unless its cause is
-    // stray and that of the second is not.
-    #[inline(never)]
+    // Returns which of two forms has the error of the list: the one that goes further, the first of equals.
     const fn further(&self, text: &[u8], best: Furthest, form: usize, stop: Stopped) -> Furthest {
-        let other = Furthest { form, stop, settled: false };
-        if stop.size < best.stop.size {
-            best
-        } else if best.stop.size < stop.size {
+        if stop.size < best.reach {
+            return best;
+        }
+        let other = self.reached(text, form, stop);
+        if best.reach < other.reach {
             other
-        } else if best.settled {
-            best
-        } else if !self.is_stray(text, best) {
-            Furthest { settled: true, ..best }
-        } else if self.is_stray(text, other) {
-            best
         } else {
-            Furthest { settled: true, ..other }
+            best
         }
     }
 
-    // Returns whether the cause is stray where a form stops.
-    const fn is_stray(&self, text: &[u8], it: Furthest) -> bool {
-        self.as_slice()[it.form].is_stray(text, it.stop)
+    // Returns how far the form with the index `form` goes, which stops at `stop`.
+    const fn reached(&self, text: &[u8], form: usize, stop: Stopped) -> Furthest {
+        self.as_slice()[form].reached(text, form, stop)
     }
 
     // Returns the longest front of `text` that is a literal of a form, with the index of the form, the first of equals, or
@@ -483,12 +482,11 @@ const fn are_wide(forms: &[Form]) -> bool {
     }
 }
 
-// Returns whether a form need not be asked: its first bytes exclude that `text` is a literal, or no error of it goes further than the
-// furthest form, unless its cause is a wrong byte.
+// Returns whether a form need not be asked: its first bytes exclude that `text` is a literal, or it goes no further than the furthest form.
 #[inline(always)]
 const fn is_behind(grammar: Grammar, text: &[u8], furthest: Option<Furthest>) -> bool {
     match furthest {
         None => excludes(grammar, text, sign_size(text)),
-        Some(best) => is_settled(grammar, text, best.stop.size),
+        Some(best) => is_settled(grammar, text, best.reach),
     }
 }

@@ -156,11 +156,6 @@ impl Stopped {
         is_complete(grammar, self.read) && group_allows(grammar, group, None)
     }
 
-    // Returns whether the cause is a wrong byte, or a required prefix is not there.
-    pub(crate) const fn is_stray(self, syntax: &Syntax, text: &[u8]) -> bool {
-        self.spot(syntax, text).is_stray()
-    }
-
     // Returns why `text` is not a literal, as the result of the caller, which takes less
     // time than to copy an error.
     #[cold]

@@ -1,18 +1,16 @@
 -- What one pass over several forms finds.
-use Rattle.std.specs.Prelude.{ℕ, ◌≡◌, ◌+◌, ◌-◌, ◌*◌, ◌<◌, ◌≤◌, ◌⊎◌, [], ◌∷◌, false, if◌then◌else◌, nat_lt, IfErr, IfOk, IsErr, IsSomeAnd, IsTrue, List, Option}
+use Rattle.std.specs.Prelude.{ℕ, ◌≡◌, ◌+◌, ◌-◌, ◌<◌, ◌≤◌, ◌⊎◌, false, if◌then◌else◌, nat_lt, IfErr, IfOk, IsErr, IsSomeAnd, IsTrue, List, Option}
 use Rattle.std.specs.Prelude.{◌==◌, ◌&&◌, ◌||◌, not, Bool, get_or, Some, None, Result, All, drop, length, slice_get, take}
 use Rattle.lexical_util.specs.Ascii.{ByteSet}
 use Rattle.lexical_util.specs.Layout as layout
-use Rattle.lexical_util.specs.Roles.{other_case, signs}
+use Rattle.lexical_util.specs.Roles.{other_case}
 use Rattle.lexical_util.specs.declared.feature_format.roles.Role.{Role}
 use Rattle.lexical_util.specs.declared.feature_format.roles.Role.TheVariants as roles
 use Rattle.lexical_literal.specs.Additions.Stop.{IsCountedFront, IsStopped}
-use Rattle.lexical_literal.specs.Cause.{IsRefusal, is_stray}
-use Rattle.lexical_forms.specs.Forms.{Begins, HasFront, IsErrorIn, IsFirst, IsFormError, IsGreatest, NoForm, ReadsIn, reach_in}
+use Rattle.lexical_forms.specs.Forms.{Begins, HasFront, IsFirst, IsFormError, IsGreatest, NoForm, Reaches, ReadsIn, reach, sign_size}
 use Rattle.lexical_literal.specs.Front.{IsValidBy, IsValidUpTo, NoFrontBy, NoLiteral, NoneBy}
 use Rattle.lexical_literal.specs.Read.{Read}
 use Rattle.lexical_literal.specs.Notation.{Notation, notation_of, set_of_role}
-use Rattle.lexical_literal.specs.declared.cause.Refusal.{Refusal}
 use Rattle.lexical_literal.specs.declared.syntax.Condition.TheVariants as conditions
 use Rattle.lexical_forms.specs.declared.list.FormError.{FormError}
 use Rattle.lexical_forms.specs.declared.list.Furthest.{Furthest}
@@ -21,18 +19,9 @@ use Rattle.lexical_literal.specs.declared.stop.Stopped.{Stopped}
 use Rattle.lexical_forms.specs.declared.opening.Opening.{Opening}
 use Rattle.lexical_forms.specs.declared.form.Form.{Form}
 
--- `reach error` is twice the number of bytes that are right, and 1 more unless the cause is a wrong byte or a required prefix is not there.
-abbrev pub reach : Refusal → ℕ
-reach error = 2 * error.valid_up_to + (if is_stray error then 0 else 1)
-
 -- `special_separator m` is the digit separator if special values may have it, and the empty set otherwise.
 abbrev pub special_separator : Notation → ByteSet
 special_separator m byte = m.flag layout.special_digit_separator && m.separator byte
-
--- `sign_size text` is the length of the sign with which `text` begins.
-abbrev pub sign_size : List ℕ → ℕ
-sign_size [] = 0
-sign_size (byte ∷ text) = if signs byte then 1 else 0
 
 -- `behind form text` is what follows as many bytes of `text` as the opening of `form` has.
 abbrev pub behind : Form → List ℕ → List ℕ
@@ -52,15 +41,6 @@ pub record IsOpenedTo (opening : Opening) (text : List ℕ) (size : ℕ) : Type 
   pub inside : size ≤ opening.size
   pub begins : Begins opening text size
   pub differs : size < opening.size → size < length text → spells opening size (get_or text size 0) ≡ false
-
--- `Reaches text form n` holds if an error of `text` in `form` has the reach `n`.
-abbrev pub Reaches : List ℕ → Form → ℕ → Type 0
-Reaches text form n = (opened : ℕ) × (error : Option Refusal) × IsErrorIn form text opened error × (reach_in opened error ≡ n)
-
--- `right_in opened error` is the number of bytes that are right.
-abbrev pub right_in : ℕ → Option Refusal → ℕ
-right_in opened None = opened
-right_in opened (Some error) = opened + error.valid_up_to
 
 -- `GoesTo text form size` holds if some literal of `form` begins with the first `size` bytes of `text`, and none with more.
 abbrev pub GoesTo : List ℕ → Form → ℕ → Type 0
@@ -93,15 +73,14 @@ pub record LacksZero (m : Notation) (text : List ℕ) : Type 0 where
   pub required : IsTrue (m.condition conditions.BasePrefix) ⊎ IsTrue (m.condition conditions.LeadingZero)
   pub other : get_or text (sign_size text) 0 ≡ 48 → ⊥
 
--- `IsNoBetter m text size` holds if no error of `text` has a greater reach than one that goes up to `size` and whose cause is a wrong byte.
-abbrev pub IsNoBetter : Notation → List ℕ → ℕ → Type 0
-IsNoBetter m text size = (error : Refusal) → IsRefusal m text error → reach error ≤ 2 * size
+-- `IsNoFurther m text size` holds if the syntax goes up to `size` in `text` at most.
+abbrev pub IsNoFurther : Notation → List ℕ → ℕ → Type 0
+IsNoFurther m text size = (n : ℕ) → IsValidUpTo m text n → reach m text n ≤ size
 
--- `IsBehind m text furthest` holds if no error of `text` has a greater reach than one that goes as far as `furthest` and whose cause is a
--- wrong byte, or if `text` is right up to the first byte behind the sign at most, where `furthest` is `None`.
+-- `IsBehind m text furthest` holds if the syntax goes no further than `furthest` or, where this is `None`, than the first byte behind the sign.
 abbrev pub IsBehind : Notation → List ℕ → Option Furthest → Type 0
 IsBehind m text None = (n : ℕ) → IsValidUpTo m text n → n ≤ sign_size text + 1
-IsBehind m text (Some best) = IsNoBetter m text best.stop.size
+IsBehind m text (Some best) = IsNoFurther m text best.reach
 
 -- `IsStoppedBefore text stop g` holds if reading stops at `stop` in the opening of the form `g`. `IsStoppedBehind text stop g` holds if the opening is
 -- there, and if what is behind it is not a literal, and reading it stops at `stop`. `IsRefusedAt text stop g` holds if one of them does.
@@ -116,45 +95,38 @@ pub record IsStoppedBehind (text : List ℕ) (stop : Stopped) (g : Form) : Type 
   pub none : NoLiteral (notation_of g.syntax) (behind g text)
 
 abbrev pub IsRefusedAt : List ℕ → Stopped → Form → Type 0
-IsRefusedAt text stop g = IsStoppedBefore text stop g ⊎ IsStoppedBehind text stop g
+IsRefusedAt text stop g = GoesTo text g stop.size × (IsStoppedBefore text stop g ⊎ IsStoppedBehind text stop g)
 
 -- `IsInside g text part` holds if `text` is the opening of `g`, and then `part`.
 pub record IsInside (g : Form) (text part : List ℕ) : Type 0 where
   pub opened : IsOpened g.opening text
   pub is : part ≡ behind g text
 
--- `IsLow text size g` holds if no error of `text` in the form `g` has a greater reach than one that goes up to `size` and whose cause is a wrong byte.
--- `IsLeftOut text furthest g` holds if none has a greater one than `furthest`, or if none goes beyond the first byte behind the sign, where it is `None`.
+-- `IsLow text size g` holds if the form `g` goes up to `size` at most. `IsLeftOut text furthest g` holds if it goes no further than `furthest` or, where this
+-- is `None`, than the second byte behind the sign.
 abbrev pub IsLow : List ℕ → ℕ → Form → Type 0
-IsLow text size g = (n : ℕ) → Reaches text g n → n ≤ 2 * size
-
-abbrev pub IsNearSign : List ℕ → Form → Type 0
-IsNearSign text g = (n : ℕ) → Reaches text g n → n ≤ 2 * (sign_size text + 1) + 1
+IsLow text size g = (n : ℕ) → Reaches text g n → n ≤ size
 
 abbrev pub IsLeftOut : List ℕ → Option Furthest → Form → Type 0
-IsLeftOut text None g = IsNearSign text g
-IsLeftOut text (Some best) g = IsLow text best.stop.size g
+IsLeftOut text None g = IsLow text (sign_size text + 2) g
+IsLeftOut text (Some best) g = IsLow text best.reach g
 
--- `AreBelow forms text start end most` holds if each error of `text` in the forms with indexes from `start` to `end` has a reach below `most`.
+-- `AreBelow forms text start end most` holds if the forms with indexes from `start` to `end` go less far than `most`.
 abbrev pub AreBelow : List Form → List ℕ → ℕ → ℕ → ℕ → Type 0
 AreBelow forms text start end most = (k : ℕ) (d : Form) → start ≤ k → k < end → (n : ℕ) → Reaches text (get_or forms k d) n → n < most
 
--- `limit best` is the least reach of the error of `best`: twice the number of bytes that are right, and 1 more if its cause is known to be settled.
-abbrev pub limit : Furthest → ℕ
-limit best = 2 * best.stop.size + (if best.settled then 1 else 0)
-
--- `Leads forms text asked best` holds if the error of `best` has at least the reach `limit best`, those of the forms before it less, and those of the
--- forms behind it, of the first `asked` forms, no more.
+-- `Leads forms text asked best` holds if the form of `best` stops there and goes up to its reach, those before it less far, and those behind it, of the first
+-- `asked` forms, no further.
 pub record Leads (forms : List Form) (text : List ℕ) (asked : ℕ) (best : Furthest) : Type 0 where
   pub here : IsSomeAnd (slice_get forms best.form) (IsRefusedAt text best.stop)
-  pub low : IsSomeAnd (slice_get forms best.form) (λ g. (n : ℕ) → Reaches text g n → limit best ≤ n)
-  pub before : AreBelow forms text 0 best.form (limit best)
-  pub behind : AreBelow forms text (best.form + 1) asked (limit best + 1)
+  pub reach : IsSomeAnd (slice_get forms best.form) (λ g. Reaches text g best.reach)
+  pub before : AreBelow forms text 0 best.form best.reach
+  pub behind : AreBelow forms text (best.form + 1) asked (best.reach + 1)
 
--- `IsLed forms text asked furthest` holds if `furthest` leads the first `asked` forms, or if it is `None`, and none of them goes beyond the first byte
+-- `IsLed forms text asked furthest` holds if `furthest` leads the first `asked` forms, or if it is `None`, and none of them goes beyond the second byte
 -- behind the sign.
 abbrev pub IsLed : List Form → List ℕ → ℕ → Option Furthest → Type 0
-IsLed forms text asked None = (k : ℕ) (d : Form) → k < asked → IsNearSign text (get_or forms k d)
+IsLed forms text asked None = (k : ℕ) (d : Form) → k < asked → IsLow text (sign_size text + 2) (get_or forms k d)
 IsLed forms text asked (Some best) = Leads forms text asked best
 
 -- `IsFirstOf forms text index read` holds if `read`, with the kind of the form with this index, is the literal `text` of this form, and of none before.

@@ -6,7 +6,7 @@ use Rattle.std.specs.List.{list_any}
 use Rattle.lexical_util.specs.Ascii.{ByteSet}
 use Rattle.lexical_literal.specs.Cause.{is_in}
 use Rattle.lexical_forms.specs.FormList.{FormList, have_openings}
-use Rattle.lexical_forms.specs.Forms.{ReadsIn}
+use Rattle.lexical_forms.specs.Forms.{Begins, ReadsIn}
 use Rattle.lexical_literal.specs.Front.{IsFront, NoneBy, ReadsFront}
 use Rattle.lexical_forms.specs.Suffix.{is_word_byte, more_of, stop_end, suffix_size, suffix_words}
 use Rattle.lexical_forms.specs.declared.suffix.Suffixes.{Suffixes}
@@ -14,7 +14,7 @@ use Rattle.lexical_forms.specs.Token.{IsBest, IsCandidate, IsChosen, NoCandidate
 use Rattle.lexical_forms.specs.declared.list.PointsBack.{PointsBack}
 use Rattle.lexical_forms.specs.declared.list.Tokens.{Tokens}
 use Rattle.lexical_literal.specs.Additions.Stop.{IsMeasured}
-use Rattle.lexical_literal.specs.Literal.{Literal}
+use Rattle.lexical_literal.specs.Literal.{Literal, Reads}
 use Rattle.lexical_literal.specs.declared.stop.Found.{Found}
 use Rattle.lexical_literal.specs.Notation.{Notation, notation_of}
 use Rattle.lexical_forms.specs.declared.form.Form.{Form}
@@ -32,7 +32,9 @@ has_float counts = not (get_or counts 3 0 == 0) || not (get_or counts 5 0 == 0)
 
 -- `IsCounted form text counts` holds if `text` is a literal of `form`, and if `counts` has the lengths of its parts behind the opening.
 pub record IsCounted (form : Form) (text counts : List ℕ) : Type 0 where
-  pub literal : (l : Literal) × ReadsIn form l text
+  pub literal : Literal
+  pub opened : Begins form.opening text form.opening.size
+  pub reads : Reads (notation_of form.syntax) literal (drop form.opening.size text)
   pub measured : IsMeasured (notation_of form.syntax) (drop form.opening.size text) counts
 
 -- `is_in_word more byte` is true if `byte` is a byte of a word, or one of `more`, the bytes that words of a form have besides.

@@ -3,7 +3,7 @@ use Rattle.lexical_forms.proofs.Common.{IsMeasured, Reads, ReadsIn, ap, arith, d
 use Rattle.lexical_forms.proofs.form.Form.made.Goals as goal
 
 pub split_at-requires-4 : goal.split_at-requires-4
-split_at-requires-4 c = let g = c.args.self.now in let within = c.requires.counted.literal.1.0.within in
+split_at-requires-4 c = let g = c.args.self.now in let within = c.requires.counted.opened.within in
     subst (λ t. c.size.result ≤ length t) (sym c.split_at.ensures.front) (omega (arith, c.size.ensures, within))
 
 pub summed-literal-requires : goal.summed-literal-requires
@@ -24,5 +24,5 @@ returns-clause-literal c =
     (subst (λ t. IsMeasured (notation_of g.syntax) t c.args.candidate.counts) (sym inside) counted.measured) read c.summed-literal.ensures in (
       c.behind.ensures.format ∙ c.with_kind.ensures.format ∙ is.0,
       subst (λ l. ReadsIn g l text) (sym (c.behind.ensures.literal ∙ c.with_kind.ensures.literal))
-          (counted.literal.1.0, subst (Reads (notation_of g.syntax) read.literal) inside is.1),
+          (counted.opened, subst (Reads (notation_of g.syntax) read.literal) inside is.1),
     )

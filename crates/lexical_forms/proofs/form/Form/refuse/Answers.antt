@@ -1,15 +1,12 @@
 -- The opening is not there, or the syntax refuses what is behind it.
-use Rattle.lexical_forms.proofs.Common.{Grammar, IsFront, IsSyntax, [], arith, notation_of, refl, rules, subst}
+use Rattle.lexical_forms.proofs.Common.{arith, refl}
 use Rattle.lexical_forms.proofs.BehindLemmas.{before_of, lacks_opening, part_error, part_refused, part_stopped}
 use Rattle.lexical_forms.proofs.form.Form.refuse.Goals as goal
 
 pub lacks_opening-requires : goal.lacks_opening-requires
 lacks_opening-requires c =
-    let g = c.args.self.now in
-    let lawful : IsSyntax c.syntax-syntax.result = search rules in
-    let some = subst (λ (g : Grammar). IsFront (notation_of g) []) c.syntax-syntax.ensures (c.literal_facts.ensures.some c.syntax-syntax.result lawful) in
-    lacks_opening g c.args.text.now c.args.stop some
-    (before_of g c.args.text.now c.args.stop c.requires (omega (arith, c.if-stop-opened.true, c.size-opened.ensures)))
+    lacks_opening c.args.self.now c.args.text.now c.args.stop c.requires.0
+    (before_of c.args.self.now c.args.text.now c.args.stop c.requires (omega (arith, c.if-stop-opened.true, c.size-opened.ensures)))
 
 pub error_of-requires-clause-stopped : goal.error_of-requires-clause-stopped
 error_of-requires-clause-stopped c = part_stopped c.args.self.now c.args.text.now c.args.stop c.at.result c.split_at.result.1.now c.requires

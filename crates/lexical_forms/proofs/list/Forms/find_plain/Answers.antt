@@ -1,9 +1,9 @@
 -- The first form that reads the text, or the form whose error is that of the list.
 use Rattle.lexical_forms.proofs.Common.{All-more, FormList, Furthest, Grammar, IfSome, IsBehind, IsLed, IsLeftOut, IsRefusedAt, IsSomeAnd, NoForm, NoLiteral}
-use Rattle.lexical_forms.proofs.Common.{None, NoneBy, Option, ReadsIn, Stopped, arith, false, get_or, have_openings, length-take-le, measured_cut, notation_of}
+use Rattle.lexical_forms.proofs.Common.{None, NoneBy, Option, Reaches, ReadsIn, Stopped, arith, false, get_or, have_openings, length-take-le, measured_cut, notation_of}
 use Rattle.lexical_forms.proofs.Common.{refl, slice_get, subst, sym, take, whole_read, ℕ, ◌+◌, ◌≡◌}
 use Rattle.lexical_forms.proofs.BehindLemmas.{left_plain, none_plain, plain_in, plain_refused}
-use Rattle.lexical_forms.proofs.FormLemmas.{all_tried, at_index, first_none, found_is, leads_all, leads_first, led_out, plain_at}
+use Rattle.lexical_forms.proofs.FormLemmas.{all_tried, at_index, first_none, found_is, leads, leads_all, led_out, plain_at}
 use Rattle.lexical_forms.proofs.list.Forms.find_plain.Goals as goal
 use Rattle.lexical_forms.proofs.list.Forms.find_plain.Goals.{in-Some, in_default, then-not-is_behind+else-is_whole+in-Err, else-not-is_behind}
 
@@ -16,7 +16,9 @@ loop-form-init c =
           (subst (λ (o : Option Stopped). IfSome o (λ stop. IsSomeAnd (slice_get c.args.self.now.forms 0) (IsRefusedAt text stop)))
           w.in-Some.is c.requires.stop) in
           begun c.match-stop.form 1 c.match-stop.furthest _ w.form-is w.furthest-is (first_none c.self.inside.forms.now text w.in-Some.stop here)
-          (leads_first c.self.inside.forms.now text 0 w.in-Some.stop here (λ k d low below. absurd (omega (arith, below))))
+          (leads c.self.inside.forms.now text 0 w.in-Some.stop w.reached.result w.reached.ensures.form w.reached.ensures.stop here
+          (subst (λ (l : FormList). IsSomeAnd (slice_get l.forms 0) (λ g. Reaches text g w.reached.result.reach)) (sym c.self.view_is)
+          w.reached.ensures.reach) (λ k d low below. absurd (omega (arith, below))))
       | in_default w ↦ begun c.match-stop.form 0 c.match-stop.furthest None w.form-is w.furthest-is
           (λ k d below. absurd (omega (arith, below, length-take-le 0 c.self.inside.forms.now (omega arith)))) (λ k d below. absurd (omega (arith, below)))
     ] where
