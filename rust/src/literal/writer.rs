@@ -6,7 +6,7 @@ use core::str;
 use crate::literal::value::number::float::Float;
 use crate::literal::value::number::integer::Integer;
 use crate::literal::value::Other;
-use crate::literal::{Forms, Literal, Number, Sign, Special, Specials, Spelling, Syntax};
+use crate::literal::{FloatKind, Forms, Literal, Number, Sign, Special, Specials, Spelling, Syntax};
 
 mod binary;
 #[allow(
@@ -29,6 +29,7 @@ mod literal;
 mod patterns;
 mod rounded;
 mod run;
+mod single;
 mod sink;
 mod units;
 mod written;
@@ -39,6 +40,7 @@ use choice::{choose, lay_out_first, Chosen, LONGEST};
 #[doc(hidden)]
 pub use choice::{Real, Whole, Writable};
 use float_digits::FloatDigits;
+use single::Narrow;
 pub use written::Written;
 use written::{Kept, Source, Text};
 
@@ -270,7 +272,8 @@ impl<'a> Forms<'a> {
     }
 
     /// Returns the value of a float as a number of one of these forms, or as one of the spellings of NaN and infinity.
-    /// [Reading][Self::read] the text returns the same bits, but for a NaN.
+    /// [Reading][Self::read] the text returns the same bits, but for a NaN. In a list whose floats are all singles, it returns the
+    /// nearest `f32`, which is neither infinite nor 0 instead.
     ///
     /// Forms are asked as by [`format_integer`][Self::format_integer], but decimal forms of integers alone come behind those that
     /// have floats. Decimal forms with floats alone write a float that is rounded.
@@ -346,6 +349,27 @@ impl<'a> Forms<'a> {
         Err(WriteError::Special)
     }
 
+    /// Writes a number by the first form whose text the list reads as this number. In a list whose floats are all singles, a float
+    /// is read as the nearest single.
+    fn choose_form<N: Writable + ?Sized>(
+        &self,
+        number: &N,
+        style: Style,
+        text: &mut [u8],
+    ) -> Result<Chosen, WriteError> {
+        if !number.is_integer() && self.has_singles_alone() {
+            let narrow: &dyn Writable = &Narrow(number);
+            return choose(self, narrow, style, text);
+        }
+        choose(self, number, style, text)
+    }
+
+    /// Returns whether there are floats, and all are singles.
+    fn has_singles_alone(&self) -> bool {
+        let mut floats = self.as_slice().iter().filter(|form| form.syntax().point().is_some()).peekable();
+        floats.peek().is_some() && floats.all(|form| form.kind().floats() == FloatKind::Single)
+    }
+
     /// Returns a number as one of these forms, with the text that is read back, if it is short.
     fn format_number<'b>(
         &self,
@@ -354,7 +378,7 @@ impl<'a> Forms<'a> {
         style: Style,
     ) -> Result<Written<'b>, WriteError> {
         let mut text = [0; 40];
-        match choose(self, number, style, &mut text) {
+        match self.choose_form(number, style, &mut text) {
             Ok(chosen) => Ok(self.written_number(source, style, chosen, text)),
             Err(WriteError::Buffer(_)) => self.format_long(number, source, style),
             Err(error) => Err(error),
@@ -395,7 +419,7 @@ impl<'a> Forms<'a> {
         then: impl FnOnce(Chosen, &[u8]) -> R,
     ) -> Result<R, WriteError> {
         let buffer = &mut [0; LONGEST];
-        let chosen = choose(self, number, style, buffer)?;
+        let chosen = self.choose_form(number, style, buffer)?;
         Ok(then(chosen, &buffer[..chosen.length]))
     }
 
@@ -412,7 +436,7 @@ impl<'a> Forms<'a> {
         then: impl FnOnce(&[u8]) -> R,
     ) -> Result<R, WriteError> {
         let buffer = &mut [0; 40];
-        match choose(self, number, style, buffer) {
+        match self.choose_form(number, style, buffer) {
             Ok(Chosen { length, .. }) => Ok(then(&buffer[..length])),
             Err(WriteError::Buffer(_)) => self.choose_long(number, style, |_, text| then(text)),
             Err(error) => Err(error),
