@@ -357,7 +357,7 @@ impl<'a> Forms<'a> {
         style: Style,
         text: &mut [u8],
     ) -> Result<Chosen, WriteError> {
-        if !number.is_integer() && self.has_singles_alone() {
+        if !number.own(style).integer && self.has_singles_alone() {
             let narrow: &dyn Writable = &Narrow(number);
             return choose(self, narrow, style, text);
         }

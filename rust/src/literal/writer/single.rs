@@ -1,6 +1,6 @@
 //! Floats in a list whose floats are all singles.
 
-use crate::literal::writer::choice::Writable;
+use crate::literal::writer::choice::{Own, Writable};
 use crate::literal::writer::layout::{Style, WriteError};
 use crate::literal::{Kind, Literal, Syntax};
 
@@ -15,16 +15,8 @@ fn single_of(literal: &Literal) -> Option<u32> {
 }
 
 impl<N: Writable + ?Sized> Writable for Narrow<'_, N> {
-    fn radix(&self) -> u32 {
-        self.0.radix()
-    }
-
-    fn is_integer(&self) -> bool {
-        false
-    }
-
-    fn is_rounded(&self, style: Style) -> bool {
-        self.0.is_rounded(style)
+    fn own(&self, style: Style) -> Own {
+        self.0.own(style)
     }
 
     fn write(&self, syntax: &Syntax, style: Style, buffer: &mut [u8]) -> Result<(usize, bool), WriteError> {
