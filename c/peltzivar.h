@@ -463,10 +463,10 @@ PELTZIVAR_MUST_USE peltzivar_write_status peltzivar_forms_format_i128(const pelt
     peltzivar_i128 value, const peltzivar_style *style, char *text, size_t len, size_t *needed);
 
 /* Writes a float by the first form whose text all forms read as the same bits, or with `has_decimals` as the rounded
- * number. Decimal forms that have floats are asked first, and then, unless it is rounded, the others. If there is none,
- * the status is as for peltzivar_forms_format_i64, or PELTZIVAR_WRITE_FRACTION of a rounded number if none is asked. NaN
- * and infinity are the first of their spellings that the forms read as special values, or else have
- * PELTZIVAR_WRITE_SPECIAL. */
+ * number, or as the nearest single if their floats are all singles. Decimal forms that have floats are asked first, and
+ * then, unless it is rounded, the others. If there is none, the status is as for peltzivar_forms_format_i64, or
+ * PELTZIVAR_WRITE_FRACTION of a rounded number if none is asked. NaN and infinity are the first of their spellings that
+ * the forms read as special values, or else have PELTZIVAR_WRITE_SPECIAL. */
 PELTZIVAR_MUST_USE peltzivar_write_status peltzivar_forms_format_f64(const peltzivar_forms *forms, double value,
     const peltzivar_style *style, char *text, size_t len, size_t *needed);
 

@@ -961,10 +961,11 @@ class _Reader(_peltzivar.Reader):
         as near. In integers alone, and in another radix than 10, it has no effect.
 
         Of several forms, as those of a Language, the first is taken whose text all of them read as the same integer, as
-        a float that is equal to it, or as the same float. Forms of the radix of a `Literal`, or else decimal ones, are
-        asked first, those of a float only if they have floats, and then the others. `decimals` leaves out the others.
-        If none is taken, the error is that of the first. An int that a form has only with a word is written with one,
-        which `token` reads: `languages.JAVA.format_number(3000000000)` is 3000000000L.
+        a float that is equal to it, or as the same float or, if their floats are all singles, the nearest one. Forms of
+        the radix of a `Literal`, or else decimal ones, are asked first, those of a float only if they have floats, and
+        then the others. `decimals` leaves out the others. If none is taken, the error is that of the first. An int that
+        a form has only with a word is written with one, which `token` reads: `languages.JAVA.format_number(3000000000)`
+        is 3000000000L.
 
         Raises ValueError for NaN and infinity without a spelling that is read as them, for a Fraction that no decimal
         number is equal to, for a sign `-` if no literal has one, for a number that is not whole if literals are

@@ -102,28 +102,41 @@ fn amount_in(language: Language, digits: &str) -> String {
 #[test]
 fn amounts_are_rounded_as_std_rounds_them() {
     let state = &mut Random::new(20_261_201);
-    let has = |language: &Language, floats| {
-        language.forms().into_iter().any(|it| it.syntax().point().is_some() && it.kind().floats() == floats)
-    };
     for (language, index) in Language::ALL.iter().flat_map(|language| (0..1000).map(move |index| (*language, index))) {
         let amount = state.below(10_000_000) as f64 / if index % 4 == 0 { -1000.0 } else { 1000.0 };
         for places in 0..=6 {
             let (style, size) = (Style::PLAIN.decimals(places), usize::from(places));
-            // PostScript has singles alone, and Bash no floats.
-            let (written, digits) = if has(&language, FloatKind::Single) && !has(&language, FloatKind::Nearest) {
-                (language.forms().format_float(amount as f32, style), format!("{:.size$}", amount as f32))
-            } else {
-                (language.forms().format_float(amount, style), format!("{amount:.size$}"))
-            };
+            // Bash has no floats.
             let wanted = if language == Language::BASH {
                 Err(WriteError::Fraction)
             } else if is_unsigned(language.forms(), amount) {
                 Err(WriteError::Negative)
             } else {
-                Ok(amount_in(language, &digits))
+                Ok(amount_in(language, &format!("{amount:.size$}")))
             };
+            let written = language.forms().format_float(amount, style);
             assert_eq!(written.map(|text| text.to_string()), wanted, "{language}");
         }
+    }
+}
+
+/// The floats of PostScript are all singles.
+#[test]
+fn a_double_is_written_where_all_floats_are_singles() {
+    let forms = Language::POSTSCRIPT.forms();
+    let (largest, least) = (f64::from(f32::MAX), f64::from(f32::from_bits(1)));
+    for value in [0.64, -0.1, 0.1 + 0.2, 0.0, -0.0, 1e14, 16_777_217.0, 1.0 / 3.0, 1e38, 1e-45, largest, least] {
+        let text = forms.format_float(value, Style::PLAIN).map(|it| it.to_string());
+        assert_eq!(text, Ok(format!("{value:?}")), "{value}");
+        let read = text.map(|it| forms.parse::<f32>(it).map(f32::to_bits));
+        assert_eq!(read, Ok(Ok((value as f32).to_bits())), "{value}");
+        let literal = format!("{value:?}");
+        let literal = Language::JSON.read(&literal).unwrap().literal().unwrap();
+        assert_eq!(forms.format_literal(&literal, Style::PLAIN).map(|it| it.to_string()), Ok(format!("{value:?}")));
+    }
+    let (large, small) = (WriteError::TooLarge, WriteError::ReadBack);
+    for (value, error) in [(1e39, large), (-1e300, large), (1e-46, small), (f64::MIN_POSITIVE, small)] {
+        assert_eq!(forms.format_float(value, Style::PLAIN).err(), Some(error), "{value}");
     }
 }
 

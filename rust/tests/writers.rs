@@ -199,6 +199,13 @@ fn is_worth_integer(literal: &Literal, integer: i128) -> bool {
         || literal.is_float() && format!("{:.0}", literal.to_f64().unwrap()) == integer.to_string()
 }
 
+/// Returns whether two literals are the same single, which is neither infinite nor 0 instead.
+fn is_same_single(literal: &Literal, back: &Literal) -> bool {
+    let is_value = |it: f32| it.is_finite() && (it != 0.0 || literal.to_f64() == Ok(0.0));
+    let bits = |it: &Literal| it.to_f32().map(f32::to_bits).ok();
+    literal.to_f32().is_ok_and(is_value) && bits(literal) == bits(back)
+}
+
 /// Each literal of the rows is read back by each language as the same number, and each error is that of the form that is asked
 /// first: of the literal's radix and, for a float, with floats, or else of the first form.
 #[test]
@@ -212,6 +219,7 @@ fn languages_read_what_they_write() {
                     && (!literal.is_float() || syntax.point().is_some())
             };
             let is_same = |back: Literal| match i128::try_from(literal) {
+                _ if *target == Language::POSTSCRIPT && literal.is_float() => is_same_single(&literal, &back),
                 Ok(value) if value != 0 => is_worth_integer(&back, value),
                 _ => literal.to_f64().is_ok_and(|it| back.to_f64().is_ok_and(|back| it.to_bits() == back.to_bits())),
             };

@@ -53,13 +53,16 @@ fn read(language: Language, text: &str) -> Option<Given<'_>> {
     Some((literal, (literal.is_negative(), whole.ok_or((radix, digits, last)))))
 }
 
-/// Returns whether a literal that is written for another one is the same number: exactly, or as its `f64` if its kind makes it
-/// another number. The kinds of both count.
-fn is_same((own, number): &Given, (back, other): &Given) -> bool {
-    let float = |literal: Literal| literal.to_f64().map(f64::to_bits).map_err(|error| error.kind());
-    let floats = [float(*own), float(*back)];
+/// Returns whether a literal that a language writes for another one is the same number: exactly, or as its `f64` if its kind makes
+/// it another number, or as its `f32` in PostScript, whose floats are all singles. The kinds of both count.
+fn is_same(language: Language, (own, number): &Given, (back, other): &Given) -> bool {
+    let float = |literal: Literal, is_single| {
+        let value = if is_single { literal.to_f32().map(f64::from) } else { literal.to_f64() };
+        value.map(f64::to_bits).map_err(|error| error.kind())
+    };
+    let floats = [*own, *back].map(|literal| float(literal, language == Language::POSTSCRIPT));
     if floats[0].is_ok() && floats[0] == floats[1] {
-        number == other || float(own.with_kind(Kind::EXACT)) != floats[0]
+        number == other || float(own.with_kind(Kind::EXACT), false) != float(*own, false)
     } else {
         number == other && floats.contains(&Err(ValueErrorKind::UnsupportedRadix))
     }
@@ -77,7 +80,7 @@ fn faults(given: &Given, language: Language) -> Vec<String> {
     let fault = |style: Style| {
         let written = language.forms().format_literal(&given.0, style).ok()?;
         let text = written.to_string();
-        let is_same = read(language, &text).is_some_and(|back| is_same(given, &back));
+        let is_same = read(language, &text).is_some_and(|back| is_same(language, given, &back));
         let is_right = is_same && format!("{written:>40}") == format!("{text:>40}") && fits(&written, text.as_bytes());
         (!is_right).then(|| format!("{:?} is {text} in {language}, by {style:?}", given.0))
     };

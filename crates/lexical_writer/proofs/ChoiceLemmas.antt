@@ -1,6 +1,6 @@
 -- What a list reads is the number that a form has written.
 use Rattle.lexical_writer.proofs.Common.{Bool, Form, Grammar, IsFirst, IsSomeAnd, IsWhole, Kind, List, Literal, NoForm, None, Ok}
-use Rattle.lexical_writer.proofs.Common.{Option, Read, Reads, ReadsForm, Record, SameFraction, Some, Style, ap, arith, exact, false, false≢true}
+use Rattle.lexical_writer.proofs.Common.{Option, Read, Reads, ReadsForm, Record, SameFraction, Some, ap, arith, exact, false, false≢true}
 use Rattle.lexical_writer.proofs.Common.{float_worth, format_by, if◌then◌else◌, inl, inr, integer_worth, is_binary, is_decimal, is_exact, is_float, is_minus}
 use Rattle.lexical_writer.proofs.Common.{is_some, length-take-le}
 use Rattle.lexical_writer.proofs.Common.{mantissa, nearest, negsuc, not, notation_of, pos, raw, refl, slice_get, subst, suc, sym, take, true, with_sign, within}

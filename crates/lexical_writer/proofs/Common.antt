@@ -31,7 +31,7 @@ pub use Rattle.lexical_writer.specs.Amount.{is_far, is_shown, is_wanted, least_p
 pub use Rattle.lexical_writer.specs.Buffer.{IsTaken}
 pub use Rattle.lexical_writer.specs.Choice.{AreBefore, ArePassed, IsChosen, IsFound, IsMisread, IsNoToken, IsPassedOver, IsReached, IsReadElse, IsReadWith}
 pub use Rattle.lexical_writer.specs.Choice.{IsRefused, IsSearched, IsStopped, IsUnusable, IsWhole, bytes_of_word, has_floats, is_asked, has_opening, is_own}
-pub use Rattle.lexical_writer.specs.Choice.{is_short, steps, text_by, unasked, ways, whole_of, words_of}
+pub use Rattle.lexical_writer.specs.Choice.{IsWrittenBy, Task, is_short, steps, text_by, unasked, ways, whole_of, words_of}
 pub use Rattle.lexical_writer.specs.Private.{IsPut}
 pub use Rattle.lexical_writer.specs.Conversion.{SameFraction, own_amount}
 pub use Rattle.lexical_writer.specs.Digits.{at_least, begins_decimal, character, ends_group, grouped, grouped_front, no_groups, only_if, padded_values}

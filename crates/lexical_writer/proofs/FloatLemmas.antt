@@ -10,7 +10,7 @@ use Rattle.lexical_writer.proofs.Common.{nat_tests, ne_eqb, nearest, no_power, n
 use Rattle.lexical_writer.proofs.Common.{numerator, one-le-pow, one_if, pow-add, pow-le-pow_right, pow-suc, pow-zero, prec, raised_down, raised_up}
 use Rattle.lexical_writer.proofs.Common.{raw, refl, refusal, replicate, round, round_same, rounded, scale, size_of, subst, suc, sym, take, take-append-drop, true}
 use Rattle.lexical_writer.proofs.Common.{unwrap_or, values_of, with_minus, zero, ℕ, ◌%◌, ◌&&◌, ◌*◌, ◌++◌, ◌+◌, ◌-◌, ◌/◌, ◌<◌, ◌==◌, ◌^◌, ◌∙◌, ◌∷◌}
-use Rattle.lexical_writer.proofs.Common.{IsShape, has, places as digit_count, units_in, ◌||◌, ◌≡◌, ◌≢◌, ◌≤◌}
+use Rattle.lexical_writer.proofs.Common.{IsShape, has, units_in, ◌||◌, ◌≡◌, ◌≢◌, ◌≤◌}
 use Rattle.std.proofs.Math.Nat.{div-eq_of_lt-le, div-lt_iff_lt-mul, mod-eq-sub-div-mul}
 use lib.Ieee.{Format, down, fin, hid, inf, is_nan, nan, neg, odd, of_bits, of_fields, ones, top, up}
 use lib.Ieee.Exact.{HasValue, odd_sign}

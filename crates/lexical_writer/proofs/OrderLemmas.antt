@@ -4,7 +4,7 @@ use Rattle.std.specs.Option.{option_map}
 use Rattle.std.proofs.lemmas.List.{length-map}
 use Rattle.std.proofs.lemmas.Option.{slice_get-map}
 use Rattle.lexical_forms.specs.FormList.{FormList}
-use Rattle.lexical_writer.proofs.Common.{ArePassed, AreBefore, Bool, Form, Grammar, IsRefused, IsSearched, IsSomeAnd, List, Literal, None, Option, Options, Read, Result}
+use Rattle.lexical_writer.proofs.Common.{ArePassed, AreBefore, Bool, Form, IsRefused, IsSearched, IsSomeAnd, List, None, Option, Options, Task}
 use Rattle.lexical_writer.proofs.Common.{Some, WriteError, [], ap, arith, cases_lt, false, false≢true, if◌then◌else◌, is_short, lacks_options, not, suc, ways, words_of}
 use Rattle.lexical_writer.proofs.Common.{inl, inr, is_some, length, refl, slice_get, subst, sym, true, unwrap_or, ℕ, ◌+◌, ◌<◌, ◌∙◌, ◌≡◌, ◌≤◌, ◌⊎◌}
 use Rattle.std.proofs.lemmas.Option.{slice_get_within}
@@ -92,27 +92,26 @@ module _ (P : ℕ → Form → WriteError → Type 0) (asked : ℕ → Form → 
           }
 
 -- The ways in which a form is asked to write a number, in their order.
-module _ (writes : Grammar → Result Literal WriteError → Type 0) (keeps : Bool → Read → Type 0) (room : ℕ) (list : FormList) (integer : Bool)
-    (index : ℕ) (form : Form) where
-  pub passed_none : ArePassed writes keeps room list integer index form 0
+module _ (task : Task) (room : ℕ) (list : FormList) (index : ℕ) (form : Form) where
+  pub passed_none : ArePassed task room list index form 0
   passed_none at word less there = absurd (omega (arith, less))
 
   -- The form does not write the number in the next way either.
-  pub passed_more : (n : ℕ) (word : Option (List ℕ)) (error : WriteError) → slice_get (ways integer form) n ≡ Some word
-      → IsRefused writes keeps room list integer index form word error → is_short error ≡ false → ArePassed writes keeps room list integer index form n
-      → ArePassed writes keeps room list integer index form (n + 1)
+  pub passed_more : (n : ℕ) (word : Option (List ℕ)) (error : WriteError) → slice_get (ways task.own.integer form) n ≡ Some word
+      → IsRefused task room list index form word error → is_short error ≡ false → ArePassed task room list index form n
+      → ArePassed task room list index form (n + 1)
   passed_more n word error here refused fits old at it less there = elim (cases_lt at n) [
     | inl earlier ↦ old at it earlier there
     | inr least ↦
         let same : n ≡ at = omega (arith, less, least) in
-        let one : word ≡ it = ap (λ o. unwrap_or o word) (sym here ∙ ap (slice_get (ways integer form)) same ∙ there) in
-        subst (λ word. (error : WriteError) × IsRefused writes keeps room list integer index form word error × (is_short error ≡ false)) one
+        let one : word ≡ it = ap (λ o. unwrap_or o word) (sym here ∙ ap (slice_get (ways task.own.integer form)) same ∙ there) in
+        subst (λ word. (error : WriteError) × IsRefused task room list index form word error × (is_short error ≡ false)) one
         (error, refused, fits)
   ]
 
   -- Without a word, it does not.
-  pub passed_first : (error : WriteError) → IsRefused writes keeps room list integer index form None error → is_short error ≡ false
-      → ArePassed writes keeps room list integer index form 1
+  pub passed_first : (error : WriteError) → IsRefused task room list index form None error → is_short error ≡ false
+      → ArePassed task room list index form 1
   passed_first error refused fits = passed_more 0 None error refl refused fits passed_none
 
 -- Behind the way without a word, an integer has those with its words.

@@ -1,5 +1,5 @@
 -- An amount without an exponent has the value of the literal.
-use Rattle.lexical_writer.proofs.Common.{Amount, Bool, Grammar, HasNumber, HasValue, IfOk, IsSyntax, List, Literal, None, Option, Parts, Power, Record}
+use Rattle.lexical_writer.proofs.Common.{Amount, Bool, Grammar, HasNumber, HasValue, IfOk, IsSyntax, Literal, None, Option, Parts, Power, Record}
 use Rattle.lexical_writer.proofs.Common.{SameFraction, Some, [], ap, append-nil, arith, at_least, denominator, digits_in, digits_of, div-add-mod}
 use Rattle.lexical_writer.proofs.Common.{effective_exponent_base, effective_exponent_radix, eq-zero-or-pos, false, false≢true, given_fraction, given_power}
 use Rattle.lexical_writer.proofs.Common.{if◌then◌else◌, inl, inr, is_minus, lacks_options, length, length-digits_of-le, mantissa, max, mod-lt, nat_tests}

@@ -25,38 +25,46 @@ use Rattle.lexical_number.specs.Numeral.{with_sign}
 use Rattle.lexical_value.specs.Float.{is_binary, is_decimal, nearest}
 use Rattle.lexical_value.specs.Kind.{IsWorth, float_worth, integer_worth, is_exact}
 use Rattle.lexical_writer.specs.Conversion.{SameFraction}
+use Rattle.lexical_writer.specs.declared.choice.Own.{Own}
 use Rattle.lexical_writer.specs.declared.layout.WriteError.{WriteError}
 use Rattle.lexical_writer.specs.declared.layout.WriteError.TheVariants as errors
 
--- `is_own radix integer g` is true if a form with the syntax `g` is one of the own forms of an integer or, if `integer` is false, of another
--- number of a radix: it has this radix and, for a number that is no integer, floats.
-abbrev pub is_own : ℕ → Bool → Grammar → Bool
-is_own radix integer g = (raw g.word).byte layout.mantissa_radix == radix && (integer || not (lacks_options g.options))
+-- What a list is asked to write: its own forms, which are asked first; `writes g result`, what is written for it by `g`, or why nothing is;
+-- `is g l read`, a literal that the list reads is the number for which `l` of `g` is written; and `keeps own read`, the literal surely is, where `own` is
+-- true for a literal of the form that writes the number.
+pub record Task : Type 1 where
+  pub own : Own
+  pub writes : Grammar → Result Literal WriteError → Type 0
+  pub is : Grammar → Literal → Read → Type 0
+  pub keeps : Bool → Read → Type 0
 
--- `is_asked radix integer step form` is true if `form` is asked in a step: in the first one, 0, if it is one of the number's own, and otherwise
--- in the second one. A form that is only read is not asked.
-abbrev pub is_asked : ℕ → Bool → ℕ → Form → Bool
-is_asked radix integer step form =
-    (if step == 0 then is_own radix integer form.syntax else not (is_own radix integer form.syntax)) && not form.only_read
+-- `is_own own g` is true if a form with the syntax `g` is one of a number's own: it has their radix and, for a number that is no integer, floats.
+abbrev pub is_own : Own → Grammar → Bool
+is_own own g = (raw g.word).byte layout.mantissa_radix == own.radix && (own.integer || not (lacks_options g.options))
 
--- `steps rounded` is how many steps there are. A number that is rounded is written by its own forms alone.
-abbrev pub steps : Bool → ℕ
-steps rounded = if rounded then 1 else 2
+-- `is_asked own step form` is true if `form` is asked in a step: in the first one, 0, if it is one of the number's own, and otherwise in the
+-- second one. A form that is only read is not asked.
+abbrev pub is_asked : Own → ℕ → Form → Bool
+is_asked own step form = (if step == 0 then is_own own form.syntax else not (is_own own form.syntax)) && not form.only_read
 
--- `unasked rounded` is the error of a number for which no form is asked.
-abbrev pub unasked : Bool → WriteError
-unasked rounded = if rounded then errors.Fraction else errors.ReadBack
+-- `steps own` is how many steps there are. A number that is rounded is written by its own forms alone.
+abbrev pub steps : Own → ℕ
+steps own = if own.rounded then 1 else 2
+
+-- `unasked own` is the error of a number for which no form is asked.
+abbrev pub unasked : Own → WriteError
+unasked own = if own.rounded then errors.Fraction else errors.ReadBack
 
 -- `AreBefore P asked forms step index` holds if `P` holds of each index and form that is asked before the form with this index is asked in this step.
 pub record AreBefore (P : ℕ → Form → Type 0) (asked : ℕ → Form → Bool) (forms : List Form) (step index : ℕ) : Type 0 where
   pub each : (before at : ℕ) → (form : Form) → (before < step) ⊎ ((before ≡ step) × (at < index)) → slice_get forms at ≡ Some form
       → asked before form ≡ true → P at form
 
--- `IsFound P Q asked forms end` holds if `Q` holds of an index and its form, which is asked before the step `end`, and if `P` holds of an error of each form
--- that is asked before.
-abbrev pub IsFound : (ℕ → Form → WriteError → Type 0) → (ℕ → Form → Type 0) → (ℕ → Form → Bool) → List Form → ℕ → Type 0
-IsFound P Q asked forms end = (step index : ℕ) × (step < end) × AreBefore (λ at form. (error : WriteError) × P at form error) asked forms step index
-    × IsSomeAnd (slice_get forms index) (λ form. (asked step form ≡ true) × Q index form)
+-- `IsFound P Q own forms` holds if `Q` holds of an index and its form, which is asked, and if `P` holds of an error of each form that is asked before.
+abbrev pub IsFound : (ℕ → Form → WriteError → Type 0) → (ℕ → Form → Type 0) → Own → List Form → Type 0
+IsFound P Q own forms = (step index : ℕ) × (step < steps own)
+    × AreBefore (λ at form. (error : WriteError) × P at form error) (is_asked own) forms step index
+    × IsSomeAnd (slice_get forms index) (λ form. (is_asked own step form ≡ true) × Q index form)
 
 -- `IsSearched P asked forms step index reason` holds if `P` holds of an error of each form that is asked before this step and index, and if `reason` is
 -- that of the first of them, or `None` if there is none.
@@ -132,41 +140,45 @@ abbrev pub IsReadWith : FormList → Option (List ℕ) → List ℕ → (Read �
 IsReadWith list None text P = IsReadBack list text P
 IsReadWith list (Some word) text P = IsTokenOf list word text P
 
+-- `IsMisread task list index form word text error` holds if `error` is why `text`, which a form writes, is not used: the list reads it as no literal that
+-- surely keeps the number or, with a word, has no such token.
+abbrev pub IsMisread : Task → FormList → ℕ → Form → Option (List ℕ) → List ℕ → WriteError → Type 0
+IsMisread task list index form None text error = IsReadElse (λ own. task.keeps (not (has_opening form) && own)) list.forms index text error
+    ⊎ (NoForm list.forms text × (error ≡ errors.ReadBack))
+IsMisread task list index form (Some word) text error = IsNoToken task.keeps list word text error
+
+-- `IsWrittenBy task list form word text` holds if `text` is what the form writes for the number, and the list reads it as a literal that is the number.
+abbrev pub IsWrittenBy : Task → FormList → Form → Option (List ℕ) → List ℕ → Type 0
+IsWrittenBy task list form word text = (l : Literal) × task.writes form.syntax (Ok l) × (text ≡ text_by form word l)
+    × IsReadWith list word text (task.is form.syntax l)
+
 -- `ways integer form` are the ways in which a form is asked to write a number, in their order: without a word, and an integer then with the bytes of each
 -- of the form's words.
 abbrev pub ways : Bool → Form → List (Option (List ℕ))
 ways integer form = None ∷ map (λ word. Some word.now) (if integer then words_of form.suffixes else [])
 
--- These are about a number, with what is written for it and what surely keeps it, and a form of a list, by a buffer with some `room`.
-module _ (writes : Grammar → Result Literal WriteError → Type 0) (keeps : Bool → Read → Type 0) (room : ℕ) (list : FormList) (integer : Bool)
-    (index : ℕ) (form : Form) where
-  -- `IsMisread word text error` holds if `error` is why `text`, which the form writes, is not used: the list reads it as no literal that surely keeps
-  -- the number or, with a word, has no such token.
-  abbrev pub IsMisread : Option (List ℕ) → List ℕ → WriteError → Type 0
-  IsMisread None text error = IsReadElse (λ own. keeps (not (has_opening form) && own)) list.forms index text error
-      ⊎ (NoForm list.forms text × (error ≡ errors.ReadBack))
-  IsMisread (Some word) text error = IsNoToken keeps list word text error
-
+-- These are about what a list is asked to write, and a form of the list, by a buffer with some `room`.
+module _ (task : Task) (room : ℕ) (list : FormList) (index : ℕ) (form : Form) where
   -- `IsUnusable word text error` holds if `error` is why `text` is not used: it is longer than the room, or it is misread.
   abbrev pub IsUnusable : Option (List ℕ) → List ℕ → WriteError → Type 0
   IsUnusable word text error =
       (((room < length text) ⊎ (2 ^ 64 - 1 ≤ length text)) × (error ≡ errors.Buffer (min (length text) (2 ^ 64 - 1))))
-      ⊎ ((length text ≤ room) × IsMisread word text error)
+      ⊎ ((length text ≤ room) × IsMisread task list index form word text error)
 
   -- `IsRefused word error` holds if `error` is why the form does not write the number, with a word or without: no literal is written for it, or the text
   -- of the one that is written is not used.
   abbrev pub IsRefused : Option (List ℕ) → WriteError → Type 0
-  IsRefused word error = writes form.syntax (Err error)
-      ⊎ ((l : Literal) × writes form.syntax (Ok l) × IsUnusable word (text_by form word l) error)
+  IsRefused word error = task.writes form.syntax (Err error)
+      ⊎ ((l : Literal) × task.writes form.syntax (Ok l) × IsUnusable word (text_by form word l) error)
 
   -- `ArePassed n` holds if the form does not write the number in its first `n` ways, for reasons that do not end the search.
   abbrev pub ArePassed : ℕ → Type 0
-  ArePassed n = (at : ℕ) → (word : Option (List ℕ)) → at < n → slice_get (ways integer form) at ≡ Some word
+  ArePassed n = (at : ℕ) → (word : Option (List ℕ)) → at < n → slice_get (ways task.own.integer form) at ≡ Some word
       → (error : WriteError) × IsRefused word error × (is_short error ≡ false)
 
   -- `IsReached P` holds if `P` holds of one of the ways, and the form does not write the number in one before.
   abbrev pub IsReached : (Option (List ℕ) → Type 0) → Type 0
-  IsReached P = (n : ℕ) × ArePassed n × IsSomeAnd (slice_get (ways integer form) n) P
+  IsReached P = (n : ℕ) × ArePassed n × IsSomeAnd (slice_get (ways task.own.integer form) n) P
 
   -- `IsStopped error` holds if `error` is that a text of the form is too long, which ends the search.
   abbrev pub IsStopped : WriteError → Type 0
@@ -174,13 +186,11 @@ module _ (writes : Grammar → Result Literal WriteError → Type 0) (keeps : Bo
 
   -- `IsPassedOver error` holds if the form does not write the number in any way, and if `error` is why it does not without a word.
   abbrev pub IsPassedOver : WriteError → Type 0
-  IsPassedOver error = (is_short error ≡ false) × ArePassed (length (ways integer form)) × IsRefused None error
+  IsPassedOver error = (is_short error ≡ false) × ArePassed (length (ways task.own.integer form)) × IsRefused None error
 
-  -- `IsChosen is word text` holds if the form writes the number as `text`, with a word or without, and does not in a way before. The list reads the text as
-  -- a literal of which `is` holds.
-  abbrev pub IsChosen : (Grammar → Literal → Read → Type 0) → Option (List ℕ) → List ℕ → Type 0
-  IsChosen is word text = IsReached (λ way. way ≡ word)
-      × ((l : Literal) × writes form.syntax (Ok l) × (text ≡ text_by form word l) × IsReadWith list word text (is form.syntax l))
+  -- `IsChosen word text` holds if the form writes the number as `text`, with a word or without, and does not in a way before.
+  abbrev pub IsChosen : Option (List ℕ) → List ℕ → Type 0
+  IsChosen word text = IsReached (λ way. way ≡ word) × IsWrittenBy task list form word text
 
 -- `IsExactly z read` holds if `read` is worth an `f64` that is exactly the integer `z`, or -0 for 0.
 abbrev pub IsExactly : ℤ → Read → Type 0

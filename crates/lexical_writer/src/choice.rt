@@ -18,9 +18,9 @@ ghost use Rattle.lexical_writer.specs.Buffer.{IsTaken};
 ghost use Rattle.lexical_forms.specs.Forms.{IsFirst, NoForm};
 ghost use Rattle.lexical_forms.specs.declared.form.Form.{Form as Asked};
 ghost use Rattle.lexical_writer.specs.Layout.{integer_literal, laid_out, literal_of as written, number_of_size};
-ghost use Rattle.lexical_writer.specs.Choice.{ArePassed, IsChosen, IsFound, IsNoToken, IsPassedOver, IsReadBack, IsReadElse, IsReadWith, IsReal};
-ghost use Rattle.lexical_writer.specs.Choice.{IsRefused, IsSearched, IsStopped, IsTokenOf, IsWhole, bytes_of_word, has_floats, has_worth, is_asked};
-ghost use Rattle.lexical_writer.specs.Choice.{has_opening, is_own, is_short, steps, text_by, unasked, ways, whole_of};
+ghost use Rattle.lexical_writer.specs.Choice.{ArePassed, IsChosen, IsFound, IsMisread, IsNoToken, IsPassedOver, IsReadBack, IsReadElse, IsReal};
+ghost use Rattle.lexical_writer.specs.Choice.{IsRefused, IsSearched, IsStopped, IsTokenOf, IsWhole, IsWrittenBy, Task, bytes_of_word, has_floats};
+ghost use Rattle.lexical_writer.specs.Choice.{has_worth, is_asked, is_own, is_short, steps, text_by, unasked, ways, whole_of};
 ghost use Rattle.lexical_writer.specs.Private.{IsPut};
 ghost use Rattle.lexical_writer.specs.declared.layout.WriteError.{WriteError as Reason};
 ghost use Rattle.lexical_writer.specs.declared.layout.WriteError.TheVariants as errors;
@@ -43,37 +43,25 @@ use lexical_number::numeral::Magnitude;
 use lexical_value::float::{supports_floats, to_float};
 use lexical_value::integer::own_numeral;
 
+/// Which forms of a list a number asks first.
+#[derive(Clone, Copy)]
+pub struct Own {
+    /// The radix of these forms.
+    pub radix: u32,
+    /// Whether the number is an integer. If it is none, they have floats.
+    pub integer: bool,
+    /// Whether the number is a float that is rounded. They alone write it.
+    pub rounded: bool,
+}
+
 /// A number that a list of forms is asked to write.
 pub trait Writable {
-    // Whether the number is an integer.
-    ghost integer: { Self → Bool };
+    // What a list is asked to write in a style.
+    ghost task: { Self → Wishes → Task };
 
-    // A literal of a syntax is written for the number in a style, or none is, for a reason.
-    ghost writes: { Self → Wishes → Grammar → Result Parts Reason → Type 0 };
-
-    // A literal that a list reads is this number, for which a literal of a syntax is written in a style.
-    ghost is: { Self → Wishes → Grammar → Parts → Read → Type 0 };
-
-    // A literal that a list reads surely keeps the number in a style. Whether its form is the one that writes the number comes first.
-    ghost keeps: { Self → Wishes → Bool → Read → Type 0 };
-
-    // The radix of the forms that are asked first.
-    ghost base: { Self → ℕ };
-
-    // Whether a float is rounded in a style.
-    ghost rounded: { Self → Wishes → Bool };
-
-    /// Returns the radix of the forms that are asked first.
-    fn radix(&self) -> u32
-        ensures { result ≡ base self.now };
-
-    /// Returns whether the number is an integer.
-    fn is_integer(&self) -> bool
-        ensures { result ≡ integer self.now };
-
-    /// Returns whether a float is rounded in a style.
-    fn is_rounded(&self, style: Style) -> bool
-        ensures { result ≡ rounded self.now style };
+    /// Returns which forms are asked first.
+    fn own(&self, style: Style) -> Own
+        ensures { result ≡ (task self.now style).own };
 
     /// Writes the number as a literal of `syntax` to the beginning of a buffer, as far as it has room, and returns the length of
     /// the text, and whether it has a decimal point or an exponent.
@@ -88,28 +76,28 @@ pub trait Writable {
         buffer: &mut [u8],
     ) -> Result<(usize, bool), WriteError>
         ensures text { IfOk result (λ it. (l : Parts) × Reads (notation_of syntax.now) l (text_of l)
-            × writes self.now style syntax.now (Ok l) × IsTaken (text_of l) buffer.old buffer.new it.0 × (it.1 ≡ is_float l)) }
+            × (task self.now style).writes syntax.now (Ok l) × IsTaken (text_of l) buffer.old buffer.new it.0 × (it.1 ≡ is_float l)) }
         ensures room { length buffer.new ≡ length buffer.old }
-        ensures error { IfErr result (λ error. writes self.now style syntax.now (Err error)) };
+        ensures error { IfErr result (λ error. (task self.now style).writes syntax.now (Err error)) };
 
     /// Returns whether a literal of a syntax and a kind, with a decimal point or an exponent or without, is the number if it is
     /// written for it in a style.
     fn is_plain(&self, syntax: &Syntax, kind: Kind, style: Style, float: bool) -> bool
         ensures plain { result ≡ true → (read : Read) → read.kind ≡ kind → read.format ≡ syntax.now.word → is_float read.literal ≡ float
-            → writes self.now style syntax.now (Ok read.literal) → is self.now style syntax.now read.literal read }
+            → (task self.now style).writes syntax.now (Ok read.literal) → (task self.now style).is syntax.now read.literal read }
         ensures kept { result ≡ false → (read : Read) → read.kind ≡ kind → read.format ≡ syntax.now.word → is_float read.literal ≡ float
-            → keeps self.now style true read → keeps self.now style false read };
+            → (task self.now style).keeps true read → (task self.now style).keeps false read };
 
     /// Returns whether a literal is worth the number in a style, of which `own` is what its form alone reads.
     fn is_read_as(&self, style: Style, own: &Literal, literal: &Literal) -> bool
         ensures same { result ≡ true → own.now.kind ≡ exact → (g : Grammar) → own.now.format ≡ g.word
-            → writes self.now style g (Ok own.now.literal) → is self.now style g own.now.literal literal.now }
-        ensures kept { result ≡ false → keeps self.now style false literal.now → ⊥ };
+            → (task self.now style).writes g (Ok own.now.literal) → (task self.now style).is g own.now.literal literal.now }
+        ensures kept { result ≡ false → (task self.now style).keeps false literal.now → ⊥ };
 
     /// Returns whether a literal is worth the number in a style, whatever is written for it. A number that is rounded is not.
     fn is_worth(&self, style: Style, literal: &Literal) -> bool
-        ensures worth { result ≡ true → (g : Grammar) → (l : Parts) → is self.now style g l literal.now }
-        ensures kept { result ≡ false → keeps self.now style false literal.now → ⊥ };
+        ensures worth { result ≡ true → (g : Grammar) → (l : Parts) → (task self.now style).is g l literal.now }
+        ensures kept { result ≡ false → (task self.now style).keeps false literal.now → ⊥ };
 }
 
 /// The value of an integer type, by its sign and its size.
@@ -139,30 +127,21 @@ impl Writable for Whole {
     ghost use Rattle.lexical_writer.specs.Choice.{IsWhole, whole_of};
     ghost use Rattle.lexical_writer.specs.Layout.{laid_out, number_of_size, refusal};
 
-    ghost base = { λ number. 10 };
+    ghost task = { λ number style. record {
+      own = record { radix = 10; integer = true; rounded = false };
+      writes = λ g result. MatchResult result (λ l. (l ≡ laid_out g style (number_of_size number.negative number.size))
+          × (with_sign number.negative number.size ≡ with_sign (is_minus l.sign) (integer_size (raw g.word).byte l)))
+          (λ error. refusal g (number_of_size number.negative number.size) ≡ Some error);
+      is = λ g l read. IsWhole (with_sign number.negative number.size) read;
+      keeps = λ own read. whole_of read ≡ Some (number.negative, number.size);
+    } };
 
-    ghost integer = { λ number. true };
-
-    ghost rounded = { λ number style. false };
-
-    ghost writes = { λ number style g result. MatchResult result (λ l. (l ≡ laid_out g style (number_of_size number.negative number.size))
-        × (with_sign number.negative number.size ≡ with_sign (is_minus l.sign) (integer_size (raw g.word).byte l)))
-        (λ error. refusal g (number_of_size number.negative number.size) ≡ Some error) };
-
-    ghost is = { λ number style g l read. IsWhole (with_sign number.negative number.size) read };
-
-    ghost keeps = { λ number style own read. whole_of read ≡ Some (number.negative, number.size) };
-
-    fn radix(&self) -> u32 {
-        10
-    }
-
-    fn is_integer(&self) -> bool {
-        true
-    }
-
-    fn is_rounded(&self, _: Style) -> bool {
-        false
+    fn own(&self, _: Style) -> Own {
+        Own {
+            radix: 10,
+            integer: true,
+            rounded: false,
+        }
     }
 
     fn write(
@@ -203,30 +182,21 @@ impl<F: Float> Writable for Real<F> {
     ghost use Rattle.lexical_writer.specs.Amount.{IsFloatOf, float_error};
     ghost use Rattle.lexical_writer.specs.Choice.{IsAmount, IsKept};
 
-    ghost base = { λ number. 10 };
+    ghost task = { λ number style. record {
+      own = record { radix = 10; integer = false; rounded = is_some style.decimals };
+      writes = λ g result. MatchResult result (λ l. IsFloatOf (format_of F.DOUBLE) (F.value number.value) g style l
+          × (style.decimals ≡ None → F.value number.value ≡ nearest (format_of F.DOUBLE) (raw g.word).byte l))
+          (λ error. float_error g (F.value number.value) ≡ Some error);
+      is = IsAmount (format_of F.DOUBLE) (F.value number.value) style.decimals;
+      keeps = λ own read. (own ≡ true) × IsKept (F.value number.value) style.decimals read;
+    } };
 
-    ghost integer = { λ number. false };
-
-    ghost rounded = { λ number style. is_some style.decimals };
-
-    ghost writes = { λ number style g result. MatchResult result (λ l. IsFloatOf (format_of F.DOUBLE) (F.value number.value) g style l
-        × (style.decimals ≡ None → F.value number.value ≡ nearest (format_of F.DOUBLE) (raw g.word).byte l))
-        (λ error. float_error g (F.value number.value) ≡ Some error) };
-
-    ghost is = { λ number style. IsAmount (format_of F.DOUBLE) (F.value number.value) style.decimals };
-
-    ghost keeps = { λ number style own read. (own ≡ true) × IsKept (F.value number.value) style.decimals read };
-
-    fn radix(&self) -> u32 {
-        10
-    }
-
-    fn is_integer(&self) -> bool {
-        false
-    }
-
-    fn is_rounded(&self, style: Style) -> bool {
-        style.decimals.is_some()
+    fn own(&self, style: Style) -> Own {
+        Own {
+            radix: 10,
+            integer: false,
+            rounded: style.decimals.is_some(),
+        }
     }
 
     fn write(
@@ -307,29 +277,24 @@ impl Writable for Literal<'_> {
     ghost use Rattle.lexical_writer.specs.Choice.{IsKeptNumber, IsSameNumber};
     ghost use Rattle.lexical_writer.specs.Conversion.{IsWrittenAs, SameFraction};
 
-    ghost base = { λ number. (raw number.format).byte layout.mantissa_radix };
+    ghost task = { λ number style. record {
+      own = record {
+        radix = (raw number.format).byte layout.mantissa_radix;
+        integer = not (is_float number.literal);
+        rounded = false;
+      };
+      writes = λ g result. MatchResult result (λ l. IsWrittenAs number g style (Ok l)
+          × SameFraction (raw number.format) number.literal (raw g.word) l) (λ error. IsWrittenAs number g style (Err error));
+      is = λ g l. IsSameNumber number;
+      keeps = IsKeptNumber number;
+    } };
 
-    ghost integer = { λ number. not (is_float number.literal) };
-
-    ghost rounded = { λ number style. false };
-
-    ghost writes = { λ number style g result. MatchResult result (λ l. IsWrittenAs number g style (Ok l)
-        × SameFraction (raw number.format) number.literal (raw g.word) l) (λ error. IsWrittenAs number g style (Err error)) };
-
-    ghost is = { λ number style g l. IsSameNumber number };
-
-    ghost keeps = { λ number style. IsKeptNumber number };
-
-    fn radix(&self) -> u32 {
-        self.format().mantissa_radix()
-    }
-
-    fn is_integer(&self) -> bool {
-        !self.is_float()
-    }
-
-    fn is_rounded(&self, _: Style) -> bool {
-        false
+    fn own(&self, _: Style) -> Own {
+        Own {
+            radix: self.format().mantissa_radix(),
+            integer: !self.is_float(),
+            rounded: false,
+        }
     }
 
     fn write(
@@ -533,33 +498,26 @@ pub fn choose<N: Writable>(
 ) -> Result<Chosen, WriteError>
     ensures length { IfOk result (λ it. it.length ≤ length buffer.new) }
     // The text is what a form that is asked writes, and the list reads it as the number. Each form that is asked before is passed over.
-    ensures text { IfOk result (λ it. IsFound
-        (IsPassedOver (N.writes number.now style) (N.keeps number.now style) (length buffer.old) forms.now (N.integer number.now))
-        (λ at form. (at ≡ it.form) × IsChosen (N.writes number.now style) (N.keeps number.now style) (length buffer.old) forms.now (N.integer number.now)
-        at form (N.is number.now style) (bytes_of_word it.word) (take it.length buffer.new))
-        (is_asked (N.base number.now) (N.integer number.now)) forms.now.forms (steps (N.rounded number.now style))) }
+    ensures text { IfOk result (λ it. IsFound (IsPassedOver (N.task number.now style) (length buffer.old) forms.now)
+        (λ at form. (at ≡ it.form) × IsChosen (N.task number.now style) (length buffer.old) forms.now at form (bytes_of_word it.word)
+        (take it.length buffer.new)) (N.task number.now style).own forms.now.forms) }
     // The error is that of a text that is too long, which ends the search, or else that of the form that is asked first.
-    ensures error { IfErr result (λ error. IsFound
-        (IsPassedOver (N.writes number.now style) (N.keeps number.now style) (length buffer.old) forms.now (N.integer number.now))
-        (λ at form. IsStopped (N.writes number.now style) (N.keeps number.now style) (length buffer.old) forms.now (N.integer number.now) at form error)
-        (is_asked (N.base number.now) (N.integer number.now)) forms.now.forms (steps (N.rounded number.now style))
-        ⊎ ((first : Option Reason) × IsSearched
-        (IsPassedOver (N.writes number.now style) (N.keeps number.now style) (length buffer.old) forms.now (N.integer number.now))
-        (is_asked (N.base number.now) (N.integer number.now)) forms.now.forms (steps (N.rounded number.now style)) 0 first
-        × (error ≡ unwrap_or first (unasked (N.rounded number.now style))))) }
+    ensures error { IfErr result (λ error. IsFound (IsPassedOver (N.task number.now style) (length buffer.old) forms.now)
+        (λ at form. IsStopped (N.task number.now style) (length buffer.old) forms.now at form error) (N.task number.now style).own forms.now.forms
+        ⊎ ((first : Option Reason) × IsSearched (IsPassedOver (N.task number.now style) (length buffer.old) forms.now)
+        (is_asked (N.task number.now style).own) forms.now.forms (steps (N.task number.now style).own) 0 first
+        × (error ≡ unwrap_or first (unasked (N.task number.now style).own)))) }
 {
     let list = forms.as_slice();
-    let radix = number.radix();
-    let integer = number.is_integer();
-    let rounded = number.is_rounded(style);
-    let end = steps(rounded);
+    let own = number.own(style);
+    let end = steps(own);
     let mut error = None;
     let mut step = 0;
     while step < end {
         let mut index = 0;
         while index < list.len() {
             let it = &list[index];
-            if is_asked(radix, integer, step, it) {
+            if is_asked(own, step, it) {
                 match write_form(forms, index, it, number, style, buffer) {
                     Ok(chosen) => return Ok(chosen),
                     Err(other) if is_short(other) => return Err(other),
@@ -570,21 +528,21 @@ pub fn choose<N: Writable>(
         }
         step += 1;
     }
-    Err(error.unwrap_or(unasked(rounded)))
+    Err(error.unwrap_or(unasked(own)))
 }
 
 // Returns how many steps there are: in the first one, a number's own forms are asked, and in the second one the others.
-const fn steps(rounded: bool) -> u8
-    ensures { result ≡ steps rounded }
+const fn steps(own: Own) -> u8
+    ensures { result ≡ steps own }
 {
-    if rounded { 1 } else { 2 }
+    if own.rounded { 1 } else { 2 }
 }
 
 // Returns the error if no form is asked.
-const fn unasked(rounded: bool) -> WriteError
-    ensures { result ≡ unasked rounded }
+const fn unasked(own: Own) -> WriteError
+    ensures { result ≡ unasked own }
 {
-    if rounded {
+    if own.rounded {
         WriteError::Fraction
     } else {
         WriteError::ReadBack
@@ -593,10 +551,10 @@ const fn unasked(rounded: bool) -> WriteError
 
 // Returns whether a form is asked in a step.
 #[inline(always)]
-fn is_asked(radix: u32, integer: bool, step: u8, form: &Form) -> bool
-    ensures { result ≡ is_asked radix integer step form.now }
+fn is_asked(own: Own, step: u8, form: &Form) -> bool
+    ensures { result ≡ is_asked own step form.now }
 {
-    is_turn(step, is_own(radix, integer, &form.syntax())) & !form.is_only_read()
+    is_turn(step, is_own(own, &form.syntax())) & !form.is_only_read()
 }
 
 // Returns whether a step is that of a number's own forms, or of the others.
@@ -612,10 +570,10 @@ const fn is_turn(step: u8, own: bool) -> bool
 
 // Returns whether a form with a syntax is one of a number's own.
 #[inline(always)]
-fn is_own(radix: u32, integer: bool, syntax: &Syntax) -> bool
-    ensures { result ≡ is_own radix integer syntax.now }
+fn is_own(own: Own, syntax: &Syntax) -> bool
+    ensures { result ≡ is_own own syntax.now }
 {
-    (syntax.format().view().mantissa_radix() == radix) & takes(integer, syntax)
+    (syntax.format().view().mantissa_radix() == own.radix) & takes(own.integer, syntax)
 }
 
 // Returns whether a syntax has floats, or the number is an integer.
@@ -632,12 +590,12 @@ pub fn lay_out_first(forms: &Forms, number: &Whole, style: Style) -> Option<Writ
     ensures back { IfSome result (λ it.
         IsReadBack forms.now (text_of (integer_literal it)) (IsWhole (with_sign number.now.negative number.now.size))) }
     ensures first { IfSome result (λ it. (form : Asked) × (slice_get forms.now.forms 0 ≡ Some form) × (form.only_read ≡ false)
-        × (is_own 10 true form.syntax ≡ true)
+        × (is_own (record { radix = 10; integer = true; rounded = false }) form.syntax ≡ true)
         × (integer_literal it ≡ laid_out form.syntax style (number_of_size number.now.negative number.now.size))) }
 {
     let form = &forms.as_slice()[0];
     let syntax = form.syntax();
-    if form.is_only_read() || form.has_opening() || !is_own(10, true, &syntax) {
+    if form.is_only_read() || form.has_opening() || !is_own(number.own(style), &syntax) {
         return None;
     }
     let Ok(integer) = WrittenInteger::of_size(number.negative, number.size, &syntax, style) else {
@@ -662,14 +620,14 @@ fn write_form<N: Writable>(
     ensures length { IfOk result (λ it. it.length ≤ length buffer.new) }
     ensures room { length buffer.new ≡ length buffer.old }
     ensures form { IfOk result (λ it. it.form ≡ index) }
-    ensures text { IfOk result (λ it. IsChosen (N.writes number.now style) (N.keeps number.now style) (length buffer.old) forms.now (N.integer number.now)
-        index form.now (N.is number.now style) (bytes_of_word it.word) (take it.length buffer.new)) }
+    ensures text { IfOk result (λ it. IsChosen (N.task number.now style) (length buffer.old) forms.now index form.now (bytes_of_word it.word)
+        (take it.length buffer.new)) }
     ensures passed { IfErr result (λ error. is_short error ≡ false
-        → IsPassedOver (N.writes number.now style) (N.keeps number.now style) (length buffer.old) forms.now (N.integer number.now) index form.now error) }
+        → IsPassedOver (N.task number.now style) (length buffer.old) forms.now index form.now error) }
     ensures stopped { IfErr result (λ error. is_short error ≡ true
-        → IsStopped (N.writes number.now style) (N.keeps number.now style) (length buffer.old) forms.now (N.integer number.now) index form.now error) }
+        → IsStopped (N.task number.now style) (length buffer.old) forms.now index form.now error) }
 {
-    let error = match write_by(forms, index, form, number, style, buffer) {
+    let error = match write_by(forms, index, form, number, style, None, buffer) {
         Ok(length) => return Ok(Chosen {
             form: index,
             word: None,
@@ -680,7 +638,7 @@ fn write_form<N: Writable>(
     if is_short(error) {
         return Err(error);
     }
-    if !number.is_integer() {
+    if !number.own(style).integer {
         return Err(error);
     }
     match write_words(forms, index, form, number, style, buffer) {
@@ -700,24 +658,25 @@ fn write_words<N: Writable>(
     style: Style,
     buffer: &mut [u8],
 ) -> Result<Chosen, WriteError>
-    requires integer { N.integer number.now ≡ true }
-    requires passed { ArePassed (N.writes number.now style) (N.keeps number.now style) (length buffer.now) forms.now (N.integer number.now) index form.now 1 }
+    requires form { slice_get forms.now.forms index ≡ Some form.now }
+    requires integer { (N.task number.now style).own.integer ≡ true }
+    requires passed { ArePassed (N.task number.now style) (length buffer.now) forms.now index form.now 1 }
     ensures length { IfOk result (λ it. it.length ≤ length buffer.new) }
     ensures room { length buffer.new ≡ length buffer.old }
     ensures form { IfOk result (λ it. it.form ≡ index) }
-    ensures text { IfOk result (λ it. IsChosen (N.writes number.now style) (N.keeps number.now style) (length buffer.old) forms.now (N.integer number.now)
-        index form.now (N.is number.now style) (bytes_of_word it.word) (take it.length buffer.new)) }
-    ensures passed { IfErr result (λ error. is_short error ≡ false → ArePassed (N.writes number.now style) (N.keeps number.now style) (length buffer.old) forms.now (N.integer number.now)
-        index form.now (length (ways (N.integer number.now) form.now))) }
+    ensures text { IfOk result (λ it. IsChosen (N.task number.now style) (length buffer.old) forms.now index form.now (bytes_of_word it.word)
+        (take it.length buffer.new)) }
+    ensures passed { IfErr result (λ error. is_short error ≡ false
+        → ArePassed (N.task number.now style) (length buffer.old) forms.now index form.now (length (ways (N.task number.now style).own.integer form.now))) }
     ensures stopped { IfErr result (λ error. is_short error ≡ true
-        → IsStopped (N.writes number.now style) (N.keeps number.now style) (length buffer.old) forms.now (N.integer number.now) index form.now error) }
+        → IsStopped (N.task number.now style) (length buffer.old) forms.now index form.now error) }
 {
     let Some(suffixes) = form.suffixes() else {
         return Err(WriteError::ReadBack);
     };
     let words = suffixes.written();
     for word in words {
-        match write_around(forms, form, number, style, Some(word), buffer) {
+        match write_by(forms, index, form, number, style, Some(word), buffer) {
             Ok(length) => return Ok(Chosen {
                 form: index,
                 word: Some(word),
@@ -732,79 +691,80 @@ fn write_words<N: Writable>(
 
 // Writes a number by one form with its opening, and a word behind it if there is one, and returns the length of the text, or
 // why it is not used.
-fn write_around<N: Writable>(
+fn write_by<N: Writable>(
     forms: &Forms,
+    index: usize,
     form: &Form,
     number: &N,
     style: Style,
     word: Option<&'static &'static [u8]>,
     buffer: &mut [u8],
 ) -> Result<usize, WriteError>
-    requires { word ≡ None → has_opening form.now ≡ true }
+    requires { slice_get forms.now.forms index ≡ Some form.now }
     ensures length { IfOk result (λ size. size ≤ length buffer.new) }
     ensures room { length buffer.new ≡ length buffer.old }
-    ensures text { IfOk result (λ size. (l : Parts) × N.writes number.now style form.now.syntax (Ok l)
-        × (take size buffer.new ≡ text_by form.now (bytes_of_word word.entry) l)
-        × IsReadWith forms.now (bytes_of_word word.entry) (take size buffer.new) (N.is number.now style form.now.syntax l)) }
-    ensures error { (index : ℕ) → IfErr result (IsRefused (N.writes number.now style) (N.keeps number.now style) (length buffer.old) forms.now
-        (N.integer number.now) index form.now (bytes_of_word word.entry)) }
+    ensures text { IfOk result (λ size. IsWrittenBy (N.task number.now style) forms.now form.now (bytes_of_word word.entry) (take size buffer.new)) }
+    ensures error { IfErr result (IsRefused (N.task number.now style) (length buffer.old) forms.now index form.now (bytes_of_word word.entry)) }
 {
-    let end = put_text(form, number, style, word, buffer)?;
+    let (end, float) = put_text(form, number, style, word, buffer)?;
     // A text that is longer than a `usize` has the size `usize::MAX`.
     if end == usize::MAX || end > buffer.len() {
         return Err(WriteError::Buffer(end));
     }
     let text = &buffer[..end];
     match word {
-        None => read_alone(forms, number, style, text)?,
+        None => read_alone(forms, index, form, number, style, float, text)?,
         Some(word) => read_token(forms, number, style, word, text)?,
     }
     Ok(end)
 }
 
 // Writes a number by one form with its opening, and a word behind it if there is one, to the beginning of a buffer, as far as
-// it has room, and returns the length of the text, or why there is none.
+// it has room, and returns the length of the text, and whether the literal has a decimal point or an exponent, or why there is none.
 fn put_text<N: Writable>(
     form: &Form,
     number: &N,
     style: Style,
     word: Option<&'static &'static [u8]>,
     buffer: &mut [u8],
-) -> Result<usize, WriteError>
+) -> Result<(usize, bool), WriteError>
     ensures room { length buffer.new ≡ length buffer.old }
-    ensures text { IfOk result (λ size. (l : Parts) × N.writes number.now style form.now.syntax (Ok l)
-        × IsPut (text_by form.now (bytes_of_word word.entry) l) buffer.new size) }
-    ensures error { IfErr result (λ error. N.writes number.now style form.now.syntax (Err error)) }
+    ensures text { IfOk result (λ it. (l : Parts) × Reads (notation_of form.now.syntax) l (text_of l)
+        × (N.task number.now style).writes form.now.syntax (Ok l) × (it.1 ≡ is_float l)
+        × IsPut (text_by form.now (bytes_of_word word.entry) l) buffer.new it.0) }
+    ensures error { IfErr result (λ error. (N.task number.now style).writes form.now.syntax (Err error)) }
 {
     let opening = form.opening();
     let start = put_at(buffer, 0, opening.as_bytes());
-    let end = put_number(&form.syntax(), number, style, start, buffer)?;
+    let (end, float) = put_number(&form.syntax(), number, style, start, buffer)?;
     Ok(match word {
-        Some(word) => put_at(buffer, end, word),
-        None => end,
+        Some(word) => (put_at(buffer, end, word), float),
+        None => (end, float),
     })
 }
 
-// Writes a number as a literal of a syntax to a buffer from an index on, as far as it has room, and returns the index behind it, or why there
-// is none.
+// Writes a number as a literal of a syntax to a buffer from an index on, as far as it has room, and returns the index behind it,
+// and whether it has a decimal point or an exponent, or why there is none.
 fn put_number<N: Writable>(
     syntax: &Syntax,
     number: &N,
     style: Style,
     start: usize,
     buffer: &mut [u8],
-) -> Result<usize, WriteError>
+) -> Result<(usize, bool), WriteError>
     ensures room { length buffer.new ≡ length buffer.old }
     ensures text { (front : List ℕ) → start < 2 ^ 64 - 1 → IsPut front buffer.old start
-        → IfOk result (λ size. (l : Parts) × N.writes number.now style syntax.now (Ok l) × IsPut (front ++ text_of l) buffer.new size) }
-    ensures error { IfErr result (λ error. N.writes number.now style syntax.now (Err error)) }
+        → IfOk result (λ it. (l : Parts) × Reads (notation_of syntax.now) l (text_of l) × (N.task number.now style).writes syntax.now (Ok l)
+        × (it.1 ≡ is_float l) × IsPut (front ++ text_of l) buffer.new it.0) }
+    ensures error { IfErr result (λ error. (N.task number.now style).writes syntax.now (Err error)) }
 {
     let least = start.min(buffer.len());
-    let (size, _) = number.write(syntax, style, &mut buffer[least..])?;
-    Ok(start.saturating_add(size))
+    let (size, float) = number.write(syntax, style, &mut buffer[least..])?;
+    Ok((start.saturating_add(size), float))
 }
 
 // Writes bytes to a buffer from an index on, as far as it has room, and returns the index behind them.
+#[inline(always)]
 fn put_at(buffer: &mut [u8], index: usize, bytes: &[u8]) -> usize
     ensures room { length buffer.new ≡ length buffer.old }
     ensures text { (front : List ℕ) → IsPut front buffer.old index → IsPut (front ++ bytes.now) buffer.new result }
@@ -816,26 +776,6 @@ fn put_at(buffer: &mut [u8], index: usize, bytes: &[u8]) -> usize
     end
 }
 
-// Returns nothing if the list reads a text as the number, or why it is not used.
-fn read_alone<N: Writable>(
-    forms: &Forms,
-    number: &N,
-    style: Style,
-    text: &[u8],
-) -> Result<(), WriteError>
-    ensures value { (g : Grammar) → (l : Parts) → IfOk result (λ _. IsReadBack forms.now text.now (N.is number.now style g l)) }
-    ensures error { IfErr result (λ error. IsReadElse (λ own. N.keeps number.now style false) forms.now.forms 0 text.now error
-        ⊎ (NoForm forms.now.forms text.now × (error ≡ errors.ReadBack))) }
-{
-    let Some((_, literal)) = read_literal(forms, text) else {
-        return Err(WriteError::ReadBack);
-    };
-    if number.is_worth(style, &literal) {
-        return Ok(());
-    }
-    Err(mismatch(&literal))
-}
-
 // Returns nothing if all of a text is a token with this suffix, which is the number, or why it is not used.
 fn read_token<N: Writable>(
     forms: &Forms,
@@ -844,8 +784,8 @@ fn read_token<N: Writable>(
     word: &[u8],
     text: &[u8],
 ) -> Result<(), WriteError>
-    ensures value { (g : Grammar) → (l : Parts) → IfOk result (λ _. IsTokenOf forms.now word.now text.now (N.is number.now style g l)) }
-    ensures error { IfErr result (IsNoToken (N.keeps number.now style) forms.now word.now text.now) }
+    ensures value { (g : Grammar) → (l : Parts) → IfOk result (λ _. IsTokenOf forms.now word.now text.now ((N.task number.now style).is g l)) }
+    ensures error { IfErr result (IsNoToken (N.task number.now style).keeps forms.now word.now text.now) }
 {
     let Ok(token) = forms.token(text) else {
         return Err(WriteError::ReadBack);
@@ -870,38 +810,40 @@ const fn is_short(error: WriteError) -> bool
     matches!(error, WriteError::Buffer(_))
 }
 
-// Writes a number by one form, and returns the length of the text, or why it is not used.
-fn write_by<N: Writable>(
+// Returns nothing if the list reads a text, which is written for a number by one form without a word, as the number, or why it is not
+// used.
+#[inline(always)]
+fn read_alone<N: Writable>(
     forms: &Forms,
     index: usize,
     form: &Form,
     number: &N,
     style: Style,
-    buffer: &mut [u8],
-) -> Result<usize, WriteError>
-    requires { slice_get forms.now.forms index ≡ Some form.now }
-    ensures length { IfOk result (λ size. size ≤ length buffer.new) }
-    ensures room { length buffer.new ≡ length buffer.old }
-    ensures text { IfOk result (λ size. (l : Parts) × N.writes number.now style form.now.syntax (Ok l) × (take size buffer.new ≡ text_by form.now None l)
-        × IsReadBack forms.now (take size buffer.new) (N.is number.now style form.now.syntax l)) }
-    ensures error { IfErr result (IsRefused (N.writes number.now style) (N.keeps number.now style) (length buffer.old) forms.now (N.integer number.now)
-        index form.now None) }
+    float: bool,
+    text: &[u8],
+) -> Result<(), WriteError>
+    requires form { slice_get forms.now.forms index ≡ Some form.now }
+    requires written { (l : Parts) × Reads (notation_of form.now.syntax) l (text_of l) × (N.task number.now style).writes form.now.syntax (Ok l)
+        × (float ≡ is_float l) × (text.now ≡ text_by form.now None l) }
+    ensures value { IfOk result (λ _. IsWrittenBy (N.task number.now style) forms.now form.now None text.now) }
+    ensures error { IfErr result (IsMisread (N.task number.now style) forms.now index form.now None text.now) }
 {
-    if form.has_opening() {
-        return write_around(forms, form, number, style, None, buffer);
+    if !form.has_opening() {
+        return match read_written(forms, index, form, number, style, float, text) {
+            Ok(()) => Ok(()),
+            Err(error) => Err(error),
+        };
     }
-    let (size, float) = number.write(&form.syntax(), style, buffer)?;
-    // A text that is longer than a `usize` has the size `usize::MAX`.
-    if size == usize::MAX || size > buffer.len() {
-        return Err(WriteError::Buffer(size));
+    let Some((_, literal)) = read_literal(forms, text) else {
+        return Err(WriteError::ReadBack);
+    };
+    if number.is_worth(style, &literal) {
+        return Ok(());
     }
-    match read_written(forms, index, form, number, style, float, &buffer[..size]) {
-        Ok(()) => Ok(size),
-        Err(error) => Err(error),
-    }
+    Err(mismatch(&literal))
 }
 
-// Returns nothing if the list reads a text, which is written for a number by one form, as the number, or why it is not used.
+// Returns nothing if the list reads a text, which is a literal of one form without an opening, as the number, or why it is not used.
 #[inline(always)]
 fn read_written<N: Writable>(
     forms: &Forms,
@@ -914,10 +856,11 @@ fn read_written<N: Writable>(
 ) -> Result<(), WriteError>
     requires form { slice_get forms.now.forms index ≡ Some form.now }
     requires unopened { form.now.opening.size ≡ 0 }
-    requires written { (l : Parts) × Reads (notation_of form.now.syntax) l text.now × N.writes number.now style form.now.syntax (Ok l) × (float ≡ is_float l) }
-    ensures value { IfOk result (λ _. (l : Parts) × N.writes number.now style form.now.syntax (Ok l) × (text.now ≡ text_of l)
-        × IsReadBack forms.now text.now (N.is number.now style form.now.syntax l)) }
-    ensures error { IfErr result (IsReadElse (N.keeps number.now style) forms.now.forms index text.now) }
+    requires written { (l : Parts) × Reads (notation_of form.now.syntax) l text.now × (N.task number.now style).writes form.now.syntax (Ok l)
+        × (float ≡ is_float l) }
+    ensures value { IfOk result (λ _. (l : Parts) × (N.task number.now style).writes form.now.syntax (Ok l) × (text.now ≡ text_of l)
+        × IsReadBack forms.now text.now ((N.task number.now style).is form.now.syntax l)) }
+    ensures error { IfErr result (IsReadElse (N.task number.now style).keeps forms.now.forms index text.now) }
 {
     let syntax = form.syntax();
     let plain = number.is_plain(&syntax, form.kind(), style, float);

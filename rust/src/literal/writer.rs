@@ -6,7 +6,7 @@ use core::str;
 use crate::literal::value::number::float::Float;
 use crate::literal::value::number::integer::Integer;
 use crate::literal::value::Other;
-use crate::literal::{Forms, Literal, Number, Sign, Special, Specials, Spelling, Syntax};
+use crate::literal::{FloatKind, Forms, Literal, Number, Sign, Special, Specials, Spelling, Syntax};
 
 mod binary;
 #[allow(
@@ -29,6 +29,7 @@ mod literal;
 mod patterns;
 mod rounded;
 mod run;
+mod single;
 mod sink;
 mod units;
 mod written;
@@ -39,8 +40,9 @@ use choice::{choose, lay_out_first, Chosen, LONGEST};
 #[doc(hidden)]
 pub use choice::{Real, Whole, Writable};
 use float_digits::FloatDigits;
+use single::Narrow;
 pub use written::Written;
-use written::{Text, Value, ValueText};
+use written::{Kept, Source, Text};
 
 /// A type that can be [written][Syntax::format_integer]: each integer type of Rust.
 pub trait WriteInteger: Integer {}
@@ -194,8 +196,8 @@ impl Syntax {
     pub fn format_float<T: WriteFloat>(&self, value: T, style: Style) -> Result<Written<'static>, WriteError> {
         let (mut digits, mut text) = (FloatDigits::new(), [0; 40]);
         let length = float::format_float(self, value, style, &mut digits)?.write(&mut text);
-        let value = Value::of_float(value);
-        Ok(Written::of(Text::Value(ValueText { value, syntax: *self, style, text, length })))
+        let source = Source::of_float(value);
+        Ok(Written::of(Text::Kept(Kept { source, syntax: *self, style, text, length })))
     }
 
     /// Returns a literal, which may be of another syntax, as a literal of this syntax with the same value.
@@ -265,12 +267,13 @@ impl<'a> Forms<'a> {
         let number = Whole::of(value);
         match lay_out_first(self, &number, style) {
             Some(integer) => Ok(Written::of(Text::Integer(integer))),
-            None => self.format_value(&number, Value::of_integer(value), style),
+            None => self.format_number(&number, Source::of_integer(value), style),
         }
     }
 
     /// Returns the value of a float as a number of one of these forms, or as one of the spellings of NaN and infinity.
-    /// [Reading][Self::read] the text returns the same bits, but for a NaN.
+    /// [Reading][Self::read] the text returns the same bits, but for a NaN. In a list whose floats are all singles, it returns the
+    /// nearest `f32`, which is neither infinite nor 0 instead.
     ///
     /// Forms are asked as by [`format_integer`][Self::format_integer], but decimal forms of integers alone come behind those that
     /// have floats. Decimal forms with floats alone write a float that is rounded.
@@ -288,7 +291,7 @@ impl<'a> Forms<'a> {
     /// As [`format_integer`][Self::format_integer], [`WriteError::Special`] for NaN and infinity without a spelling, and
     /// [`WriteError::Fraction`] for a float that is rounded if no decimal form has floats.
     pub fn format_float<T: WriteFloat>(&self, value: T, style: Style) -> Result<Written<'a>, WriteError> {
-        match self.format_value(&Real { value }, Value::of_float(value), style) {
+        match self.format_number(&Real { value }, Source::of_float(value), style) {
             Err(WriteError::Special) => {
                 let sign = value.bits().filter(|bits| *bits > u64::MAX >> if T::DOUBLE { 1 } else { 33 });
                 let spelling = value.bits().map_or(Spelling::Nan, |_| Spelling::Inf);
@@ -319,14 +322,9 @@ impl<'a> Forms<'a> {
     /// As [`format_integer`][Self::format_integer].
     pub fn format_literal<'b>(&self, literal: &Literal<'b>, style: Style) -> Result<Written<'b>, WriteError> {
         match literal.other_value() {
-            None => {
-                let Chosen { form, word, .. } = self.choose_long(literal, style, |chosen, _| chosen)?;
-                let form = &self[form];
-                let text = Text::Number(literal::format_literal(literal, &form.syntax(), style)?);
-                Ok(Written { text, opening: form.opening(), word })
-            }
+            None => self.format_number(literal, Source::Literal(*literal), style),
             Some(Other::Integer(value)) => self.format_integer(value, style),
-            Some(Other::Single(value)) => self.format_value(&Real { value }, Value::of_float(value), style),
+            Some(Other::Single(value)) => self.format_number(&Real { value }, Source::of_float(value), style),
             Some(Other::TooLarge) => Err(WriteError::TooLarge),
         }
     }
@@ -351,34 +349,65 @@ impl<'a> Forms<'a> {
         Err(WriteError::Special)
     }
 
-    /// Returns a value as a number of one of these forms.
-    fn format_value(&self, number: &impl Writable, value: Value, style: Style) -> Result<Written<'static>, WriteError> {
+    /// Writes a number by the first form whose text the list reads as this number. In a list whose floats are all singles, a float
+    /// is read as the nearest single.
+    fn choose_form<N: Writable + ?Sized>(
+        &self,
+        number: &N,
+        style: Style,
+        text: &mut [u8],
+    ) -> Result<Chosen, WriteError> {
+        if !number.own(style).integer && self.has_singles_alone() {
+            let narrow: &dyn Writable = &Narrow(number);
+            return choose(self, narrow, style, text);
+        }
+        choose(self, number, style, text)
+    }
+
+    /// Returns whether there are floats, and all are singles.
+    fn has_singles_alone(&self) -> bool {
+        let mut floats = self.as_slice().iter().filter(|form| form.syntax().point().is_some()).peekable();
+        floats.peek().is_some() && floats.all(|form| form.kind().floats() == FloatKind::Single)
+    }
+
+    /// Returns a number as one of these forms, with the text that is read back, if it is short.
+    fn format_number<'b>(
+        &self,
+        number: &impl Writable,
+        source: Source<'b>,
+        style: Style,
+    ) -> Result<Written<'b>, WriteError> {
         let mut text = [0; 40];
-        match choose(self, number, style, &mut text) {
-            Ok(chosen) => Ok(self.written_value(value, style, chosen, text)),
-            Err(WriteError::Buffer(_)) => self.format_long(number, value, style),
+        match self.choose_form(number, style, &mut text) {
+            Ok(chosen) => Ok(self.written_number(source, style, chosen, text)),
+            Err(WriteError::Buffer(_)) => self.format_long(number, source, style),
             Err(error) => Err(error),
         }
     }
 
-    /// Returns a value, where the text of a form that is asked has more than 40 bytes. That of another form can be short.
+    /// Returns a number, where the text of a form that is asked has more than 40 bytes. That of another form can be short.
     #[cold]
     #[inline(never)]
-    fn format_long(&self, number: &dyn Writable, value: Value, style: Style) -> Result<Written<'static>, WriteError> {
+    fn format_long<'b>(
+        &self,
+        number: &dyn Writable,
+        source: Source<'b>,
+        style: Style,
+    ) -> Result<Written<'b>, WriteError> {
         self.choose_long(number, style, |chosen, long| {
             let mut text = [0; 40];
             let size = chosen.length.min(text.len());
             text[..size].copy_from_slice(&long[..size]);
-            self.written_value(value, style, chosen, text)
+            self.written_number(source, style, chosen, text)
         })
     }
 
-    /// Returns a value, with the text if it is short.
-    fn written_value(&self, value: Value, style: Style, chosen: Chosen, text: [u8; 40]) -> Written<'static> {
+    /// Returns a number by the form, the style and the word with which it is read back, and with the text if it is short.
+    fn written_number<'b>(&self, source: Source<'b>, style: Style, chosen: Chosen, text: [u8; 40]) -> Written<'b> {
         let Chosen { form, word, length } = chosen;
         let form = &self.as_slice()[form];
         let (syntax, opening) = (form.syntax(), form.opening());
-        Written { text: Text::Value(ValueText { value, syntax, style, text, length }), opening, word }
+        Written { text: Text::Kept(Kept { source, syntax, style, text, length }), opening, word }
     }
 
     /// Passes how a number is written, and the text, which may have any length that is read back.
@@ -390,7 +419,7 @@ impl<'a> Forms<'a> {
         then: impl FnOnce(Chosen, &[u8]) -> R,
     ) -> Result<R, WriteError> {
         let buffer = &mut [0; LONGEST];
-        let chosen = choose(self, number, style, buffer)?;
+        let chosen = self.choose_form(number, style, buffer)?;
         Ok(then(chosen, &buffer[..chosen.length]))
     }
 
@@ -407,7 +436,7 @@ impl<'a> Forms<'a> {
         then: impl FnOnce(&[u8]) -> R,
     ) -> Result<R, WriteError> {
         let buffer = &mut [0; 40];
-        match choose(self, number, style, buffer) {
+        match self.choose_form(number, style, buffer) {
             Ok(Chosen { length, .. }) => Ok(then(&buffer[..length])),
             Err(WriteError::Buffer(_)) => self.choose_long(number, style, |_, text| then(text)),
             Err(error) => Err(error),

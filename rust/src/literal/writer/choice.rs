@@ -19,21 +19,26 @@ use crate::literal::writer::integer::WrittenInteger;
 use crate::literal::writer::layout::{Layout, Style, WriteError};
 use crate::literal::writer::literal::format_literal;
 
+/// Which forms of a list a number asks first.
+#[derive(Clone, Copy)]
+pub struct Own {
+    /// The radix of these forms.
+    pub radix: u32,
+    /// Whether the number is an integer. If it is none, they have floats.
+    pub integer: bool,
+    /// Whether the number is a float that is rounded. They alone write it.
+    pub rounded: bool,
+}
+
 /// A number that a list of forms is asked to write.
 pub trait Writable {
-    /// Returns the radix of the forms that are asked first.
-    fn radix(&self) -> u32;
-
     /// Returns the token that `text` begins with. Only integers are written with words.
     fn token<'t>(&self, _: &Forms, _: &'t [u8]) -> Option<Token<'t>> {
         None
     }
 
-    /// Returns whether the number is an integer.
-    fn is_integer(&self) -> bool;
-
-    /// Returns whether a float is rounded in a style.
-    fn is_rounded(&self, style: Style) -> bool;
+    /// Returns which forms are asked first.
+    fn own(&self, style: Style) -> Own;
 
     /// Writes the number as a literal of `syntax` to the beginning of a buffer, as far as it has room, and returns the length of
     /// the text, and whether it has a decimal point or an exponent.
@@ -75,16 +80,8 @@ impl Writable for Whole {
         forms.token(text).ok()
     }
 
-    fn radix(&self) -> u32 {
-        10
-    }
-
-    fn is_integer(&self) -> bool {
-        true
-    }
-
-    fn is_rounded(&self, _: Style) -> bool {
-        false
+    fn own(&self, _: Style) -> Own {
+        Own { radix: 10, integer: true, rounded: false }
     }
 
     fn write(&self, syntax: &Syntax, style: Style, buffer: &mut [u8]) -> Result<(usize, bool), WriteError> {
@@ -113,16 +110,8 @@ pub struct Real<F> {
 }
 
 impl<F: Float> Writable for Real<F> {
-    fn radix(&self) -> u32 {
-        10
-    }
-
-    fn is_integer(&self) -> bool {
-        false
-    }
-
-    fn is_rounded(&self, style: Style) -> bool {
-        style.decimals.is_some()
+    fn own(&self, style: Style) -> Own {
+        Own { radix: 10, integer: false, rounded: style.decimals.is_some() }
     }
 
     fn write(&self, syntax: &Syntax, style: Style, buffer: &mut [u8]) -> Result<(usize, bool), WriteError> {
@@ -181,16 +170,8 @@ impl Writable for Literal<'_> {
         forms.token(text).ok()
     }
 
-    fn radix(&self) -> u32 {
-        self.format().mantissa_radix()
-    }
-
-    fn is_integer(&self) -> bool {
-        !self.is_float()
-    }
-
-    fn is_rounded(&self, _: Style) -> bool {
-        false
+    fn own(&self, _: Style) -> Own {
+        Own { radix: self.format().mantissa_radix(), integer: !self.is_float(), rounded: false }
     }
 
     fn write(&self, syntax: &Syntax, style: Style, buffer: &mut [u8]) -> Result<(usize, bool), WriteError> {
@@ -350,17 +331,15 @@ pub fn choose<N: Writable + ?Sized>(
     buffer: &mut [u8],
 ) -> Result<Chosen, WriteError> {
     let list = forms.as_slice();
-    let radix = number.radix();
-    let integer = number.is_integer();
-    let rounded = number.is_rounded(style);
-    let end = steps(rounded);
+    let own = number.own(style);
+    let end = steps(own);
     let mut error = None;
     let mut step = 0;
     while step < end {
         let mut index = 0;
         while index < list.len() {
             let it = &list[index];
-            if is_asked(radix, integer, step, it) {
+            if is_asked(own, step, it) {
                 match write_form(forms, index, it, number, style, buffer) {
                     Ok(chosen) => return Ok(chosen),
                     Err(other) if is_short(other) => return Err(other),
@@ -371,12 +350,12 @@ pub fn choose<N: Writable + ?Sized>(
         }
         step += 1;
     }
-    Err(error.unwrap_or(unasked(rounded)))
+    Err(error.unwrap_or(unasked(own)))
 }
 
 // Returns how many steps there are: in the first one, a number's own forms are asked, and in the second one the others.
-const fn steps(rounded: bool) -> u8 {
-    if rounded {
+const fn steps(own: Own) -> u8 {
+    if own.rounded {
         1
     } else {
         2
@@ -384,8 +363,8 @@ const fn steps(rounded: bool) -> u8 {
 }
 
 // Returns the error if no form is asked.
-const fn unasked(rounded: bool) -> WriteError {
-    if rounded {
+const fn unasked(own: Own) -> WriteError {
+    if own.rounded {
         WriteError::Fraction
     } else {
         WriteError::ReadBack
@@ -394,8 +373,8 @@ const fn unasked(rounded: bool) -> WriteError {
 
 // Returns whether a form is asked in a step.
 #[inline(always)]
-fn is_asked(radix: u32, integer: bool, step: u8, form: &Form) -> bool {
-    is_turn(step, is_own(radix, integer, &form.syntax())) & !form.is_only_read()
+fn is_asked(own: Own, step: u8, form: &Form) -> bool {
+    is_turn(step, is_own(own, &form.syntax())) & !form.is_only_read()
 }
 
 // Returns whether a step is that of a number's own forms, or of the others.
@@ -409,8 +388,8 @@ const fn is_turn(step: u8, own: bool) -> bool {
 
 // Returns whether a form with a syntax is one of a number's own.
 #[inline(always)]
-fn is_own(radix: u32, integer: bool, syntax: &Syntax) -> bool {
-    (syntax.format().view().mantissa_radix() == radix) & takes(integer, syntax)
+fn is_own(own: Own, syntax: &Syntax) -> bool {
+    (syntax.format().view().mantissa_radix() == own.radix) & takes(own.integer, syntax)
 }
 
 // Returns whether a syntax has floats, or the number is an integer.
@@ -424,7 +403,7 @@ fn takes(integer: bool, syntax: &Syntax) -> bool {
 pub fn lay_out_first(forms: &Forms, number: &Whole, style: Style) -> Option<WrittenInteger> {
     let form = &forms.as_slice()[0];
     let syntax = form.syntax();
-    if form.is_only_read() || form.has_opening() || !is_own(10, true, &syntax) {
+    if form.is_only_read() || form.has_opening() || !is_own(number.own(style), &syntax) {
         return None;
     }
     let Ok(integer) = WrittenInteger::of_size(number.negative, number.size, &syntax, style) else {
@@ -445,14 +424,14 @@ fn write_form<N: Writable + ?Sized>(
     style: Style,
     buffer: &mut [u8],
 ) -> Result<Chosen, WriteError> {
-    let error = match write_by(forms, index, form, number, style, buffer) {
+    let error = match write_by(forms, index, form, number, style, None, buffer) {
         Ok(length) => return Ok(Chosen { form: index, word: None, length }),
         Err(error) => error,
     };
     if is_short(error) {
         return Err(error);
     }
-    if !number.is_integer() {
+    if !number.own(style).integer {
         return Err(error);
     }
     match write_words(forms, index, form, number, style, buffer) {
@@ -477,7 +456,7 @@ fn write_words<N: Writable + ?Sized>(
     };
     let words = suffixes.written();
     for word in words {
-        match write_around(forms, form, number, style, Some(word), buffer) {
+        match write_by(forms, index, form, number, style, Some(word), buffer) {
             Ok(length) => return Ok(Chosen { form: index, word: Some(word), length }),
             Err(error) if is_short(error) => return Err(error),
             Err(_) => {}
@@ -488,77 +467,68 @@ fn write_words<N: Writable + ?Sized>(
 
 // Writes a number by one form with its opening, and a word behind it if there is one, and returns the length of the text, or
 // why it is not used.
-fn write_around<N: Writable + ?Sized>(
+fn write_by<N: Writable + ?Sized>(
     forms: &Forms,
+    index: usize,
     form: &Form,
     number: &N,
     style: Style,
     word: Option<&'static &'static [u8]>,
     buffer: &mut [u8],
 ) -> Result<usize, WriteError> {
-    let end = put_text(form, number, style, word, buffer)?;
+    let (end, float) = put_text(form, number, style, word, buffer)?;
     // A text that is longer than a `usize` has the size `usize::MAX`.
     if end == usize::MAX || end > buffer.len() {
         return Err(WriteError::Buffer(end));
     }
     let text = &buffer[..end];
     match word {
-        None => read_alone(forms, number, style, text)?,
+        None => read_alone(forms, index, form, number, style, float, text)?,
         Some(word) => read_token(forms, number, style, word, text)?,
     }
     Ok(end)
 }
 
 // Writes a number by one form with its opening, and a word behind it if there is one, to the beginning of a buffer, as far as
-// it has room, and returns the length of the text, or why there is none.
+// it has room, and returns the length of the text, and whether the literal has a decimal point or an exponent, or why there is none.
 fn put_text<N: Writable + ?Sized>(
     form: &Form,
     number: &N,
     style: Style,
     word: Option<&'static &'static [u8]>,
     buffer: &mut [u8],
-) -> Result<usize, WriteError> {
+) -> Result<(usize, bool), WriteError> {
     let opening = form.opening();
     let start = put_at(buffer, 0, opening.as_bytes());
-    let end = put_number(&form.syntax(), number, style, start, buffer)?;
+    let (end, float) = put_number(&form.syntax(), number, style, start, buffer)?;
     Ok(match word {
-        Some(word) => put_at(buffer, end, word),
-        None => end,
+        Some(word) => (put_at(buffer, end, word), float),
+        None => (end, float),
     })
 }
 
-// Writes a number as a literal of a syntax to a buffer from an index on, as far as it has room, and returns the index behind it, or why there
-// is none.
+// Writes a number as a literal of a syntax to a buffer from an index on, as far as it has room, and returns the index behind it,
+// and whether it has a decimal point or an exponent, or why there is none.
 fn put_number<N: Writable + ?Sized>(
     syntax: &Syntax,
     number: &N,
     style: Style,
     start: usize,
     buffer: &mut [u8],
-) -> Result<usize, WriteError> {
+) -> Result<(usize, bool), WriteError> {
     let least = start.min(buffer.len());
-    let (size, _) = number.write(syntax, style, &mut buffer[least..])?;
-    Ok(start.saturating_add(size))
+    let (size, float) = number.write(syntax, style, &mut buffer[least..])?;
+    Ok((start.saturating_add(size), float))
 }
 
 // Writes bytes to a buffer from an index on, as far as it has room, and returns the index behind them.
+#[inline(always)]
 fn put_at(buffer: &mut [u8], index: usize, bytes: &[u8]) -> usize {
     let end = index.saturating_add(bytes.len());
     if end <= buffer.len() {
         buffer[index..end].copy_from_slice(bytes);
     }
     end
-}
-
-// Returns nothing if the list reads a text as the number, or why it is not used.
-fn read_alone<N: Writable + ?Sized>(forms: &Forms, number: &N, style: Style, text: &[u8]) -> Result<(), WriteError> {
-    let Some((_, literal)) = read_literal(forms, text) else {
-        return Err(WriteError::ReadBack);
-    };
-    if number.is_worth(style, &literal) {
-        return Ok(());
-    }
-    Err(mismatch(&literal))
 }
 
 // Returns nothing if all of a text is a token with this suffix, which is the number, or why it is not used.
@@ -590,30 +560,34 @@ const fn is_short(error: WriteError) -> bool {
     matches!(error, WriteError::Buffer(_))
 }
 
-// Writes a number by one form, and returns the length of the text, or why it is not used.
-fn write_by<N: Writable + ?Sized>(
+// Returns nothing if the list reads a text, which is written for a number by one form without a word, as the number, or why it is not
+// used.
+#[inline(always)]
+fn read_alone<N: Writable + ?Sized>(
     forms: &Forms,
     index: usize,
     form: &Form,
     number: &N,
     style: Style,
-    buffer: &mut [u8],
-) -> Result<usize, WriteError> {
-    if form.has_opening() {
-        return write_around(forms, form, number, style, None, buffer);
+    float: bool,
+    text: &[u8],
+) -> Result<(), WriteError> {
+    if !form.has_opening() {
+        return match read_written(forms, index, form, number, style, float, text) {
+            Ok(()) => Ok(()),
+            Err(error) => Err(error),
+        };
     }
-    let (size, float) = number.write(&form.syntax(), style, buffer)?;
-    // A text that is longer than a `usize` has the size `usize::MAX`.
-    if size == usize::MAX || size > buffer.len() {
-        return Err(WriteError::Buffer(size));
+    let Some((_, literal)) = read_literal(forms, text) else {
+        return Err(WriteError::ReadBack);
+    };
+    if number.is_worth(style, &literal) {
+        return Ok(());
     }
-    match read_written(forms, index, form, number, style, float, &buffer[..size]) {
-        Ok(()) => Ok(size),
-        Err(error) => Err(error),
-    }
+    Err(mismatch(&literal))
 }
 
-// Returns nothing if the list reads a text, which is written for a number by one form, as the number, or why it is not used.
+// Returns nothing if the list reads a text, which is a literal of one form without an opening, as the number, or why it is not used.
 #[inline(always)]
 fn read_written<N: Writable + ?Sized>(
     forms: &Forms,

@@ -9,8 +9,9 @@ use crate::literal::writer::float;
 use crate::literal::writer::float_digits::FloatDigits;
 use crate::literal::writer::integer::WrittenInteger;
 use crate::literal::writer::layout::{Amount, Layout, Style, WriteError};
+use crate::literal::writer::literal;
 use crate::literal::writer::sink::{Sink, Window};
-use crate::literal::{Opening, Syntax};
+use crate::literal::{Literal, Opening, Syntax};
 
 /// A number as a literal of a syntax, or NaN or infinity, which prints the text. Nothing is allocated.
 #[derive(Clone, Copy)]
@@ -35,34 +36,38 @@ impl<'a> Written<'a> {
 pub(super) enum Text<'a> {
     Number(Layout<'a>),
     Integer(WrittenInteger),
-    Value(ValueText),
+    Kept(Kept<'a>),
     Special(Option<u8>, &'a str),
 }
 
-/// The value of a type, by its sign and by an integer that is its size, or the bits of it, and how it is laid out. A program has
-/// only those calls for the types that it writes.
+/// A number that is laid out.
 #[derive(Clone, Copy)]
-pub(super) struct Value {
-    negative: bool,
-    size: u128,
-    lay_out: for<'b> fn(bool, u128, &Syntax, Style, &'b mut FloatDigits) -> Option<Layout<'b>>,
+pub(super) enum Source<'a> {
+    /// The value of a type, by its sign and by an integer that is its size, or the bits of it, and how it is laid out. A program has
+    /// only those calls for the types that it writes.
+    Value {
+        negative: bool,
+        size: u128,
+        lay_out: for<'b> fn(bool, u128, &Syntax, Style, &'b mut FloatDigits) -> Option<Layout<'b>>,
+    },
+    Literal(Literal<'a>),
 }
 
-impl Value {
+impl Source<'static> {
     /// Returns an integer.
-    pub(super) fn of_integer<T: Integer>(value: T) -> Value {
+    pub(super) fn of_integer<T: Integer>(value: T) -> Self {
         let (negative, size) = value.sign_and_size();
         let lay_out = |negative, size, syntax: &Syntax, style, _: &mut FloatDigits| {
             Amount::of_size(negative, size).lay_out(syntax, style).ok()
         };
-        Value { negative, size, lay_out }
+        Source::Value { negative, size, lay_out }
     }
 
     /// Returns a float.
-    pub(super) fn of_float<T: Float>(value: T) -> Value {
+    pub(super) fn of_float<T: Float>(value: T) -> Self {
         let sign = if T::DOUBLE { 1 << 63 } else { 1 << 31 };
         let bits = value.bits().unwrap_or(0);
-        Value { negative: bits >= sign, size: (bits % sign).into(), lay_out: lay_out::<T> }
+        Source::Value { negative: bits >= sign, size: (bits % sign).into(), lay_out: lay_out::<T> }
     }
 }
 
@@ -79,14 +84,24 @@ fn lay_out<'b, T: Float>(
     float::format_float(syntax, value, style, digits).ok()
 }
 
-/// A value, which can be laid out, and the text, if it is short, with its length.
+/// A number and how it is laid out, and the text, if it is short, with its length.
 #[derive(Clone, Copy)]
-pub(super) struct ValueText {
-    pub(super) value: Value,
+pub(super) struct Kept<'a> {
+    pub(super) source: Source<'a>,
     pub(super) syntax: Syntax,
     pub(super) style: Style,
     pub(super) text: [u8; 40],
     pub(super) length: usize,
+}
+
+impl Kept<'_> {
+    /// Returns the layout. The digits of a float are those of `digits`.
+    fn layout<'b>(&'b self, digits: &'b mut FloatDigits) -> Option<Layout<'b>> {
+        match &self.source {
+            Source::Value { negative, size, lay_out } => lay_out(*negative, *size, &self.syntax, self.style, digits),
+            Source::Literal(literal) => literal::format_literal(literal, &self.syntax, self.style).ok(),
+        }
+    }
 }
 
 impl Text<'_> {
@@ -95,17 +110,15 @@ impl Text<'_> {
         match self {
             Text::Number(layout) => Some(*layout),
             Text::Integer(integer) => Some(integer.lay_out()),
-            Text::Value(ValueText { value: Value { negative, size, lay_out }, syntax, style, .. }) => {
-                lay_out(*negative, *size, syntax, *style, digits)
-            }
+            Text::Kept(kept) => kept.layout(digits),
             Text::Special(..) => None,
         }
     }
 
-    /// Returns the text of a value, with what stands around it, if it is short.
+    /// Returns the text of a number that keeps it, with what stands around it, if it is short.
     fn short(&self) -> Option<&[u8]> {
         match self {
-            Text::Value(ValueText { text, length, .. }) => text.get(..*length),
+            Text::Kept(Kept { text, length, .. }) => text.get(..*length),
             _ => None,
         }
     }
@@ -115,7 +128,7 @@ impl Text<'_> {
         match self {
             Text::Number(layout) => layout.write(buffer),
             Text::Integer(integer) => integer.write(buffer),
-            Text::Value(_) => self.layout(&mut FloatDigits::new()).map_or(0, |layout| layout.write(buffer)),
+            Text::Kept(_) => self.layout(&mut FloatDigits::new()).map_or(0, |layout| layout.write(buffer)),
             Text::Special(sign, word) => {
                 let mut window = Window { bytes: buffer, length: 0 };
                 sign.iter().for_each(|sign| window.put(*sign));

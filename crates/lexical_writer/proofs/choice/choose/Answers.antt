@@ -17,14 +17,13 @@ loop-index-preserved g c =
     let step = c.loop-step.step in
     let index = c.loop-index.index in
     let form = c.index-list-index.result in
-    let integer = g.N.Writable.integer c.args.number.now in
-    let P : ℕ → ℕ → Form → WriteError → Type 0 = λ n. IsPassedOver (g.N.Writable.writes c.args.number.now c.args.style) (g.N.Writable.keeps c.args.number.now c.args.style) n
-    c.args.forms.now integer in
-    let asked = is_asked (g.N.Writable.base c.args.number.now) integer in
+    let task = g.N.Writable.task c.args.number.now c.args.style in
+    let P : ℕ → ℕ → Form → WriteError → Type 0 = λ n. IsPassedOver task n c.args.forms.now in
+    let asked = is_asked task.own in
     let room = length c.args.buffer.now in
     let here : slice_get forms index ≡ Some form = subst (λ forms. slice_get forms index ≡ Some form) c.as_slice-list.ensures.list
     (slice_get_read _ _ index form refl c.loop-index-test.true c.index-list-index.is) in
-    let now : c.is_asked.result ≡ asked step form = c.is_asked.ensures ∙ λ i. is_asked (c.radix-radix.ensures i) (c.is_integer-integer.ensures i) step form in
+    let now : c.is_asked.result ≡ asked step form = c.is_asked.ensures ∙ λ i. is_asked (c.own-own.ensures i) step form in
     elim c.if-is_asked.branch [
       | then-is_asked+in-Err-2 w ↦ record {
         room = ap length w.buffer-is ∙ w.in-Err.ensures.room ∙ c.loop-index.invariant.room;
@@ -59,24 +58,21 @@ returns-in-Ok-clause-text g c =
     let step = c.loop-step.step in
     let index = c.loop-index.index in
     let form = c.index-list-index.result in
-    let number = c.args.number.now in
-    let integer = g.N.Writable.integer number in
+    let task = g.N.Writable.task c.args.number.now c.args.style in
     let chosen = c.in-Ok.chosen in
     let here : slice_get forms index ≡ Some form = subst (λ forms. slice_get forms index ≡ Some form) c.as_slice-list.ensures.list
     (slice_get_read _ _ index form refl c.loop-index-test.true c.index-list-index.is) in
-    let now : c.is_asked.result ≡ is_asked (g.N.Writable.base number) integer step form =
-    c.is_asked.ensures ∙ λ i. is_asked (c.radix-radix.ensures i) (c.is_integer-integer.ensures i) step form in (
+    let now : c.is_asked.result ≡ is_asked task.own step form = c.is_asked.ensures ∙ λ i. is_asked (c.own-own.ensures i) step form in (
       step,
       index,
-      subst (λ n. step < n) (c.steps-end.ensures ∙ ap steps c.is_rounded-rounded.ensures) c.loop-step-test.true,
+      subst (λ n. step < n) (c.steps-end.ensures ∙ ap steps c.own-own.ensures) c.loop-step-test.true,
       c.loop-index.invariant.searched.passed,
       rw here (
         sym now ∙ c.if-is_asked.true,
         (
           sym c.in-Ok.ensures.form,
-          subst (λ n. IsChosen (g.N.Writable.writes number c.args.style) (g.N.Writable.keeps number c.args.style) n
-              c.args.forms.now integer index form (g.N.Writable.is number c.args.style) (bytes_of_word chosen.word)
-              (take chosen.length c.write_form.new.buffer)) c.loop-index.invariant.room c.in-Ok.ensures.text,
+          subst (λ n. IsChosen task n c.args.forms.now index form (bytes_of_word chosen.word) (take chosen.length c.write_form.new.buffer))
+              c.loop-index.invariant.room c.in-Ok.ensures.text,
         ),
       ),
     )
@@ -87,33 +83,29 @@ returns-in-Err-clause-error g c =
     let step = c.loop-step.step in
     let index = c.loop-index.index in
     let form = c.index-list-index.result in
-    let number = c.args.number.now in
-    let integer = g.N.Writable.integer number in
+    let task = g.N.Writable.task c.args.number.now c.args.style in
     let here : slice_get forms index ≡ Some form = subst (λ forms. slice_get forms index ≡ Some form) c.as_slice-list.ensures.list
     (slice_get_read _ _ index form refl c.loop-index-test.true c.index-list-index.is) in
-    let now : c.is_asked.result ≡ is_asked (g.N.Writable.base number) integer step form =
-    c.is_asked.ensures ∙ λ i. is_asked (c.radix-radix.ensures i) (c.is_integer-integer.ensures i) step form in
+    let now : c.is_asked.result ≡ is_asked task.own step form = c.is_asked.ensures ∙ λ i. is_asked (c.own-own.ensures i) step form in
     inl (
       step,
       index,
-      subst (λ n. step < n) (c.steps-end.ensures ∙ ap steps c.is_rounded-rounded.ensures) c.loop-step-test.true,
+      subst (λ n. step < n) (c.steps-end.ensures ∙ ap steps c.own-own.ensures) c.loop-step-test.true,
       c.loop-index.invariant.searched.passed,
       rw here (
         sym now ∙ c.if-is_asked.true,
-        subst (λ n. IsStopped (g.N.Writable.writes number c.args.style) (g.N.Writable.keeps number c.args.style) n c.args.forms.now
-            integer index form c.in-Err.other) c.loop-index.invariant.room (c.in-Err.ensures.stopped (sym c.is_short.ensures ∙ c.if-is_short.true)),
+        subst (λ n. IsStopped task n c.args.forms.now index form c.in-Err.other) c.loop-index.invariant.room
+            (c.in-Err.ensures.stopped (sym c.is_short.ensures ∙ c.if-is_short.true)),
       ),
     )
 
 pub returns-clause-error : goal.returns-clause-error
 returns-clause-error g c =
-    let number = c.args.number.now in
-    let integer = g.N.Writable.integer number in
+    let task = g.N.Writable.task c.args.number.now c.args.style in
     let last : c.loop-step.step ≡ c.steps-end.result = omega (arith, c.loop-step-test.false, c.loop-step.invariant.most) in
     inr (
       c.loop-step.error,
-      subst (λ step. IsSearched (IsPassedOver (g.N.Writable.writes number c.args.style) (g.N.Writable.keeps number c.args.style)
-          (length c.args.buffer.now) c.args.forms.now integer) (is_asked (g.N.Writable.base number) integer) c.args.forms.now.forms step 0 c.loop-step.error)
-          (last ∙ c.steps-end.ensures ∙ ap steps c.is_rounded-rounded.ensures) c.loop-step.invariant.searched,
-      c.unwrap_or-2.ensures ∙ ap (unwrap_or c.loop-step.error) (c.unasked.ensures ∙ ap unasked c.is_rounded-rounded.ensures),
+      subst (λ step. IsSearched (IsPassedOver task (length c.args.buffer.now) c.args.forms.now) (is_asked task.own) c.args.forms.now.forms step 0
+          c.loop-step.error) (last ∙ c.steps-end.ensures ∙ ap steps c.own-own.ensures) c.loop-step.invariant.searched,
+      c.unwrap_or-2.ensures ∙ ap (unwrap_or c.loop-step.error) (c.unasked.ensures ∙ ap unasked c.own-own.ensures),
     )

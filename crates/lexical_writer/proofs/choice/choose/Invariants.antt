@@ -5,8 +5,8 @@ abbrev pub invariant-loop-step : goal.invariant-loop-step
 invariant-loop-step g l = record {
   most : l.step ≤ l.end;
   room : length l.buffer ≡ length l.fn.buffer;
-  searched : IsSearched (IsPassedOver (g.N.Writable.writes l.number l.style) (g.N.Writable.keeps l.number l.style) (length l.fn.buffer)
-      l.forms (g.N.Writable.integer l.number)) (is_asked (g.N.Writable.base l.number) (g.N.Writable.integer l.number)) l.forms.forms l.step 0 l.error;
+  searched : IsSearched (IsPassedOver (g.N.Writable.task l.number l.style) (length l.fn.buffer) l.forms)
+      (is_asked (g.N.Writable.task l.number l.style).own) l.forms.forms l.step 0 l.error;
 }
 
 abbrev pub decreases-loop-step : goal.decreases-loop-step
@@ -15,8 +15,8 @@ decreases-loop-step g l = l.end - l.step
 abbrev pub invariant-loop-index : goal.invariant-loop-index
 invariant-loop-index g l = record {
   room : length l.buffer ≡ length l.fn.buffer;
-  searched : IsSearched (IsPassedOver (g.N.Writable.writes l.number l.style) (g.N.Writable.keeps l.number l.style) (length l.fn.buffer)
-      l.forms (g.N.Writable.integer l.number)) (is_asked (g.N.Writable.base l.number) (g.N.Writable.integer l.number)) l.forms.forms l.step l.index l.error;
+  searched : IsSearched (IsPassedOver (g.N.Writable.task l.number l.style) (length l.fn.buffer) l.forms)
+      (is_asked (g.N.Writable.task l.number l.style).own) l.forms.forms l.step l.index l.error;
 }
 
 abbrev pub decreases-loop-index : goal.decreases-loop-index

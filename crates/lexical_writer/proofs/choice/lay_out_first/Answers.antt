@@ -1,6 +1,6 @@
 -- The first form reads the text as the integer.
 use Rattle.lexical_writer.proofs.Common.{Form, Grammar, List, Read, Reads, Some, ap, get_or, integer_literal, laid_out, length, notation_of, number_of_size}
-use Rattle.lexical_writer.proofs.Common.{refl, slice_get, slice_get_read, subst, sym, text_of, true, is_own, with_sign, ◌<◌, ◌∙◌, ◌≡◌}
+use Rattle.lexical_writer.proofs.Common.{refl, slice_get, slice_get_read, subst, sym, text_of, is_own, with_sign, ◌<◌, ◌∙◌, ◌≡◌}
 use Rattle.lexical_forms.proofs.BehindLemmas.{no_size}
 use Rattle.lexical_writer.proofs.ChoiceLemmas.{first_reads}
 use Rattle.lexical_writer.proofs.choice.lay_out_first.Goals as goal
@@ -32,6 +32,6 @@ returns-clause-first c = (
   c.index-as_slice-0.result,
   first _ _ _ c.as_slice.ensures.list c.as_slice.ensures.some c.index-as_slice-0.is,
   sym c.is_only_read.ensures ∙ c.if-is_only_read.false,
-  sym (ap (is_own 10 true) c.syntax-syntax.ensures) ∙ sym c.is_own.ensures ∙ c.if-not-is_own.false,
+  sym (λ i. is_own (c.own.ensures i) (c.syntax-syntax.ensures i)) ∙ sym c.is_own.ensures ∙ c.if-not-is_own.false,
   c.in-Ok.ensures.parts ∙ ap (λ g. laid_out g c.args.style (number_of_size c.args.number.now.negative c.args.number.now.size)) c.syntax-syntax.ensures,
 )

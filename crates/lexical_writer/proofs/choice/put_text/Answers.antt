@@ -1,5 +1,5 @@
 -- The parts of the text are one behind another.
-use Rattle.lexical_writer.proofs.Common.{IsPut, Ok, [], append-nil, arith, bytes_of_word, length, length-take, min, subst, sym, text_of, unwrap_or, ◌++◌, ◌-◌, ◌<◌, ◌^◌, ◌∙◌, ◌≡◌}
+use Rattle.lexical_writer.proofs.Common.{Grammar, IsPut, Ok, Reads, notation_of, [], append-nil, arith, bytes_of_word, length, length-take, min, subst, sym, text_of, unwrap_or, ◌++◌, ◌-◌, ◌<◌, ◌^◌, ◌∙◌, ◌≡◌}
 use Rattle.lexical_forms.specs.Opening.{spelling}
 use Rattle.lexical_writer.proofs.BufferLemmas.{put_none}
 use Rattle.lexical_writer.proofs.choice.put_text.Goals as goal
@@ -14,9 +14,11 @@ returns-in-Some-clause-text g c =
     (sym c.as_bytes.ensures) (omega (arith, size, c.opening-opening.result.within))) in
     let all = c.in_ok-end.ensures.text c.as_bytes.result.now small first in
     let l = all.0 in
-    let last = c.put_at.ensures.text _ all.2 in (
+    let last = c.put_at.ensures.text _ all.4 in (
       l,
-      subst (λ s. g.N.Writable.writes c.args.number.now c.args.style s (Ok l)) c.syntax.ensures all.1,
+      subst (λ (g : Grammar). Reads (notation_of g) l (text_of l)) c.syntax.ensures all.1,
+      subst (λ s. (g.N.Writable.task c.args.number.now c.args.style).writes s (Ok l)) c.syntax.ensures all.2,
+      all.3,
       subst (λ text. IsPut text c.put_at.new.buffer c.put_at.result)
           (λ i. (opening i ++ text_of l) ++ unwrap_or (bytes_of_word (sym c.in-Some.is i)) []) last,
     )
@@ -32,8 +34,10 @@ returns-in-None-clause-text g c =
     let all = c.in_ok-end.ensures.text c.as_bytes.result.now small first in
     let l = all.0 in (
       l,
-      subst (λ s. g.N.Writable.writes c.args.number.now c.args.style s (Ok l)) c.syntax.ensures all.1,
+      subst (λ (g : Grammar). Reads (notation_of g) l (text_of l)) c.syntax.ensures all.1,
+      subst (λ s. (g.N.Writable.task c.args.number.now c.args.style).writes s (Ok l)) c.syntax.ensures all.2,
+      all.3,
       subst (λ text. IsPut text c.put_number.new.buffer c.in_ok-end.end) ((λ i. opening i ++ text_of l) ∙ sym (append-nil _)
           ∙ (λ i. (spelling c.args.form.now.opening ++ text_of l) ++ unwrap_or (bytes_of_word (sym c.in-None.is i)) []))
-          all.2,
+          all.4,
     )

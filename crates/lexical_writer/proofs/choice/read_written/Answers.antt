@@ -24,11 +24,11 @@ returns-then-index-eq0-clause-value g c =
     let read : Read = record { format = form.syntax.word; literal = l; kind = form.kind; opened = 0 } in
     let first = first_reads c.args.forms.now.forms form c.args.text.now l c.args.index c.requires.form c.if-index-eq0.true c.requires.unopened reads in
     let plain = c.is_plain-plain.ensures.plain c.if-plain.true read (sym c.kind.ensures) (ap (λ (g : Grammar). g.word) (sym syntax)) (sym float)
-    (subst (λ s. g.N.Writable.writes c.args.number.now style s (Ok l)) (sym syntax) has) in (
+    (subst (λ s. (g.N.Writable.task c.args.number.now style).writes s (Ok l)) (sym syntax) has) in (
       l,
       has,
       reads.whole,
-      (read, c.args.index, first, subst (λ s. g.N.Writable.is c.args.number.now style s l read) syntax plain),
+      (read, c.args.index, first, subst (λ s. (g.N.Writable.task c.args.number.now style).is s l read) syntax plain),
     )
 
 pub returns-then-plain-form-clause-value : goal.returns-then-plain-form-clause-value
@@ -47,8 +47,8 @@ returns-then-plain-form-clause-value g c =
     (plain_of form text c.requires.unopened literal.literal by.2) in
     let plain = c.is_plain-plain.ensures.plain (and_first _ _ c.if-plain-form.true) literal (by.1 ∙ sym c.kind.ensures)
     (by.0 ∙ sym (ap (λ (g : Grammar). g.word) syntax)) (ap is_float (sym same) ∙ sym float)
-    (subst (λ l. g.N.Writable.writes c.args.number.now style c.syntax-syntax.result (Ok l)) same
-    (subst (λ s. g.N.Writable.writes c.args.number.now style s (Ok l)) (sym syntax) has)) in (
+    (subst (λ l. (g.N.Writable.task c.args.number.now style).writes c.syntax-syntax.result (Ok l)) same
+    (subst (λ s. (g.N.Writable.task c.args.number.now style).writes s (Ok l)) (sym syntax) has)) in (
       l,
       has,
       reads.whole,
@@ -56,8 +56,8 @@ returns-then-plain-form-clause-value g c =
         literal,
         c.in-Some.form,
         first,
-        subst (λ l. g.N.Writable.is c.args.number.now style form.syntax l literal) (sym same)
-            (subst (λ s. g.N.Writable.is c.args.number.now style s literal.literal literal) syntax plain),
+        subst (λ l. (g.N.Writable.task c.args.number.now style).is form.syntax l literal) (sym same)
+            (subst (λ s. (g.N.Writable.task c.args.number.now style).is s literal.literal literal) syntax plain),
       ),
     )
 
@@ -73,8 +73,8 @@ returns-then-is_read_as-clause-value g c =
     let same : l ≡ own.literal = c.literal_facts.ensures.one_reading c.syntax-syntax.result lawful l own.literal text
     (subst (λ (g : Grammar). Reads (notation_of g) l text) (sym syntax) reads) c.in-Some-own_literal.ensures.some.2 in
     let read = c.is_read_as.ensures.same c.if-is_read_as.true c.in-Some-own_literal.ensures.some.0 c.syntax-syntax.result
-    c.in-Some-own_literal.ensures.some.1 (subst (λ l. g.N.Writable.writes c.args.number.now style c.syntax-syntax.result (Ok l)) same
-    (subst (λ s. g.N.Writable.writes c.args.number.now style s (Ok l)) (sym syntax) has)) in (
+    c.in-Some-own_literal.ensures.some.1 (subst (λ l. (g.N.Writable.task c.args.number.now style).writes c.syntax-syntax.result (Ok l)) same
+    (subst (λ s. (g.N.Writable.task c.args.number.now style).writes s (Ok l)) (sym syntax) has)) in (
       l,
       has,
       reads.whole,
@@ -82,8 +82,8 @@ returns-then-is_read_as-clause-value g c =
         c.in-Some.literal,
         c.in-Some.form,
         c.in-Some.ensures.some,
-        subst (λ l. g.N.Writable.is c.args.number.now style form.syntax l c.in-Some.literal) (sym same)
-            (subst (λ s. g.N.Writable.is c.args.number.now style s own.literal c.in-Some.literal) syntax read),
+        subst (λ l. (g.N.Writable.task c.args.number.now style).is form.syntax l c.in-Some.literal) (sym same)
+            (subst (λ s. (g.N.Writable.task c.args.number.now style).is s own.literal c.in-Some.literal) syntax read),
       ),
     )
 
@@ -102,7 +102,7 @@ returns-clause-error g c =
     let text = c.args.text.now in
     let form = c.args.form.now in
     let literal = c.in-Some.literal in
-    let keeps = g.N.Writable.keeps c.args.number.now c.args.style in
+    let keeps = (g.N.Writable.task c.args.number.now c.args.style).keeps in
     let first = c.in-Some.ensures.some in
     let other : keeps false literal → ⊥ = c.is_read_as.ensures.kept c.if-is_read_as.false in (
       c.in-Some.form,

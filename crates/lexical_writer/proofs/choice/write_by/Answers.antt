@@ -1,101 +1,89 @@
--- What is written is in the buffer, and is not used for one of the errors.
-use Rattle.lexical_writer.proofs.Common.{Err, Grammar, IsReadElse, IsRefused, IsTaken, IsUnusable, List, Literal, None, Ok, Reads}
-use Rattle.lexical_writer.proofs.Common.{ap, arith, inl, inr, ◌&&◌}
-use Rattle.lexical_writer.proofs.Common.{is_float, length, not, notation_of, subst, sym, take, text_of, ℕ, ◌-◌, ◌^◌}
-use Rattle.lexical_writer.proofs.Common.{◌∙◌, ◌≡◌, ◌≤◌}
-use Rattle.lexical_forms.proofs.BehindLemmas.{no_size}
-use Rattle.lexical_writer.proofs.BufferLemmas.{plain_by}
+-- The text is in the buffer, and the list reads it or does not.
+use Rattle.lexical_writer.proofs.Common.{IsMisread, IsNoToken, IsReadWith, IsRefused, IsWrittenBy, None, Some, ap, arith, bytes_of_word, inr, length}
+use Rattle.lexical_writer.proofs.Common.{length-take, subst, sym, take, text_by, ◌≡◌}
+use Rattle.lexical_writer.proofs.BufferLemmas.{put_whole}
 use Rattle.lexical_writer.proofs.FloatLemmas.{residual}
-use Rattle.lexical_writer.specs.declared.layout.WriteError.TheVariants as errors
 use Rattle.lexical_writer.proofs.choice.write_by.Goals as goal
 
--- The buffer has the whole text.
-taken : (text old bytes : List ℕ) (size : ℕ) → IsTaken text old bytes size → size ≤ length bytes → (size ≡ 2 ^ 64 - 1 → ⊥) → text ≡ take size bytes
-taken text old bytes size is fits short =
-    let count : size ≡ length text = omega (arith, is.counted, short) in
-    sym (ap (λ n. take n bytes) count ∙ is.begins (omega (arith, count, fits)))
-
-pub write_around-requires : goal.write_around-requires
-write_around-requires g c _ = sym c.has_opening.ensures ∙ c.if-has_opening.true
-
-pub returns-then-has_opening-clause-error : goal.returns-then-has_opening-clause-error
-returns-then-has_opening-clause-error g c = c.write_around.ensures.error c.args.index
-
-pub returns-in_err-size-clause-error : goal.returns-in_err-size-clause-error
-returns-in_err-size-clause-error g c =
-    let writes = g.N.Writable.writes c.args.number.now c.args.style in
-    residual c.from_residual.result _ (IsRefused writes (g.N.Writable.keeps c.args.number.now c.args.style) (length c.args.buffer.now) c.args.forms.now
-    (g.N.Writable.integer c.args.number.now) c.args.index c.args.form.now None) c.from_residual.ensures.1
-    (λ error same. inl (subst (λ g. writes g (Err error)) c.syntax.ensures
-    (subst (λ error. writes c.syntax.result (Err error)) (sym same) c.in_err-size.ensures.error)))
-
--- What is written is a literal of the form.
-of_form : (P : Literal → Type 0) (writes : Grammar → Literal → Type 0) (g h : Grammar) (l : Literal) → g ≡ h → Reads (notation_of g) l (text_of l)
-    → writes g l → P l → (l : Literal) × Reads (notation_of h) l (text_of l) × writes h l × P l
-of_form P writes g h l same reads has holds =
-    (l, subst (λ (g : Grammar). Reads (notation_of g) l (text_of l)) same reads, subst (λ g. writes g l) same has, holds)
-
-pub returns-then-size-clause-error : goal.returns-then-size-clause-error
-returns-then-size-clause-error g c =
-    let written = c.in_ok-size.ensures.text in
-    let l = written.0 in
-    let none = no_size _ c.has_opening.result c.has_opening.ensures c.if-has_opening.false in
+pub returns-in_err-read_alone-in-None-clause-error : goal.returns-in_err-read_alone-in-None-clause-error
+returns-in_err-read_alone-in-None-clause-error g c =
+    let task = g.N.Writable.task c.args.number.now c.args.style in
+    let room = length c.args.buffer.now in
+    let list = c.args.forms.now in
     let form = c.args.form.now in
-    inr (
+    let written = c.in_ok-end.ensures.text in
+    let l = written.0 in
+    let bytes = take c.in_ok-end.end c.put_text.new.buffer in
+    let whole : text_by form None l ≡ bytes = subst (λ w. text_by form (bytes_of_word w) l ≡ bytes) c.in-None.is
+    (put_whole _ _ c.in_ok-end.end written.4 c.if-end-buffer.false c.if-end.false) in
+    let size = length-take c.in_ok-end.end c.put_text.new.buffer in
+    let long : length (text_by form None l) ≡ length bytes = ap length whole in
+    residual c.from_residual-in_err-read_alone-in-None.result _ (IsRefused task room list c.args.index form (bytes_of_word c.args.word))
+    c.from_residual-in_err-read_alone-in-None.ensures.1
+    (λ error same. subst (λ w. IsRefused task room list c.args.index form (bytes_of_word w) error) (sym c.in-None.is)
+    (inr (
       l,
-      subst (λ s. g.N.Writable.writes c.args.number.now c.args.style s (Ok l)) c.syntax.ensures written.2,
-      subst (λ text. IsUnusable (g.N.Writable.writes c.args.number.now c.args.style) (g.N.Writable.keeps c.args.number.now c.args.style)
-          (length c.args.buffer.now) c.args.forms.now (g.N.Writable.integer c.args.number.now) c.args.index form None text
-          (errors.Buffer c.in_ok-size.size)) (sym (plain_by form l none))
-          (inl (
-            elim c.then-size.either [
-              | inl most ↦ inr (omega (arith, most, written.3.counted))
-              | inr over ↦ inl (omega (arith, over.1, written.3.counted, c.in_ok-size.ensures.room))
-            ],
-            ap errors.Buffer written.3.counted,
-          )),
+      written.2,
+      inr (
+        omega (arith, long, size, c.in_ok-end.ensures.room),
+        subst (λ text. IsMisread task list c.args.index form None text error) (sym whole)
+            (subst (IsMisread task list c.args.index form None bytes) (sym same) c.in_err-read_alone-in-None.ensures.error),
+      ),
+    )))
+
+pub returns-in_err-read_token-in-Some-clause-error : goal.returns-in_err-read_token-in-Some-clause-error
+returns-in_err-read_token-in-Some-clause-error g c =
+    let task = g.N.Writable.task c.args.number.now c.args.style in
+    let room = length c.args.buffer.now in
+    let list = c.args.forms.now in
+    let form = c.args.form.now in
+    let word = c.in-Some.word.now.now in
+    let written = c.in_ok-end.ensures.text in
+    let l = written.0 in
+    let bytes = take c.in_ok-end.end c.put_text.new.buffer in
+    let whole : text_by form (Some word) l ≡ bytes = subst (λ w. text_by form (bytes_of_word w) l ≡ bytes) c.in-Some.is
+    (put_whole _ _ c.in_ok-end.end written.4 c.if-end-buffer.false c.if-end.false) in
+    let size = length-take c.in_ok-end.end c.put_text.new.buffer in
+    let long : length (text_by form (Some word) l) ≡ length bytes = ap length whole in
+    residual c.from_residual-in_err-read_token-in-Some.result _ (IsRefused task room list c.args.index form (bytes_of_word c.args.word))
+    c.from_residual-in_err-read_token-in-Some.ensures.1
+    (λ error same. subst (λ w. IsRefused task room list c.args.index form (bytes_of_word w) error) (sym c.in-Some.is)
+    (inr (
+      l,
+      written.2,
+      inr (
+        omega (arith, long, size, c.in_ok-end.ensures.room),
+        subst (λ text. IsNoToken task.keeps list word text error) (sym whole)
+            (subst (IsNoToken task.keeps list word bytes) (sym same) c.in_err-read_token-in-Some.ensures.error),
+      ),
+    )))
+
+pub returns-in_ok-read_alone-in-None-clause-text : goal.returns-in_ok-read_alone-in-None-clause-text
+returns-in_ok-read_alone-in-None-clause-text g c =
+    subst (λ w. IsWrittenBy (g.N.Writable.task c.args.number.now c.args.style) c.args.forms.now c.args.form.now (bytes_of_word w)
+    (take c.in_ok-end.end c.put_text.new.buffer)) (sym c.in-None.is) c.in_ok-read_alone-in-None.ensures.value
+
+pub returns-in_ok-read_token-in-Some-clause-text : goal.returns-in_ok-read_token-in-Some-clause-text
+returns-in_ok-read_token-in-Some-clause-text g c =
+    let written = c.in_ok-end.ensures.text in
+    let form = c.args.form.now in
+    let text = take c.in_ok-end.end c.put_text.new.buffer in
+    let is = (g.N.Writable.task c.args.number.now c.args.style).is form.syntax written.0 in (
+      written.0,
+      written.2,
+      sym (put_whole _ _ c.in_ok-end.end written.4 c.if-end-buffer.false c.if-end.false),
+      subst (λ w. IsReadWith c.args.forms.now (bytes_of_word w) text is) (sym c.in-Some.is)
+          (c.in_ok-read_token-in-Some.ensures.value form.syntax written.0),
     )
 
-pub returns-in-Err-clause-error : goal.returns-in-Err-clause-error
-returns-in-Err-clause-error g c =
-    let written = c.in_ok-size.ensures.text in
-    let l = written.0 in
-    let none = no_size _ c.has_opening.result c.has_opening.ensures c.if-has_opening.false in
-    let form = c.args.form.now in
-    let keeps = g.N.Writable.keeps c.args.number.now c.args.style in
-    let whole = taken (text_of l) c.args.buffer.now c.write.new.buffer c.in_ok-size.size written.3 c.if-size-buffer.false c.if-size.false in
-    let error = c.in-Err.error in
-    inr (
-      l,
-      subst (λ s. g.N.Writable.writes c.args.number.now c.args.style s (Ok l)) c.syntax.ensures written.2,
-      subst (λ text. IsUnusable (g.N.Writable.writes c.args.number.now c.args.style) keeps (length c.args.buffer.now) c.args.forms.now
-          (g.N.Writable.integer c.args.number.now) c.args.index form None text error) (sym (plain_by form l none))
-          (inr (
-            omega (arith, written.3.counted, c.if-size-buffer.false, c.if-size.false, c.in_ok-size.ensures.room),
-            inl (subst (λ b. IsReadElse (λ own. keeps (not b && own)) c.args.forms.now.forms c.args.index (text_of l) error)
-                (sym (sym c.has_opening.ensures ∙ c.if-has_opening.false))
-                (subst (λ text. IsReadElse keeps c.args.forms.now.forms c.args.index text error) (sym whole) c.in-Err.ensures.error)),
-          )),
-    )
-
-pub returns-in-Ok-clause-text : goal.returns-in-Ok-clause-text
-returns-in-Ok-clause-text g c =
-    let none = no_size _ c.has_opening.result c.has_opening.ensures c.if-has_opening.false in
-    let written = c.in-Ok.ensures.value in
-    (written.0, written.1, written.2 ∙ sym (plain_by c.args.form.now written.0 none), written.3)
-
-pub read_written-requires-clause-unopened : goal.read_written-requires-clause-unopened
-read_written-requires-clause-unopened g c = no_size _ c.has_opening.result c.has_opening.ensures c.if-has_opening.false
-
-pub read_written-requires-clause-written : goal.read_written-requires-clause-written
-unfolding of_form
-read_written-requires-clause-written g c =
-    let written = c.in_ok-size.ensures.text in
-    let all = of_form (λ l. c.in_ok-size.float ≡ is_float l) (λ s l. g.N.Writable.writes c.args.number.now c.args.style s (Ok l)) _ _ written.0
-    c.syntax.ensures written.1 written.2 written.4 in (
-      all.0,
-      subst (Reads (notation_of c.args.form.now.syntax) all.0)
-          (taken (text_of all.0) c.args.buffer.now c.write.new.buffer c.in_ok-size.size written.3 c.if-size-buffer.false c.if-size.false) all.1,
-      all.2,
-      all.3,
+pub read_alone-requires-clause-written : goal.read_alone-requires-clause-written
+read_alone-requires-clause-written g c =
+    let written = c.in_ok-end.ensures.text in
+    let bytes = take c.in_ok-end.end c.put_text.new.buffer in (
+      written.0,
+      written.1,
+      written.2,
+      written.3,
+      sym (subst (λ w. text_by c.args.form.now (bytes_of_word w) written.0 ≡ bytes) c.in-None.is
+          (put_whole _ _ c.in_ok-end.end written.4 c.if-end-buffer.false c.if-end.false)),
     )

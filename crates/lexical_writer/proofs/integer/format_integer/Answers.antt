@@ -1,6 +1,6 @@
 -- Each integer is laid out, and its value is that of the integer.
 use Rattle.lexical_writer.proofs.Common.{Bool, Err, Grammar, HasNumber, IfErr, IfOk, IfOk-weaker, Ok, Reads, Result, Some, Style, WriteError, ap, arith, false}
-use Rattle.lexical_writer.proofs.Common.{has_exponent, has_point, integer_literal, is_float, laid_out, needs_exponent, notation_of, number_of_size, raw, refl}
+use Rattle.lexical_writer.proofs.Common.{has_point, integer_literal, is_float, laid_out, needs_exponent, notation_of, number_of_size, raw, refl}
 use Rattle.lexical_writer.proofs.Common.{refusal, subst, suc, sym, text_of, true, with_sign, zero, ℕ, ℤ, ◌&&◌, ◌<◌, ◌||◌, ◌∙◌, ◌≡◌}
 use Rattle.lexical_value.specs.Integer.{IsInteger}
 use Rattle.lexical_writer.specs.Layout.{whole, whole_refusal}

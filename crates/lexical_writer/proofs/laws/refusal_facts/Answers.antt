@@ -1,7 +1,7 @@
 -- Which literals there are not.
-use Rattle.lexical_writer.proofs.Common.{Bool, List, None, Option, Options, Record, Some, [], ap, arith, digits_in, exponent_character_of, false, false≢true}
-use Rattle.lexical_writer.proofs.Common.{if◌then◌else◌, is_absent, is_minus, is_none_or_one, is_plus, is_present, lacks_options, length, not, point_of}
-use Rattle.lexical_writer.proofs.Common.{pow-zero, power, raw, refl, true, ℕ, ◌&&◌, ◌*◌, ◌^◌, ◌||◌, ◌∙◌, ◌∷◌, ◌≡◌}
+use Rattle.lexical_writer.proofs.Common.{List, None, Option, Options, Record, Some, [], ap, arith, digits_in, exponent_character_of, false, false≢true}
+use Rattle.lexical_writer.proofs.Common.{if◌then◌else◌, is_absent, is_minus, is_none_or_one, is_plus, lacks_options, length, point_of}
+use Rattle.lexical_writer.proofs.Common.{pow-zero, power, raw, refl, true, ℕ, ◌*◌, ◌^◌, ◌||◌, ◌∙◌, ◌∷◌, ◌≡◌}
 use Rattle.lexical_util.specs.Layout as layout
 use Rattle.lexical_literal.specs.declared.syntax.Condition.TheVariants as conditions
 use Rattle.lexical_writer.proofs.laws.refusal_facts.Goals as goal
