@@ -23,7 +23,7 @@ COMPILERS |= {"clang++": "c++11 c++14 c++17 c++20"}
 TYPES = {"size_t": "usize", "bool": "bool", "char": "u8", "uint8_t": "u8", "uint32_t": "u32", "int64_t": "i64"}
 TYPES |= {"uint64_t": "u64", "double": "f64", "float": "f32"}
 TYPES |= {"peltzivar_edit": "NumberedEdit", "peltzivar_special": "NumberedSpecial", "peltzivar_error": "ErrorNumber"}
-TYPES |= {"peltzivar_part": "u8", "peltzivar_role": "u8"}
+TYPES |= {"peltzivar_part": "u8", "peltzivar_role": "u8", "void": "u8"}
 ERRORS = r"((?!SET_|RULE_|PART_|ROLE_|KIND_|SPELLING_|VALUE_|CONDITION_|WRITE_|STYLE_)\w+)"
 LIBRARY = ctypes.CDLL(str(SHARED))
 LIBRARY.peltzivar_language_name.restype = LIBRARY.peltzivar_language_title.restype = ctypes.c_char_p
@@ -38,7 +38,7 @@ def run(*command, **options):
 def in_rust(kind):
     """Returns a type of C as in Rust."""
     if pointer := re.fullmatch(r"const (\w+) \*", kind):
-        return f"*const {in_rust(pointer[1])}"
+        return f"*const {in_rust(pointer[1])}" if pointer[1] == "char" else f"Option<&'static {in_rust(pointer[1])}>"
     return TYPES.get(kind) or kind.removeprefix("peltzivar").title().replace("_", "")
 
 
@@ -89,9 +89,9 @@ class Programs(unittest.TestCase):
     def test_the_library_is_small_and_programs_have_at_most_the_sizes_of_the_page(self):
         self.assertLessEqual(SHARED.stat().st_size, 433_000, "a new language may add 500 bytes, and each of its forms 400")
         calls = {
-            "forms_read": 'peltzivar_literal it; return !peltzivar_forms_read(FORMS, "1.5", 3, &it, NULL);',
+            "forms_read": 'peltzivar_literal it; return peltzivar_forms_read(FORMS, "1.5", 3, &it, NULL);',
             "parse_f64": 'double it; return peltzivar_parse_f64(FORMS, "1.5", 3, &it, NULL) || it != 1.5;',
-            "forms_token": 'peltzivar_token it; return !peltzivar_forms_token(FORMS, "1.5;", 4, &it, NULL);',
+            "forms_token": 'peltzivar_token it; return peltzivar_forms_token(FORMS, "1.5;", 4, &it, NULL);',
             "forms_format_f64": "char it[9]; return peltzivar_forms_format_f64(FORMS, 1.5, NULL, it, sizeof it, NULL);",
         }
         rows = re.findall(r"^\| [^|]+: `peltzivar_(\w+)` \| `(peltzivar_language.*?)`[^|]* \| (\d+) \|", PAGE, re.M)
@@ -157,7 +157,7 @@ class Header(unittest.TestCase):
         return {name: int(number) for name, number in re.findall(rf"\bPELTZIVAR_{pattern} = (\d+)", HEADER)}
 
     def test_each_number_has_the_name_of_the_header_or_a_sentence_of_its_own(self):
-        names = {"setter_name": r"SET_(\w+)", "role_name": r"ROLE_(\w+)", "part_name": r"PART_(\w+)"}
+        names = {"setter_name": r"SET_(\w+)"}
         sentences = {"value_description": r"VALUE_((?!OK)\w+)", "write_description": r"WRITE_((?!OK)\w+)"}
         for call, pattern in {**names, **sentences, "description": ERRORS, "rule_condition": r"RULE_(\w+)"}.items():
             function = getattr(LIBRARY, f"peltzivar_{call}")
@@ -169,9 +169,9 @@ class Header(unittest.TestCase):
 
     def test_declarations_are_those_of_the_library(self):
         sources = " ".join("".join(path.read_text() for path in sorted((TOP / "rust/capi/src").glob("*.rs"))).split())
-        exported = re.findall(r"\bfn (peltzivar_\w+)\( ?(.*?) ?\) -> ([\w *]+) \{", sources)
+        exported = re.findall(r"\bfn (peltzivar_\w+)\( ?(.*?) ?\) -> ([^{}]+?) \{", sources)
         languages = re.findall(r"^    (\w+): \"", (TOP / "rust/src/literal/language/tables.rs").read_text(), re.M)
-        exported += [(f"peltzivar_language_{it.lower()}", "", "*const Forms") for it in languages]
+        exported += [(f"peltzivar_language_{it.lower()}", "", "Option<&'static Forms>") for it in languages]
         types = re.findall(r"\b(\w+): (peltzivar_to_\w+) (\w+) (\w+),", sources)
         calls = re.findall(r"extern \"C\" fn \$\w+\( ?([^()]+?) ?\) -> (\w+) \{", sources)
         exported += [(name, of.replace("$T", kind), result) for kind, *names in types for name, (of, result) in zip(names, calls, strict=True)]
@@ -196,9 +196,9 @@ class Header(unittest.TestCase):
             return in_rust(kind)
         if re.search(rf"\*{name}, size_t (to_)?len\b", others):
             return f"*{'const' if const else 'mut'} {in_rust(kind)}"
-        if name in ("forms", "bytes", "offsets"):
+        if name in ("list", "bytes", "offsets", "valid"):
             return f"*const {in_rust(kind)}"
-        if const and (name in ("syntax", "style", "specials") or re.search(r"_status status|literal, const", others)):
+        if const and (name in ("forms", "syntax", "style", "specials", "special") or re.search(r"_status status|literal, const", others)):
             return f"Option<&{in_rust(kind)}>"
         if const or name == "fields":
             return f"&{'' if const else 'mut '}{in_rust(kind)}"
