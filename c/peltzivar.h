@@ -474,6 +474,12 @@ PELTZIVAR_MUST_USE peltzivar_write_status peltzivar_forms_format_i64(const peltz
 PELTZIVAR_MUST_USE peltzivar_write_status peltzivar_forms_format_u64(const peltzivar_forms *forms, uint64_t value,
     const peltzivar_style *style, char *text, size_t len, size_t *needed);
 
+/* Writes an exact amount, `value` over 10 to the power of `places`, with as many digits behind the point: 1200 with 2 is
+ * `12.00`. It is written as the literal with these digits is by peltzivar_forms_format_literal, and
+ * peltzivar_parse_scaled_i64 reads it back. `has_decimals` has no effect. */
+PELTZIVAR_MUST_USE peltzivar_write_status peltzivar_forms_format_scaled_i64(const peltzivar_forms *forms, int64_t value,
+    uint8_t places, const peltzivar_style *style, char *text, size_t len, size_t *needed);
+
 /* Writes a float by the first form whose text all forms read as the same bits, or with `has_decimals` as the rounded
  * number. Decimal forms that have floats are asked first, and then, unless it is rounded, the others. If there is none,
  * the status is as for peltzivar_forms_format_i64, or PELTZIVAR_WRITE_FRACTION of a rounded number if none is asked. NaN

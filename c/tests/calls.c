@@ -294,6 +294,9 @@ static void test_writing(void) {
         CHECK(IN_GROUPS("0x1.234.567", 1234567, i64) && IN_GROUPS("0x1.234.567", 1234567, u64));
         CHECK(IN_GROUPS("0x1.234.567,5", 1234567.5, f64) && IN_GROUPS("0x1.234.567", &literal, literal));
     }
+    CHECK(!peltzivar_forms_format_scaled_i64(language("CSV_DE"), -123450, 2, &styles[0], text, sizeof text, &needed) && !strcmp(text, "-1.234,50") && needed == 10);
+    CHECK(!peltzivar_forms_format_scaled_i64(language("JSON"), INT64_MIN, 255, NULL, text, sizeof text, &needed) == (PELTZIVAR_TEXT_SIZE > 258) && needed == 259);
+    CHECK(peltzivar_forms_format_scaled_i64(NULL, 1, 0, NULL, text, sizeof text, NULL) == PELTZIVAR_WRITE_ARGUMENT);
     memset(&literal, 0, sizeof literal);
     CHECK(make_syntax("radix=2\nrequired_fraction_digits=true\nrequired_exponent_sign=true\nno_exponent_without_fraction=true" LONGEST, &other)
         && !peltzivar_format_i64(&other, INT64_MIN, &ones, integer, sizeof integer, &needed));

@@ -211,6 +211,12 @@ static void test_list(const peltzivar_forms *forms, const char *from, size_t len
     CHECK(by_list != PELTZIVAR_WRITE_BUFFER && (style.exponent < 4 || (by_list == PELTZIVAR_WRITE_ARGUMENT && by_syntax == by_list))); }
     TEST_TYPE(int64_t, i64, ) TEST_TYPE(uint64_t, u64, ) TEST_TYPE(double, f64, ) TEST_TYPE(float, f32, ) TEST_TYPE(int64_t, scaled_i64, , 2)
     TEST_WRITTEN(i64, wide.high) TEST_WRITTEN(u64, wide.low) TEST_WRITTEN(f64, real)
+    const uint8_t places = (uint8_t)(draw() % 32);
+    int64_t amount = 7;
+    if (!peltzivar_forms_format_scaled_i64(forms, wide.high, places, &style, text, PELTZIVAR_FORMS_SIZE, &needed)) {
+        const peltzivar_value_status status = peltzivar_parse_scaled_i64(forms, text, needed - 1, places, &amount, NULL);
+        CHECK_LAWFUL((!status && amount == wide.high) || (status == PELTZIVAR_VALUE_REFUSED && !places) || status == PELTZIVAR_VALUE_RADIX);
+    }
     if (is_read) TEST_WRITTEN(literal, &literal)
     if (!peltzivar_format_special(&list->forms->syntax, &list->specials, &special, text, sizeof text, NULL)) CHECK(special.spelling % 4 && special.sign != '*');
 }

@@ -8,7 +8,8 @@ use crate::names::{at, texts};
 use core::fmt::{self, Write};
 use core::str;
 use peltzivar::literal::{
-    self, ExponentStyle, Grouping, Real, Sign, Special, Spelling, Whole, Writable, WriteError, Written,
+    self, scaled, ExponentStyle, Grouping, Real, Sign, Special, Spelling, Whole, Writable, WriteError, Written,
+    LONGEST_SCALED,
 };
 
 /// Whether a number is written: the index of one of [`DESCRIPTIONS`].
@@ -227,6 +228,15 @@ calls! {
         forms: Option<&Forms>, value: u64, style: Option<&Style>, text: *mut u8, len: usize, needed: Out<usize>
     ) -> WriteStatus {
         write_number((forms, style), (text, len, needed), Ok(&Whole::of(i128::from(value))))
+    }
+
+    fn peltzivar_forms_format_scaled_i64(
+        forms: Option<&Forms>, value: i64, places: u8, style: Option<&Style>, text: *mut u8, len: usize, needed: Out<usize>
+    ) -> WriteStatus {
+        let buffer = &mut [0; LONGEST_SCALED];
+        let literal = scaled((value < 0, value.unsigned_abs().into()), places, buffer);
+        let number = literal.as_ref().map(|it| it as &dyn Writable).ok_or(WriteError::ReadBack);
+        write_number((forms, style), (text, len, needed), number)
     }
 
     fn peltzivar_forms_format_f64(

@@ -9,6 +9,8 @@ use crate::literal::writer::float;
 use crate::literal::writer::float_digits::FloatDigits;
 use crate::literal::writer::integer::WrittenInteger;
 use crate::literal::writer::layout::{Amount, Layout, Style, WriteError};
+use crate::literal::writer::literal::format_literal;
+use crate::literal::writer::scaled;
 use crate::literal::writer::sink::{Sink, Window};
 use crate::literal::{Opening, Syntax};
 
@@ -58,6 +60,12 @@ impl Value {
         Value { negative, size, lay_out }
     }
 
+    /// Returns an integer over 10 to the power of the decimals of the style.
+    pub(super) fn of_scaled<T: Integer>(value: T) -> Value {
+        let (negative, size) = value.sign_and_size();
+        Value { negative, size, lay_out: lay_out_scaled }
+    }
+
     /// Returns a float.
     pub(super) fn of_float<T: Float>(value: T) -> Value {
         let sign = if T::DOUBLE { 1 << 63 } else { 1 << 31 };
@@ -77,6 +85,18 @@ fn lay_out<'b, T: Float>(
     let size = T::from_magnitude(bits as u64);
     let value = if negative { size.negated() } else { size };
     float::format_float(syntax, value, style, digits).ok()
+}
+
+/// Returns the layout of an integer over 10 to the power of the decimals of the style.
+fn lay_out_scaled<'b>(
+    negative: bool,
+    size: u128,
+    syntax: &Syntax,
+    style: Style,
+    digits: &'b mut FloatDigits,
+) -> Option<Layout<'b>> {
+    let literal = scaled((negative, size), style.decimals?, digits.long.insert([0; 800]))?;
+    format_literal(&literal, syntax, style).ok()
 }
 
 /// A value, which can be laid out, and the text, if it is short, with its length.
