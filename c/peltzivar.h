@@ -712,16 +712,16 @@ typedef struct {
 #define PELTZIVAR_WORDS_MAX 256
 
 /* Makes a list of forms in memory of len bytes at any address, and returns it. Writes how many bytes are enough to
- * *needed: some 100, 80 for a form, 130 for its suffixes, and 16 for a word. The list lasts as long as this memory and
- * the strings, and must not be moved. Check each syntax with peltzivar_check_syntax before. Returns null if len is not
- * enough, or if the list is null or refused. Then *needed is 0: there are no forms or too many, too many words, an
- * unknown kind, a wrong opening, or reserved bytes that are not 0. */
+ * *needed: some 100, 80 for a form, 130 for its suffixes, and 16 for a word, or more in a later version. The list lasts
+ * as long as this memory and the strings, and must not be moved. Check each syntax with peltzivar_check_syntax before.
+ * Returns null if len is not enough, or if the list is null or refused. If so, *needed is 0: there are no forms or too
+ * many, too many words, an unknown kind, a wrong opening, or reserved bytes that are not 0. */
 PELTZIVAR_MUST_USE const peltzivar_forms *peltzivar_make_forms(
     const peltzivar_list *list, void *memory, size_t len, size_t *needed);
 
 /* Writes what a list is made of to memory of len bytes at any address, and returns it, so that a copy of a language can
- * be changed and made. Only forms of languages have names. Writes how many bytes are enough to *needed, and returns null
- * if len is not, or if the list is null. Then *needed is 0. */
+ * be changed and made. Only forms of languages have names. Writes how many bytes are enough to *needed. Returns null if
+ * len is not enough, or if the list is null, and then *needed is 0. */
 PELTZIVAR_MUST_USE const peltzivar_list *peltzivar_list_of(
     const peltzivar_forms *forms, void *memory, size_t len, size_t *needed);
 
@@ -801,8 +801,8 @@ enum {
     PELTZIVAR_CONDITION_DECIMAL_FIRST_DIGIT = 128
 };
 
-/* Writes why a text is not a literal to *out and returns PELTZIVAR_VALUE_OK: a caret below `span` shows where. If no call
- * has written *error, or if the syntax, the list or the length was refused, leaves *out unchanged and returns
+/* Writes why a text is not a literal to *out and returns PELTZIVAR_VALUE_OK: a caret below `span` shows where. If no
+ * call has written *error, or if the syntax, the list or the length was refused, leaves *out unchanged and returns
  * PELTZIVAR_VALUE_REFUSED. */
 PELTZIVAR_MUST_USE peltzivar_value_status peltzivar_explain(
     const peltzivar_read_error *error, peltzivar_explanation *out);
