@@ -375,7 +375,7 @@ static void test_languages(void) {
     static const char *const texts[] = {"", "0x1G", "09", "0b2", "0x1p", "1e", "1.5.5", "0b", "0o9", "-", "017", "0x1F", "1_0", "1.5e3", "nan", "-inf",
         "1.00000005960464477540", "3.4028236e38", "1e-46", "0xFFFFFFFF", "-9223372036854775808", "9223372036854775808", "18446744073709551616", "1L;", "1f ", "1..2", "1.max", "1if", "0x1Fu", "08f", "1u8-"};
     static const int64_t numbers[] = {15, -1, 3000000000, INT64_MAX};
-    size_t stops[256] = {0};
+    size_t stops[256] = {0}, only_read = 0;
     peltzivar_special special = {7, 7, {0}};
     peltzivar_literal literal;
     peltzivar_read_error error;
@@ -385,7 +385,10 @@ static void test_languages(void) {
         const peltzivar_forms *const forms = language(peltzivar_language_name(i));
         const peltzivar_list *const list = members(peltzivar_language_name(i));
         const peltzivar_forms *const copied = made(list);
-        for (size_t form = 0; form < list->count; form++) CHECK(*list->forms[form].name && !peltzivar_check_syntax(&list->forms[form].syntax));
+        for (size_t form = 0; form < list->count; form++) {
+            CHECK(*list->forms[form].name && !peltzivar_check_syntax(&list->forms[form].syntax));
+            only_read += list->forms[form].only_read;
+        }
         for (size_t j = 0; j < sizeof texts / sizeof *texts; j++) read_alike(forms, copied, texts[j], stops);
         for (size_t j = 0; j < sizeof numbers / sizeof *numbers; j++) {
             char other[PELTZIVAR_TEXT_SIZE] = "";
@@ -394,7 +397,7 @@ static void test_languages(void) {
             CHECK(!strcmp(text, other));
         }
     }
-    CHECK(stops[0] && stops[1] && stops[2] && stops[3] && stops[255]);
+    CHECK(stops[0] && stops[1] && stops[2] && stops[3] && stops[255] && only_read);
     CHECK(!members("JSON")->specials.nan && !strcmp(members("TOML")->specials.inf, "inf") && !*peltzivar_language_name(SIZE_MAX));
     CHECK(!peltzivar_forms_read(language("C"), "017", 3, &literal, &error) && literal.form == 1 && literal.integer.end == 3);
     CHECK(!peltzivar_forms_read_prefix(language("C"), "0x1.8", 5, &literal, &error) && literal.form == 2 && literal.size == 3);
