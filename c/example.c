@@ -28,9 +28,10 @@ int main(int argc, char **argv) {
         strcat(strcat(settings, argv[i]), "\n");
     }
     peltzivar_syntax syntax;
-    const size_t len = strlen(settings), problems = peltzivar_read_settings(settings, len, &syntax);
+    const size_t len = strlen(settings);
+    const bool is_wrong = peltzivar_read_settings(settings, len, &syntax, NULL);
     for (size_t i = 0; peltzivar_settings_text(settings, len, i, message, sizeof message); i++) puts(message);
-    if (problems) return 1;
+    if (is_wrong) return 1;
 
     for (int number = 1; fgets(line, sizeof line, stdin); number++) {
         size_t size = strlen(line);
@@ -40,9 +41,9 @@ int main(int argc, char **argv) {
         peltzivar_literal literal;
         peltzivar_read_error error;
         peltzivar_explanation why;
-        if (peltzivar_read(&syntax, line, size, &literal, &error)) {
+        if (!peltzivar_read(&syntax, line, size, &literal, &error)) {
             print_value(&literal);
-        } else if (peltzivar_explain(&error, &why)) {
+        } else if (!peltzivar_explain(&error, &why)) {
             peltzivar_read_error_text(&error, message, sizeof message);
             printf("line %d, column %zu: %s\n", number, why.span.start + 1, message);
         }

@@ -18,9 +18,10 @@
  *
  * Names: one that ends in _text, and sentence, grammar, regex and source, fills a buffer. One that ends in _name or
  * _description, and rule_condition, returns a constant string. One that begins with forms_, or with parse_ and a type,
- * and token_error_text, takes a list of forms. parse_error_text, parse_edit, parse_byte and parse_word take none.
+ * and token_error_text, takes a list of forms. parse_error_text, parse_edit and parse_word take none.
  *
- * If a call succeeds, its status or peltzivar_error is 0, or its bool is true. No function depends on the locale.
+ * A call that can fail returns a status or a peltzivar_error, which is 0 if it succeeds, or a pointer, which is null if
+ * it fails. A bool answers a question. No function depends on the locale.
  *
  * A function that fills a buffer of len bytes writes a null-terminated string to it, as snprintf does: ASCII, but for
  * characters of UTF-8 of a text that a sentence quotes. If the string and its null terminator do not fit, it writes
@@ -39,9 +40,10 @@
  * be initialised. Memory that is only output need not be. Memory that a function writes to must not overlap memory to
  * which another argument points.
  *
- * No function allocates memory or sets errno. None keeps a pointer, except that a literal points to its text. Several
- * threads may call these functions at the same time, provided that no call writes memory that another call reads or
- * writes.
+ * No function allocates memory or sets errno, and the library has no memory that changes. None keeps a pointer, except
+ * that a literal points to its text, and what peltzivar_make_forms returns to strings. Several threads may call these
+ * functions at the same time, provided that no call writes memory that another call reads or writes. A call that reads
+ * a text, a token or a column needs at most 8 kB of stack, and any other at most 16 kB.
  *
  * From 1.0 on, functions, structures, numbers and documented results do not change until 2.0, but others may be added.
  * The section `Until 2.0` of CHANGELOG.md in the repository lists what this promise leaves out, such as sentences. */
@@ -98,8 +100,8 @@ uint32_t peltzivar_version(void);
 /* LANGUAGES
  *
  * A form is one way to write numbers, such as `10`, `0x1F` or `0b1`. A list of forms is all that a call needs to read
- * and write numbers: that of a language, or your own. FORMS OF YOUR OWN describes both, and a syntax, by which a form
- * reads. */
+ * and write numbers: that of a language, or one that peltzivar_make_forms makes. FORMS OF YOUR OWN describes what it is
+ * made of, and a syntax, by which a form reads. */
 typedef struct peltzivar_forms peltzivar_forms;
 typedef struct peltzivar_syntax peltzivar_syntax;
 
@@ -169,7 +171,7 @@ const char *peltzivar_language_title(size_t index);
 
 /* VALUES OF TEXTS */
 
-/* Whether there is a value of a type. */
+/* Whether there is a value of a type, or what else a call is asked for. */
 typedef uint8_t peltzivar_value_status;
 enum {
     PELTZIVAR_VALUE_OK = 0,
@@ -181,9 +183,10 @@ enum {
     PELTZIVAR_VALUE_RADIX = 4,
     PELTZIVAR_VALUE_NO_LITERAL = 5, /* No call has made the literal. */
     PELTZIVAR_VALUE_REFUSED = 6, /* The text is neither a literal nor a special value, or an argument is refused. */
-    PELTZIVAR_VALUE_SPECIAL = 7, /* The text is NaN or infinity, and the type an integer type. */
+    PELTZIVAR_VALUE_SPECIAL = 7, /* The text is NaN or infinity, and the type an integer type, or a literal is read. */
     PELTZIVAR_VALUE_NOT_WHOLE = 8, /* The value times the power of ten is not whole. */
-    PELTZIVAR_VALUE_VANISHES = 9 /* The nearest float is 0, and the value is not, which is an error by its kind. */
+    PELTZIVAR_VALUE_VANISHES = 9, /* The nearest float is 0, and the value is not, which is an error by its kind. */
+    PELTZIVAR_VALUE_MISSING = 10 /* The bitmap of a column says that there is no text. */
 };
 
 /* Where reading stopped. The first `valid_up_to` bytes are the longest beginning of the text that some literal begins
@@ -204,8 +207,7 @@ typedef struct {
  * float, or the even one if two are as near. A value that is too large is infinity, and `-0` is -0.0. NaN and infinity
  * are floats. The value is that of the kind of the form: Java's `0xffffffff` is -1, and its `1e400` an error. Otherwise,
  * leave *out unchanged and return another status but PELTZIVAR_VALUE_NO_LITERAL. With PELTZIVAR_VALUE_REFUSED, write
- * where reading stopped to *error. This is also the status if the list is null, has no array, too many forms, an
- * unknown kind, a wrong opening, or reserved bytes that are not 0, or if len is above PTRDIFF_MAX. Then
+ * where reading stopped to *error. This is also the status if the list is null, or if len is above PTRDIFF_MAX. Then
  * `valid_up_to` is 0. */
 PELTZIVAR_MUST_USE peltzivar_value_status peltzivar_parse_i64(
     const peltzivar_forms *forms, const char *text, size_t len, int64_t *out, peltzivar_read_error *error);
@@ -215,6 +217,11 @@ PELTZIVAR_MUST_USE peltzivar_value_status peltzivar_parse_f64(
     const peltzivar_forms *forms, const char *text, size_t len, double *out, peltzivar_read_error *error);
 PELTZIVAR_MUST_USE peltzivar_value_status peltzivar_parse_f32(
     const peltzivar_forms *forms, const char *text, size_t len, float *out, peltzivar_read_error *error);
+
+/* Does the same for the exact value times 10 to the power of `places`, as peltzivar_to_scaled_i64 describes it: of
+ * `1.234,5` with 2, a price in cents, 123450. */
+PELTZIVAR_MUST_USE peltzivar_value_status peltzivar_parse_scaled_i64(const peltzivar_forms *forms, const char *text,
+    size_t len, uint8_t places, int64_t *out, peltzivar_read_error *error);
 
 /* Writes what a status of these calls means as a sentence: with PELTZIVAR_VALUE_REFUSED, that of
  * peltzivar_read_error_text for *error, unless `error` is null or no call has written it, and otherwise that of
@@ -229,26 +236,38 @@ const char *peltzivar_value_description(peltzivar_value_status status);
  *
  *     const int64_t offsets[] = {0, 4, 5, 13};
  *     double values[3] = {0};
+ *     size_t problems;
  *     peltzivar_value_status status[3];
- *     peltzivar_parse_f64_column(peltzivar_language_csv_de(), "1,50x1.234,50", offsets, 3, values, status);
+ *     if (peltzivar_parse_f64_column(
+ *             peltzivar_language_csv_de(), "1,50x1.234,50", offsets, NULL, 3, values, status, &problems))
+ *         printf("%d problem\n", (int)problems); // 1 problem
  *     printf("%.2f, status %d, %.2f\n", values[0], status[1], values[2]); // 1.50, status 6, 1234.50
  */
 
 /* Do what peltzivar_parse_f64 and the others do for a column of texts, as Apache Arrow holds them. There are count + 1
  * offsets in ascending order, and the text with the index i has the bytes from offsets[i] on, to below the next offset.
- * `bytes` has all bytes from the first to below the last offset, and `values` and `status` have count elements. Write
- * the value of each text, or leave it unchanged, and its status, and return how many statuses are not
- * PELTZIVAR_VALUE_OK. If its offsets do not ascend, or are not between the first and the last one, a text is
- * PELTZIVAR_VALUE_REFUSED and not read. If the list is, all texts are. If count is PTRDIFF_MAX / 8 or more, write
- * nothing and return it. To learn why a text is refused, read it again by peltzivar_parse_f64. */
-size_t peltzivar_parse_i64_column(const peltzivar_forms *forms, const char *bytes,
-    const int64_t *offsets, size_t count, int64_t *values, peltzivar_value_status *status);
-size_t peltzivar_parse_u64_column(const peltzivar_forms *forms, const char *bytes,
-    const int64_t *offsets, size_t count, uint64_t *values, peltzivar_value_status *status);
-size_t peltzivar_parse_f64_column(const peltzivar_forms *forms, const char *bytes,
-    const int64_t *offsets, size_t count, double *values, peltzivar_value_status *status);
-size_t peltzivar_parse_f32_column(const peltzivar_forms *forms, const char *bytes,
-    const int64_t *offsets, size_t count, float *values, peltzivar_value_status *status);
+ * `bytes` has all bytes from the first to below the last offset, and `values` and `status` have count elements. `valid`
+ * is null, or has a bit for each text, from the lowest of a byte on, which is 0 if there is none: this is
+ * PELTZIVAR_VALUE_MISSING, and no problem. Write the value of each text, or leave it unchanged, and its status, and to
+ * *problems how many have another one but PELTZIVAR_VALUE_OK. Return PELTZIVAR_VALUE_OK if none has, and otherwise
+ * PELTZIVAR_VALUE_REFUSED. If its offsets do not ascend, or are not between the first and the last one, a text is
+ * PELTZIVAR_VALUE_REFUSED and not read. If the list is null, all texts are. If count is PTRDIFF_MAX / 8 or more, write
+ * it to *problems alone. To learn why a text is refused, read it again by peltzivar_parse_f64. */
+peltzivar_value_status peltzivar_parse_i64_column(const peltzivar_forms *forms,
+    const char *bytes, const int64_t *offsets, const uint8_t *valid, size_t count, int64_t *values,
+    peltzivar_value_status *status, size_t *problems);
+peltzivar_value_status peltzivar_parse_u64_column(const peltzivar_forms *forms,
+    const char *bytes, const int64_t *offsets, const uint8_t *valid, size_t count, uint64_t *values,
+    peltzivar_value_status *status, size_t *problems);
+peltzivar_value_status peltzivar_parse_f64_column(const peltzivar_forms *forms,
+    const char *bytes, const int64_t *offsets, const uint8_t *valid, size_t count, double *values,
+    peltzivar_value_status *status, size_t *problems);
+peltzivar_value_status peltzivar_parse_f32_column(const peltzivar_forms *forms,
+    const char *bytes, const int64_t *offsets, const uint8_t *valid, size_t count, float *values,
+    peltzivar_value_status *status, size_t *problems);
+peltzivar_value_status peltzivar_parse_scaled_i64_column(const peltzivar_forms *forms,
+    const char *bytes, const int64_t *offsets, const uint8_t *valid, size_t count, uint8_t places, int64_t *values,
+    peltzivar_value_status *status, size_t *problems);
 
 /* LITERALS
  *
@@ -272,22 +291,23 @@ typedef struct {
     size_t size;
     bool is_float;
     uint8_t form;
-    uint64_t numbers[18];
+    uint64_t numbers[22];
 } peltzivar_literal;
 
-/* Reads a text of len bytes by a list. If it is a literal of a form, writes its parts to *literal and returns true.
- * Otherwise, also for a special value, and if peltzivar_parse_f64 refuses the list or the length, writes where reading
- * stopped to *error and returns false. A form may read a text that an earlier one reads otherwise: an octal form
- * without required_leading_zero reads `17` as 15. */
-PELTZIVAR_MUST_USE bool peltzivar_forms_read(const peltzivar_forms *forms, const char *text, size_t len,
-    peltzivar_literal *literal, peltzivar_read_error *error);
+/* Reads a text of len bytes by a list. If it is a literal of a form, writes its parts to *literal and returns
+ * PELTZIVAR_VALUE_OK. If it is NaN or infinity, returns PELTZIVAR_VALUE_SPECIAL. Otherwise, and if peltzivar_parse_f64
+ * refuses the list or the length, writes where reading stopped to *error and returns PELTZIVAR_VALUE_REFUSED. A form may
+ * read a text that an earlier one reads otherwise: an octal form without required_leading_zero reads `17` as 15. */
+PELTZIVAR_MUST_USE peltzivar_value_status peltzivar_forms_read(const peltzivar_forms *forms,
+    const char *text, size_t len, peltzivar_literal *literal, peltzivar_read_error *error);
 
-/* Reads the longest beginning of a text that is a literal of any form, writes it to *literal and returns true. What
- * follows it may be anything: with the prefix `0x`, the literal of `0xG` is `0`. If there is no literal, or if
- * peltzivar_parse_f64 refuses the list or the length, writes where reading stopped to *error and returns false. Reads no
- * byte behind the first that cannot follow or, if it begins a character of UTF-8, behind this character. */
-PELTZIVAR_MUST_USE bool peltzivar_forms_read_prefix(const peltzivar_forms *forms, const char *text, size_t len,
-    peltzivar_literal *literal, peltzivar_read_error *error);
+/* Reads the longest beginning of a text that is a literal of any form, writes it to *literal and returns
+ * PELTZIVAR_VALUE_OK. What follows it may be anything: with the prefix `0x`, the literal of `0xG` is `0`. If there is
+ * no literal, or if peltzivar_parse_f64 refuses the list or the length, writes where reading stopped to *error and
+ * returns PELTZIVAR_VALUE_REFUSED. Reads no byte behind the first that cannot follow or, if it begins a character of
+ * UTF-8, behind this character. */
+PELTZIVAR_MUST_USE peltzivar_value_status peltzivar_forms_read_prefix(const peltzivar_forms *forms,
+    const char *text, size_t len, peltzivar_literal *literal, peltzivar_read_error *error);
 
 /* The spellings of special values: null-terminated strings. A spelling that is null or empty matches no text. */
 typedef struct {
@@ -298,30 +318,22 @@ typedef struct {
 /* A special value. `sign` is '+' or '-', or 0 if the text has no sign. */
 typedef struct {
     uint8_t spelling, sign;
+    uint8_t reserved[6];
 } peltzivar_special;
 enum { PELTZIVAR_SPELLING_NAN = 1, PELTZIVAR_SPELLING_INF = 2, PELTZIVAR_SPELLING_INFINITY = 3 };
 
 /* Reads a text of len bytes as NaN or infinity: an optional sign, and the first of the spellings of the list that
  * matches. The flags of the first form decide which signs, cases and digit separators match. If the text is one, writes
- * it to *out and returns true. Otherwise, or if peltzivar_parse_f64 refuses the list or the length, leaves *out
- * unchanged and returns false. A text can also be a literal, such as `inf` in radix 36: first call
- * peltzivar_forms_read. */
-PELTZIVAR_MUST_USE bool peltzivar_forms_read_special(
+ * it to *out and returns PELTZIVAR_VALUE_OK. Otherwise, or if peltzivar_parse_f64 refuses the list or the length, leaves
+ * *out unchanged and returns PELTZIVAR_VALUE_REFUSED. A text can also be a literal, such as `inf` in radix 36: first
+ * call peltzivar_forms_read. */
+PELTZIVAR_MUST_USE peltzivar_value_status peltzivar_forms_read_special(
     const peltzivar_forms *forms, const char *text, size_t len, peltzivar_special *out);
 
-/* Does what peltzivar_forms_read does, in less time, by one syntax, such as that of a form. Refuses a syntax that is
- * null or has reserved bytes that are not 0. */
-PELTZIVAR_MUST_USE bool peltzivar_read(const peltzivar_syntax *syntax, const char *text, size_t len,
+/* Does what peltzivar_forms_read does, in less time, by one syntax, such as that of a form. No text is a special value.
+ * Refuses a syntax that is null or has reserved bytes that are not 0. */
+PELTZIVAR_MUST_USE peltzivar_value_status peltzivar_read(const peltzivar_syntax *syntax, const char *text, size_t len,
     peltzivar_literal *literal, peltzivar_read_error *error);
-
-/* Does what peltzivar_forms_read_prefix does by one syntax. Refuses a syntax that peltzivar_read refuses. */
-PELTZIVAR_MUST_USE bool peltzivar_read_prefix(const peltzivar_syntax *syntax, const char *text, size_t len,
-    peltzivar_literal *literal, peltzivar_read_error *error);
-
-/* Does what peltzivar_forms_read_special does by one syntax and spellings. Refuses a syntax that peltzivar_read
- * refuses, spellings that are null, and their reserved bytes. */
-PELTZIVAR_MUST_USE bool peltzivar_read_special(const peltzivar_syntax *syntax, const peltzivar_specials *specials,
-    const char *text, size_t len, peltzivar_special *out);
 
 /* An integer of 128 bits in two's complement: bits 0 to 63 are in `low`, and bits 64 to 127 in `high`. */
 typedef struct {
@@ -336,10 +348,10 @@ PELTZIVAR_MUST_USE peltzivar_value_status peltzivar_to_u64(const peltzivar_liter
 PELTZIVAR_MUST_USE peltzivar_value_status peltzivar_to_i128(const peltzivar_literal *literal, peltzivar_i128 *out);
 
 /* Writes the exact value of an integer or a float times 10 to the power of `places` to *out and returns
- * PELTZIVAR_VALUE_OK: of `1.234,5` with 2, a price in cents, 123450. All digits of a float count. Of an integer, the
- * value is that of its kind. Otherwise, leaves *out unchanged and returns PELTZIVAR_VALUE_NOT_WHOLE, _TOO_LARGE,
- * _TOO_SMALL or _NO_LITERAL, or _RADIX for a float. A product that is neither whole nor in range is _NOT_WHOLE, but
- * from 2^90 on (28 digits), it may be _TOO_LARGE or _TOO_SMALL. */
+ * PELTZIVAR_VALUE_OK. All digits of a float count. Of an integer, the value is that of its kind. Otherwise, leaves
+ * *out unchanged and returns PELTZIVAR_VALUE_NOT_WHOLE, _TOO_LARGE, _TOO_SMALL or _NO_LITERAL, or _RADIX for a float.
+ * A product that is neither whole nor in range is _NOT_WHOLE, but from 2^90 on (28 digits), it may be _TOO_LARGE or
+ * _TOO_SMALL. */
 PELTZIVAR_MUST_USE peltzivar_value_status peltzivar_to_scaled_i64(
     const peltzivar_literal *literal, uint8_t places, int64_t *out);
 
@@ -354,7 +366,7 @@ PELTZIVAR_MUST_USE peltzivar_value_status peltzivar_to_f32(const peltzivar_liter
  *     const char source[] = "0x1F_u8 + 1";
  *     peltzivar_token token;
  *     int64_t number;
- *     if (!peltzivar_forms_token(peltzivar_language_rust(), source, strlen(source), &token, NULL)
+ *     if (peltzivar_forms_token(peltzivar_language_rust(), source, strlen(source), &token, NULL)
  *         || peltzivar_to_i64(&token.literal, &number)) return 1;
  *     printf("%d, and then %s\n", (int)number, token.rest); // 31, and then  + 1
  */
@@ -373,12 +385,12 @@ typedef struct {
 /* Reads the number that a text of len bytes begins with, as a lexer does: the longest literal of a form with the
  * longest of its suffixes, as in `1..2`, `10L;` and `0x1F_u8`. FORMS.md defines tokens. A text is a number with a
  * suffix and nothing else if the `size` of its token is len. Special values are names, and no tokens. If there is a
- * token, writes it to *token and returns true. If a form goes on behind the number without an end, as in `1e+x`, if
- * what follows may not, as in `1abc`, or if there is no number, writes why to *error and returns false. Also refuses
- * what peltzivar_parse_f64 refuses, lists without rules for tokens, as those of SQL and of file formats, and, in
- * suffixes and rules, reserved bytes, unknown kinds, and too many words. Then `valid_up_to` is 0. */
-PELTZIVAR_MUST_USE bool peltzivar_forms_token(const peltzivar_forms *forms, const char *text, size_t len,
-    peltzivar_token *token, peltzivar_read_error *error);
+ * token, writes it to *token and returns PELTZIVAR_VALUE_OK. If a form goes on behind the number without an end, as in
+ * `1e+x`, if what follows may not, as in `1abc`, or if there is no number, writes why to *error and returns
+ * PELTZIVAR_VALUE_REFUSED. Also refuses what peltzivar_parse_f64 refuses, and lists without rules for tokens, as those
+ * of SQL and of file formats. Then `valid_up_to` is 0. */
+PELTZIVAR_MUST_USE peltzivar_value_status peltzivar_forms_token(const peltzivar_forms *forms,
+    const char *text, size_t len, peltzivar_token *token, peltzivar_read_error *error);
 
 /* Writes why peltzivar_forms_token refuses a text, as peltzivar_read_error_text does, and behind "unknown suffix" up to
  * six of the suffixes that the form has: "unknown suffix; known are f32, f64". Writes an empty string if it returns a
@@ -408,7 +420,7 @@ enum {
     PELTZIVAR_WRITE_FRACTION = 3, /* Literals are integers, and the number is not whole. */
     PELTZIVAR_WRITE_SPECIAL = 6, /* The number is NaN or infinity, and no spelling is read back as it. */
     PELTZIVAR_WRITE_BUFFER = 7, /* The buffer is too short. */
-    /* The syntax, the list, the literal or the spellings are null, one of them, the style or the special value is
+    /* The syntax, the list, the literal, the spellings or the special value are null, one of them or the style is
      * refused, or no call has made the literal. */
     PELTZIVAR_WRITE_ARGUMENT = 8,
     PELTZIVAR_WRITE_LONG = 9, /* The text that the forms are to read has more than 4096 bytes. */
@@ -459,8 +471,12 @@ PELTZIVAR_MUST_USE peltzivar_write_status peltzivar_forms_format_i64(const peltz
     const peltzivar_style *style, char *text, size_t len, size_t *needed);
 PELTZIVAR_MUST_USE peltzivar_write_status peltzivar_forms_format_u64(const peltzivar_forms *forms, uint64_t value,
     const peltzivar_style *style, char *text, size_t len, size_t *needed);
-PELTZIVAR_MUST_USE peltzivar_write_status peltzivar_forms_format_i128(const peltzivar_forms *forms,
-    peltzivar_i128 value, const peltzivar_style *style, char *text, size_t len, size_t *needed);
+
+/* Writes an exact amount, `value` over 10 to the power of `places`, with as many digits behind the point: 1200 with 2 is
+ * `12.00`. It is written as the literal with these digits is by peltzivar_forms_format_literal, and
+ * peltzivar_parse_scaled_i64 reads it back. `has_decimals` has no effect. */
+PELTZIVAR_MUST_USE peltzivar_write_status peltzivar_forms_format_scaled_i64(const peltzivar_forms *forms, int64_t value,
+    uint8_t places, const peltzivar_style *style, char *text, size_t len, size_t *needed);
 
 /* Writes a float by the first form whose text all forms read as the same bits, or with `has_decimals` as the rounded
  * number, or as the nearest single if their floats are all singles. Decimal forms that have floats are asked first, and
@@ -481,8 +497,6 @@ PELTZIVAR_MUST_USE peltzivar_write_status peltzivar_format_i64(const peltzivar_s
     const peltzivar_style *style, char *text, size_t len, size_t *needed);
 PELTZIVAR_MUST_USE peltzivar_write_status peltzivar_format_u64(const peltzivar_syntax *syntax, uint64_t value,
     const peltzivar_style *style, char *text, size_t len, size_t *needed);
-PELTZIVAR_MUST_USE peltzivar_write_status peltzivar_format_i128(const peltzivar_syntax *syntax, peltzivar_i128 value,
-    const peltzivar_style *style, char *text, size_t len, size_t *needed);
 
 /* Writes a float by a syntax. In radix 10, it has the fewest digits that are read as the same float, and in a radix
  * that is a power of two, it is exact. Below 1e-4 and from 1e16 up it has an exponent, if the syntax has one. NaN and
@@ -495,28 +509,30 @@ PELTZIVAR_MUST_USE peltzivar_write_status peltzivar_format_f64(const peltzivar_s
 PELTZIVAR_MUST_USE peltzivar_write_status peltzivar_format_literal(const peltzivar_syntax *syntax,
     const peltzivar_literal *literal, const peltzivar_style *style, char *text, size_t len, size_t *needed);
 
-/* Writes NaN or infinity by a syntax: its sign, and the first of the spellings that peltzivar_read_special reads back
- * as this value, or has PELTZIVAR_WRITE_SPECIAL if there is none. */
+/* Writes NaN or infinity by a syntax: its sign, and the first of the spellings that is read back as this value,
+ * or has PELTZIVAR_WRITE_SPECIAL if there is none. */
 PELTZIVAR_MUST_USE peltzivar_write_status peltzivar_format_special(const peltzivar_syntax *syntax,
-    const peltzivar_specials *specials, peltzivar_special special, char *text, size_t len, size_t *needed);
+    const peltzivar_specials *specials, const peltzivar_special *special, char *text, size_t len, size_t *needed);
 
 /* Returns what a status means, such as "no literal has the sign '-'", or an empty string if 0 or unknown. */
 const char *peltzivar_write_description(peltzivar_write_status status);
 
 /* FORMS OF YOUR OWN
  *
+ *     static char memory[2048];
  *     const peltzivar_suffixes units = {.integers = "k M"};
  *     const peltzivar_tokens tokens = {0};
- *     peltzivar_form list[] = {{.name = "decimal", .suffixes = &units}, {.name = "hexadecimal"}};
- *     const peltzivar_forms forms = {.forms = list, .count = 2, .specials = {.nan = "NaN"}, .tokens = &tokens};
+ *     peltzivar_form forms[] = {{.name = "decimal", .suffixes = &units}, {.name = "hexadecimal"}};
+ *     const peltzivar_list list = {.forms = forms, .count = 2, .specials = {.nan = "NaN"}, .tokens = &tokens};
  *     const char *const settings[] = {"digit_separator='_'\ninteger_internal_digit_separator=true",
  *         "radix=16\nbase_prefix='x'\nrequired_base_prefix=true\nexponent=none\npoint=none"};
  *     int64_t value;
  *     peltzivar_token token;
  *     for (int i = 0; i < 2; i++)
- *         if (peltzivar_read_settings(settings[i], strlen(settings[i]), &list[i].syntax)) return 1;
- *     if (peltzivar_parse_i64(&forms, "0x1F", 4, &value, NULL)) return 1;
- *     if (!peltzivar_forms_token(&forms, "5k, 7", 5, &token, NULL)) return 1;
+ *         if (peltzivar_read_settings(settings[i], strlen(settings[i]), &forms[i].syntax, NULL)) return 1;
+ *     const peltzivar_forms *own = peltzivar_make_forms(&list, memory, sizeof memory, NULL);
+ *     if (peltzivar_parse_i64(own, "0x1F", 4, &value, NULL)) return 1;
+ *     if (peltzivar_forms_token(own, "5k, 7", 5, &token, NULL)) return 1;
  *     printf("%d, then %s\n", (int)value, token.rest); // 31, then , 7
  */
 
@@ -552,12 +568,13 @@ struct peltzivar_syntax {
  * If both options are `none`, numbers are integers. One alone cannot be `none`: for numbers with a point but no
  * exponent, set no_exponent_notation, and an `exponent` that is not a digit, such as '~'.
  *
- * Returns the number of problems: first the lines that are refused, and then the reasons why the others do not build a
- * lawful word or, if they do, why the options do not fit it, and each condition that does not. Reasons and notes on a
- * field, an option or a condition are left out if the last line that sets it is refused. If there is a problem, leaves
- * *out unchanged. The syntax lacks a digit separator that no flag allows. This is not a problem, but
- * peltzivar_settings_text has a note. */
-PELTZIVAR_MUST_USE size_t peltzivar_read_settings(const char *text, size_t len, peltzivar_syntax *out);
+ * Writes to *problems how many there are: first the lines that are refused, and then the reasons why the others do not
+ * build a lawful word or, if they do, why the options do not fit it, and each condition that does not. Reasons and notes
+ * on a field, an option or a condition are left out if the last line that sets it is refused. Returns
+ * PELTZIVAR_VALUE_OK if there is no problem. Otherwise, leaves *out unchanged and returns PELTZIVAR_VALUE_REFUSED. The
+ * syntax lacks a digit separator that no flag allows. This is not a problem, but peltzivar_settings_text has a note. */
+PELTZIVAR_MUST_USE peltzivar_value_status peltzivar_read_settings(
+    const char *text, size_t len, peltzivar_syntax *out, size_t *problems);
 
 /* Writes a problem as a sentence, such as "unknown setting `base_suffx`; did you mean `base_suffix`?". The problems
  * have the indices from 0 on. Behind them are the notes: first at most 32 on settings that do nothing, in the order of
@@ -573,13 +590,14 @@ size_t peltzivar_settings_lines(const char *text, size_t len, size_t index, size
 /* The numbers of errors, which peltzivar_words.h names. A peltzivar_error that is 0 is none. */
 typedef uint32_t peltzivar_error;
 
-/* Returns 0 if the word of a syntax is lawful, if the options fit its normal form or are both 0, and if the format does
- * not contradict the conditions. Otherwise, returns the error of the first rule that the word breaks, the error that
- * peltzivar_check_options returns for the normal form, the error of the first condition that the format contradicts,
- * which FORMAT.md names (PELTZIVAR_INVALID_FLAGS if leading zeros are forbidden), or PELTZIVAR_INVALID_FLAGS for a
- * reserved byte or a null pointer. Calls that take a syntax do not repeat this check, which takes longer than reading a
- * text. By a syntax that it refuses, they read and write nothing, or something that no rule describes, but all of
- * them are safe. */
+/* Returns 0 if the word of a syntax is lawful, if the options fit its normal form or are both 0, and if the format
+ * does not contradict the conditions. Otherwise, returns the error of the first rule that the word breaks,
+ * PELTZIVAR_INVALID_EXPONENT_SYMBOL or PELTZIVAR_INVALID_DECIMAL_POINT for an option that is not punctuation,
+ * PELTZIVAR_INVALID_PUNCTUATION for one that matches the other or a byte of the format, the error of the first
+ * condition that the format contradicts, which FORMAT.md names (PELTZIVAR_INVALID_FLAGS if leading zeros are
+ * forbidden), or PELTZIVAR_INVALID_FLAGS for a reserved byte or a null pointer. Calls that take a syntax do not repeat
+ * this check, which takes longer than reading a text. By a syntax that it refuses, they read and write nothing, or
+ * something that no rule describes, but all of them are safe. */
 peltzivar_error peltzivar_check_syntax(const peltzivar_syntax *syntax);
 
 /* Writes why peltzivar_check_syntax refuses a syntax as a sentence, such as "the exponent character 'e' is a digit in
@@ -653,7 +671,7 @@ typedef struct {
  *
  * A text is a literal of the form if it is the string `opening`, and then a literal of the syntax, as in `16#FF#`, whose
  * last `#` is a base suffix. An opening that is null is empty. It has at most 8 bytes, all ASCII, whose letters are in
- * either case unless it is case-sensitive. A list with another opening is refused. Nothing is written by a form that is
+ * either case unless it is case-sensitive. Nothing is written by a form that is
  * `only_read`. Several forms of a language can have one name, such as `radix in front` in ADA. */
 typedef struct {
     const char *name;
@@ -677,24 +695,33 @@ typedef struct {
     uint8_t reserved[5];
 } peltzivar_tokens;
 
-/* A list of forms: an array of `count` forms, the spellings of special values, and the rules for tokens, or null. If a
- * text is a literal of no form, a spelling may match, by the flags of the first form. To make your own, set the first
- * three members and, if the list has tokens, the last one, and check each syntax with peltzivar_check_syntax. Or copy
- * the forms of a language, and change any of these members of the copy. Only those of a language have a `language`,
- * which is otherwise null. */
-struct peltzivar_forms {
+/* What a list is made of: an array of `count` forms, the spellings of special values, and the rules for tokens, or null.
+ * If a text is a literal of no form, a spelling may match, by the flags of the first form. */
+typedef struct {
     const peltzivar_form *forms;
     size_t count; /* from 1 to PELTZIVAR_FORMS_MAX */
     peltzivar_specials specials;
-    const void *language;
-    uint64_t reserved[2];
     const peltzivar_tokens *tokens;
-};
-/* The largest number of forms and, for peltzivar_forms_token and in lists with `written` words, of all words, of all
- * kinds of suffixes, and of all stops. Suffixes count once for forms that follow one another and point to the same
- * ones. */
+    uint64_t reserved[2];
+} peltzivar_list;
+/* The largest number of forms, also of those that need a suffix, and of all words, of all kinds of suffixes, and of all
+ * stops. Suffixes count once for forms that follow one another and point to the same ones. */
 #define PELTZIVAR_FORMS_MAX 64
 #define PELTZIVAR_WORDS_MAX 256
+
+/* Makes a list of forms in memory of len bytes at any address, and returns it. Writes how many bytes are enough to
+ * *needed: some 100, 80 for a form, 130 for its suffixes, and 16 for a word, or more in a later version. The list lasts
+ * as long as this memory and the strings, and must not be moved. Check each syntax with peltzivar_check_syntax before.
+ * Returns null if len is not enough, or if the list is null or refused. If so, *needed is 0: there are no forms or too
+ * many, too many words, an unknown kind, a wrong opening, or reserved bytes that are not 0. */
+PELTZIVAR_MUST_USE const peltzivar_forms *peltzivar_make_forms(
+    const peltzivar_list *list, void *memory, size_t len, size_t *needed);
+
+/* Writes what a list is made of to memory of len bytes at any address, and returns it, so that a copy of a language can
+ * be changed and made. Only forms of languages have names. Writes how many bytes are enough to *needed. Returns null if
+ * len is not enough, or if the list is null, and then *needed is 0. */
+PELTZIVAR_MUST_USE const peltzivar_list *peltzivar_list_of(
+    const peltzivar_forms *forms, void *memory, size_t len, size_t *needed);
 
 /* ERRORS
  *
@@ -704,7 +731,7 @@ struct peltzivar_forms {
  *     peltzivar_explanation why;
  *     char sentence[PELTZIVAR_TEXT_SIZE];
  *     if (peltzivar_parse_f64(peltzivar_language_json(), text, strlen(text), &value, &error) == PELTZIVAR_VALUE_REFUSED
- *         && peltzivar_explain(&error, &why)) {
+ *         && !peltzivar_explain(&error, &why)) {
  *         peltzivar_read_error_text(&error, sentence, sizeof sentence);
  *         printf("%s\n", text); // 1.5kg
  *         printf("%*s^ %s\n", (int)why.span.start, "", sentence); //    ^ unexpected character 'k'
@@ -723,9 +750,6 @@ size_t peltzivar_read_error_full_text(const peltzivar_read_error *error, char *t
 typedef uint8_t peltzivar_part;
 enum { PELTZIVAR_PART_INTEGER = 0, PELTZIVAR_PART_FRACTION = 1, PELTZIVAR_PART_EXPONENT = 2 };
 #define PELTZIVAR_NO_PART 255
-
-/* Returns the name of a part, such as "integer", or an empty string if there is no such part. */
-const char *peltzivar_part_name(peltzivar_part part);
 
 /* The numbers of setters, which peltzivar_words.h names, and that of no setter. */
 typedef uint8_t peltzivar_setter;
@@ -752,7 +776,7 @@ enum {
  * PELTZIVAR_KIND_SEPARATOR, a format with any one of these flags set allows the separator. Otherwise, a syntax without
  * all of these flags and conditions does not have this cause. Either may refuse the text for another one. `code` is a
  * parse error, of PELTZIVAR_KIND_OPENING that of a wrong byte or, at the end of the text, of missing digits, and `index`
- * its index for peltzivar_error_text. */
+ * its index. */
 typedef struct {
     peltzivar_span span;
     size_t index;
@@ -775,9 +799,11 @@ enum {
     PELTZIVAR_CONDITION_DECIMAL_FIRST_DIGIT = 128
 };
 
-/* Writes why a text is not a literal to *out and returns true: a caret below `span` shows where. If no call has written
- * *error, or if the syntax, the list or the length was refused, leaves *out unchanged and returns false. */
-PELTZIVAR_MUST_USE bool peltzivar_explain(const peltzivar_read_error *error, peltzivar_explanation *out);
+/* Writes why a text is not a literal to *out and returns PELTZIVAR_VALUE_OK: a caret below `span` shows where. If no
+ * call has written *error, or if the syntax, the list or the length was refused, leaves *out unchanged and returns
+ * PELTZIVAR_VALUE_REFUSED. */
+PELTZIVAR_MUST_USE peltzivar_value_status peltzivar_explain(
+    const peltzivar_read_error *error, peltzivar_explanation *out);
 
 #ifdef __cplusplus
 }

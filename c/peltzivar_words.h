@@ -6,6 +6,9 @@
  * bytes. If one of them is absent, the mantissa radix is used in its place. The flags in bits 32 to 44 are the digit
  * separator flags.
  *
+ * Settings build a syntax, and peltzivar.h has sentences on it, so a program that reads and writes numbers needs none of
+ * this, nor does a lexer.
+ *
  * A setter writes a flag, a group of flags, or a byte. An edit is a setter with a value. A word is lawful if it
  * satisfies all rules below. FORMAT.md describes each byte, rule and flag, with texts that it accepts and rejects. */
 #ifndef PELTZIVAR_WORDS_H
@@ -177,30 +180,12 @@ typedef struct {
 static const peltzivar_word PELTZIVAR_STANDARD = PELTZIVAR_STANDARD_INIT;
 static const peltzivar_fields PELTZIVAR_NEW_FIELDS = PELTZIVAR_NEW_FIELDS_INIT;
 
-/* Applies the edits, in order, to a copy of PELTZIVAR_NEW_FIELDS, packs it, writes the word to *out and returns true.
- * If a setter is unknown, returns false and leaves *out unchanged. The word may be unlawful (see peltzivar_check). */
-PELTZIVAR_MUST_USE bool peltzivar_build(const peltzivar_edit *edits, size_t len, peltzivar_word *out);
-
-/* Applies the edits, in order, to the fields that peltzivar_fields_of returns, packs them, writes the word to *out and
- * returns true. If a setter is unknown, returns false and leaves *out unchanged. Since absent exponent bytes are
- * filled, and packing may drop the digit separator, two calls do not always give the same word as one call with all of
- * the edits. A first call that sets the digit separator drops it, since no flag allows it before the second call. */
-PELTZIVAR_MUST_USE bool peltzivar_edit_word(
-    peltzivar_word format, const peltzivar_edit *edits, size_t len, peltzivar_word *out);
-
 /* Returns PELTZIVAR_SUCCESS if a word is lawful, and otherwise the error of the first rule that it breaks. */
 peltzivar_error peltzivar_check(peltzivar_word format);
 
 /* Returns the normal form of a word: the same fields, except that the mantissa radix replaces each absent exponent
  * byte, that the digit separator is 0 if no digit separator flag is set, and that all reserved bits are 0. */
 peltzivar_word peltzivar_normal_form(peltzivar_word format);
-
-/* Returns whether two words have the same normal form. */
-bool peltzivar_same_format(peltzivar_word a, peltzivar_word b);
-
-/* If the normal form of a word is lawful, writes it to *out and returns PELTZIVAR_SUCCESS. Otherwise, returns the error
- * of the first rule that the normal form breaks, and leaves *out unchanged. */
-PELTZIVAR_MUST_USE peltzivar_error peltzivar_migrate(peltzivar_word format, peltzivar_word *out);
 
 /* Returns whether a word is one that peltzivar_pack can return: all its reserved bits are 0, and at least one of its
  * digit separator flags is set unless its digit separator is 0. */
@@ -216,7 +201,7 @@ bool peltzivar_flag(peltzivar_word format, peltzivar_setter setter);
 
 /* Parses a string of len bytes, which need not be null-terminated. If the string is `0x` followed by 1 to 32
  * hexadecimal digits of either case, writes the word to *out and returns PELTZIVAR_SUCCESS. Otherwise, leaves *out
- * unchanged, writes the index for peltzivar_error_text to *index, and returns PELTZIVAR_EMPTY if the string is empty,
+ * unchanged, writes the index of the byte to *index, and returns PELTZIVAR_EMPTY if the string is empty,
  * `0` or `0x`, PELTZIVAR_OVERFLOW if it is UTF-8 and begins with `0x` and at least 33 hexadecimal digits, and
  * PELTZIVAR_INVALID_DIGIT in every other case. */
 PELTZIVAR_MUST_USE peltzivar_error peltzivar_parse_word(
@@ -232,18 +217,15 @@ size_t peltzivar_source(peltzivar_word format, char *text, size_t len);
 /* Returns the description of an error in single quotes, such as "'invalid radix for mantissa digits'". */
 const char *peltzivar_description(peltzivar_error error);
 
-/* Writes the full message of an error, such as "lexical parse error: 'numeric overflow occurred' at index 7". Only a
- * parse error has an index. The message of PELTZIVAR_SUCCESS is only its description. */
-size_t peltzivar_error_text(peltzivar_error error, size_t index, char *text, size_t len);
-
 /* FIELDS */
 
 /* Returns the fields of a word. In the result, the mantissa radix replaces each absent exponent byte. */
 peltzivar_fields peltzivar_fields_of(peltzivar_word format);
 
-/* Applies the edits, in order, to *fields, which is input and output, and returns true. If a setter is unknown, returns
- * false and leaves *fields unchanged. */
-PELTZIVAR_MUST_USE bool peltzivar_edit_fields(peltzivar_fields *fields, const peltzivar_edit *edits, size_t len);
+/* Applies the edits, in order, to *fields, which is input and output, and returns PELTZIVAR_VALUE_OK. If a setter is
+ * unknown, returns PELTZIVAR_VALUE_REFUSED and leaves *fields unchanged. */
+PELTZIVAR_MUST_USE peltzivar_value_status peltzivar_edit_fields(
+    peltzivar_fields *fields, const peltzivar_edit *edits, size_t len);
 
 /* Packs the fields into a word and returns the word, whether or not it is lawful. Packing sets the reserved bits to 0.
  * If no digit separator flag is set, packing drops the digit separator, that is, sets it to 0. peltzivar_note_text has
@@ -253,14 +235,11 @@ peltzivar_word peltzivar_pack(const peltzivar_fields *fields);
 /* ONE SETTING */
 
 /* Parses a setting: a string NAME=VALUE of len bytes, which need not be null-terminated. If it is valid, writes its
- * edit to *out and returns true. Otherwise, returns false and leaves *out unchanged. SETTINGS.md has a table of them.
+ * edit to *out and returns PELTZIVAR_VALUE_OK. Otherwise, returns PELTZIVAR_VALUE_REFUSED and leaves *out unchanged.
+ * SETTINGS.md has a table of them.
  * White space around the name and the value is skipped. The name radix is read as mantissa_radix. Only
  * peltzivar_read_settings takes `exponent` and `point`, which are not fields. */
-PELTZIVAR_MUST_USE bool peltzivar_parse_edit(const char *text, size_t len, peltzivar_edit *out);
-
-/* Parses the value of base_prefix alone, such as `'p'`, `0x70`, `112` or `none`, which is 0, writes the byte to *out
- * and returns true. Otherwise, returns false and leaves *out unchanged. White space at both ends is skipped. */
-PELTZIVAR_MUST_USE bool peltzivar_parse_byte(const char *text, size_t len, uint8_t *out);
+PELTZIVAR_MUST_USE peltzivar_value_status peltzivar_parse_edit(const char *text, size_t len, peltzivar_edit *out);
 
 /* Writes the reason why peltzivar_parse_edit rejects a string, such as "no_special takes `true` or `false`", or
  * "unknown setting name; did you mean `base_suffix`?". The string has len bytes, and the buffer `to` has to_len bytes.
@@ -273,9 +252,6 @@ size_t peltzivar_edit_text(peltzivar_edit edit, char *text, size_t len);
 
 /* Returns the name of a setter, such as "digit_separator": its constant in lowercase, without PELTZIVAR_SET_. */
 const char *peltzivar_setter_name(peltzivar_setter setter);
-
-/* Returns the setter with a name of len bytes, or PELTZIVAR_NO_SETTER. radix is another name of mantissa_radix. */
-peltzivar_setter peltzivar_setter_of_name(const char *name, size_t len);
 
 /* Returns a mask of the bits that a setter writes. The mask is 0 if the setter is unknown. */
 peltzivar_word peltzivar_setter_mask(peltzivar_setter setter);
@@ -315,16 +291,6 @@ peltzivar_word peltzivar_note_mask(const peltzivar_fields *fields, size_t index)
  *
  * The exponent character and the decimal point of a number are not part of a format. They are options of a parser. */
 
-/* Checks whether an exponent character and a decimal point fit a word, lawful or not. Both must be punctuation, and so
- * not 0. Neither may match a byte that the other option, the digit separator, the base prefix or the base suffix
- * matches. The decimal point matches only itself. If the exponent character is a letter, it matches both cases of the
- * letter unless case_sensitive_exponent is set. PELTZIVAR_RULE_PUNCTUATION_DIFFERS states which bytes the others match.
- * Of a lawful word, peltzivar_check_syntax accepts more: 0 for both options, and, since it checks the normal form, a
- * digit separator that no flag allows. Returns PELTZIVAR_SUCCESS, or the first of these errors that applies:
- * PELTZIVAR_INVALID_EXPONENT_SYMBOL or PELTZIVAR_INVALID_DECIMAL_POINT if this option is not punctuation, or
- * PELTZIVAR_INVALID_PUNCTUATION. */
-peltzivar_error peltzivar_check_options(peltzivar_word format, uint8_t exponent, uint8_t decimal_point);
-
 /* Writes a reason why the options do not fit, such as "the exponent character 'e' is a digit in radix 16". */
 size_t peltzivar_options_reason_text(
     peltzivar_word format, uint8_t exponent, uint8_t decimal_point, size_t index, char *text, size_t len);
@@ -351,10 +317,13 @@ uint32_t peltzivar_exponent_digit(peltzivar_word format, uint8_t byte);
  * states whether several separators in a row may stand where one may. */
 typedef struct {
     bool internal, leading, trailing, consecutive;
+    uint8_t reserved[4];
 } peltzivar_separators;
 
-/* Returns where a part of a number may have digit separators. If there is no such part, all members are false. */
-peltzivar_separators peltzivar_separators_of(peltzivar_word format, peltzivar_part part);
+/* Writes where a part of a number may have digit separators to *out and returns PELTZIVAR_VALUE_OK. If there is no such
+ * part, leaves *out unchanged and returns PELTZIVAR_VALUE_REFUSED. */
+PELTZIVAR_MUST_USE peltzivar_value_status peltzivar_separators_of(
+    peltzivar_word format, peltzivar_part part, peltzivar_separators *out);
 
 /* Returns whether a byte is the digit separator of a word in which at least one digit separator flag is set. */
 bool peltzivar_is_separator(peltzivar_word format, uint8_t byte);
@@ -381,9 +350,6 @@ enum {
 /* Returns the first role that a byte has in numbers with this exponent character and this decimal point. An option that
  * is 0 matches no byte. If a word is lawful and the options fit it, no byte has two roles. */
 peltzivar_role peltzivar_role_of(peltzivar_word format, uint8_t exponent, uint8_t decimal_point, uint8_t byte);
-
-/* Returns the name of a role, such as "digit": its constant in lowercase, without PELTZIVAR_ROLE_. */
-const char *peltzivar_role_name(peltzivar_role role);
 
 #ifdef __cplusplus
 }

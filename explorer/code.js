@@ -160,7 +160,7 @@ ${this.rustTest(tests)}`;
         return `#include "peltzivar.h"
 #include <string.h>
 
-/* Writes the syntax of each form, and returns whether the settings are right. Call this once, before a text is read. */
+/* Makes the forms, and returns whether the settings are right. Call this once, before a text is read. */
 bool make_forms(void);
 
 /* Returns whether the text is a number. If special->spelling is 0, it is a literal, and
@@ -171,20 +171,22 @@ static const char *const SETTINGS[] = {
 ${all}};
 static peltzivar_form LIST[] = {${names}
 };
-static const peltzivar_forms FORMS = {.forms = LIST, .count = ${forms.length}${spelled}};
+static const peltzivar_list MEMBERS = {.forms = LIST, .count = ${forms.length}${spelled}};
+static char MEMORY[${160 * forms.length + 144}];
+static const peltzivar_forms *FORMS;
 
 bool make_forms(void) {
     bool are_right = true;
-    for (size_t it = 0; it < FORMS.count; it++)
-        are_right &= !peltzivar_read_settings(SETTINGS[it], strlen(SETTINGS[it]), &LIST[it].syntax);
-    return are_right;
+    for (size_t it = 0; it < MEMBERS.count; it++)
+        are_right &= !peltzivar_read_settings(SETTINGS[it], strlen(SETTINGS[it]), &LIST[it].syntax, NULL);
+    FORMS = peltzivar_make_forms(&MEMBERS, MEMORY, sizeof MEMORY, NULL);
+    return are_right && FORMS;
 }
 
 bool read_number(const char *text, peltzivar_literal *literal, peltzivar_special *special) {
-    peltzivar_read_error error;
     special->spelling = 0;
-    return peltzivar_forms_read(&FORMS, text, strlen(text), literal, &error)
-        || peltzivar_forms_read_special(&FORMS, text, strlen(text), special);
+    return !peltzivar_forms_read(FORMS, text, strlen(text), literal, NULL)
+        || !peltzivar_forms_read_special(FORMS, text, strlen(text), special);
 }
 ${this.cTest(tests)}`;
     }

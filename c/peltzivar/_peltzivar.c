@@ -17,11 +17,12 @@ typedef struct {
     PyTypeObject *reader;
 } State;
 
-/* What reads texts by forms: those of a language, or its own, which `kept` has. `uses` has the USES of bytes, or 0. */
+/* What reads texts by forms, which are made of a list. `kept` has their memory. `uses` has the USES of bytes, or 0. */
 typedef struct {
     PyObject_HEAD
     State *state;
     const peltzivar_forms *forms;
+    const peltzivar_list *list;
     bool is_list;
     uint8_t uses[256];
     PyObject *kept;
@@ -71,7 +72,7 @@ IS(form) S(form, name) OF('>', form, syntax, syntax) B(form, integer_kind) B(for
     B(form, case_sensitive_opening) B(form, only_read) }};
 IS(tokens) ARRAY(tokens, forms, count, form) S(tokens, following) B(tokens, gives_points_back)
     B(tokens, gives_points_to_letters) B(tokens, any_word_follows) }};
-IS(forms) ARRAY(forms, forms, count, form) OF('>', forms, specials, specials) OF('*', forms, tokens, tokens) }};
+IS(list) ARRAY(list, forms, count, form) OF('>', list, specials, specials) OF('*', list, tokens, tokens) }};
 IS(style) B(style, group) B(style, without_base) B(style, lowercase) B(style, min_digits) B(style, exponent)
     B(style, has_decimals) B(style, decimals) }};
 IS(fields) M('8', fields, flags) B(fields, digit_separator) B(fields, base_prefix) B(fields, base_suffix)
@@ -201,10 +202,10 @@ static bool is_made(Reader *self) {
 /* Parses a column of texts as doubles (d), floats (f), or integers (q, Q), and writes the status of each. */
 static void parse_column(char format, const peltzivar_forms *by, const char *data, const int64_t *offsets, size_t count,
     void *values, uint8_t *status) {
-    if (format == 'd') (void)peltzivar_parse_f64_column(by, data, offsets, count, values, status);
-    else if (format == 'f') (void)peltzivar_parse_f32_column(by, data, offsets, count, values, status);
-    else if (format == 'q') (void)peltzivar_parse_i64_column(by, data, offsets, count, values, status);
-    else (void)peltzivar_parse_u64_column(by, data, offsets, count, values, status);
+    if (format == 'd') (void)peltzivar_parse_f64_column(by, data, offsets, NULL, count, values, status, NULL);
+    else if (format == 'f') (void)peltzivar_parse_f32_column(by, data, offsets, NULL, count, values, status, NULL);
+    else if (format == 'q') (void)peltzivar_parse_i64_column(by, data, offsets, NULL, count, values, status, NULL);
+    else (void)peltzivar_parse_u64_column(by, data, offsets, NULL, count, values, status, NULL);
 }
 
 /* Parses a text as a column, which is faster than the call for one text. */
@@ -220,8 +221,8 @@ static peltzivar_value_status parse_scaled(
     const peltzivar_forms *by, const char *text, Py_ssize_t size, uint8_t places, int64_t *out) {
     peltzivar_literal it;
     peltzivar_special special;
-    if (peltzivar_forms_read(by, text, (size_t)size, &it, NULL)) return peltzivar_to_scaled_i64(&it, places, out);
-    return peltzivar_forms_read_special(by, text, (size_t)size, &special) ? PELTZIVAR_VALUE_SPECIAL
+    if (!peltzivar_forms_read(by, text, (size_t)size, &it, NULL)) return peltzivar_to_scaled_i64(&it, places, out);
+    return !peltzivar_forms_read_special(by, text, (size_t)size, &special) ? PELTZIVAR_VALUE_SPECIAL
                                                                           : PELTZIVAR_VALUE_REFUSED;
 }
 
@@ -288,11 +289,11 @@ static PyObject *reader_read(PyObject *self, PyObject *const *given, Py_ssize_t 
     Literal *it = new_literal(by, &text);
     PyObject *result = NULL;
     size_t len = (size_t)text.size;
-    if (it && (of_prefix ? peltzivar_forms_read_prefix(by->forms, text.bytes, len, &it->found, NULL)
-                         : peltzivar_forms_read(by->forms, text.bytes, len, &it->found, NULL))) {
+    if (it && (of_prefix ? !peltzivar_forms_read_prefix(by->forms, text.bytes, len, &it->found, NULL)
+                         : !peltzivar_forms_read(by->forms, text.bytes, len, &it->found, NULL))) {
         it->text = part_of_literal(given[0], &it->found, text.bytes, 0);
         result = it->text ? Py_NewRef((PyObject *)it) : NULL;
-    } else if (it && !of_prefix && peltzivar_forms_read_special(by->forms, text.bytes, len, &special)) {
+    } else if (it && !of_prefix && !peltzivar_forms_read_special(by->forms, text.bytes, len, &special)) {
         result = tuple_of(&special_members, (const char *)&special);
     } else if (it) {
         refuse(by, given[0], NULL);
@@ -302,7 +303,7 @@ static PyObject *reader_read(PyObject *self, PyObject *const *given, Py_ssize_t 
 }
 
 /* Returns a form. Those that need a suffix are behind the others. */
-static const peltzivar_form *form_of(const peltzivar_forms *by, size_t form) {
+static const peltzivar_form *form_of(const peltzivar_list *by, size_t form) {
     return form < by->count ? &by->forms[form] : &by->tokens->forms[form - by->count];
 }
 
@@ -320,9 +321,9 @@ static uint8_t uses_in_opening(const peltzivar_form *form, uint8_t byte) {
 static uint8_t uses_of(Reader *by, uint8_t byte) {
     if (by->uses[byte]) return by->uses[byte];
     uint8_t uses = USES_KNOWN | (byte > 127 || isalnum(byte) || byte == '_' ? USES_WORD : 0);
-    for (size_t i = 0; i < by->forms->count + (by->forms->tokens ? by->forms->tokens->count : 0); i++) {
-        const peltzivar_syntax *of = &form_of(by->forms, i)->syntax;
-        uses |= uses_in_opening(form_of(by->forms, i), byte);
+    for (size_t i = 0; i < by->list->count + (by->list->tokens ? by->list->tokens->count : 0); i++) {
+        const peltzivar_syntax *of = &form_of(by->list, i)->syntax;
+        uses |= uses_in_opening(form_of(by->list, i), byte);
         peltzivar_role role = peltzivar_role_of(of->format, of->exponent, of->decimal_point, byte);
         if (role && role != PELTZIVAR_ROLE_SIGN) uses |= USES_ROLE;
         if (role == PELTZIVAR_ROLE_EXPONENT) uses |= USES_EXPONENT;
@@ -374,7 +375,7 @@ static PyObject *reader_token(PyObject *self, PyObject *const *given, Py_ssize_t
     if (count != 2 || !opened_from(by, given[0], given[1], &rest)) return NULL;
     PyObject *result = NULL;
     Literal *it = NULL;
-    if (peltzivar_forms_token(by->forms, rest.bytes, (size_t)rest.size, &token, &error)) {
+    if (!peltzivar_forms_token(by->forms, rest.bytes, (size_t)rest.size, &token, &error)) {
         Py_ssize_t start = PyNumber_AsSsize_t(given[1], NULL), middle = start + (Py_ssize_t)token.suffix.start;
         Py_ssize_t end = start + (Py_ssize_t)token.size;
         if (PyUnicode_Check(given[0])) end = start + characters(rest.bytes, (Py_ssize_t)token.size);
@@ -383,7 +384,7 @@ static PyObject *reader_token(PyObject *self, PyObject *const *given, Py_ssize_t
             it->suffix = part_of(given[0], middle, end);
             if (it->text && it->suffix) result = Py_BuildValue("(OOnO)", it, it->suffix, end, given[0]);
         }
-    } else if (peltzivar_explain(&error, &why)) {
+    } else if (!peltzivar_explain(&error, &why)) {
         refuse(by, given[0], given[1]);
     } else {
         peltzivar_read_error_text(&error, sentence, sizeof sentence);
@@ -405,11 +406,11 @@ static PyObject *reader_explain(PyObject *self, PyObject *const *given, Py_ssize
     bool is_token = PyObject_RichCompareBool(given[1], Py_False, Py_GE) > 0;
     if (!(is_token ? opened_from(by, given[0], given[1], &rest) : is_made(by) && is_text(given[0], &rest))) return NULL;
     memset(&error, 0, sizeof error);
-    bool is_right = is_token ? peltzivar_forms_token(by->forms, rest.bytes, (size_t)rest.size, NULL, &error)
-                             : peltzivar_forms_read(by->forms, rest.bytes, (size_t)rest.size, NULL, &error);
+    bool is_right = is_token ? !peltzivar_forms_token(by->forms, rest.bytes, (size_t)rest.size, NULL, &error)
+                             : !peltzivar_forms_read(by->forms, rest.bytes, (size_t)rest.size, NULL, &error);
     peltzivar_read_error_text(&error, sentence, sizeof sentence);
     peltzivar_read_error_full_text(&error, full, sizeof full);
-    if (!is_right && !peltzivar_explain(&error, &why)) {
+    if (!is_right && peltzivar_explain(&error, &why)) {
         result = shown(sentence);
     } else if (!is_right) {
         if (is_token && why.kind == PELTZIVAR_KIND_SUFFIX) {
@@ -500,7 +501,7 @@ static PyObject *reader_column(PyObject *self, PyObject *given) {
 static peltzivar_write_status write_number(
     Reader *by, PyObject *number, const peltzivar_style *style, char *text, size_t len, size_t *needed) {
 #define WRITE(call, value) (by->is_list ? peltzivar_forms_##call(by->forms, value, style, text, len, needed) \
-                                        : peltzivar_##call(&by->forms->forms->syntax, value, style, text, len, needed))
+                                        : peltzivar_##call(&by->list->forms->syntax, value, style, text, len, needed))
     int is_long;
     if (PyFloat_CheckExact(number)) {
         double real = PyFloat_AsDouble(number);
@@ -595,27 +596,27 @@ static PyObject *reader_special(PyObject *self, PyObject *given) {
     Text text;
     peltzivar_special special;
     if (!is_made((Reader *)self) || !is_text(given, &text)) return NULL;
-    bool is_one = peltzivar_forms_read_special(((Reader *)self)->forms, text.bytes, (size_t)text.size, &special);
+    bool is_one = !peltzivar_forms_read_special(((Reader *)self)->forms, text.bytes, (size_t)text.size, &special);
     Py_DECREF(text.data);
     return is_one ? tuple_of(&special_members, (const char *)&special) : Py_NewRef(Py_None);
 }
 
 static PyObject *reader_spelled(PyObject *self, PyObject *given) {
-    const peltzivar_forms *by = ((Reader *)self)->forms;
-    peltzivar_special special;
+    const peltzivar_list *by = ((Reader *)self)->list;
+    peltzivar_special special = {0};
     char text[PELTZIVAR_FLOAT_SIZE];
     size_t needed = 0;
     if (!is_made((Reader *)self) || !PyArg_ParseTuple(given, "bb", &special.spelling, &special.sign)) return NULL;
     peltzivar_write_status status =
-        peltzivar_format_special(&by->forms->syntax, &by->specials, special, text, sizeof text, &needed);
+        peltzivar_format_special(&by->forms->syntax, &by->specials, &special, text, sizeof text, &needed);
     return status ? unwritten(status) : PyUnicode_FromStringAndSize(text, (Py_ssize_t)needed - 1);
 }
 
 /* _members(): the forms as a tuple. _notation(number): a sentence, a grammar, a regular expression, or why a syntax is
  * refused. */
 static PyObject *reader_members(PyObject *self, PyObject *none) {
-    const char *forms = (const char *)((Reader *)self)->forms;
-    return (void)none, is_made((Reader *)self) ? tuple_of(&forms_members, forms) : NULL;
+    const char *list = (const char *)((Reader *)self)->list;
+    return (void)none, is_made((Reader *)self) ? tuple_of(&list_members, list) : NULL;
 }
 
 static PyObject *reader_notation(PyObject *self, PyObject *given) {
@@ -624,7 +625,7 @@ static PyObject *reader_notation(PyObject *self, PyObject *given) {
     char text[PELTZIVAR_SOURCE_SIZE];
     size_t number = PyLong_AsSize_t(given);
     if (!is_made((Reader *)self) || number > 3) return NULL;
-    calls[number](&((Reader *)self)->forms->forms->syntax, text, sizeof text);
+    calls[number](&((Reader *)self)->list->forms->syntax, text, sizeof text);
     return shown(text);
 }
 
@@ -717,7 +718,7 @@ static PyObject *literal_value(PyObject *self, void *none) {
 /* _plain(): the text as Python writes floats, or None if a radix is not 10, or if it is long. */
 static PyObject *literal_plain(PyObject *self, PyObject *none) {
     const Literal *it = (Literal *)self;
-    const peltzivar_forms *by = it->owner ? ((Reader *)it->owner)->forms : NULL;
+    const peltzivar_list *by = it->owner ? ((Reader *)it->owner)->list : NULL;
     char plain[400], *to = plain;
     (void)none;
     if (!by || it->found.size > sizeof plain) return Py_NewRef(Py_None);
@@ -810,7 +811,7 @@ static PyType_Spec LITERAL = {"peltzivar._peltzivar.Found", sizeof(Literal), 0,
     it(is_base_prefix, TRUTH(peltzivar_is_base_prefix(w, a))) \
     it(is_base_suffix, TRUTH(peltzivar_is_base_suffix(w, a))) \
     it(role_of, PyLong_FromLong(peltzivar_role_of(w, a, b, c))) \
-    it(separators_of, separators(peltzivar_separators_of(w, a))) \
+    it(separators_of, separators(w, a)) \
     it(fields_of, fields(peltzivar_fields_of(w))) \
     it(edits_of, edits(w)) \
     it(word_text, (peltzivar_word_text(w, text, sizeof text), shown(text))) \
@@ -822,7 +823,9 @@ static PyObject *digit(uint32_t it) {
     return it == PELTZIVAR_NO_DIGIT ? Py_NewRef(Py_None) : PyLong_FromUnsignedLong(it);
 }
 static PyObject *fields(peltzivar_fields it) { return tuple_of(&fields_members, (const char *)&it); }
-static PyObject *separators(peltzivar_separators it) {
+static PyObject *separators(peltzivar_word word, peltzivar_part part) {
+    peltzivar_separators it = {0};
+    (void)!peltzivar_separators_of(word, part, &it);
     return Py_BuildValue("(NNNN)", TRUTH(it.internal), TRUTH(it.leading), TRUTH(it.trailing), TRUTH(it.consecutive));
 }
 
@@ -875,7 +878,7 @@ static PyObject *pack(PyObject *self, PyObject *given) {
     for (Py_ssize_t i = 0; i < PyList_Size(list); i++) {
         peltzivar_edit edit;
         if (!packed(&edit_members, PyList_GetItem(list, i), (char *)&edit, NULL)) return NULL;
-        if (!peltzivar_edit_fields(&changed, &edit, 1)) return PyErr_Format(PyExc_ValueError, "no setter");
+        if (peltzivar_edit_fields(&changed, &edit, 1)) return PyErr_Format(PyExc_ValueError, "no setter");
     }
     return PyErr_Occurred() ? NULL : Py_BuildValue("(NN)", fields(changed), halves(peltzivar_pack(&changed)));
 }
@@ -908,7 +911,7 @@ static PyObject *word_of(const char *from, size_t len) {
 
 static PyObject *edit_of(const char *from, size_t len) {
     peltzivar_edit edit;
-    return peltzivar_parse_edit(from, len, &edit) ? tuple_of(&edit_members, (const char *)&edit) : Py_NewRef(Py_None);
+    return !peltzivar_parse_edit(from, len, &edit) ? tuple_of(&edit_members, (const char *)&edit) : Py_NewRef(Py_None);
 }
 
 static PyObject *lines(const char *from, size_t len, size_t index) {
@@ -922,7 +925,8 @@ static PyObject *lines(const char *from, size_t len, size_t index) {
 /* Returns the number of problems, and the syntax. */
 static PyObject *settings(const char *from, size_t len) {
     peltzivar_syntax syntax = {0};
-    size_t problems = peltzivar_read_settings(from, len, &syntax);
+    size_t problems;
+    (void)!peltzivar_read_settings(from, len, &syntax, &problems);
     return Py_BuildValue("(nN)", (Py_ssize_t)problems, tuple_of(&syntax_members, (const char *)&syntax));
 }
 TEXTS(TEXT_CALL)
@@ -946,23 +950,41 @@ static PyObject *describe(PyObject *self, PyObject *given) {
 
 #define STATE(module) ((State *)PyModule_GetState(module))
 
+/* Returns memory of this size, which `kept` owns. */
+static char *memory_of(size_t size, PyObject *kept) {
+    PyObject *memory = PyBytes_FromStringAndSize(NULL, (Py_ssize_t)size);
+    bool is_kept = memory && !PyDict_SetItem(kept, Py_None, memory);
+    Py_XDECREF(memory);
+    return is_kept ? PyBytes_AsString(memory) : NULL;
+}
+
 /* make(reader, members, is_list): gives it forms. Members can be the name of a language. */
 static PyObject *make(PyObject *self, PyObject *given) {
     Reader *to;
     PyObject *members, *kept = NULL;
     int is_list;
     Text name;
+    const peltzivar_forms *forms = NULL;
+    const peltzivar_list *list = NULL;
+    size_t needed = 0;
+    char *memory = NULL;
     if (!PyArg_ParseTuple(given, "O!Op", STATE(self)->reader, &to, &members, &is_list)) return NULL;
     if (to->state) return PyErr_Format(PyExc_TypeError, "an object does not change");
-    const void *forms = NULL;
+    if (!(kept = PyDict_New())) return NULL;
     if (PyTuple_Check(members)) {
-        if ((kept = PyDict_New())) forms = packed_array(&forms_members, members, 1, true, kept);
+        list = (const void *)packed_array(&list_members, members, 1, true, kept);
+        (void)!peltzivar_make_forms(list, NULL, 0, &needed);
+        if (list && (memory = memory_of(needed, kept))) forms = peltzivar_make_forms(list, memory, needed, NULL);
+        if (memory && !forms)
+            PyErr_Format(PyExc_ValueError, "the forms have more than %d words, kinds of suffixes, or stops", PELTZIVAR_WORDS_MAX);
     } else if (is_text(members, &name)) {
         forms = peltzivar_language(name.bytes, (size_t)name.size);
         Py_DECREF(name.data);
+        (void)!peltzivar_list_of(forms, NULL, 0, &needed);
+        if ((memory = memory_of(needed, kept))) list = peltzivar_list_of(forms, memory, needed, NULL);
     }
-    if (!forms) return Py_XDECREF(kept), NULL;
-    to->state = STATE(self), to->forms = forms, to->kept = kept, to->is_list = is_list;
+    if (!forms || !list) return Py_DECREF(kept), NULL;
+    to->state = STATE(self), to->forms = forms, to->list = list, to->kept = kept, to->is_list = is_list;
     return Py_NewRef(Py_None);
 }
 

@@ -29,7 +29,7 @@ C = r"""
 #include <stdio.h>
 typedef bool read(const char *, peltzivar_literal *, peltzivar_special *);
 static void print(uint64_t low, uint64_t high) { printf("0x%016llX%016llX\n", (long long)high, (long long)low); }
-static void show(bool (*make_forms)(void), const peltzivar_forms *forms, read *read_number, bool (*test)(void)) {
+static void show(bool (*make_forms)(void), const peltzivar_list *forms, read *read_number, bool (*test)(void)) {
     peltzivar_literal literal; peltzivar_special special; peltzivar_i128 it; double value;
     FILE *file = fopen("texts", "r");
     const peltzivar_word *word = &forms->forms->syntax.format;
@@ -114,9 +114,9 @@ class Code(Walk):
         return run("cargo", "run", "--quiet", "--offline", "--target-dir", folder, cwd=folder)
 
     def c(self, folder, codes):
-        names = r"\b(SETTINGS|SPECIALS|LIST|FORMS|make_forms|read_number|test_numbers)\b"
+        names = r"\b(SETTINGS|SPECIALS|LIST|MEMBERS|MEMORY|FORMS|make_forms|read_number|test_numbers)\b"
         parts = [re.sub(names, rf"\1_{index}", code) for index, code in enumerate(codes)]
-        calls = " ".join(f"show(make_forms_{it}, &FORMS_{it}, read_number_{it}, test_numbers_{it});" for it in range(len(codes)))
+        calls = " ".join(f"show(make_forms_{it}, &MEMBERS_{it}, read_number_{it}, test_numbers_{it});" for it in range(len(codes)))
         names = set(re.findall(r"\bpeltzivar_\w+", "".join(codes)))
         self.assertLessEqual(names, set(re.findall(r"\bpeltzivar_\w+", (TOP / "c/peltzivar.h").read_text())))
         (folder / "main.c").write_text("".join([*parts, C, f"int main(void) {{ {calls} }}\n"]))

@@ -146,6 +146,6 @@ pub use suffix::{Stop, Suffixes};
 pub use syntax::{Condition, Conditions, ConditionsError, ConditionsErrorKind, Syntax};
 pub use token::{Token, TokenError};
 pub use value::{FromLiteral, ParseError, Plain, Target, ValueError, ValueErrorKind};
-pub use writer::{ExponentStyle, Grouping, Style, WriteError, WriteFloat, WriteInteger, Written};
 #[doc(hidden)]
-pub use writer::{Real, Whole, Writable};
+pub use writer::{scaled, Real, Whole, Writable, LONGEST_SCALED};
+pub use writer::{ExponentStyle, Grouping, Style, WriteError, WriteFloat, WriteInteger, Written};

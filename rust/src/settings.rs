@@ -183,12 +183,21 @@ impl Settings {
 
     /// Adds a setting, and moves the settings that it overrides completely.
     fn push(&mut self, new: Setting) {
-        let old = self.live.into_iter().flatten().map(|old| Setting { mask: old.mask.without(new.mask), ..old });
-        let gone = old.clone().filter(|old| old.mask == Mask::EMPTY).map(|old| (old, new.index));
-        let mut overridden = self.overridden.into_iter().flatten().chain(gone);
-        let mut live = old.filter(|old| old.mask != Mask::EMPTY).chain([new]);
-        self.overridden = array::from_fn(|_| overridden.next());
-        self.live = array::from_fn(|_| live.next());
+        let (mut live, mut overridden) = (0, self.overridden.iter().flatten().count());
+        for at in 0..LIVE {
+            let Some(old) = self.live[at].take() else { break };
+            let old = Setting { mask: old.mask.without(new.mask), ..old };
+            if old.mask != Mask::EMPTY {
+                self.live[live] = Some(old);
+                live += 1;
+            } else if let Some(slot) = self.overridden.get_mut(overridden) {
+                *slot = Some((old, new.index));
+                overridden += 1;
+            }
+        }
+        if let Some(slot) = self.live.get_mut(live) {
+            *slot = Some(new);
+        }
     }
 
     /// Returns the format. The exponent character and the decimal point do not matter.

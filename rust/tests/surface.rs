@@ -674,6 +674,7 @@ const _: () = { fn call<T: FromLiteral>(it: Number<'static>) -> Result<T, ValueE
 const _: () = { fn call<T: FromLiteral>(literal: Literal<'static>) -> Result<T, ValueErrorKind> { <T>::from_literal(literal) } };
 const _: () = { fn call<T: WriteFloat>(it: &'static Forms<'static>, value: T, style: Style) -> Result<Written<'static>, WriteError> { <Forms<'static>>::format_float(it, value, style) } };
 const _: () = { fn call<T: WriteFloat>(it: &'static Syntax, value: T, style: Style) -> Result<Written<'static>, WriteError> { <Syntax>::format_float(it, value, style) } };
+const _: () = { fn call<T: WriteInteger>(it: &'static Forms<'static>, value: T, places: u8, style: Style) -> Result<Written<'static>, WriteError> { <Forms<'static>>::format_scaled(it, value, places, style) } };
 const _: () = { fn call<T: WriteInteger>(it: &'static Forms<'static>, value: T, style: Style) -> Result<Written<'static>, WriteError> { <Forms<'static>>::format_integer(it, value, style) } };
 const _: () = { fn call<T: WriteInteger>(it: &'static Syntax, value: T, style: Style) -> Result<Written<'static>, WriteError> { <Syntax>::format_integer(it, value, style) } };
 const _: () = { fn has() where &'static Forms<'static>: IntoIterator {} };

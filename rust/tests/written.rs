@@ -130,6 +130,25 @@ fn a_text_with_an_opening_may_fill_a_buffer() {
     }
 }
 
+#[test]
+fn an_amount_is_written_as_the_literal_with_its_digits() {
+    let values = [0, 7, -1, 100, 1200, -123_456, i64::MIN.into(), u64::MAX.into(), i128::MAX, i128::MIN];
+    for (value, places) in values.into_iter().flat_map(|it| [0, 1, 2, 9, 40, 255].map(|places| (it, places))) {
+        let digits = format!("{:0>width$}", value.unsigned_abs(), width = usize::from(places) + 1);
+        let (integer, fraction) = digits.split_at(digits.len() - usize::from(places));
+        let (sign, point) = (if value < 0 { "-" } else { "" }, if places > 0 { "." } else { "" });
+        let text = [sign, integer, point, fraction].concat();
+        let literal = Language::JSON.read(&text).unwrap().literal().unwrap();
+        assert_eq!(Language::JSON.forms().format_scaled(value, places, Style::PLAIN).unwrap().to_string(), text);
+        for (forms, style) in Language::ALL.iter().flat_map(|it| STYLES.map(|style| (it.forms(), style))) {
+            let written = forms.format_scaled(value, places, style);
+            let wanted = forms.format_literal(&literal, style).map(|it| (it.to_string(), format!("{it:>+400}")));
+            assert_eq!(written.map(|it| (it.to_string(), format!("{it:>+400}"))), wanted, "{text} of {forms:?}");
+            assert!(written.is_ok_and(|it| fits(&it, it.to_string().as_bytes())) || wanted.is_err());
+        }
+    }
+}
+
 /// Returns the kind of integers that wrap at so many bits.
 const fn wraps(bits: u8) -> Kind {
     Kind::new(IntegerKind::Wraps(bits), FloatKind::Nearest).unwrap()

@@ -12,8 +12,9 @@ use std::time::Instant;
 
 #[link(name = "peltzivar_c", kind = "static")]
 extern "C" {
-    fn peltzivar_language_json() -> *const *const u64;
-    fn peltzivar_read(syntax: *const u64, text: *const u8, len: usize, to: *mut u128, error: *mut c_void) -> bool;
+    fn peltzivar_language_json() -> *const c_void;
+    fn peltzivar_list_of(forms: *const c_void, to: *mut u128, len: usize, needed: *mut usize) -> *const *const u64;
+    fn peltzivar_read(syntax: *const u64, text: *const u8, len: usize, to: *mut u128, error: *mut c_void) -> u8;
     fn peltzivar_to_f64(literal: *const u128, value: *mut f64) -> u8;
     fn strtod(text: *const c_char, end: *mut *mut c_char) -> f64;
 }
@@ -33,12 +34,17 @@ fn time(name: &str, call: impl Fn(&'static str) -> bool) {
 }
 
 fn main() {
-    // SAFETY: the forms begin with a pointer to the first, whose syntax is behind a pointer.
-    let syntax = unsafe { (*peltzivar_language_json()).add(1) };
-    // A `peltzivar_literal` has 320 bytes.
-    let read = |text: &str, literal: &mut MaybeUninit<[u128; 20]>| {
+    let mut memory = [0; 64];
+    // SAFETY: this memory is enough. The list begins with a pointer to the first form, whose syntax is behind a pointer.
+    let syntax = unsafe {
+        let list = peltzivar_list_of(peltzivar_language_json(), memory.as_mut_ptr(), size_of_val(&memory), null_mut());
+        (*list).add(1)
+    };
+    // A `peltzivar_literal` has 352 bytes.
+    let read = |text: &str, literal: &mut MaybeUninit<[u128; 22]>| {
+        let (to, len) = (literal.as_mut_ptr().cast(), text.len() - 1);
         // SAFETY: the literal is large enough and aligned, the text has this length, and the error may be null.
-        unsafe { peltzivar_read(syntax, text.as_ptr(), text.len() - 1, literal.as_mut_ptr().cast(), null_mut()) }
+        unsafe { peltzivar_read(syntax, text.as_ptr(), len, to, null_mut()) == 0 }
     };
     let json = Language::JSON.forms()[0].syntax();
     time("read of Rust", |text| black_box(black_box(&json).read(&text[..text.len() - 1])).is_ok());

@@ -25,6 +25,12 @@ pub unsafe fn input<'a, T>(start: *const T, len: usize) -> Option<&'a [T]> {
     Some(unsafe { slice::from_raw_parts(start, len) })
 }
 
+/// Whether a call has written what it is asked for: 0, or the index of one of the descriptions in `values`.
+pub type ValueStatus = u8;
+
+pub const REFUSED: ValueStatus = 6;
+pub const SPECIAL: ValueStatus = 7;
+
 /// Memory for one value that a call only writes, or a null pointer.
 ///
 /// Each is an argument that a C caller passes, or an element of one. The header requires a pointer to an object of type `T`
@@ -54,8 +60,11 @@ impl<T> Out<T> {
     }
 
     /// Writes the value, if there is one, and returns whether there is.
-    pub fn write_some(self, value: Option<impl Into<T>>) -> bool {
-        value.map(|value| self.write(value.into())).is_some()
+    pub fn write_some(self, value: Option<impl Into<T>>) -> ValueStatus {
+        value.map_or(REFUSED, |value| {
+            self.write(value.into());
+            0
+        })
     }
 
     /// Writes the value and returns the number of success, or returns the number of the error.

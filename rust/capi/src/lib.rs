@@ -26,6 +26,7 @@ macro_rules! calls {
 
 mod arguments;
 mod languages;
+mod lists;
 mod literals;
 mod names;
 mod numbers;

@@ -1,12 +1,12 @@
 //! Calls that check syntaxes, that read literals, and that print why a text is not one.
 
-use crate::arguments::{input, write_text, Out};
-use crate::languages::{by, Forms, Given};
+use crate::arguments::{input, write_text, Out, ValueStatus, REFUSED, SPECIAL};
+use crate::lists::Forms;
 use crate::numbers::{error_number, ErrorNumber, Setter, Word, NO_PART, NO_SETTER};
 use core::fmt::{self, Display, Formatter};
 use core::mem::ManuallyDrop;
 use core::ops::Range;
-use peltzivar::literal::{self, Condition, Conditions, Form, FormError, Number, ReadErrorKind};
+use peltzivar::literal::{self, Condition, Conditions, FormError, Number, ReadErrorKind};
 use peltzivar::{Error, Format, FormatError};
 
 /// A word with an exponent character, a decimal point and conditions, of any values. If both are 0, literals are
@@ -141,13 +141,14 @@ impl ReadError {
     }
 }
 
-/// A literal, with its parts. It borrows its text.
-pub type Literal<'a> = Made<Parts, literal::Literal<'a>, 18>;
+/// A literal, with its parts. It borrows its text. Four of the words are for later versions.
+pub type Literal<'a> = Made<Parts, literal::Literal<'a>, 22>;
 
 // The sizes and the alignment in the header.
 const _: () = assert!(size_of::<Syntax>() == 32);
 const _: () = assert!(size_of::<ReadError>() == 144 && align_of::<ReadError>() <= 16);
-const _: () = assert!(size_of::<Literal>() == 320 && align_of::<Literal>() <= 16);
+const _: () = assert!(size_of::<Literal>() == 352 && align_of::<Literal>() <= 16);
+const _: () = assert!(size_of::<literal::Literal>() <= 18 * size_of::<u64>());
 
 /// Why a call refuses what it checks: a sentence on its arguments, or the error of the library.
 pub enum Refusal<E> {
@@ -290,11 +291,12 @@ type Read<'a> = Result<Number<'a>, FormError>;
 
 /// Writes a number that is a literal, and returns whether there is one.
 #[inline(always)]
-fn write_literal<'a>(found: Option<Number<'a>>, to: Out<Literal<'a>>) -> bool {
-    to.write_some(match found {
-        Some(Number::Literal { literal, form }) => Some(Literal::of(literal, form)),
-        _ => None,
-    })
+fn write_literal<'a>(found: Option<Number<'a>>, to: Out<Literal<'a>>) -> ValueStatus {
+    match found {
+        Some(Number::Literal { literal, form }) => to.write_some(Some(Literal::of(literal, form))),
+        Some(Number::Special(_)) => SPECIAL,
+        None => REFUSED,
+    }
 }
 
 /// Returns the number that `read` finds in a text, or writes why there is none, or which argument it refuses.
@@ -321,18 +323,20 @@ unsafe fn number<'a>(
 ///
 /// A C caller passes the text.
 #[inline(never)]
-pub unsafe fn whole<'a>(forms: Given<'_>, text: *const u8, len: usize, error: Out<ReadError>) -> Option<Number<'a>> {
-    number((text, len, error), |text| Ok(forms?.read_bytes(text)))
-}
-
-/// Returns the longest literal that a text begins with. It is called in several places, and is large.
-#[inline(never)]
-fn front<'a>(forms: &literal::Forms<'_>, text: &'a [u8]) -> Read<'a> {
-    forms.read_prefix_bytes(text).map(|(it, _)| it)
+pub unsafe fn whole<'a>(
+    forms: Option<&Forms>,
+    text: *const u8,
+    len: usize,
+    error: Out<ReadError>,
+) -> Option<Number<'a>> {
+    number((text, len, error), |text| Ok(forms.ok_or(NO_FORMS)?.read_bytes(text)))
 }
 
 /// Why a call refuses a text.
 pub const TOO_LONG: &str = "the text has more than PTRDIFF_MAX bytes";
+
+/// Why a call refuses a list.
+pub const NO_FORMS: &str = "the forms are a null pointer";
 
 /// Why a call refuses a syntax.
 const SYNTAX: &str = "peltzivar_check_syntax refuses this syntax";
@@ -364,7 +368,7 @@ calls! {
 
     fn peltzivar_read(
         syntax: Option<&Syntax>, text: *const u8, len: usize, literal: Out<Literal>, error: Out<ReadError>
-    ) -> bool {
+    ) -> ValueStatus {
         let read = |text| {
             Syntax::given_at_once(syntax).ok_or(SYNTAX).map(|it| it.read_then(text, |read| match read {
                 Ok(literal) => Ok(Number::Literal { literal, form: 0 }),
@@ -374,34 +378,19 @@ calls! {
         write_literal(number((text, len, error), read), literal)
     }
 
-    fn peltzivar_read_prefix(
-        syntax: Option<&Syntax>, text: *const u8, len: usize, literal: Out<Literal>, error: Out<ReadError>
-    ) -> bool {
-        let read = |text| {
-            let form = [Form::new("", Syntax::given(syntax).ok_or(SYNTAX)?)];
-            literal::Forms::new(&form).ok_or(SYNTAX).map(|it| front(&it, text))
-        };
-        write_literal(number((text, len, error), read), literal)
-    }
-
     fn peltzivar_forms_read(
-        forms: *const Forms, text: *const u8, len: usize, literal: Out<Literal>, error: Out<ReadError>
-    ) -> bool {
-        let found = by(forms, |forms| {
-            let bare = forms.map(|it| it.with_specials(literal::Specials::default()));
-            whole(bare.as_ref().map_err(|it| *it), text, len, error)
-        });
-        write_literal(found, literal)
+        forms: Option<&Forms>, text: *const u8, len: usize, literal: Out<Literal>, error: Out<ReadError>
+    ) -> ValueStatus {
+        write_literal(whole(forms, text, len, error), literal)
     }
 
     fn peltzivar_forms_read_prefix(
-        forms: *const Forms, text: *const u8, len: usize, literal: Out<Literal>, error: Out<ReadError>
-    ) -> bool {
-        let found = by(forms, |forms| number((text, len, error), |text| Ok(front(forms?, text))));
-        write_literal(found, literal)
+        forms: Option<&Forms>, text: *const u8, len: usize, literal: Out<Literal>, error: Out<ReadError>
+    ) -> ValueStatus {
+        write_literal(number((text, len, error), |text| Ok(forms.ok_or(NO_FORMS)?.read_prefix_bytes(text).map(|(it, _)| it))), literal)
     }
 
-    fn peltzivar_explain(error: &ReadError, out: Out<Explanation>) -> bool {
+    fn peltzivar_explain(error: &ReadError, out: Out<Explanation>) -> ValueStatus {
         out.write_some(match error.value() {
             Some(Refusal::Library(error)) => Some(Explanation::from(error)),
             Some(Refusal::Suffix { start, end }) => Some(Explanation::of_bytes(6, *start, *end)),

@@ -1,7 +1,7 @@
 //! Calls that return strings. The strings are constants, and a string is empty if there is no such number.
 
 use crate::arguments::item;
-use crate::numbers::{error_of, setter_number, ErrorNumber, Setter, PARTS, ROLES};
+use crate::numbers::{error_of, setter_number, ErrorNumber, Setter};
 use peltzivar::{edits, Rule};
 
 /// Defines texts, by their indices, one after another and with a null byte behind each.
@@ -42,8 +42,6 @@ texts! {
         None => b"",
     };
     CONDITIONS: [17] = |number| if number == 0 { b"" } else { Rule::ALL[number - 1].condition().as_bytes() };
-    ROLE_NAMES: [8] = |number| if number == 0 { b"none" } else { ROLES[number - 1].name().as_bytes() };
-    PART_NAMES: [3] = |number| PARTS[number].name().as_bytes();
 }
 
 /// Returns the text with an index, or an empty one.
@@ -58,6 +56,4 @@ calls! {
     }
     fn peltzivar_description(error: ErrorNumber) -> *const u8 { at(DESCRIPTIONS, error) }
     fn peltzivar_rule_condition(rule: u32) -> *const u8 { at(CONDITIONS, rule) }
-    fn peltzivar_role_name(role: u8) -> *const u8 { at(ROLE_NAMES, role) }
-    fn peltzivar_part_name(part: u8) -> *const u8 { at(PART_NAMES, part) }
 }

@@ -2,7 +2,7 @@
 
 use core::num::NonZeroU8;
 use peltzivar::edits::{self, FLAG_COUNT};
-use peltzivar::{Byte, Edit, Error, FormatView, NumberFormatBuilder, Part, Reason, Role, Rule};
+use peltzivar::{Byte, Edit, Error, FormatView, NumberFormatBuilder, Part, Reason, Rule};
 
 /// A format word as two halves, since C has no 128-bit integer type that every compiler supports.
 #[repr(C)]
@@ -116,10 +116,6 @@ pub const PARTS: [Part; 3] = [Part::Integer, Part::Fraction, Part::Exponent];
 
 /// The number of no part.
 pub const NO_PART: u8 = 255;
-
-/// The roles, by their numbers less 1. Role 0 is none.
-pub const ROLES: [Role; 7] =
-    [Role::Digit, Role::Sign, Role::Separator, Role::Prefix, Role::Suffix, Role::Exponent, Role::Point];
 
 /// Returns the rules that a word breaks because of a reason. Bit n is the rule with the number n.
 pub fn broken_rules(reason: Reason) -> u32 {

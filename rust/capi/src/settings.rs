@@ -1,11 +1,11 @@
 //! Calls that find setters, and that parse and print settings, one or all of a text.
 
-use crate::arguments::{input, item, write_list, write_text, Out};
+use crate::arguments::{input, item, write_list, write_text, Out, ValueStatus};
 use crate::literals::Syntax;
-use crate::numbers::{setter_number, setter_of, NumberedEdit, Setter, Word, NO_SETTER};
+use crate::numbers::{setter_of, NumberedEdit, Setter, Word};
 use core::fmt::Display;
 use core::str::from_utf8;
-use peltzivar::{edits, Edit, EditError, Finding, FindingKind, LineError, Settings};
+use peltzivar::{Edit, EditError, Finding, FindingKind, LineError, Settings};
 
 /// Returns a string. One that is too long or not UTF-8 is read as a setting with an unknown name.
 unsafe fn string<'a>(text: *const u8, len: usize) -> &'a str {
@@ -60,7 +60,7 @@ unsafe fn report(text: (*const u8, usize), index: usize, report: Report<'_>) -> 
 }
 
 calls! {
-    fn peltzivar_parse_edit(text: *const u8, len: usize, out: Out<NumberedEdit>) -> bool {
+    fn peltzivar_parse_edit(text: *const u8, len: usize, out: Out<NumberedEdit>) -> ValueStatus {
         out.write_some(parsed(text, len).ok())
     }
 
@@ -72,24 +72,18 @@ calls! {
         write_text(text, len, edit.edit())
     }
 
-    fn peltzivar_parse_byte(text: *const u8, len: usize, out: Out<u8>) -> bool {
-        out.write_some(edits::Setter::DigitSeparator.parse(string(text, len)).ok().map(Edit::argument_byte))
-    }
-
-    fn peltzivar_setter_of_name(name: *const u8, len: usize) -> Setter {
-        edits::Setter::from_name(string(name, len)).map_or(NO_SETTER, setter_number)
-    }
-
     fn peltzivar_setter_mask(setter: Setter) -> Word { setter_of(setter).map_or(0, |it| it.mask()).into() }
 
-    fn peltzivar_read_settings(text: *const u8, len: usize, out: Out<Syntax>) -> usize {
+    fn peltzivar_read_settings(
+        text: *const u8, len: usize, out: Out<Syntax>, problems: Out<usize>
+    ) -> ValueStatus {
         let mut settings = Settings::new();
         let refused = add_lines(&mut settings, (text, len), None).unwrap_or(0);
         let is_reason = |it: &Finding| matches!(it.kind(), FindingKind::Reason(_) | FindingKind::Conditions(_));
         let reasons = (0..).map_while(|index| finding(&settings, index)).take_while(is_reason);
-        let problems = refused + reasons.count();
-        out.write_some(settings.build_syntax().ok().filter(|_| problems == 0));
-        problems
+        let count = refused + reasons.count();
+        problems.write(count);
+        out.write_some(settings.build_syntax().ok().filter(|_| count == 0))
     }
 
     fn peltzivar_settings_text(text: *const u8, len: usize, index: usize, to: *mut u8, to_len: usize) -> usize {

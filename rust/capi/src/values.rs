@@ -1,19 +1,16 @@
 //! Calls that make the value of a literal, of a text, or of each text of a column.
 
-use crate::arguments::{input, write_text, Out};
-use crate::languages::{by, Forms, Given};
+use crate::arguments::{input, write_text, Out, ValueStatus, REFUSED, SPECIAL};
+use crate::lists::Forms;
 use crate::literals::{whole, Literal, ReadError};
 use crate::names::{at, texts};
 use core::ffi::CStr;
 use peltzivar::literal::{self, FromLiteral, Number, ValueErrorKind};
 
-/// Whether there is a value: the index of one of [`DESCRIPTIONS`].
-type ValueStatus = u8;
-
-const REFUSED: ValueStatus = 6;
+const MISSING: ValueStatus = 10;
 
 texts! {
-    DESCRIPTIONS: [10] = |status| match status {
+    DESCRIPTIONS: [11] = |status| match status {
         1 => b"a float, where an integer is required",
         2 => b"above the largest value of the type",
         3 => b"below the least value of the type",
@@ -23,6 +20,7 @@ texts! {
         7 => b"NaN or infinity, where an integer is required",
         8 => b"not whole after scaling, where an integer is required",
         9 => b"too near to 0 for the type",
+        10 => b"missing by the bitmap of the column",
         _ => b"",
     };
 }
@@ -37,12 +35,6 @@ pub struct I128 {
 impl From<i128> for I128 {
     fn from(value: i128) -> I128 {
         I128 { low: value as u64, high: (value >> 64) as i64 }
-    }
-}
-
-impl From<I128> for i128 {
-    fn from(value: I128) -> i128 {
-        i128::from(value.high) << 64 | i128::from(value.low)
     }
 }
 
@@ -65,7 +57,7 @@ fn write_value<T, C: From<T>>(value: Result<T, ValueErrorKind>, out: Out<C>) -> 
             ValueErrorKind::Float => 1,
             ValueErrorKind::TooLarge => 2,
             ValueErrorKind::TooSmall => 3,
-            ValueErrorKind::Special => 7,
+            ValueErrorKind::Special => SPECIAL,
             ValueErrorKind::NotWhole => 8,
             ValueErrorKind::Vanishes => 9,
             _ => 4,
@@ -85,31 +77,53 @@ fn write_number<T: FromLiteral>(number: Option<Number<'_>>, out: Out<T>) -> Valu
 
 /// Returns the number that a text is, without why it is none.
 #[inline(never)]
-unsafe fn find<'a>(forms: Given<'_>, text: *const u8, len: usize) -> Option<Number<'a>> {
-    forms.ok()?.find(input(text, len)?)
+unsafe fn find<'a>(forms: Option<&Forms>, text: *const u8, len: usize) -> Option<Number<'a>> {
+    forms?.find(input(text, len)?)
 }
 
-/// Writes the value of each text, and whether it has one, and returns how many have none.
-unsafe fn parse_column<T: FromLiteral>(
-    (forms, bytes): (Given<'_>, *const u8),
-    (offsets, count): (*const i64, usize),
-    (values, status): (Out<T>, Out<ValueStatus>),
-) -> usize {
-    if count == 0 || count >= isize::MAX as usize / size_of::<i64>() {
-        return count;
+/// A column of texts, and where its values, and whether it has them, are written.
+struct Column<'a, T> {
+    forms: Option<&'a Forms>,
+    texts: (*const u8, *const i64, *const u8),
+    count: usize,
+    to: (Out<T>, Out<ValueStatus>, Out<usize>),
+}
+
+impl<T> Column<'_, T> {
+    /// Writes what `write` writes for the number that each text is, and returns whether each has a value.
+    #[inline(always)]
+    unsafe fn parse(self, write: impl Fn(Option<Number<'_>>, Out<T>) -> ValueStatus) -> ValueStatus {
+        let Column { forms, texts: (bytes, offsets, valid), count, to: (values, status, problems) } = self;
+        let mut found = count;
+        if count < isize::MAX as usize / size_of::<i64>() {
+            let offset = |index| offsets.add(index).read_unaligned();
+            let is_valid = |index: usize| valid.is_null() || *valid.add(index / 8) >> (index % 8) & 1 == 1;
+            let (first, last) = if count == 0 { (0, 0) } else { (offset(0), offset(count)) };
+            let status_of = |index| {
+                let (start, end) = (offset(index), offset(index + 1));
+                // No text has so many bytes.
+                let len =
+                    if first <= start && start <= end && end <= last { (end - start) as usize } else { usize::MAX };
+                let text = bytes.wrapping_offset(start as isize);
+                let found = if is_valid(index) { write(find(forms, text, len), values.at(index)) } else { MISSING };
+                status.at(index).write(found);
+                usize::from(!matches!(found, 0 | MISSING))
+            };
+            found = (0..count).map(status_of).sum();
+        }
+        problems.write(found);
+        if found == 0 {
+            0
+        } else {
+            REFUSED
+        }
     }
-    let offset = |index| offsets.add(index).read_unaligned();
-    let (first, last) = (offset(0), offset(count));
-    let value_of = |index| {
-        let (start, end) = (offset(index), offset(index + 1));
-        // No text has so many bytes.
-        let len = if first <= start && start <= end && end <= last { (end - start) as usize } else { usize::MAX };
-        let text = bytes.wrapping_offset(start as isize);
-        let found = write_number(find(forms, text, len), values.at(index));
-        status.at(index).write(found);
-        usize::from(found != 0)
-    };
-    (0..count).map(value_of).sum()
+}
+
+/// Writes the scaled value of a number, if it has one, and returns whether it has.
+#[inline(never)]
+fn write_scaled(number: Option<Number<'_>>, places: u8, out: Out<i64>) -> ValueStatus {
+    number.map_or(REFUSED, |it| write_value::<i64, _>(it.to_scaled(places).map_err(|error| error.kind()), out))
 }
 
 /// Defines the calls for the types of values.
@@ -123,17 +137,18 @@ macro_rules! parsers {
 
             #[unsafe(no_mangle)]
             unsafe extern "C" fn $call(
-                forms: *const Forms, text: *const u8, len: usize, out: Out<$T>, error: Out<ReadError>
+                forms: Option<&Forms>, text: *const u8, len: usize, out: Out<$T>, error: Out<ReadError>
             ) -> ValueStatus {
-                by(forms, |forms| write_number(whole(forms, text, len, error), out))
+                write_number(whole(forms, text, len, error), out)
             }
 
             #[unsafe(no_mangle)]
             unsafe extern "C" fn $column(
-                forms: *const Forms, bytes: *const u8, offsets: *const i64, count: usize, values: Out<$T>,
-                status: Out<ValueStatus>
-            ) -> usize {
-                by(forms, |forms| parse_column((forms, bytes), (offsets, count), (values, status)))
+                forms: Option<&Forms>, bytes: *const u8, offsets: *const i64, valid: *const u8, count: usize,
+                values: Out<$T>, status: Out<ValueStatus>, problems: Out<usize>
+            ) -> ValueStatus {
+                let (texts, to) = ((bytes, offsets, valid), (values, status, problems));
+                Column { forms, texts, count, to }.parse(write_number::<$T>)
             }
         )*
     };
@@ -147,6 +162,20 @@ parsers! {
 }
 
 calls! {
+    fn peltzivar_parse_scaled_i64(
+        forms: Option<&Forms>, text: *const u8, len: usize, places: u8, out: Out<i64>, error: Out<ReadError>
+    ) -> ValueStatus {
+        write_scaled(whole(forms, text, len, error), places, out)
+    }
+
+    fn peltzivar_parse_scaled_i64_column(
+        forms: Option<&Forms>, bytes: *const u8, offsets: *const i64, valid: *const u8, count: usize, places: u8,
+        values: Out<i64>, status: Out<ValueStatus>, problems: Out<usize>
+    ) -> ValueStatus {
+        let (texts, to) = ((bytes, offsets, valid), (values, status, problems));
+        Column { forms, texts, count, to }.parse(|number, out| write_scaled(number, places, out))
+    }
+
     fn peltzivar_to_i128(literal: &Literal, out: Out<I128>) -> ValueStatus {
         literal.value().map_or(5, |it| write::<i128, _>(it, out))
     }

@@ -1,24 +1,24 @@
 //! Calls on words: they build, read, edit and compare them, print and parse them, print why they break rules, and read the
 //! bytes of a number.
 
-use crate::arguments::{input, item, write_list, write_text, Out};
-use crate::numbers::{blamed_options, broken_rules, error_number, error_of, setter_of};
+use crate::arguments::{input, item, write_list, write_text, Out, ValueStatus, REFUSED};
+use crate::numbers::{blamed_options, broken_rules, error_number, setter_of};
 use crate::numbers::{ErrorNumber, Fields, NumberedEdit, Setter, Word, PARTS};
 use core::str::from_utf8;
 use peltzivar::source::BuilderExpression;
-use peltzivar::{edits, format_flags, Error, FormatView, Note, NumberFormatBuilder, Reason};
+use peltzivar::{edits, Error, FormatView, Note, NumberFormatBuilder, Reason};
 
 /// The result for a byte that is not a digit.
 const NO_DIGIT: u32 = u32::MAX;
 
 /// Where a part of a number may have digit separators.
 #[repr(C)]
-#[derive(Default)]
 pub struct Separators {
     internal: bool,
     leading: bool,
     trailing: bool,
     consecutive: bool,
+    reserved: [u8; 4],
 }
 
 /// Applies the edits in order. Returns `None` if an edit has an unknown setter, or if there are too many.
@@ -47,20 +47,8 @@ calls! {
             | part(env!("CARGO_PKG_VERSION_PATCH"))
     }
 
-    fn peltzivar_build(edits: *const NumberedEdit, len: usize, out: Out<Word>) -> bool {
-        let builder = edited(NumberFormatBuilder::new(), edits, len);
-        out.write_some(builder.map(|it| it.build_unchecked()))
-    }
-
-    fn peltzivar_edit_word(format: Word, edits: *const NumberedEdit, len: usize, out: Out<Word>) -> bool {
-        let builder = edited(NumberFormatBuilder::rebuild(format.number()), edits, len);
-        out.write_some(builder.map(|it| it.build_unchecked()))
-    }
-
     fn peltzivar_check(format: Word) -> ErrorNumber { error_number(format.view().error()) }
     fn peltzivar_normal_form(format: Word) -> Word { edits::normal_form(format.number()).into() }
-    fn peltzivar_same_format(a: Word, b: Word) -> bool { edits::same_format(a.number(), b.number()) }
-    fn peltzivar_migrate(format: Word, out: Out<Word>) -> ErrorNumber { out.write_ok(edits::migrate(format.number())) }
     fn peltzivar_is_built(format: Word) -> bool { edits::is_built(format.number()) }
 
     fn peltzivar_edits_of(format: Word, out: *mut NumberedEdit, len: usize) -> usize {
@@ -76,9 +64,12 @@ calls! {
     fn peltzivar_fields_of(format: Word) -> Fields { NumberFormatBuilder::rebuild(format.number()).into() }
     fn peltzivar_pack(fields: &Fields) -> Word { fields.builder().build_unchecked().into() }
 
-    fn peltzivar_edit_fields(fields: &mut Fields, edits: *const NumberedEdit, len: usize) -> bool {
+    fn peltzivar_edit_fields(fields: &mut Fields, edits: *const NumberedEdit, len: usize) -> ValueStatus {
         let builder = edited(fields.builder(), edits, len);
-        builder.map(|it| *fields = it.into()).is_some()
+        builder.map_or(REFUSED, |it| {
+            *fields = it.into();
+            0
+        })
     }
 
     fn peltzivar_word_text(format: Word, text: *mut u8, len: usize) -> usize {
@@ -97,10 +88,6 @@ calls! {
 
     fn peltzivar_source(format: Word, text: *mut u8, len: usize) -> usize {
         write_text(text, len, Some(BuilderExpression(format.number())))
-    }
-
-    fn peltzivar_error_text(error: ErrorNumber, index: usize, text: *mut u8, len: usize) -> usize {
-        write_text(text, len, error_of(error, index))
     }
 
     fn peltzivar_reason_text(format: Word, index: usize, text: *mut u8, len: usize) -> usize {
@@ -137,10 +124,6 @@ calls! {
         note_at(fields, index).map_or(0, |it| it.mask()).into()
     }
 
-    fn peltzivar_check_options(format: Word, exponent: u8, decimal_point: u8) -> ErrorNumber {
-        error_number(format_flags::options_error(format.number(), exponent, decimal_point))
-    }
-
     fn peltzivar_mantissa_digit(format: Word, byte: u8) -> u32 {
         format.view().mantissa_digit(byte).unwrap_or(NO_DIGIT)
     }
@@ -149,10 +132,11 @@ calls! {
         format.view().exponent_digit(byte).unwrap_or(NO_DIGIT)
     }
 
-    fn peltzivar_separators_of(format: Word, part: u8) -> Separators {
-        let Some(part) = PARTS.get(usize::from(part)) else { return Separators::default() };
-        let peltzivar::Separators { internal, leading, trailing, consecutive, .. } = format.view().separators(*part);
-        Separators { internal, leading, trailing, consecutive }
+    fn peltzivar_separators_of(format: Word, part: u8, out: Out<Separators>) -> ValueStatus {
+        out.write_some(PARTS.get(usize::from(part)).map(|part| {
+            let peltzivar::Separators { internal, leading, trailing, consecutive, .. } = format.view().separators(*part);
+            Separators { internal, leading, trailing, consecutive, reserved: [0; 4] }
+        }))
     }
 
     fn peltzivar_is_separator(format: Word, byte: u8) -> bool { format.view().is_separator(byte) }

@@ -1,14 +1,15 @@
 //! Calls that write numbers.
 
 use crate::arguments::{write_by, Out, Text};
-use crate::languages::{by, has_written, with_tokens, Forms, Given, NumberedSpecial, Specials};
+use crate::languages::NumberedSpecial;
+use crate::lists::{Forms, Specials};
 use crate::literals::{Literal, Syntax};
 use crate::names::{at, texts};
-use crate::values::I128;
 use core::fmt::{self, Write};
 use core::str;
 use peltzivar::literal::{
-    self, ExponentStyle, Grouping, Real, Sign, Special, Spelling, Whole, Writable, WriteError, Written,
+    self, scaled, ExponentStyle, Grouping, Real, Sign, Special, Spelling, Whole, Writable, WriteError, Written,
+    LONGEST_SCALED,
 };
 
 /// Whether a number is written: the index of one of [`DESCRIPTIONS`].
@@ -140,52 +141,30 @@ unsafe fn write<'a>(
     }
 }
 
-/// What passes forms to a call.
-type Read = unsafe fn(*const Forms, &mut dyn FnMut(Given<'_>));
-
-/// Passes the forms of floats, which are written without words.
-#[inline(never)]
-unsafe fn of_floats(forms: *const Forms, then: &mut dyn FnMut(Given<'_>)) {
-    by(forms, then);
-}
-
-/// Passes the forms of integers.
-unsafe fn of_integers(forms: *const Forms, then: &mut dyn FnMut(Given<'_>)) {
-    if has_written(forms) {
-        with_tokens(forms, then);
-    } else {
-        of_floats(forms, then);
-    }
-}
-
-/// Writes a number by forms, and the size that is enough. A program that writes floats has no code for tokens.
+/// Writes a number by forms, and the size that is enough.
 #[inline(never)]
 unsafe fn write_number(
-    read: Read,
-    (forms, style): (*const Forms, Option<&Style>),
+    (forms, style): (Option<&Forms>, Option<&Style>),
     to: (*mut u8, usize, Out<usize>),
     number: Result<&dyn Writable, WriteError>,
 ) -> WriteStatus {
-    let mut status = ARGUMENT;
-    read(forms, &mut |forms| {
-        let (Ok(forms), Some(style)) = (forms, wishes(style)) else { return };
-        if forms.as_slice().iter().all(|it| has_radixes(&it.syntax())) {
-            let print = |written: &[u8]| finish(to, |text| text.write_str(str::from_utf8_unchecked(written)));
-            status = number.and_then(|it| forms.written(it, style, print)).unwrap_or_else(status_of);
-        }
-    });
-    status
+    let (Some(forms), Some(style)) = (forms, wishes(style)) else { return ARGUMENT };
+    if !forms.as_slice().iter().all(|it| has_radixes(&it.syntax())) {
+        return ARGUMENT;
+    }
+    let print = |written: &[u8]| finish(to, |text| text.write_str(str::from_utf8_unchecked(written)));
+    number.and_then(|it| forms.written(it, style, print)).unwrap_or_else(status_of)
 }
 
 /// Writes NaN or infinity by forms, and the size that is enough.
 #[cold]
-unsafe fn write_special(forms: *const Forms, to: (*mut u8, usize, Out<usize>), value: f64) -> WriteStatus {
+unsafe fn write_special(forms: Option<&Forms>, to: (*mut u8, usize, Out<usize>), value: f64) -> WriteStatus {
     let spelling = if value.is_nan() { Spelling::Nan } else { Spelling::Inf };
     let special = Special { sign: (value < 0.0).then_some(Sign::Minus), spelling };
-    by(forms, |forms| match forms.map_or(Err(WriteError::Special), |it| it.format_special(special)) {
+    match forms.map_or(Err(WriteError::Special), |it| it.format_special(special)) {
         Ok(written) => print(&written, to),
         Err(error) => status_of(error),
-    })
+    }
 }
 
 /// Writes an integer. All calls share it, since a copy for each type takes 2 kB.
@@ -211,12 +190,6 @@ calls! {
         write_integer((syntax, style), (text, len, needed), value.into())
     }
 
-    fn peltzivar_format_i128(
-        syntax: Option<&Syntax>, value: I128, style: Option<&Style>, text: *mut u8, len: usize, needed: Out<usize>
-    ) -> WriteStatus {
-        write_integer((syntax, style), (text, len, needed), value.into())
-    }
-
     fn peltzivar_format_f64(
         syntax: Option<&Syntax>, value: f64, style: Option<&Style>, text: *mut u8, len: usize, needed: Out<usize>
     ) -> WriteStatus {
@@ -232,59 +205,50 @@ calls! {
     }
 
     fn peltzivar_format_special(
-        syntax: Option<&Syntax>, specials: Option<&Specials>, special: NumberedSpecial, text: *mut u8, len: usize,
+        syntax: Option<&Syntax>, specials: Option<&Specials>, special: Option<&NumberedSpecial>, text: *mut u8, len: usize,
         needed: Out<usize>
     ) -> WriteStatus {
-        let spelling = match special.spelling {
-            1 => Spelling::Nan,
-            2 => Spelling::Inf,
-            3 => Spelling::Infinity,
-            _ => return ARGUMENT,
-        };
-        let sign = match special.sign {
-            0 => None,
-            b'-' => Some(Sign::Minus),
-            b'+' => Some(Sign::Plus),
-            _ => return ARGUMENT,
-        };
+        let Some(special) = special.and_then(NumberedSpecial::value) else { return ARGUMENT };
         let Some(specials) = specials.and_then(|it| it.spellings()) else { return ARGUMENT };
-        write((syntax, None), (text, len, needed), |syntax, _| specials.format(syntax, Special { sign, spelling }))
+        write((syntax, None), (text, len, needed), |syntax, _| specials.format(syntax, special))
     }
 
     fn peltzivar_forms_format_i64(
-        forms: *const Forms, value: i64, style: Option<&Style>, text: *mut u8, len: usize, needed: Out<usize>
+        forms: Option<&Forms>, value: i64, style: Option<&Style>, text: *mut u8, len: usize, needed: Out<usize>
     ) -> WriteStatus {
-        write_number(of_integers, (forms, style), (text, len, needed), Ok(&Whole::of(i128::from(value))))
+        write_number((forms, style), (text, len, needed), Ok(&Whole::of(i128::from(value))))
     }
 
     fn peltzivar_forms_format_u64(
-        forms: *const Forms, value: u64, style: Option<&Style>, text: *mut u8, len: usize, needed: Out<usize>
+        forms: Option<&Forms>, value: u64, style: Option<&Style>, text: *mut u8, len: usize, needed: Out<usize>
     ) -> WriteStatus {
-        write_number(of_integers, (forms, style), (text, len, needed), Ok(&Whole::of(i128::from(value))))
+        write_number((forms, style), (text, len, needed), Ok(&Whole::of(i128::from(value))))
     }
 
-    fn peltzivar_forms_format_i128(
-        forms: *const Forms, value: I128, style: Option<&Style>, text: *mut u8, len: usize, needed: Out<usize>
+    fn peltzivar_forms_format_scaled_i64(
+        forms: Option<&Forms>, value: i64, places: u8, style: Option<&Style>, text: *mut u8, len: usize, needed: Out<usize>
     ) -> WriteStatus {
-        write_number(of_integers, (forms, style), (text, len, needed), Ok(&Whole::of(i128::from(value))))
+        let buffer = &mut [0; LONGEST_SCALED];
+        let literal = scaled((value < 0, value.unsigned_abs().into()), places, buffer);
+        let number = literal.as_ref().map(|it| it as &dyn Writable).ok_or(WriteError::ReadBack);
+        write_number((forms, style), (text, len, needed), number)
     }
 
     fn peltzivar_forms_format_f64(
-        forms: *const Forms, value: f64, style: Option<&Style>, text: *mut u8, len: usize, needed: Out<usize>
+        forms: Option<&Forms>, value: f64, style: Option<&Style>, text: *mut u8, len: usize, needed: Out<usize>
     ) -> WriteStatus {
-        match write_number(of_floats, (forms, style), (text, len, needed), Ok(&Real { value })) {
+        match write_number((forms, style), (text, len, needed), Ok(&Real { value })) {
             SPECIAL => write_special(forms, (text, len, needed), value),
             status => status,
         }
     }
 
     fn peltzivar_forms_format_literal(
-        forms: *const Forms, literal: Option<&Literal>, style: Option<&Style>, text: *mut u8, len: usize,
+        forms: Option<&Forms>, literal: Option<&Literal>, style: Option<&Style>, text: *mut u8, len: usize,
         needed: Out<usize>
     ) -> WriteStatus {
         let Some(literal) = literal.and_then(Literal::value) else { return ARGUMENT };
-        let read = if literal.is_float() { of_floats } else { of_integers };
-        literal.with_number(|number| write_number(read, (forms, style), (text, len, needed), number))
+        literal.with_number(|number| write_number((forms, style), (text, len, needed), number))
     }
 
     fn peltzivar_write_description(status: WriteStatus) -> *const u8 { at(DESCRIPTIONS, status) }

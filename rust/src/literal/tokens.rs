@@ -50,15 +50,6 @@ impl Forms<'_> {
     }
 }
 
-impl Form {
-    /// Returns the same form without its name and its suffixes, for the library for C.
-    #[doc(hidden)]
-    #[must_use]
-    pub const fn bare(&self) -> Form {
-        Form { name: "", suffixes: None, ..*self }
-    }
-}
-
 impl Suffixes {
     /// Returns the words behind integers and floats, and the bytes of which any word that begins with one is a suffix.
     #[doc(hidden)]

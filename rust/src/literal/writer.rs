@@ -3,10 +3,12 @@
 use core::fmt;
 use core::str;
 
+use crate::format::STANDARD;
 use crate::literal::value::number::float::Float;
 use crate::literal::value::number::integer::Integer;
 use crate::literal::value::Other;
-use crate::literal::{FloatKind, Forms, Literal, Number, Sign, Special, Specials, Spelling, Syntax};
+use crate::literal::{Form, FloatKind, Forms, Literal, Number, Sign, Special, Specials, Spelling, Syntax};
+use crate::Format;
 
 mod binary;
 #[allow(
@@ -329,6 +331,35 @@ impl<'a> Forms<'a> {
         }
     }
 
+    /// Returns an exact amount, `value` over 10 to the power of `places`, as a number of one of these forms, with as many digits
+    /// behind the point: of 1200 and 2, `12.00`. It is written as the literal with these digits is by
+    /// [`format_literal`][Self::format_literal], and [`Number::to_scaled`] returns `value`. The style's wish for decimals has no
+    /// effect.
+    ///
+    /// ```
+    /// use peltzivar::literal::{Language, Style, WriteError};
+    ///
+    /// let money = Style::PLAIN.group(3);
+    /// assert_eq!(Language::CSV_DE.forms().format_scaled(-123450, 2, money)?.to_string(), "-1.234,50");
+    /// assert_eq!(Language::JSON.forms().format_scaled(7, 3, Style::PLAIN)?.to_string(), "0.007");
+    /// # Ok::<(), WriteError>(())
+    /// ```
+    ///
+    /// # Errors
+    ///
+    /// As [`format_literal`][Self::format_literal]. In forms of integers alone, an amount that is not whole has
+    /// [`WriteError::Fraction`].
+    pub fn format_scaled<T: WriteInteger>(
+        &self,
+        value: T,
+        places: u8,
+        style: Style,
+    ) -> Result<Written<'static>, WriteError> {
+        let buffer = &mut [0; LONGEST_SCALED];
+        let literal = scaled(value.sign_and_size(), places, buffer).ok_or(WriteError::ReadBack)?;
+        self.format_number(&literal, Source::of_scaled(value), style.decimals(places))
+    }
+
     /// Returns the text of NaN or infinity. Another spelling than the first is written if the first is a literal of a form.
     ///
     /// # Errors
@@ -441,6 +472,41 @@ impl<'a> Forms<'a> {
             Err(WriteError::Buffer(_)) => self.choose_long(number, style, |_, text| then(text)),
             Err(error) => Err(error),
         }
+    }
+}
+
+/// The most bytes of an integer that is scaled: a sign, a point, and 256 digits.
+#[doc(hidden)]
+pub const LONGEST_SCALED: usize = 258;
+
+/// Returns an integer, by its sign and its size, over 10 to the power of `places`, as a literal. A buffer of
+/// [`LONGEST_SCALED`] bytes has its text.
+#[doc(hidden)]
+pub fn scaled((negative, size): (bool, u128), places: u8, buffer: &mut [u8]) -> Option<Literal<'_>> {
+    const DECIMAL: [Form; 1] = [Form::new("", Syntax::new_or_panic(Format::of::<STANDARD>(), b'e', b'.'))];
+    let mut start = buffer.len();
+    let mut put = |byte| {
+        start = start.saturating_sub(1);
+        buffer.get_mut(start).map(|to| *to = byte)
+    };
+    let (mut rest, mut place) = (size, 0);
+    while rest > 0 || place <= u32::from(places) {
+        if place > 0 && place == places.into() {
+            put(b'.')?;
+        }
+        let (above, digit) = match u64::try_from(rest) {
+            Ok(rest) => (u128::from(rest / 10), rest % 10),
+            Err(_) => (rest / 10, (rest % 10) as u64),
+        };
+        put(b'0' + digit as u8)?;
+        (rest, place) = (above, place + 1);
+    }
+    if negative {
+        put(b'-')?;
+    }
+    match Forms::new(&DECIMAL)?.read(&buffer[start..]) {
+        Ok(Number::Literal { literal, .. }) => Some(literal),
+        _ => None,
     }
 }
 

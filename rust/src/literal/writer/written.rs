@@ -10,6 +10,7 @@ use crate::literal::writer::float_digits::FloatDigits;
 use crate::literal::writer::integer::WrittenInteger;
 use crate::literal::writer::layout::{Amount, Layout, Style, WriteError};
 use crate::literal::writer::literal;
+use crate::literal::writer::scaled;
 use crate::literal::writer::sink::{Sink, Window};
 use crate::literal::{Literal, Opening, Syntax};
 
@@ -63,6 +64,12 @@ impl Source<'static> {
         Source::Value { negative, size, lay_out }
     }
 
+    /// Returns an integer over 10 to the power of the decimals of the style.
+    pub(super) fn of_scaled<T: Integer>(value: T) -> Self {
+        let (negative, size) = value.sign_and_size();
+        Source::Value { negative, size, lay_out: lay_out_scaled }
+    }
+
     /// Returns a float.
     pub(super) fn of_float<T: Float>(value: T) -> Self {
         let sign = if T::DOUBLE { 1 << 63 } else { 1 << 31 };
@@ -82,6 +89,18 @@ fn lay_out<'b, T: Float>(
     let size = T::from_magnitude(bits as u64);
     let value = if negative { size.negated() } else { size };
     float::format_float(syntax, value, style, digits).ok()
+}
+
+/// Returns the layout of an integer over 10 to the power of the decimals of the style.
+fn lay_out_scaled<'b>(
+    negative: bool,
+    size: u128,
+    syntax: &Syntax,
+    style: Style,
+    digits: &'b mut FloatDigits,
+) -> Option<Layout<'b>> {
+    let literal = scaled((negative, size), style.decimals?, digits.long.insert([0; 800]))?;
+    literal::format_literal(&literal, syntax, style).ok()
 }
 
 /// A number and how it is laid out, and the text, if it is short, with its length.
