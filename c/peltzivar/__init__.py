@@ -979,7 +979,8 @@ class _Reader(_peltzivar.Reader):
         """Returns a list, or an array of numpy, as texts, as `format_number` does with the same wishes, several times
         as fast. If `fill` is a text, that of None, NaN and `pandas.NA` is this."""
         style = _style(**wishes)
-        listed: Any = numbers.tolist() if hasattr(numbers, "tolist") else numbers
+        listed: Any = _one_column("numbers", numbers)
+        listed = listed.tolist() if hasattr(listed, "tolist") else listed
         other: Any = lambda it: self._text_of(it, style)
         if fill is not None:
             na, fill = _na(), _typed("fill", fill, str)
@@ -1039,6 +1040,8 @@ class _Reader(_peltzivar.Reader):
             filling: Any = array(kind, [cast(Any, fill)])
             if type is not Decimal and math.isinf(filling[0]) and filling[0] != fill:
                 raise OverflowError
+        except TypeError:
+            raise TypeError(f"fill must be a number of the column, not {fill.__class__.__name__}") from None
         except OverflowError:
             raise ValueError(f"fill is not a value of the column: {fill!r}") from None
         values = array(kind, bytes(size * len(status))) if out is None else out
@@ -1095,6 +1098,8 @@ def _texts_of(cells: Any) -> Tuple[Tuple[Any, ...], bytes, Any]:
     if type(cells) is tuple and len(cells) == 2 and not isinstance(cells[1], (str, bytes)):
         with contextlib.suppress(TypeError):
             given = memoryview(cells[1])
+        if isinstance(cells[1], Sequence) and given is None:
+            raise TypeError(f"offsets must be an array, such as array('q', [0, 3]), not {type(cells[1]).__name__}")
     if given is not None and given.ndim:
         if given.format not in _OFFSETS:
             raise TypeError(f"offsets must have one of the formats {', '.join(_OFFSETS)}, not {given.format!r}")
@@ -1105,9 +1110,14 @@ def _texts_of(cells: Any) -> Tuple[Tuple[Any, ...], bytes, Any]:
         if offsets[0] < 0 or offsets[-1] > len(data):
             raise ValueError(f"offsets are not within the data, which has {len(data)} bytes")
         return (), data, offsets
-    if isinstance(cells, (str, bytes)):
-        raise TypeError(f"cells must be a sequence of texts, not {type(cells).__name__}")
-    return tuple(cells), b"", array("q", [0])
+    return tuple(_one_column("cells", cells)), b"", array("q", [0])
+
+
+def _one_column(name: str, given: Any) -> Any:
+    """Returns what a column is made of. Raises an error that names the argument if it is a text or a table."""
+    if isinstance(given, (str, bytes, Mapping)) or len(getattr(given, "shape", (0,))) != 1:
+        raise TypeError(f"{name} must be a sequence, such as one column of a table, not {type(given).__name__}")
+    return given
 
 
 def _style(
@@ -1590,10 +1600,12 @@ class Suffixes(metaclass=_Class):
             raise ValueError(f"a stop has three strings: {self.stops}")
         texts = self.integers, self.floats, self.any, self.written, self.word_bytes
         [_string(it) for it in (*texts, *(it for stop in self.stops for it in stop))]
-        words = [*self.integers.split(" "), *self.floats.split(" "), *(it for it, _ in self.kinds)]
         known = "_" + self.word_bytes
-        if wrong := [it for it in words if any(it.isascii() and not it.isalnum() and it not in known for it in it)]:
+        if wrong := [it for it in self._words() if any(it.isascii() and not it.isalnum() and it not in known for it in it)]:
             raise ValueError(f"a suffix has letters, digits, `_` and characters that are not ASCII: {wrong[0]!r}")
+
+    def _words(self) -> List[str]:
+        return [*self.integers.split(" "), *self.floats.split(" "), *(it for it, _ in self.kinds)]
 
     def _members(self) -> Tuple[Any, ...]:
         """Returns the members of the structure."""
@@ -1660,6 +1672,14 @@ class Tokens(metaclass=_Class):
         return [int(_typed(name, vars(self)[name], bool)) for name in names]
 
 
+def _goes_on(syntax: Syntax, word: str) -> bool:
+    """Returns whether each literal in front of a word goes on with its first character."""
+    of, first = syntax.format, word[:1]
+    may_end = of.base_suffix or of.digit_separator or of.no_integer_leading_zeros or of.no_float_leading_zeros
+    is_digit = first > "" and first.isascii() and None not in (of.mantissa_digit(first), of.exponent_digit(first))
+    return is_digit and not may_end
+
+
 _OF_FORMS = "kinds", "suffixes", "tokens", "openings", "only_read"
 
 
@@ -1671,8 +1691,9 @@ class Forms(_Keyed, _Several, Mapping[str, Syntax]):
     most of the text is right. `forms["hexadecimal"]` is the syntax with this name. `kinds` has the kinds of forms, by
     their names, `suffixes` the `Suffixes` of forms, `openings` their `Opening`, `only_read` the names of those by which
     nothing is written, and `tokens` the rules for `token`. They are those of `forms` if these are `Forms`. Raises
-    ValueError if there are no forms or more than 64, if two have the same name, if a name is that of no form, or if
-    forms that have tokens have more than 256 words, kinds of suffixes, or stops.
+    ValueError if there are no forms or more than 64, if two have the same name, if a name is that of no form, if each
+    number goes on with the first digit of a suffix, such as `5k`, or if forms that have tokens have more than 256
+    words, kinds of suffixes, or stops.
     """
 
     def __init__(
@@ -1699,6 +1720,8 @@ class Forms(_Keyed, _Several, Mapping[str, Syntax]):
         behind = self.tokens.forms if self.tokens is not None else None
         given = [(self.kinds.get(it, Kind()), self.suffixes.get(it), self.openings.get(it)) for it in self]
         own = [(name, self[name], *of, name in self.only_read) for name, of in zip(self, given)]
+        if never := [it for _, syntax, _, more, *_ in own if more for it in more._words() if _goes_on(syntax, it)]:
+            raise ValueError(f"a suffix begins with a digit, with which the number goes on: {never[0]!r}")
         self._listed: Any = own + (behind._listed if behind is not None else [])
         made = tuple(
             (None, it._by, *kind._numbers(), more and more._members(), *(opening or Opening())._members(), int(is_read))

@@ -131,8 +131,10 @@ static PyObject *tuple_of(const Structure *as, const char *from) {
         else if (kind == '[') {
             size_t size = *(const size_t *)(from + as->members[i].count);
             value = PyTuple_New((Py_ssize_t)size);
-            for (size_t j = 0; value && j < size; j++)
-                if (PyTuple_SetItem(value, (Py_ssize_t)j, tuple_of(of, pointed + j * of->size))) Py_CLEAR(value);
+            for (size_t j = 0; value && j < size; j++) {
+                PyObject *item = tuple_of(of, pointed + j * of->size);
+                if (!item || PyTuple_SetItem(value, (Py_ssize_t)j, item)) Py_CLEAR(value);
+            }
         } else if (!pointed) value = Py_NewRef(Py_None);
         else value = kind == 's' ? PyBytes_FromString(pointed) : tuple_of(of, pointed);
         if (!value || PyTuple_SetItem(made, i, value)) Py_CLEAR(made);
@@ -153,12 +155,14 @@ static bool opened(PyObject *text, Text *to) {
     to->data = NULL;
     if (PyUnicode_Check(text)) {
         if ((to->bytes = PyUnicode_AsUTF8AndSize(text, &to->size))) return (to->data = Py_NewRef(text)) != NULL;
+        if (!PyErr_ExceptionMatches(PyExc_UnicodeEncodeError)) return false;
         PyErr_Clear();
         to->data = PyUnicode_AsEncodedString(text, "utf-8", "surrogatepass");
     } else if (PyBytes_Check(text)) {
         to->data = Py_NewRef(text);
     }
-    return to->data && !PyBytes_AsStringAndSize(to->data, (char **)&to->bytes, &to->size);
+    if (to->data && PyBytes_AsStringAndSize(to->data, (char **)&to->bytes, &to->size)) Py_CLEAR(to->data);
+    return to->data;
 }
 
 /* Does the same, and raises a TypeError for another type. */
@@ -268,8 +272,10 @@ static Literal *new_literal(Reader *self, const Text *text) {
 
 /* Returns a part of a text: characters of a str, and bytes otherwise. */
 static PyObject *part_of(PyObject *text, Py_ssize_t start, Py_ssize_t end) {
-    if (start == 0 && end == PyObject_Size(text)) return Py_NewRef(text);
-    return PyUnicode_Check(text) ? PyUnicode_Substring(text, start, end) : PySequence_GetSlice(text, start, end);
+    bool is_str = PyUnicode_Check(text);
+    if (start == 0 && end == (is_str ? PyUnicode_GetLength(text) : PyBytes_Size(text))) return Py_NewRef(text);
+    return is_str ? PyUnicode_Substring(text, start, end)
+                  : PyBytes_FromStringAndSize(PyBytes_AsString(text) + start, end - start);
 }
 
 /* Returns the part of a text that a literal is, where the text begins with these bytes. */
@@ -344,8 +350,8 @@ static bool is_enough(Reader *by, const Text *window) {
 }
 
 /* Finds the bytes of a text from an index on: of a str, those of a window, which is doubled until it is enough. */
-static bool opened_from(Reader *self, PyObject *text, PyObject *start, Text *to) {
-    Py_ssize_t index = PyNumber_AsSsize_t(start, NULL), size = 32;
+static bool opened_from(Reader *self, PyObject *text, Py_ssize_t index, Text *to) {
+    Py_ssize_t size = 32;
     if (index < 0 && !PyErr_Occurred()) PyErr_SetString(PyExc_ValueError, "start must be an index of the text");
     if (!is_made(self) || PyErr_Occurred()) return false;
     if (!PyUnicode_Check(text)) {
@@ -371,12 +377,12 @@ static PyObject *reader_token(PyObject *self, PyObject *const *given, Py_ssize_t
     peltzivar_read_error error = {0};
     peltzivar_explanation why;
     char sentence[PELTZIVAR_TEXT_SIZE];
-    if (count != 2 || !opened_from(by, given[0], given[1], &rest)) return NULL;
-    PyObject *result = NULL;
+    Py_ssize_t start = count == 2 ? PyNumber_AsSsize_t(given[1], NULL) : -1;
+    if (!opened_from(by, given[0], start, &rest)) return NULL;
+    PyObject *result = NULL, *index;
     Literal *it = NULL;
     if (peltzivar_forms_token(by->forms, rest.bytes, (size_t)rest.size, &token, &error)) {
-        Py_ssize_t start = PyNumber_AsSsize_t(given[1], NULL), middle = start + (Py_ssize_t)token.suffix.start;
-        Py_ssize_t end = start + (Py_ssize_t)token.size;
+        Py_ssize_t middle = start + (Py_ssize_t)token.suffix.start, end = start + (Py_ssize_t)token.size;
         if (PyUnicode_Check(given[0])) end = start + characters(rest.bytes, (Py_ssize_t)token.size);
         if ((it = new_literal(by, &rest))) {
             it->found = token.literal, it->text = part_of_literal(given[0], &token.literal, rest.bytes, start);
@@ -384,7 +390,8 @@ static PyObject *reader_token(PyObject *self, PyObject *const *given, Py_ssize_t
             if (it->text && it->suffix) result = Py_BuildValue("(OOnO)", it, it->suffix, end, given[0]);
         }
     } else if (peltzivar_explain(&error, &why)) {
-        refuse(by, given[0], given[1]);
+        if ((index = PyLong_FromSsize_t(start))) refuse(by, given[0], index);
+        Py_XDECREF(index);
     } else {
         peltzivar_read_error_text(&error, sentence, sizeof sentence);
         PyErr_SetString(PyExc_ValueError, sentence);
@@ -401,9 +408,10 @@ static PyObject *reader_explain(PyObject *self, PyObject *const *given, Py_ssize
     peltzivar_explanation why;
     char sentence[PELTZIVAR_TEXT_SIZE], full[PELTZIVAR_TEXT_SIZE];
     PyObject *result = NULL;
-    if (count != 2) return NULL;
-    bool is_token = PyObject_RichCompareBool(given[1], Py_False, Py_GE) > 0;
-    if (!(is_token ? opened_from(by, given[0], given[1], &rest) : is_made(by) && is_text(given[0], &rest))) return NULL;
+    Py_ssize_t start = count == 2 ? PyNumber_AsSsize_t(given[1], NULL) : -1;
+    if (PyErr_Occurred()) return NULL;
+    bool is_token = start >= 0;
+    if (!(is_token ? opened_from(by, given[0], start, &rest) : is_made(by) && is_text(given[0], &rest))) return NULL;
     memset(&error, 0, sizeof error);
     bool is_right = is_token ? peltzivar_forms_token(by->forms, rest.bytes, (size_t)rest.size, NULL, &error)
                              : peltzivar_forms_read(by->forms, rest.bytes, (size_t)rest.size, NULL, &error);
@@ -518,8 +526,10 @@ static PyObject *written(Reader *by, PyObject *number, const peltzivar_style *st
     char text[PELTZIVAR_FLOAT_SIZE], *to = text;
     size_t needed;
     *status = by->forms ? write_number(by, number, style, text, sizeof text, &needed) : PELTZIVAR_WRITE_ARGUMENT;
-    if (*status == PELTZIVAR_WRITE_BUFFER && (to = PyMem_Malloc(needed)))
+    if (*status == PELTZIVAR_WRITE_BUFFER) {
+        if (!(to = PyMem_Malloc(needed))) return PyErr_NoMemory();
         *status = write_number(by, number, style, to, needed, &needed);
+    }
     PyObject *result = *status ? NULL : PyUnicode_FromStringAndSize(to, (Py_ssize_t)needed - 1);
     if (to != text) PyMem_Free(to);
     return result;
@@ -827,9 +837,9 @@ static PyObject *separators(peltzivar_separators it) {
     return Py_BuildValue("(NNNN)", TRUTH(it.internal), TRUTH(it.leading), TRUTH(it.trailing), TRUTH(it.consecutive));
 }
 
-/* Appends a new object to a list. */
-static void append(PyObject *list, PyObject *it) {
-    if (it) PyList_Append(list, it);
+/* Appends a new object to a list. Without the object or memory, the list is gone. */
+static void append(PyObject **list, PyObject *it) {
+    if (!it || PyList_Append(*list, it)) Py_CLEAR(*list);
     Py_XDECREF(it);
 }
 
@@ -837,7 +847,7 @@ static PyObject *edits(peltzivar_word word) {
     peltzivar_edit edits[PELTZIVAR_FIELD_COUNT];
     size_t count = peltzivar_edits_of(word, edits, PELTZIVAR_FIELD_COUNT);
     PyObject *list = PyList_New(0);
-    for (size_t i = 0; list && i < count; i++) append(list, tuple_of(&edit_members, (const char *)&edits[i]));
+    for (size_t i = 0; list && i < count; i++) append(&list, tuple_of(&edit_members, (const char *)&edits[i]));
     return list;
 }
 
@@ -848,7 +858,7 @@ static PyObject *reasons(peltzivar_word word, bool of_options, uint8_t exponent,
 #define OF(call, ...) (of_options ? peltzivar_options_reason_##call(word, exponent, point, __VA_ARGS__) \
                                   : peltzivar_reason_##call(word, __VA_ARGS__))
     for (size_t i = 0; list && OF(text, i, text, sizeof text); i++)
-        append(list, Py_BuildValue("(NNI)", shown(text), halves(OF(mask, i)),
+        append(&list, Py_BuildValue("(NNI)", shown(text), halves(OF(mask, i)),
             of_options ? peltzivar_options_reason_roles(word, exponent, point, i) : peltzivar_reason_rules(word, i)));
     return list;
 }
@@ -862,7 +872,7 @@ static PyObject *notes(PyObject *self, PyObject *given) {
     (void)self;
     if (list && !packed(&fields_members, given, (char *)&fields, NULL)) Py_CLEAR(list);
     for (size_t i = 0; list && peltzivar_note_text(&fields, i, text, sizeof text); i++)
-        append(list, Py_BuildValue("(NN)", shown(text), halves(peltzivar_note_mask(&fields, i))));
+        append(&list, Py_BuildValue("(NN)", shown(text), halves(peltzivar_note_mask(&fields, i))));
     return list;
 }
 
@@ -916,7 +926,7 @@ static PyObject *lines(const char *from, size_t len, size_t index) {
     size_t lines[PELTZIVAR_FIELD_COUNT];
     size_t count = peltzivar_settings_lines(from, len, index, lines, PELTZIVAR_FIELD_COUNT);
     PyObject *list = PyList_New(0);
-    for (size_t i = 0; list && i < count && i < PELTZIVAR_FIELD_COUNT; i++) append(list, PyLong_FromSize_t(lines[i]));
+    for (size_t i = 0; list && i < count && i < PELTZIVAR_FIELD_COUNT; i++) append(&list, PyLong_FromSize_t(lines[i]));
     return list;
 }
 
@@ -1047,12 +1057,13 @@ static int filled(PyObject *module) {
         if (!names || PyDict_SetItemString(members, NAMES[i].name, names)) return -1;
         Py_DECREF(names);
     }
-    for (int number = 0; number < PELTZIVAR_NO_SETTER; number++)
+    for (int number = 0; setters && number < PELTZIVAR_NO_SETTER; number++)
         if (peltzivar_setter_name((peltzivar_setter)number)[0])
-            append(setters, Py_BuildValue("(si)", peltzivar_setter_name((peltzivar_setter)number), number));
-    for (size_t i = 0; peltzivar_language_name(i)[0]; i++)
-        append(languages, Py_BuildValue("(ss)", peltzivar_language_name(i), peltzivar_language_title(i)));
-    for (size_t i = 4; syntax_members.members[i].kind; i++) append(conditions, shown(syntax_members.members[i].name));
+            append(&setters, Py_BuildValue("(si)", peltzivar_setter_name((peltzivar_setter)number), number));
+    for (size_t i = 0; languages && peltzivar_language_name(i)[0]; i++)
+        append(&languages, Py_BuildValue("(ss)", peltzivar_language_name(i), peltzivar_language_title(i)));
+    for (size_t i = 4; conditions && syntax_members.members[i].kind; i++)
+        append(&conditions, shown(syntax_members.members[i].name));
     peltzivar_fields new = PELTZIVAR_NEW_FIELDS;
     if (PyErr_Occurred() || PyModule_AddType(module, (PyTypeObject *)literal)) return -1;
     if (PyModule_AddType(module, state->reader)) return -1;

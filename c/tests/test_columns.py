@@ -27,7 +27,7 @@ class Columns(unittest.TestCase):
     def test_cells_of_each_kind(self):
         texts, german = ["1.234,5", "-7", "10"], Language.CSV_DE
         data, offsets = "".join(texts).encode(), [0, 7, 9, 11]
-        cells = [texts, tuple(texts), iter(texts), [*map(type("Text", (str,), {}), texts)], [*map(str.encode, texts)], {it: 0 for it in texts}]
+        cells = [texts, tuple(texts), iter(texts), [*map(type("Text", (str,), {}), texts)], [*map(str.encode, texts)], {it: 0 for it in texts}.keys()]
         cells += [(bytearray(data), array(it, offsets)) for it in "iIlLqQ"] + [(memoryview(data), memoryview(array("i", [5, *offsets]))[1:])]
         for it in cells:
             values, wrong, missing = german.column(it)

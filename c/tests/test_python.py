@@ -30,6 +30,7 @@ import weakref
 from array import array
 from decimal import Decimal
 from fractions import Fraction
+from unittest import mock
 
 TESTS = pathlib.Path(__file__).resolve().parent
 TOP = TESTS.parent.parent
@@ -503,6 +504,7 @@ class Literals(unittest.TestCase):
 BYTE = "one ASCII character or a number from 0 to 255"
 SUGGESTION = "unknown setting `digit_seperator`; did you mean `digit_separator`?"
 ONE_OPTION = "only one of the exponent character and the decimal point is absent: for numbers without an exponent, keep both, and set no_exponent_notation"
+COLUMN = "must be a sequence, such as one column of a table, not"
 WRONG = [
     ("Format(-1)", ValueError, "a format word must be a number of at most 128 bits, not -1"),
     ("Format.of(no_special=1)", TypeError, "no_special must be a bool, not int"),
@@ -520,7 +522,13 @@ WRONG = [
     ("Edit(\"radix='x'\")", ValueError, "radix='x': radix takes a number, 2 to 36 in a lawful format"),
     ("Syntax(Format(), exponent=None)", ValueError, ONE_OPTION),
     ("Syntax.of('radix=16\\nradix=2')", ValueError, "a setting is one line: 'radix=16\\nradix=2'"),
-    ("Language.JSON.column('12')", TypeError, "cells must be a sequence of texts, not str"),
+    ("Language.JSON.column('12')", TypeError, f"cells {COLUMN} str"),
+    ("Language.JSON.column({'1': 2})", TypeError, f"cells {COLUMN} dict"),
+    ("Language.JSON.column(memoryview(b'1234').cast('B', (2, 2)))", TypeError, f"cells {COLUMN} memoryview"),
+    ("Language.JSON.format_column({'1': 2})", TypeError, f"numbers {COLUMN} dict"),
+    ("Language.JSON.column((b'12', [0, 1, 2]))", TypeError, "offsets must be an array, such as array('q', [0, 3]), not list"),
+    ("Language.JSON.column(['1'], fill='0')", TypeError, "fill must be a number of the column, not str"),
+    ("Forms({'a': Syntax(Format())}, suffixes={'a': Suffixes('k 5k')})", ValueError, "a suffix begins with a digit, with which the number goes on: '5k'"),
     ("Language.JSON.column([1])", TypeError, "cell 0 must be a str, not int"),
     ("Language.JSON.column([], complex)", TypeError, "type must be float, int, or one of the formats d, f, q and Q, not <class 'complex'>"),
     ("Language.JSON.column(['1'], out=bytearray(8))", TypeError, "out must have the format d or f, not 'B'"),
@@ -860,6 +868,19 @@ def halved(part):
     return column, own, Language.CSV_DE.column(part, Decimal, errors="coerce", fill=Decimal(0))
 
 
+def each_call():
+    """Returns calls of each part of the module, with values and errors."""
+    forms = Forms({"a": SYNTAX}, nan="x", kinds={"a": Kind(8)}, suffixes={"a": Suffixes("u8", stops=[("", ".", "0")])}, tokens=Tokens())
+    text, number, prices = type("Text", (str,), {"__len__": None})("7x"), Language.C.read("0x1F"), [1.5, None, Decimal("2.50")]
+    calls = [lambda: forms.token("7u8;\u00e9"), lambda: forms.token("7u9", FormatView(0)), lambda: forms.read(text), lambda: forms.parse("9" * 99, int)]
+    calls += [lambda: Language.CSV_DE.column(["1,5", None, "x", "\ud800"], errors="coerce").wrong[0].error.span, lambda: Language.C.column([1.5])]
+    calls += [lambda: Language.CSV_DE.format_column(prices, fill="", decimals=2), number.decimal, number.fraction, lambda: number.parts, lambda: forms.read("x")]
+    calls += [lambda: SYNTAX.format_number(10**50, group=3), lambda: SYNTAX.format_number(1.5, decimals=300), lambda: Syntax.of("radix=40"), lambda: repr(SYNTAX)]
+    calls += [lambda: forms.format_number(1.5, min_digits=255, group=1), FormatView(-1 & 2**128 - 1).reasons, SYNTAX.format.edits, SYNTAX.format.notes]
+    calls += [Language.C._members, SYNTAX.grammar, lambda: FormatView(0).options_reasons("1", "2"), lambda: Syntax.notes_of("radix=2", "radix=3")]
+    return [*calls, each_call]
+
+
 class Extension(unittest.TestCase):
     """What is new with an extension module: memory, threads, processes and interpreters."""
 
@@ -877,15 +898,8 @@ class Extension(unittest.TestCase):
         self.assertEqual(str(caught.exception), "cell 2, '-7x': unexpected character 'x'")
 
     def test_no_call_keeps_memory(self):
-        number, prices = Language.C.read("0x1F"), [1.5, None, Decimal("2.50")]
-
         def calls():
-            forms = Forms({"a": SYNTAX}, nan="x", kinds={"a": Kind(8)}, suffixes={"a": Suffixes("u8", stops=[("", ".", "0")])}, tokens=Tokens())
-            calls = [lambda: forms.token("7u8;\u00e9"), lambda: forms.token("7u9"), lambda: forms.read("7x"), lambda: forms.parse("9" * 99, int), lambda: forms.read("x")]
-            calls += [lambda: Language.CSV_DE.column(["1,5", None, "x", "\ud800"], errors="coerce").wrong[0].error.span, lambda: Language.C.column([1.5])]
-            calls += [lambda: Language.CSV_DE.format_column(prices, fill="", decimals=2), lambda: number.decimal(), lambda: number.fraction(), lambda: number.parts]
-            calls += [lambda: SYNTAX.format_number(10**50, group=3), lambda: SYNTAX.format_number(1.5, decimals=300), lambda: Syntax.of("radix=40"), lambda: repr(SYNTAX)]
-            for call in calls:
+            for call in each_call():
                 with contextlib.suppress(ValueError, TypeError):
                     call()
 
@@ -898,6 +912,33 @@ class Extension(unittest.TestCase):
             gc.collect()
             used.append(tracemalloc.get_traced_memory()[0])
         self.assertLess(used[3] - used[1], 20_000, used)
+
+    @unittest.skipUnless(importlib.util.find_spec("_testcapi"), "_testcapi")
+    def test_an_allocation_that_fails_is_an_error_of_memory(self):
+        from _testcapi import remove_mem_hooks, set_nomemory
+
+        self.enterContext(mock.patch("sys.unraisablehook"))
+
+        def found(call):
+            try:
+                return call()
+            except (ValueError, TypeError) as error:
+                return str(error)
+
+        for call in each_call()[:-1]:
+            wanted, goods, at = found(call), 0, 0
+            # Python does without some allocations, and forgets an error if it has no memory for its traceback.
+            while goods < 99:
+                set_nomemory(at, at + 1)
+                try:
+                    it, goods = found(call), goods + 1
+                except (MemoryError, SystemError) as error:
+                    of_python = isinstance(error, MemoryError) or re.search(" without .*exception", str(error))
+                    it, goods = wanted if of_python else error, 0
+                finally:
+                    remove_mem_hooks()
+                self.assertEqual(repr(it), repr(wanted), at)
+                at += 1
 
     def test_cycles_through_a_literal_are_collected(self):
         text, forms = type("Text", (str,), {})("1.5"), Forms({"": SYNTAX})
