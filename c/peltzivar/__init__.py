@@ -1,5 +1,16 @@
 """Reads numbers in the notation of a language, a file or your own, with their values, and says why a text is not one.
 
+    languages       the notations of languages and files, such as `languages.CSV_DE`, each a `Language`
+    Syntax          a notation of your own, which `Syntax.of` makes of settings
+    Forms           several syntaxes, such as decimal and hexadecimal numbers
+    Literal         a number that `read` has found in a text: its value, also exact, and its parts
+    LiteralError    why a text is not a number, and where
+    Column          the values of many texts, which `column` reads several times as fast
+    ColumnError     which of them are wrong
+    Token           a number that `token` has found in source text, with its suffix
+    Special         NaN or infinity
+    SettingsError   why settings make no syntax
+
     >>> from peltzivar import Syntax, languages
     >>> languages.TOML.read("1_000.5").value, languages.RUST.parse("0x1F", int)
     (1000.5, 31)
@@ -8,19 +19,15 @@
     >>> prices = Syntax.of(
     ...     digit_separator=".", integer_internal_digit_separator=True, integer_group_size=3, point=","
     ... )
-    >>> prices.read("1.234,50").decimal()
-    Decimal('1234.50')
+    >>> prices.read("1.234,50").decimal(), prices.format_number(1234.5, group=3, decimals=2)
+    (Decimal('1234.50'), '1.234,50')
     >>> prices.read("12.34")
     Traceback (most recent call last):
     peltzivar.LiteralError: expected groups of 3 digits
 
-`read` returns a `Literal`, or raises a LiteralError, whose `span` has the position. `parse` returns the value alone,
-and `column` those of many texts, several times as fast. A `Language`, such as `languages.CSV_DE`, reads the numbers of
-a language or a file, and `Forms` those of several syntaxes. `Syntax.of` makes a syntax, and raises a SettingsError if
-it is wrong. A value of a wrong type raises a TypeError, and another wrong value a ValueError.
-
-A format is a 128-bit word. It is lawful if it satisfies all rules. A `FormatView` holds any word, and a `Format` a
-lawful one. In the repository, docs/PYTHON.md shows tasks, and docs/FORMAT.md describes fields, rules and literals.
+A value of a wrong type raises a TypeError, and another wrong value a ValueError. `peltzivar.words` has the format of a
+syntax, a 128-bit word, with its fields and rules. In the repository, docs/PYTHON.md shows tasks, and docs/FORMS.md
+describes literals.
 """
 
 from __future__ import annotations
@@ -46,324 +53,17 @@ from typing import Any, AnyStr, Callable, Dict, Generic, Iterable, Iterator, Lis
 from typing import Sequence, SupportsFloat, SupportsIndex, Tuple, Type, TypeVar, Union, cast
 
 from . import _peltzivar
+from .words import *
+from .words import _CONDITIONS, _SETTING, Byte, Typed, Value, _byte, _c, _Class, _condition, _encoded, _joined, _Keyed
+from .words import _members, _Named, _number, _of, _takes, _typed
+from ._peltzivar import ReadErrorKind, Spelling
 
-# The calls of C.
-_c: Any = _peltzivar
-
-__all__ = ["STANDARD", "Byte", "Column", "ColumnError", "Edit", "Error", "Format", "FormatError"]
-__all__ += ["FormatView", "Forms"]
-__all__ += ["Kind", "Language", "Literal", "LiteralError", "Note", "Opening", "OptionsError", "Part", "Parts", "ReadErrorKind"]
-__all__ += ["Reason", "ReasonsError", "Role", "Rule", "Separators", "Setter", "SettingsError", "Special", "Specials"]
-__all__ += ["Spelling", "Suffixes", "Syntax", "Token", "Tokens", "Value", "WrongCell", "languages", "notes_of"]
-
-
-class _Named(Enum):
-    def __str__(self) -> str:
-        return self.name
-
-
-class _Rule(_Named):
-    @property
-    def condition(self) -> str:
-        """What the rule requires of a word."""
-        return str(_c.describe("rule", self.value))
-
-
-class _Error(_Named):
-    @property
-    def description(self) -> str:
-        """The description of the error in single quotes."""
-        return str(_c.describe("error", self.value))
-
-    def __bool__(self) -> bool:
-        return bool(self.value)
-
-
-# The enumerations: their documentation, and what they have beside their members, which C names.
-_ENUMERATIONS: Any = {
-    "Setter": (_Named, "The setters. A member has the name of the setter in uppercase."),
-    "Rule": (_Rule, "The rules, in the order in which they are checked. `condition` is what one requires of a word."),
-    "Error": (_Error, "The errors, with their sentences as `description`, and success, which is 0, and false."),
-    "Part": (_Named, "The parts of a number that can have digit separators."),
-    "Role": (_Named, "The roles of a byte in a number."),
-    "ReadErrorKind": (_Named, "The kinds of causes why a text is not a literal."),
-    "Spelling": (_Named, "The spellings of special values."),
-}
-for _name, (_kind, _doc) in _ENUMERATIONS.items():
-    _names, _first = _c.MEMBERS.get(_name, ([(it.upper(), number) for it, number in _c.SETTERS], 1))
-    _made: Any = _kind(_name, _names, start=_first, module=__name__)
-    _made.__doc__ = _doc
-    setattr(_c, _name, _made)
-from ._peltzivar import Error, Part, ReadErrorKind, Role, Rule, Setter, Spelling
+__all__ = ["Column", "ColumnError", "Forms", "Kind", "Literal", "LiteralError", "Opening", "Parts"]
+__all__ += ["ReadErrorKind", "SettingsError", "Special", "Specials", "Spelling", "Suffixes", "Syntax", "Token"]
+__all__ += ["Tokens", "WrongCell", "languages"]
 
 __version__: str = _c.VERSION
-STANDARD: int = _c.STANDARD[1] << 64 | _c.STANDARD[0]
-
-# A byte: a number from 0 to 255, or one ASCII character.
-Byte = Union[int, str, bytes]
-# The value of a setting: a bool for a flag or a group, and otherwise a number or a Byte, or None if it is absent.
-Value = Union[bool, Byte, None]
-Typed = TypeVar("Typed")
-View = TypeVar("View", bound="FormatView")
-Owner = TypeVar("Owner")
-Number = TypeVar("Number", int, float)
 Result = TypeVar("Result")
-P = ParamSpec("P")
-
-_RADIXES = (Setter.MANTISSA_RADIX, Setter.EXPONENT_BASE, Setter.EXPONENT_RADIX)
-_BYTES = (Setter.DIGIT_SEPARATOR, Setter.BASE_PREFIX, Setter.BASE_SUFFIX)
-_SETTERS = {**{it.name.lower(): it for it in Setter}, "radix": Setter.MANTISSA_RADIX}
-# The conditions of a syntax, with their types.
-_CONDITIONS: Dict[str, Any] = {it: int if it.endswith("size") else bool for it in _c.CONDITIONS}
-# The names of the arguments that are fields, and of all settings.
-_c.fields = (*_SETTERS,)
-_c.settings = (*_SETTERS, "exponent", "point", *_CONDITIONS)
-_SETTING = "a str or an Edit (pass a list as `*settings`)"
-
-
-class _Class(ABCMeta):
-    """A class of which `dir`, and so `help`, leaves out what each exception and each data class has."""
-
-    def __dir__(cls) -> List[str]:
-        common = {*dir(ValueError), "__post_init__", *(it for it in type.__dir__(Parts) if it.startswith("__"))}
-        return [it for it in super().__dir__() if it not in common]
-
-
-class _Keyed(metaclass=_Class):
-    """Objects that are equal if their keys are."""
-
-    __slots__ = ()
-
-    _key: Any
-
-    def __eq__(self, other: object) -> bool:
-        if (key := getattr(other, "_key", None)) is None:
-            return NotImplemented
-        return bool(self._key() == key())
-
-    def __hash__(self) -> int:
-        return hash(self._key())
-
-
-def _members(kind: Type[Any], bits: int) -> Tuple[Any, ...]:
-    """Returns the members whose numbers are those of bits that are set."""
-    return tuple(it for it in kind if bits >> it.value & 1)
-
-
-def _notes(fields: Tuple[int, ...]) -> Tuple[Note, ...]:
-    """Returns the notes on fields."""
-    return tuple(Note(text, _joined(mask)) for text, mask in _c.notes(fields))
-
-
-def _joined(halves: Tuple[int, int]) -> int:
-    """Returns the word of two halves."""
-    return halves[1] << 64 | halves[0]
-
-
-def _typed(name: str, value: object, kind: Type[Typed], wanted: str = "") -> Typed:
-    """Returns a value of this type. Raises an error that names the argument if the value has another one."""
-    if not isinstance(value, kind):
-        a = "an" if kind.__name__[0] in "aeiouAEIOU" else "a"
-        raise TypeError(f"{name} must be {wanted or f'{a} {kind.__name__}'}, not {type(value).__name__}")
-    return value
-
-
-def _number(name: str, value: Any, limit: int = 256, wanted: str = "a number from 0 to 255") -> int:
-    """Returns a number below the limit. Raises an error that names the argument if the value is not one."""
-    if isinstance(value, bool) or not hasattr(type(value), "__index__"):
-        raise TypeError(f"{name} must be {wanted}, not {type(value).__name__}")
-    number = operator.index(value)
-    if not 0 <= number < limit:
-        raise ValueError(f"{name} must be {wanted}, not {number if number.bit_length() < 64 else hex(number)}")
-    return number
-
-
-def _byte(name: str, value: Any) -> int:
-    """Returns a byte as a number. Raises an error that names the argument if the value is not a byte."""
-    wanted = "one ASCII character or a number from 0 to 255"
-    if not isinstance(value, (str, bytes)):
-        return _number(name, value, wanted=wanted)
-    if len(value) != 1 or isinstance(value, str) and not value.isascii():
-        raise ValueError(f"{name} must be {wanted}, not {reprlib.repr(value)}")
-    return ord(value)
-
-
-def _encoded(name: str, text: object, wanted: str = "a str or bytes") -> bytes:
-    """Returns a text as bytes. Raises an error that names the argument if it is not a text."""
-    return text if isinstance(text, bytes) else _typed(name, text, str, wanted).encode("utf-8", "surrogatepass")
-
-
-def _refusal(setting: str) -> str:
-    """Returns the reason why a setting is refused."""
-    text, name = _encoded("a setting", setting), reprlib.repr(setting.partition("=")[0].strip(" \t\n\f\r"))
-    return str(_c.setting_error(text)).replace("unknown setting name", f"unknown setting `{name[1:-1]}`")
-
-
-class _OfFields(Generic[P]):
-    """What type checkers take for a method that takes fields and returns an object of the class."""
-
-    def __get__(self, owner: Optional[Owner], kind: Type[Owner]) -> Callable[P, Owner]:
-        raise NotImplementedError
-
-
-def _takes(names: Callable[P, object]) -> Callable[[Callable[..., Result]], Callable[P, Result]]:
-    """Makes a call pass its keyword arguments as settings, in order and behind its other settings."""
-
-    def made(call: Any) -> Any:
-        return functools.wraps(call)(lambda *it, **fields: call(*it, *_settings(names, call, fields)))
-
-    return made
-
-
-def _of(names: Callable[P, object]) -> Callable[[Callable[..., object]], _OfFields[P]]:
-    """Does the same for a method."""
-    made: Any = lambda call: classmethod(_takes(names)(call)) if call.__name__ == "of" else _takes(names)(call)
-    return cast(Callable[[Callable[..., object]], _OfFields[P]], made)
-
-
-def _settings(names: Any, call: Any, fields: Dict[str, Any]) -> Iterator[Union[Edit, str]]:
-    """Returns keyword arguments as settings."""
-    if unknown := [it for it in fields if it not in names]:
-        setting = f"{unknown[0]}="
-        text = _c.settings_text(setting.encode()) if "point" in names else _refusal(setting)
-        raise TypeError(f"{call.__name__}() got an unexpected keyword argument {unknown[0]!r}: {text}")
-    for name, value in fields.items():
-        if name in _CONDITIONS:
-            yield f"{name}={str(_condition(name, value)).lower()}"
-        elif name in _SETTERS:
-            yield Edit.of(name, value)
-        else:
-            yield f"{name}={'none' if value is None else _byte(name, value)}"
-
-
-def _condition(name: str, value: Value) -> Optional[int]:
-    """Returns the value of a condition, None for 0. Raises an error that names it if it does not take the value."""
-    if _CONDITIONS[name] is bool:
-        return _typed(name, value, bool)
-    return None if value is None else _number(name, value) or None
-
-
-@dataclass(frozen=True, init=False, repr=False)
-class Edit(metaclass=_Class):
-    """An edit: a setter and its value, parsed from a text NAME=VALUE such as `Edit("digit_separator='_'")`.
-
-    A flag or a group takes `true` or `false`, and a byte a number such as 95 or `0x5F`. Every byte except
-    `mantissa_radix` also takes `none`, and a separator, prefix or suffix a character in single quotes. White space
-    around the name and the value is skipped. `radix` is another name of `mantissa_radix`. Raises ValueError if the text
-    is not a setting. `value` is a bool, an ASCII character, a number, or None. A byte of 128 or more is a number.
-    """
-
-    setter: Setter
-    value: Union[bool, int, str, None]
-
-    def __init__(self, text: str) -> None:
-        if not (edit := _c.parse_edit(_encoded("a setting", _typed("a setting", text, str)))):
-            raise ValueError(f"{text}: {_refusal(text)}")
-        vars(self).update(setter=Setter(edit[0]), value=_value(Setter(edit[0]), edit[1]))
-
-    @classmethod
-    def of(cls, setter: Union[Setter, str], value: Value) -> Edit:
-        """Returns the edit with this setter, or the setter with this name, and this value, such as
-        `Edit.of("digit_separator", "_")`. Raises TypeError or ValueError if the setter does not take the value."""
-        text = setter.strip(" \t\n\f\r") if isinstance(setter, str) else ""
-        named = _SETTERS.get(text) if isinstance(setter, str) else _typed("setter", setter, Setter)
-        if named is None:
-            raise ValueError(f"setter {reprlib.repr(setter)}: {_refusal(f'{setter}=')}")
-        vars(edit := cls.__new__(cls)).update(setter=named, value=_value(named, _number_of(named, value)))
-        return edit
-
-    @property
-    def name(self) -> str:
-        """The name of the setter in lower case."""
-        return self.setter.name.lower()
-
-    @property
-    def mask(self) -> int:
-        """A mask of the bits of a word that the edit writes."""
-        return _joined(_c.describe("mask", self.setter.value))
-
-    def _numbers(self) -> Tuple[int, int]:
-        return self.setter.value, int(_number_of(self.setter, self.value))
-
-    def __str__(self) -> str:
-        return str(_c.describe("edit", *self._numbers()))
-
-    def __repr__(self) -> str:
-        return f"Edit({str(self)!r})"
-
-
-def _number_of(setter: Setter, value: Value) -> int:
-    """Returns the number of a value. Raises an error that names the setter if it does not take the value."""
-    name = setter.name.lower()
-    if value is None and (setter in _BYTES or setter in _RADIXES[1:]):
-        return 0
-    if setter in _BYTES or setter in _RADIXES:
-        return _byte(name, value) if setter in _BYTES else _number(name, value)
-    return _typed(name, value, bool)
-
-
-def _value(setter: Setter, number: int) -> Union[bool, int, str, None]:
-    """Returns the value that a setter has as this number."""
-    if setter in _BYTES:
-        return chr(number) if 0 < number < 128 else number or None
-    if setter in _RADIXES:
-        return None if number == 0 and setter != Setter.MANTISSA_RADIX else number
-    return bool(number)
-
-
-@dataclass(frozen=True)
-class Note(metaclass=_Class):
-    """A note on fields that have no effect, with a mask of their bits, or on settings, with their indexes."""
-
-    text: str
-    mask: int = 0
-    indexes: Tuple[int, ...] = ()
-
-    def __str__(self) -> str:
-        return self.text
-
-
-@dataclass(frozen=True)
-class Reason(Note):
-    """A reason why a word is not lawful, or why options do not fit it: its text, a mask of the bits that it blames, the
-    rules that it breaks, and the options that it blames, which are `Role.EXPONENT` and `Role.POINT`. An edit is to
-    blame if its mask has a bit in common with this mask that no later edit writes. If settings cause the reason, it has
-    the indexes of those to blame instead."""
-
-    rules: Tuple[Rule, ...] = ()
-    options: Tuple[Role, ...] = ()
-
-
-@dataclass(frozen=True)
-class Separators(metaclass=_Class):
-    """Where a part of a number may have digit separators: between, before and after digits, and several in a row."""
-
-    internal: bool
-    leading: bool
-    trailing: bool
-    consecutive: bool
-
-
-@dataclass(eq=False)
-class ReasonsError(ValueError, metaclass=_Class):
-    """Raised with the reasons why there is no such format or syntax. Options are checked if the format is lawful."""
-
-    reasons: Tuple[Reason, ...]
-
-    def __str__(self) -> str:
-        return "; ".join(reason.text for reason in self.reasons)
-
-
-@dataclass(eq=False)
-class FormatError(ReasonsError):
-    """Raised if a word is not lawful. `view` is the view of the word, and `error` its error."""
-
-    view: FormatView
-    error: Error
-
-
-class OptionsError(ReasonsError):
-    """Raised if an exponent character and a decimal point do not fit a format, or if it contradicts a condition."""
 
 
 class SettingsError(ReasonsError):
@@ -423,240 +123,6 @@ class LiteralError(ValueError, metaclass=_Class):
 
     def __str__(self) -> str:
         return self.sentence
-
-
-class _Field:
-    """A field or a group of a view. Its name is the name of its setter."""
-
-    def __init__(self, meaning: str) -> None:
-        self.__doc__ = meaning
-
-    def __set_name__(self, owner: type, name: str) -> None:
-        self._name, self._setter = name, _SETTERS[name]
-
-    def __get__(self, view: Optional[FormatView], owner: type) -> Any:
-        if view is None:
-            return self
-        if self._setter not in _BYTES + _RADIXES:
-            return _c.flag(view._halves, self._setter.value)
-        byte = _c.fields_of(view._halves)[1 + (*_BYTES, *_RADIXES).index(self._setter)]
-        return _value(self._setter, byte) if self._setter in _BYTES else byte
-
-    def __set__(self, view: FormatView, value: Value) -> None:
-        raise AttributeError(f"a view does not change: edit({self._name}={value!r}) returns another one")
-
-    def __repr__(self) -> str:
-        return f"<field {self._name}>"
-
-
-# Fields of each type: flags, bytes with a role, and radixes.
-_flag = cast(Callable[[str], bool], lambda meaning: _Field(f"Whether {meaning}."))
-_mark = cast(Callable[[str], Union[str, int, None]], lambda meaning: _Field(f"The {meaning}, or None if it is absent."))
-_radix = cast(Callable[[str], int], lambda meaning: _Field(f"The {meaning}."))
-
-
-class FormatView(_Keyed):
-    """A view of a format word, lawful or not. `int(view)` is the word, and `str(view)` is its text.
-
-    An absent digit separator, base prefix or base suffix is None. An absent exponent base or exponent radix has the
-    value of the mantissa radix. Raises ValueError if the word is negative or has more than 128 bits.
-    """
-
-    __slots__ = ("_word", "_halves")
-
-    # Made by make_python.py: attributes
-    required_integer_digits = _flag("the format requires digits before the decimal point")
-    required_fraction_digits = _flag("the format requires digits after a decimal point")
-    required_exponent_digits = _flag("the format requires digits after an exponent character")
-    required_mantissa_digits = _flag("the format requires a digit in the mantissa of a float")
-    no_positive_mantissa_sign = _flag("the format forbids a `+` before an integer or a float")
-    required_mantissa_sign = _flag("the format requires a sign before an integer or a float")
-    no_exponent_notation = _flag("the format forbids an exponent in a float")
-    no_positive_exponent_sign = _flag("the format forbids a `+` in the exponent")
-    required_exponent_sign = _flag("the format requires a sign in the exponent")
-    no_exponent_without_fraction = _flag("the format requires a decimal point before an exponent")
-    no_special = _flag("the format forbids all special values")
-    case_sensitive_special = _flag("special values are case-sensitive")
-    no_integer_leading_zeros = _flag("the format forbids leading zeros in an integer")
-    no_float_leading_zeros = _flag("the format forbids leading zeros in a float")
-    required_exponent_notation = _flag("the format requires an exponent in a float")
-    case_sensitive_exponent = _flag("the exponent character is case-sensitive")
-    case_sensitive_base_prefix = _flag("the base prefix is case-sensitive")
-    case_sensitive_base_suffix = _flag("the base suffix is case-sensitive")
-    integer_internal_digit_separator = _flag("the format allows a digit separator between integer digits")
-    fraction_internal_digit_separator = _flag("the format allows a digit separator between fraction digits")
-    exponent_internal_digit_separator = _flag("the format allows a digit separator between exponent digits")
-    integer_leading_digit_separator = _flag("the format allows a digit separator before the integer digits")
-    fraction_leading_digit_separator = _flag("the format allows a digit separator before the fraction digits")
-    exponent_leading_digit_separator = _flag("the format allows a digit separator before the exponent digits")
-    integer_trailing_digit_separator = _flag("the format allows a digit separator after the integer digits")
-    fraction_trailing_digit_separator = _flag("the format allows a digit separator after the fraction digits")
-    exponent_trailing_digit_separator = _flag("the format allows a digit separator after the exponent digits")
-    integer_consecutive_digit_separator = _flag("the format allows consecutive digit separators in the integer part")
-    fraction_consecutive_digit_separator = _flag("the format allows consecutive digit separators in the fraction")
-    exponent_consecutive_digit_separator = _flag("the format allows consecutive digit separators in the exponent")
-    special_digit_separator = _flag("the format allows digit separators in special values")
-    digit_separator = _mark("digit separator: the byte that separates groups of digits")
-    base_prefix = _mark("base prefix: the byte that may follow a leading zero to indicate the radix")
-    base_suffix = _mark("base suffix: the byte that may follow the digits to indicate the radix")
-    mantissa_radix = _radix("mantissa radix: the radix of the integer and fraction digits")
-    exponent_base = _radix("exponent base: the base that is raised to the exponent")
-    exponent_radix = _radix("exponent radix: the radix of the exponent digits")
-    required_digits = _flag("any of the flags that require digits is set")
-    internal_digit_separator = _flag("any of the flags that allow a digit separator between digits is set")
-    leading_digit_separator = _flag("any of the flags that allow a digit separator before digits is set")
-    trailing_digit_separator = _flag("any of the flags that allow a digit separator after digits is set")
-    consecutive_digit_separator = _flag("any of the flags that allow consecutive digit separators is set")
-    digit_separator_flags = _flag("any of the flags that allow digit separators is set")
-    integer_digit_separator_flags = _flag("any of the flags that allow digit separators in the integer part is set")
-    fraction_digit_separator_flags = _flag("any of the flags that allow digit separators in the fraction is set")
-    exponent_digit_separator_flags = _flag("any of the flags that allow digit separators in the exponent is set")
-    # End
-
-    def __init__(self, word: int = STANDARD) -> None:
-        self._word = _number("a format word", word, 1 << 128, "a number of at most 128 bits")
-        self._halves = self._word & (1 << 64) - 1, self._word >> 64
-
-    @_of(_peltzivar.fields)
-    def of(cls: Any, *settings: Union[Edit, str], **fields: Value) -> FormatView:
-        """Applies the settings and then the fields, in order, to the default fields, and returns a view of the word.
-
-        If no flag allows the digit separator, a `FormatView` drops it, and `notes_of` reports it. A `Format` raises a
-        ValueError then, and a FormatError if the word is not lawful.
-        """
-        return cast(FormatView, cls._packed(_c.NEW_FIELDS, settings))
-
-    @classmethod
-    def parse(cls: Type[View], text: str) -> View:
-        """Parses `0x` followed by 1 to 32 hexadecimal digits. Raises ValueError if the text has another form."""
-        error, word = _c.parse_word(_encoded("a format word", _typed("a format word", text, str)))
-        if error:
-            raise ValueError(f"{reprlib.repr(text)} is not a format word: {Error(error).description}")
-        return cls(_joined(word))
-
-    def mantissa_digit(self, byte: Byte) -> Optional[int]:
-        """Returns the value of a byte as a digit of the integer or the fraction, or None if it is not one."""
-        return cast(Optional[int], _c.mantissa_digit(self._halves, _byte("a byte", byte)))
-
-    def exponent_digit(self, byte: Byte) -> Optional[int]:
-        """Returns the value of a byte as a digit of the exponent, or None if it is not one."""
-        return cast(Optional[int], _c.exponent_digit(self._halves, _byte("a byte", byte)))
-
-    def separators(self, part: Part) -> Separators:
-        """Returns where a part of a number may have digit separators, such as `separators(Part.FRACTION).internal`."""
-        return Separators(*_c.separators_of(self._halves, _typed("part", part, Part).value))
-
-    def is_separator(self, byte: Byte) -> bool:
-        """Returns whether a byte is the digit separator, and some flag allows it."""
-        return bool(_c.is_separator(self._halves, _byte("a byte", byte)))
-
-    def is_base_prefix(self, byte: Byte) -> bool:
-        """Returns whether the base prefix matches a byte. A letter matches both cases unless it is case-sensitive."""
-        return bool(_c.is_base_prefix(self._halves, _byte("a byte", byte)))
-
-    def is_base_suffix(self, byte: Byte) -> bool:
-        """Returns whether the base suffix matches a byte. A letter matches both cases unless it is case-sensitive."""
-        return bool(_c.is_base_suffix(self._halves, _byte("a byte", byte)))
-
-    def role_of(self, byte: Byte, *, exponent: Byte = 0, point: Byte = 0) -> Optional[Role]:
-        """Returns the first role that a byte has in numbers with this exponent character and this decimal point, or
-        None. An option that is 0 matches no byte. If this is a `Format` and the options fit it, no byte has two
-        roles."""
-        options = _byte("exponent", exponent), _byte("point", point)
-        role = _c.role_of(self._halves, *options, _byte("a byte", byte))
-        return Role(role) if role else None
-
-    @_of(_peltzivar.fields)
-    def edit(self, *settings: Union[Edit, str], **fields: Value) -> FormatView:
-        """Applies the settings and then the fields to the word, in order, and returns a view of the new word.
-
-        Before that, the mantissa radix replaces an absent exponent base or exponent radix. After that, a separator that
-        no flag allows is dropped. So set a digit separator and its flags in one call. A `Format` raises a ValueError if
-        it would drop a separator that was passed, and a FormatError if the new word is not lawful.
-        """
-        return self._packed(_c.fields_of(self._halves), settings)
-
-    def edits(self) -> Tuple[Edit, ...]:
-        """Returns an edit for each field of the word that differs from its default, in the order of the bits."""
-        return tuple(Edit.of(Setter(it), _value(Setter(it), value)) for it, value in _c.edits_of(self._halves))
-
-    def normal_form(self: View) -> View:
-        """Returns the normal form of the word. Equivalent words have the same normal form."""
-        return type(self)(_joined(_c.normal_form(self._halves)))
-
-    def check(self) -> Format:
-        """Returns the word as a `Format`. Raises FormatError if the word is not lawful."""
-        return Format(self._word)
-
-    def error(self) -> Error:
-        """Returns the error of the first rule that the word breaks, or `Error.SUCCESS` if the word is lawful."""
-        return Error(_c.check(self._halves))
-
-    def reasons(self) -> Tuple[Reason, ...]:
-        """Returns each reason why the word is not lawful."""
-        found = _c.reasons(self._halves)
-        return tuple(Reason(text, _joined(mask), rules=_members(Rule, bits)) for text, mask, bits in found)
-
-    def options_reasons(self, exponent: Byte, point: Byte) -> Tuple[Reason, ...]:
-        """Returns each reason why an exponent character and a decimal point do not fit the word."""
-        found = _c.options_reasons(self._halves, _byte("exponent", exponent), _byte("point", point))
-        return tuple(Reason(text, _joined(mask), options=_members(Role, bits)) for text, mask, bits in found)
-
-    def notes(self) -> Tuple[Note, ...]:
-        """Returns the notes on fields of the word that have no effect."""
-        return _notes(_c.fields_of(self._halves))
-
-    def source(self) -> str:
-        """Returns Rust code that sets the fields of the word and packs them."""
-        return str(_c.source(self._halves))
-
-    @classmethod
-    def _packed(cls: Type[View], fields: Tuple[int, ...], settings: Iterable[Union[Edit, str]]) -> View:
-        """Applies settings to fields, and returns a view of the word."""
-        edits = _edits(settings)
-        changed, word = _c.pack(fields, [it._numbers() for it in edits])
-        view = cls(_joined(word))
-        is_dropped = changed[1] and view.digit_separator is None
-        if is_dropped and issubclass(cls, Format) and Setter.DIGIT_SEPARATOR in [edit.setter for edit in edits]:
-            raise ValueError("; ".join(note.text for note in _notes(changed) if note.mask >> 64 & 255))
-        return view
-
-    def _key(self) -> int:
-        return self._word
-
-    def __int__(self) -> int:
-        return self._word
-
-    __index__ = __int__
-
-    def __str__(self) -> str:
-        return str(_c.word_text(self._halves))
-
-    def __format__(self, specification: str) -> str:
-        """Formats the text of the word or, if the specification is one of numbers such as `#x`, the number."""
-        return format(self._word if specification.endswith(tuple("bdoxX")) else str(self), specification)
-
-    def __repr__(self) -> str:
-        name = type(self).__name__
-        if not _c.is_built(self._halves):
-            return f"{name}({self})"
-        return f"{name}.of({', '.join(f'{edit.name}={edit.value!r}' for edit in self.edits())})"
-
-
-class Format(FormatView):
-    """A view of a lawful word. Raises FormatError if the word is not lawful."""
-
-    __slots__ = ()
-
-    def __init__(self, word: int = STANDARD) -> None:
-        super().__init__(word)
-        if error := self.error():
-            raise FormatError(self.reasons(), FormatView(word), error)
-
-    def check_options(self, exponent: Byte, point: Byte) -> None:
-        """Raises OptionsError with every reason if an exponent character and a decimal point do not fit the format."""
-        if reasons := self.options_reasons(exponent, point):
-            raise OptionsError(reasons)
 
 
 @dataclass(frozen=True)
@@ -915,6 +381,11 @@ class _Wrong(Sequence[WrongCell]):
         return f"<{len(self)} wrong cells>"
 
 
+class _Writable(typing.Protocol):
+    def __len__(self) -> int: ...
+    def __setitem__(self, index: int, value: Any, /) -> None: ...
+
+
 class _Reader(_peltzivar.Reader):
     """What reads texts by forms."""
 
@@ -972,13 +443,17 @@ class _Reader(_peltzivar.Reader):
         27 digits or, of an int, 128 bits, of a number of another radix than that of the syntax, which is 10 for a float
         and a Decimal, and, of a float, for another exponent base.
         """
-        wishes = group, fraction_group, without_base, lowercase, min_digits, exponent, decimals
-        return self._text_of(value, _style(*wishes))
+        style = _style(group, fraction_group, without_base, lowercase, min_digits, exponent, decimals)
+        return self._text_of(value, style)
 
-    def format_column(self, numbers: Iterable[Any], *, fill: Optional[str] = None, **wishes: Any) -> List[str]:
+    def format_column(
+        self, numbers: Iterable[Any], *, fill: Optional[str] = None, group: Optional[int] = None,
+        fraction_group: Optional[int] = None, without_base: bool = False, lowercase: bool = False, min_digits: int = 0,
+        exponent: Optional[typing.Literal["never", "always"]] = None, decimals: Optional[int] = None
+    ) -> List[str]:
         """Returns a list, or an array of numpy, as texts, as `format_number` does with the same wishes, several times
         as fast. If `fill` is a text, that of None, NaN and `pandas.NA` is this."""
-        style = _style(**wishes)
+        style = _style(group, fraction_group, without_base, lowercase, min_digits, exponent, decimals)
         listed: Any = _one_column("numbers", numbers)
         listed = listed.tolist() if hasattr(listed, "tolist") else listed
         other: Any = lambda it: self._text_of(it, style)
@@ -997,7 +472,11 @@ class _Reader(_peltzivar.Reader):
         syntax = next((it for it in syntaxes if it.point and it.format.mantissa_radix == 10), syntaxes[0])
         return str(self._write((_writable(value, radix, syntax, style),), style, None)[0])
 
-    def parse(self, text: Union[str, bytes], type: Type[Number] = cast(Any, float)) -> Number:
+    @typing.overload
+    def parse(self, text: Union[str, bytes], type: Type[int]) -> int: ...
+    @typing.overload
+    def parse(self, text: Union[str, bytes], type: Type[float] = ...) -> float: ...
+    def parse(self, text: Union[str, bytes], type: Any = float) -> Any:
         """Returns the value of a text as a `float` or an `int`, faster than `read` does. Raises LiteralError if the
         text is not a number, and ValueError if an `int` is wanted and it is not an integer."""
         if type is not float and type is not int:
@@ -1010,8 +489,8 @@ class _Reader(_peltzivar.Reader):
     def column(
         self, cells: Union[Iterable[Union[str, bytes, None]], Tuple[Any, Any]],
         type: Union[Type[float], Type[Decimal], typing.Literal["d", "f", "q", "Q"]] = float, *,
-        errors: typing.Literal["raise", "coerce"] = "raise", fill: Union[float, Decimal, None] = None, out: Any = None,
-        scale: Optional[int] = None
+        errors: typing.Literal["raise", "coerce"] = "raise", fill: Union[float, Decimal, None] = None,
+        out: Optional[_Writable] = None, scale: Optional[int] = None
     ) -> Column:
         """Returns the values of cells, some ten times as fast as `read` does.
 
@@ -1046,7 +525,7 @@ class _Reader(_peltzivar.Reader):
             raise ValueError(f"fill is not a value of the column: {fill!r}") from None
         values = array(kind, bytes(size * len(status))) if out is None else out
         if out is not None:
-            with memoryview(out) as view:
+            with memoryview(cast(Any, out)) as view:
                 if view.shape != (len(status),):
                     raise ValueError(f"out has the shape {view.shape}, and there are {len(status)} cells")
                 if view.readonly or not view.contiguous:
@@ -1121,8 +600,7 @@ def _one_column(name: str, given: Any) -> Any:
 
 
 def _style(
-    group: Any = None, fraction_group: Any = None, without_base: Any = False, lowercase: Any = False,
-    min_digits: Any = 0, exponent: Any = None, decimals: Any = None
+    group: Any, fraction_group: Any, without_base: Any, lowercase: Any, min_digits: Any, exponent: Any, decimals: Any
 ) -> Tuple[int, ...]:
     """Returns wishes as the members of a style."""
     sizes = ("group", group), ("fraction_group", fraction_group)
@@ -1133,10 +611,6 @@ def _style(
         raise ValueError(f'exponent must be "never" or "always", not {exponent!r}')
     places = 0 if decimals is None else _number("decimals", decimals)
     return *groups, *flags_of, least, (None, "never", "always").index(exponent), decimals is not None, places
-
-
-# An error names the method whose wishes are passed on.
-_style.__qualname__ = "format_column"
 
 
 # How often 2 and 5 divide each number that no other prime divides.
@@ -1583,8 +1057,8 @@ class Suffixes(metaclass=_Class):
     integers: str = ""
     floats: str = ""
     any: str = ""
-    kinds: Any = ()
-    stops: Any = ()
+    kinds: Union[Mapping[str, Kind], Iterable[Tuple[str, Kind]]] = ()
+    stops: Iterable[Iterable[str]] = ()
     either_case: bool = False
     written: str = ""
     whole_words: bool = False
@@ -1596,21 +1070,21 @@ class Suffixes(metaclass=_Class):
         stops = tuple(tuple(_typed("a stop", it, str) for it in stop) for stop in self.stops)
         vars(self).update(kinds=kinds, stops=stops)
         [_typed(name, vars(self)[name], bool) for name in ("either_case", "whole_words")]
-        if any(len(stop) != 3 for stop in self.stops):
+        if any(len(stop) != 3 for stop in stops):
             raise ValueError(f"a stop has three strings: {self.stops}")
         texts = self.integers, self.floats, self.any, self.written, self.word_bytes
-        [_string(it) for it in (*texts, *(it for stop in self.stops for it in stop))]
+        [_string(it) for it in (*texts, *(it for stop in stops for it in stop))]
         known = "_" + self.word_bytes
         if wrong := [it for it in self._words() if any(it.isascii() and not it.isalnum() and it not in known for it in it)]:
             raise ValueError(f"a suffix has letters, digits, `_` and characters that are not ASCII: {wrong[0]!r}")
 
     def _words(self) -> List[str]:
-        return [*self.integers.split(" "), *self.floats.split(" "), *(it for it, _ in self.kinds)]
+        return [*self.integers.split(" "), *self.floats.split(" "), *dict(self.kinds)]
 
     def _members(self) -> Tuple[Any, ...]:
         """Returns the members of the structure."""
         stops = tuple(tuple(map(_string, stop)) for stop in self.stops)
-        kinds = tuple((_string(it), *kind._numbers()) for it, kind in self.kinds)
+        kinds = tuple((_string(it), *kind._numbers()) for it, kind in cast(Any, self.kinds))
         texts = self.integers, self.floats, self.any, self.written, self.word_bytes
         return *map(_string, texts), kinds, stops, int(self.either_case), int(self.whole_words)
 
@@ -1828,30 +1302,21 @@ class _Language(_Several, _Named):
 
 
 _TITLES: Dict[str, str] = dict(_c.LANGUAGES)
-_made = _Language
+_made: Any = _Language
 _c.Language = _made("Language", [(it, it) for it in _TITLES], module=__name__)
 _c.Language.__doc__ = _Language.__doc__
-from ._peltzivar import Language
+from ._peltzivar import Language as Language
 
 languages = Language
 
 
-@_takes(_peltzivar.fields)
-def notes_of(*settings: Union[Edit, str], **fields: Value) -> Tuple[Note, ...]:
-    """Returns the notes on the fields that settings write, also on a digit separator that `FormatView.of` drops."""
-    return _notes(_c.pack(_c.NEW_FIELDS, [it._numbers() for it in _edits(settings)])[0])
-
-
-def _edits(settings: Iterable[Union[Edit, str]]) -> List[Edit]:
-    """Returns settings as edits."""
-    return [it if isinstance(it, Edit) else Edit(_typed("a setting", it, str, _SETTING)) for it in settings]
-
-
+for _call in (*vars(_Reader).values(), *vars(_Several).values()):
+    if inspect.isfunction(_call) and _call.__name__[0] != "_":
+        _call.__qualname__ = _call.__name__  # An error has no name of a private class.
 for _of_class, _name in ((_Reader, "parse"), (_Reader, "format_number"), (Syntax, "read"), (_Several, "read")):
     # The method is one of C, with the signature and the documentation of that above, which it calls for what it leaves.
     _call = vars(_of_class)[_name]
     _call.__annotations__.clear()
-    _call.__qualname__ = _name
     _shown_as = str(inspect.signature(_call)).replace("(self", "($self", 1).replace("<class 'float'>", "float")
     setattr(_of_class, _name, _c.fast(_of_class, _call, f"{_name}{_shown_as}\n--\n\n{inspect.getdoc(_call)}"))
 _c.register(Literal, LiteralError)

@@ -1,7 +1,8 @@
 # Made by make_python.py from the imported module.
 from typing import Any, Optional, Union
 
-from . import Byte, Edit, _Error, _Language, _Named, _Rule
+from . import _Language
+from .words import Byte, Edit, _Error, _Named, _Rule
 
 class Reader:
     _column: Any; _explain: Any; _members: Any; _notation: Any; _read: Any; _special: Any; _spelled: Any; _token: Any

@@ -29,6 +29,7 @@ import unittest
 import weakref
 from array import array
 from decimal import Decimal
+from enum import Enum
 from fractions import Fraction
 from unittest import mock
 
@@ -36,7 +37,7 @@ TESTS = pathlib.Path(__file__).resolve().parent
 TOP = TESTS.parent.parent
 sys.path.insert(0, os.environ.get("PELTZIVAR_PACKAGE", str(TESTS.parent)))
 import peltzivar
-from peltzivar import Edit, Error, Format, FormatError, FormatView, Forms, Kind, Language, LiteralError, Opening, OptionsError, Part, ReadErrorKind
+from peltzivar import Edit, Error, Format, FormatError, FormatView, Forms, Kind, Language, Literal, LiteralError, Opening, OptionsError, Part, ReadErrorKind
 from peltzivar import Role, Rule, Setter, SettingsError, Special, Specials, Spelling, Suffixes, Syntax, Tokens, languages, notes_of
 
 numpy = importlib.import_module("numpy") if importlib.util.find_spec("numpy") else None
@@ -128,7 +129,7 @@ class Words(unittest.TestCase):
         self.assertRaisesRegex(AttributeError, "no_special=True", setattr, Format(), "no_special", True)
         self.assertEqual((f"{Format():>36}", f"{Format():#034x}"), (f"  {Format()}", "0x00000a0000000000000000000000000c"))
         self.assertEqual((repr(Format.no_special), f"{Rule(7)}"), ("<field no_special>", "PUNCTUATION_DIFFERS"))
-        self.assertEqual(doctest.testmod(peltzivar).failed, 0)
+        self.assertEqual([doctest.testmod(it).failed for it in (peltzivar, peltzivar.words)], [0, 0])
         self.assertEqual(sum(doctest.testfile(str(TOP / "docs" / it), module_relative=False).failed for it in ("C.md", "PYTHON.md")), 0)
 
     def test_options(self):
@@ -501,6 +502,8 @@ class Literals(unittest.TestCase):
         self.assertEqual([it.indexes for it in caught.exception.reasons], [(0,), (1, 2), (3, 4, 5, 6)])
 
 
+# The classes that are documented.
+KINDS_OF_OBJECTS = [it for of in (peltzivar, peltzivar.words) for it in map(vars(of).get, of.__all__) if isinstance(it, type)]
 BYTE = "one ASCII character or a number from 0 to 255"
 SUGGESTION = "unknown setting `digit_seperator`; did you mean `digit_separator`?"
 ONE_OPTION = "only one of the exponent character and the decimal point is absent: for numbers without an exponent, keep both, and set no_exponent_notation"
@@ -589,7 +592,7 @@ class Wrong(unittest.TestCase):
 
     @unittest.skipUnless(shutil.which("mypy"), "mypy")
     def test_a_type_checker_accepts_right_arguments_and_refuses_wrong_ones(self):
-        program = """from decimal import Decimal; from peltzivar import Format, Kind, Special, Spelling, Suffixes, Syntax, Tokens, languages, notes_of
+        program = """from decimal import Decimal; import peltzivar.words; from peltzivar import Format, Kind, Special, Spelling, Suffixes, Syntax, Tokens, languages, notes_of
 Format.of(mantissa_radix="x", base_prefx=3)
 Format().edit(no_special=1)
 Syntax.of(radix=16, point=1.5).read("1").value.real
@@ -611,40 +614,63 @@ Tokens(forms=5)
 Syntax.notes_of(radix="x")
 Syntax(Format()).format_number(1, exponent="often")
 Syntax(Format()).read("1").parts.whole
+languages.JSON.format_column([1], groups=3)
 """
         page = re.findall(r"^    (?:>>>|\.\.\.) (.*)$", ANALYSTS, re.M)
         program += "\n".join(it if it.startswith(("import", "from", " ")) else it for it in page) + "\n"
-        command = ["mypy", "--strict", f"--python-version={OLDEST}", "--cache-dir=/dev/null", peltzivar.__file__, TESTS / "typed.py", "/dev/stdin"]
+        first = program.count("\n") + 1
+        # Each argument of each call of each class refuses an object.
+        for kind in KINDS_OF_OBJECTS:
+            for name, call in [("", kind), *inspect.getmembers(kind, inspect.isroutine)]:
+                of = getattr(call, "__objclass__", call).__module__ if name else kind.__module__
+                if name[:1] == "_" or not of.startswith("peltzivar") or not name and issubclass(kind, (Enum, ValueError, Literal)):
+                    continue
+                # inspect does not know the signature of `parse` of texts, since its default is a class.
+                is_known = not hasattr(call, "__objclass__") or name != "parse"
+                for it in inspect.signature(call if is_known else lambda text, type: 0).parameters.values():
+                    given = "" if it.kind is it.VAR_POSITIONAL else 'text="1", type=' if it.name == "type" else f"{it.name}="
+                    if it.name not in ("self", "values") and it.kind is not it.VAR_KEYWORD:
+                        of = f"{kind.__module__}.{kind.__name__}"
+                        program += f"def _(it: {of}) -> None: {f'it.{name}' if name else of}({given}object())\n"
+        path = TESTS / "typed.py"
+        command = ["mypy", "--strict", f"--python-version={OLDEST}", "--cache-dir=/dev/null", peltzivar.__file__, path, "/dev/stdin"]
         ran = subprocess.run(command, env={**os.environ, "MYPYPATH": str(TESTS.parent)}, input=program, capture_output=True, text=True)
-        wrong = [int(line) for path, line in re.findall(r"^(.*):(\d+): error", ran.stdout, re.M) if path == "/dev/stdin" or self.fail(ran)]
-        self.assertEqual(wrong, [2, 2, 3, 4, 5, 6, 6, 6, *range(7, 23)], ran)
+        errors = re.findall(r"^(.*):(\d+): error: .*\[(.*)\]", ran.stdout, re.M)
+        wrong = [int(line) for file, line, _ in errors if file == "/dev/stdin" or self.fail(ran)]
+        self.assertEqual([it for it in wrong if it < first], [2, 2, 3, 4, 5, 6, 6, 6, *range(7, 24)], ran)
+        refused = {int(line) for _, line, code in errors if code in ("arg-type", "type-var", "call-overload")}
+        lines = program.splitlines()
+        self.assertEqual([lines[it - 1] for it in {*range(first, len(lines) + 1)} - refused], [])
 
     def test_values_have_the_types_of_a_typed_program(self):
         def fits(value, kind):
             origin, arguments = typing.get_origin(kind) or kind, typing.get_args(kind)
-            if origin is typing.Union:
-                return any(fits(value, it) for it in arguments)
+            if origin in (typing.Union, typing.Any):
+                return origin is typing.Any or any(fits(value, it) for it in arguments)
             if origin is not tuple:
                 return isinstance(value, origin)
             each = arguments[:1] * len(value) if arguments[1:] == (...,) else arguments
             return len(each) == len(value) and all(map(fits, value, each))
 
+        def typed(value, kind):
+            self.assertTrue(fits(value, kind), (kind, value))
+            return value
+
         path = TESTS / "typed.py"
-        made = runpy.run_path(str(path))
-        for name, kind in made["__annotations__"].items():
-            self.assertTrue(fits(made[name], kind), (name, kind, made[name]))
-        kinds = [it for it in map(vars(peltzivar).get, peltzivar.__all__) if isinstance(it, type)]
-        names = {name for kind in kinds for name in (*vars(kind), *vars(kind).get("__annotations__", ())) if name[0] != "_" and not name.isupper()}
+        with mock.patch("typing.assert_type", typed):
+            runpy.run_path(str(path))
+        names = {name for kind in KINDS_OF_OBJECTS for name in (*vars(kind), *vars(kind).get("__annotations__", ())) if name[0] != "_" and not name.isupper()}
         self.assertEqual(names - {*re.findall(r"\w+", path.read_text())} - {it.name.lower() for it in Setter}, set())
 
-    def test_help_has_no_private_names(self):
-        text = pydoc.plain(pydoc.render_doc(peltzivar))
-        self.assertEqual(re.findall(r"^ +\|  (_[a-z]\w*)", text, re.M), [])
-        self.assertNotRegex(text, r"builtins\.int|ctypes|Ellipsis|libpeltzivar|'_[A-Z][a-z]")
-        kinds = "Error|Language|Part|ReadErrorKind|Role|Rule|Setter|Spelling"
-        others = re.sub(rf"(?s)    (?:languages = )?class (?:{kinds})\(.*?\n *\n(?= {{0,4}}\w)", "", text)
-        self.assertLessEqual(len(others.splitlines()), 1500)
-        self.assertRegex(text, r"(?s)DESCRIPTION\n.*?\.read\(.*?\.value.*?Syntax\.of\(.*?Error.*?128-bit")
+    def test_help_begins_with_what_people_need_and_has_no_private_names(self):
+        text, words = (pydoc.plain(pydoc.render_doc(it)) for it in (peltzivar, peltzivar.words))
+        for it in (text, words):
+            self.assertEqual(re.findall(r"^ +\|  (_[a-z]\w*)", it, re.M), [])
+            self.assertNotRegex(it, r"builtins\.int|ctypes|Ellipsis|libpeltzivar|'_[A-Z][a-z]")
+        self.assertLessEqual(len(text.splitlines()), 1300)
+        first = re.findall(r"^ {8}(\w+) {2,}", text[: text.index(">>>")], re.M)
+        self.assertEqual((len(first), {*first} - {*peltzivar.__all__}), (10, set()))
+        self.assertEqual([it for it in peltzivar.words.__all__ if getattr(peltzivar, it) is not getattr(peltzivar.words, it)], [])
 
 
 BITS = 1, 8, 32, 64
