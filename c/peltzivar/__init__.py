@@ -345,20 +345,26 @@ class ColumnError(ValueError, metaclass=_Class):
 class _Wrong(Sequence[WrongCell]):
     """Wrong cells of texts by their indexes or, if there are none, of data with offsets."""
 
-    def __init__(self, owner: _Reader, texts: Any, data: bytes, offsets: Any, status: bytes) -> None:
-        self._owner, self._texts, self._data, self._offsets, self._status = owner, texts, data, offsets, status
-        self._count = len(status) - status.count(0)
+    def __init__(self, owner: _Reader, texts: Any, data: Any, offsets: Any, strips: bool, status: bytes) -> None:
+        self._owner, self._texts, self._data, self._offsets, self._strips = owner, texts, data, offsets, strips
+        self._status, self._count = status, len(status) - status.count(0)
 
     def __reduce__(self) -> Tuple[Any, ...]:
         """Returns what makes the same of the wrong cells alone."""
-        return _Wrong, (self._owner, {it: self._text(it) for it in self.indexes}, b"", None, self._status)
+        texts = {it: self._text(it) for it in self.indexes}
+        return _Wrong, (self._owner, texts, b"", None, self._strips, self._status)
 
     def _text(self, index: int) -> Any:
         """Returns a text, or None if its offsets do not ascend, or are not between the first and the last."""
         if self._texts:
             return self._texts[index]
         start, end = self._offsets[index : index + 2]
-        return self._data[start:end] if self._offsets[0] <= start <= end <= self._offsets[-1] else None
+        return bytes(self._data[start:end]) if self._offsets[0] <= start <= end <= self._offsets[-1] else None
+
+    def _read_text(self, index: int) -> Any:
+        """Returns what is read of a text, which has a place."""
+        text = self._text(index)
+        return text.strip(_BLANKS if isinstance(text, str) else _BLANKS.encode()) if self._strips else text
 
     def __len__(self) -> int:
         return self._count
@@ -374,7 +380,7 @@ class _Wrong(Sequence[WrongCell]):
         if text is None:
             return WrongCell(index, b"", ValueError("the offsets do not ascend here"))
         if status == _c.REFUSED:
-            return WrongCell(index, text, LiteralError(self._owner, text))
+            return WrongCell(index, text, LiteralError(self._owner, self._read_text(index)))
         return WrongCell(index, text, ValueError(_TOO_LONG if status == _LONG else _c.describe("value", status)))
 
     def __repr__(self) -> str:
@@ -487,20 +493,24 @@ class _Reader(_peltzivar.Reader):
         return type(number)
 
     def column(
-        self, cells: Union[Iterable[Union[str, bytes, None]], Tuple[Any, Any]],
+        self, cells: Union[Iterable[Union[str, bytes, None]], Tuple[Any, Any], Tuple[Any, Any, Any]],
         type: Union[Type[float], Type[Decimal], typing.Literal["d", "f", "q", "Q"]] = float, *,
         errors: typing.Literal["raise", "coerce"] = "raise", fill: Union[float, Decimal, None] = None,
-        out: Optional[_Writable] = None, scale: Optional[int] = None
+        out: Optional[_Writable] = None, scale: Optional[int] = None, missing: Iterable[Union[str, bytes]] = (),
+        strip: bool = False
     ) -> Column:
         """Returns the values of cells, some ten times as fast as `read` does.
 
         `cells` is a sequence of `str`, such as a column of pandas, or of `bytes`, or a tuple `(data, offsets)` of
         buffers, as Arrow holds texts, with offsets of 32 or 64 bits: `memoryview(offsets).cast("i")` or `"q"` if the
-        buffer has bytes. None, NaN and `pandas.NA` in a sequence are missing, and not wrong. `type` is `float`, `int`,
-        `Decimal`, whose values are a list, or the format of an array: `d` or `f` for floats, `q` or `Q` for integers of
-        64 bits. `values` is an `array.array`, or `out`, a writable buffer of such a format, such as an array of numpy.
-        A cell that is missing or wrong has the value `fill`, which is NaN if it is None, and which integers need. With
-        the `errors` "raise", a wrong cell raises ColumnError after the whole column is read.
+        buffer has bytes, and maybe with Arrow's bits of validity, or None, as a third member. Data that is read-only is
+        not copied, and must not change meanwhile. `strip` takes white space of ASCII around a number away. Missing, and
+        not wrong, are None, NaN and `pandas.NA` in a sequence, texts that are null by their bits, and those that are
+        then one of `missing`, such as `("", "-", "NA")`.
+        `type` is `float`, `int`, `Decimal`, whose values are a list, or the format of an array: `d` or `f` for floats,
+        `q` or `Q` for integers of 64 bits. `values` is an `array.array`, or `out`, a writable buffer of such a format,
+        such as an array of numpy. A cell that is missing or wrong has the value `fill`, which is NaN if it is None, and
+        which integers need. With the `errors` "raise", a wrong cell raises ColumnError after the whole column is read.
         With a `scale` from 0 to 255, `type` is `int`, and the values are those of `scaled(scale)` of literals: with 2,
         prices in cents. A product that is neither whole nor of 64 bits is not whole, but from 2^90 on (28 digits), it
         may be too large or too small.
@@ -509,42 +519,34 @@ class _Reader(_peltzivar.Reader):
         if scale is not None and kind != "q":
             raise TypeError("with a scale, type must be int, or the format q")
         places = -1 if scale is None else _number("scale", scale)
-        texts, data, offsets = _texts_of(cells)
+        if isinstance(missing, (str, bytes)):
+            raise TypeError(f"missing must be a sequence of texts, not {missing.__class__.__name__}")
+        buffers = _buffers_of(cells)
+        texts = () if buffers else tuple(_one_column("cells", cells))
+        data, offsets, valid = buffers or (b"", array("q", [0]), None)
         status, size = bytearray(len(texts) or len(offsets) - 1), {"f": 4}.get(kind, 8)
         if errors not in ("raise", "coerce"):
             raise ValueError(f"errors must be 'raise' or 'coerce', not {errors!r}")
         is_left = fill is None and kind in "qQ"
         fill = fill if fill is not None else 0 if is_left else Decimal("NaN") if type is Decimal else math.nan
-        try:
-            filling: Any = array(kind, [cast(Any, fill)])
-            if type is not Decimal and math.isinf(filling[0]) and filling[0] != fill:
-                raise OverflowError
-        except TypeError:
-            raise TypeError(f"fill must be a number of the column, not {fill.__class__.__name__}") from None
-        except OverflowError:
-            raise ValueError(f"fill is not a value of the column: {fill!r}") from None
-        values = array(kind, bytes(size * len(status))) if out is None else out
-        if out is not None:
-            with memoryview(cast(Any, out)) as view:
-                if view.shape != (len(status),):
-                    raise ValueError(f"out has the shape {view.shape}, and there are {len(status)} cells")
-                if view.readonly or not view.contiguous:
-                    raise TypeError("out must be writable, and have its items one after another")
-        missing = self._column(texts, data, offsets, kind, values, status, filling, _na(), places)
-        if is_left and (missing or errors == "coerce"):
+        values: Any = array(kind, bytes(size * len(status))) if out is None else _checked(out, len(status))
+        filling, known = _filling(kind, fill, type is Decimal), tuple(_encoded("a text of `missing`", it) for it in missing)
+        how = filling, _na(), places, _typed("strip", strip, bool), known
+        absent = self._column(texts, data, offsets, valid, kind, values, status, *how)
+        if is_left and (absent or errors == "coerce"):
             raise ValueError("integers have no NaN: pass `fill`, the value of cells that are missing or wrong")
-        wrong = _Wrong(self, texts, data, offsets, bytes(status))
+        wrong = _Wrong(self, texts, data, offsets, strip, bytes(status))
         if type is Decimal:
             # A float needs other radixes than a Decimal.
-            values, left, codes = [fill] * len(status), {*missing}, (0, _c.RADIX)
+            values, left, codes = [fill] * len(status), {*absent}, (0, _c.RADIX)
             for at, code in enumerate(status):
                 if code in codes and at not in left:
                     try:
-                        values[at], status[at] = self.read(wrong._text(at)).decimal(), 0
+                        values[at], status[at] = self.read(wrong._read_text(at)).decimal(), 0
                     except (OverflowError, ValueError):
                         status[at] = code or _LONG
-            wrong = _Wrong(self, texts, data, offsets, bytes(status))
-        column = Column(values, wrong, missing)
+            wrong = _Wrong(self, texts, data, offsets, strip, bytes(status))
+        column = Column(values, wrong, absent)
         if wrong and errors == "raise":
             raise ColumnError(column)
         return column
@@ -555,6 +557,7 @@ def _na() -> Any:
     return getattr(sys.modules.get("pandas"), "NA", None)
 
 
+_BLANKS = " \t\n\v\f\r"
 _OFFSETS = ("i", "I", "l", "L", "q", "Q")
 _FORMATS = ("d", "f", "q", "Q")
 
@@ -571,25 +574,54 @@ def _format(type: Any, out: Any) -> str:
     return found
 
 
-def _texts_of(cells: Any) -> Tuple[Tuple[Any, ...], bytes, Any]:
-    """Returns cells as a tuple of texts, or as bytes with whole offsets of their own."""
-    given = None
-    if type(cells) is tuple and len(cells) == 2 and not isinstance(cells[1], (str, bytes)):
-        with contextlib.suppress(TypeError):
-            given = memoryview(cells[1])
-        if isinstance(cells[1], Sequence) and given is None:
-            raise TypeError(f"offsets must be an array, such as array('q', [0, 3]), not {type(cells[1]).__name__}")
-    if given is not None and given.ndim:
-        if given.format not in _OFFSETS:
-            raise TypeError(f"offsets must have one of the formats {', '.join(_OFFSETS)}, not {given.format!r}")
-        data, offsets = bytes(memoryview(cells[0])), array("q", bytes(8 * (len(given) or 1)))
-        # Offsets of 32 bits are the lower halves of the others.
-        halves = given.itemsize == 4
-        memoryview(offsets).cast("B").cast(given.format)[: len(given) << halves : 1 + halves] = given
-        if offsets[0] < 0 or offsets[-1] > len(data):
-            raise ValueError(f"offsets are not within the data, which has {len(data)} bytes")
-        return (), data, offsets
-    return tuple(_one_column("cells", cells)), b"", array("q", [0])
+def _filling(kind: str, fill: Any, is_decimal: bool) -> Any:
+    """Returns what cells without a value have. Raises an error if a column of this format does not have it."""
+    try:
+        filling: Any = array(kind, [fill])
+        if not is_decimal and math.isinf(filling[0]) and filling[0] != fill:
+            raise OverflowError
+        return filling
+    except TypeError:
+        raise TypeError(f"fill must be a number of the column, not {type(fill).__name__}") from None
+    except OverflowError:
+        raise ValueError(f"fill is not a value of the column: {fill!r}") from None
+
+
+def _checked(out: Any, count: int) -> Any:
+    """Returns a buffer to which this many values are written. Raises an error if it cannot have them."""
+    with memoryview(out) as view:
+        if view.shape != (count,):
+            raise ValueError(f"out has the shape {view.shape}, and there are {count} cells")
+        if view.readonly or not view.contiguous:
+            raise TypeError("out must be writable, and have its items one after another")
+    return out
+
+
+def _buffers_of(cells: Any) -> Optional[Tuple[Any, Any, Any]]:
+    """Returns bytes, whole offsets of their own, and bits of validity or None. Returns None for a sequence of texts."""
+    if type(cells) is not tuple or len(cells) not in (2, 3) or isinstance(cells[1], (str, bytes)):
+        return None
+    data, given, valid = (*cells, None)[:3]
+    try:
+        given = memoryview(given)
+    except TypeError:
+        if isinstance(given, Sequence):
+            raise TypeError(f"offsets must be an array, such as array('q', [0, 3]), not {type(given).__name__}") from None
+        return None
+    if not given.ndim:
+        return None
+    if given.format not in _OFFSETS:
+        raise TypeError(f"offsets must have one of the formats {', '.join(_OFFSETS)}, not {given.format!r}")
+    if valid is not None and (valid := memoryview(valid)).format not in ("B", "b", "c"):
+        raise TypeError(f"validity must be bytes, with a bit for each text, and not of the format {valid.format!r}")
+    data, offsets = memoryview(data), array("q", bytes(8 * (len(given) or 1)))
+    is_kept = data.readonly and data.ndim == data.itemsize == 1 and data.contiguous
+    # Offsets of 32 bits are the lower halves of the others.
+    halves = given.itemsize == 4
+    memoryview(offsets).cast("B").cast(given.format)[: len(given) << halves : 1 + halves] = given
+    if offsets[0] < 0 or offsets[-1] > data.nbytes:
+        raise ValueError(f"offsets are not within the data, which has {data.nbytes} bytes")
+    return data if is_kept else bytes(data), offsets, None if valid is None else bytes(valid)
 
 
 def _one_column(name: str, given: Any) -> Any:

@@ -184,6 +184,12 @@ static Py_ssize_t characters(const char *bytes, Py_ssize_t size) {
 static PyObject *shown(const char *text) { return PyUnicode_DecodeUTF8(text, (Py_ssize_t)strlen(text), "replace"); }
 static PyObject *halves(peltzivar_word word) { return Py_BuildValue("(KK)", word.low, word.high); }
 
+/* Appends a new object to a list. Without the object or memory, the list is gone. */
+static void append(PyObject **list, PyObject *it) {
+    if (!it || PyList_Append(*list, it)) Py_CLEAR(*list);
+    Py_XDECREF(it);
+}
+
 /* READING */
 
 /* Calls a function of Python with the arguments of a method. */
@@ -212,14 +218,15 @@ static void parse_column(char format, const peltzivar_forms *by, const char *dat
 }
 
 /* Parses a text as a column, which is faster than the call for one text. */
-static peltzivar_value_status parse_as(char format, const peltzivar_forms *by, const Text *text, void *out) {
-    const int64_t offsets[] = {0, text->size};
+static peltzivar_value_status parse_as(
+    char format, const peltzivar_forms *by, const char *text, Py_ssize_t size, void *out) {
+    const int64_t offsets[] = {0, size};
     uint8_t status;
-    parse_column(format, by, text->bytes, offsets, 1, out, &status);
+    parse_column(format, by, text, offsets, 1, out, &status);
     return status;
 }
 
-/* Parses a text, or each text of a column, as its value times a power of ten. */
+/* Parses a text as its value times a power of ten. */
 static peltzivar_value_status parse_scaled(
     const peltzivar_forms *by, const char *text, Py_ssize_t size, uint8_t places, int64_t *out) {
     peltzivar_literal it;
@@ -227,16 +234,6 @@ static peltzivar_value_status parse_scaled(
     if (peltzivar_forms_read(by, text, (size_t)size, &it, NULL)) return peltzivar_to_scaled_i64(&it, places, out);
     return peltzivar_forms_read_special(by, text, (size_t)size, &special) ? PELTZIVAR_VALUE_SPECIAL
                                                                           : PELTZIVAR_VALUE_REFUSED;
-}
-
-static void parse_scaled_column(const peltzivar_forms *by, const char *data, const int64_t *offsets, Py_ssize_t count,
-    uint8_t places, int64_t *out, uint8_t *status) {
-    for (Py_ssize_t i = 0; i < count; i++) {
-        int64_t start = offsets[i], end = offsets[i + 1];
-        bool is_text = offsets[0] <= start && start <= end && end <= offsets[count];
-        status[i] = is_text ? parse_scaled(by, data + start, (Py_ssize_t)(end - start), places, &out[i])
-                            : PELTZIVAR_VALUE_REFUSED;
-    }
 }
 
 static PyObject *refuse(Reader *self, PyObject *text, PyObject *start) {
@@ -256,7 +253,8 @@ static PyObject *reader_parse(PyObject *self, PyObject *const *given, Py_ssize_t
     peltzivar_value_status status = PELTZIVAR_VALUE_NO_LITERAL;
     if (!is_made(by)) return NULL;
     if (!names && is_known && opened(given[0], &text)) {
-        status = is_int ? parse_as('q', by->forms, &text, &whole) : parse_as('d', by->forms, &text, &real);
+        void *to = is_int ? (void *)&whole : &real;
+        status = parse_as(is_int ? 'q' : 'd', by->forms, text.bytes, text.size, to);
         Py_DECREF(text.data);
     }
     if (status == PELTZIVAR_VALUE_REFUSED) return refuse(by, given[0], NULL);
@@ -443,60 +441,119 @@ static int is_missing(PyObject *cell, PyObject *na) {
     return result;
 }
 
-/* _column(cells, data, offsets, format, values, status, fill, na, scale): the indexes of missing cells. The cells are a
- * tuple of texts, or () for data with offsets, whose memory nothing else changes. `fill` has the bytes of other values.
- * Integers have a scale, unless it is below 0. */
-static PyObject *reader_column(PyObject *self, PyObject *given) {
-    Reader *by = (Reader *)self;
-    PyObject *cells, *na, *missing = PyList_New(0);
-    const char *kind = NULL;
-    Py_buffer data, offsets, values, status, fill;
-    int format, scale;
-    if (!missing || !is_made(by) || !PyArg_ParseTuple(given, "O!y*y*Cw*w*y*Oi", &PyTuple_Type, &cells, &data, &offsets,
-        &format, &values, &status, &fill, &na, &scale)) return Py_XDECREF(missing), NULL;
-    Py_ssize_t size = fill.len, count = status.len, of_texts = PyTuple_Size(cells);
-    uint8_t *statuses = status.buf;
-    bool is_wrong = of_texts ? of_texts != count : offsets.len != 8 * (count + 1);
-    if (is_wrong || size != (format == 'f' ? 4 : 8) || values.len != count * size) {
-        PyErr_SetString(PyExc_ValueError, "the sizes differ");
-    } else if (!of_texts) {
-        Py_BEGIN_ALLOW_THREADS
-        if (scale >= 0)
-            parse_scaled_column(by->forms, data.buf, offsets.buf, count, (uint8_t)scale, values.buf, statuses);
-        else parse_column((char)format, by->forms, data.buf, offsets.buf, (size_t)count, values.buf, statuses);
-        Py_END_ALLOW_THREADS
+/* How the cells of a column are read: values of a format, with a scale unless it is below 0. Blanks around a number are
+ * taken away if `strips`, and a cell that is then one of the `texts` is missing. */
+typedef struct {
+    const peltzivar_forms *forms;
+    int format, scale, strips;
+    Py_ssize_t count, longest;
+    const Text *texts;
+} Cells;
+
+/* The status of a cell that is missing. */
+#define MISSING 255
+
+static bool is_blank(char it) { return it == ' ' || (it >= '\t' && it <= '\r'); }
+
+/* Takes blanks away from a cell, and returns whether it is missing. */
+static inline bool is_none(const Cells *by, const char **text, Py_ssize_t *size) {
+    for (; by->strips && *size && is_blank((*text)[*size - 1]); --*size) {}
+    for (; by->strips && *size && is_blank(**text); --*size) ++*text;
+    for (Py_ssize_t i = *size > by->longest ? by->count : 0; i < by->count; i++)
+        if (by->texts[i].size == *size && !memcmp(by->texts[i].bytes, *text, (size_t)*size)) return true;
+    return false;
+}
+
+static uint8_t parse_cell(const Cells *by, const char *text, Py_ssize_t size, void *to) {
+    if (is_none(by, &text, &size)) return MISSING;
+    return by->scale < 0 ? parse_as((char)by->format, by->forms, text, size, to)
+                         : parse_scaled(by->forms, text, size, (uint8_t)by->scale, to);
+}
+
+/* Parses data with offsets. A cell whose bit of `valid` is 0 is missing, if there are such bits. */
+static void parse_cells(const Cells *by, const char *data, const int64_t *offsets, Py_ssize_t count,
+    const uint8_t *valid, char *values, Py_ssize_t width, uint8_t *status) {
+    if (by->scale < 0) parse_column((char)by->format, by->forms, data, offsets, (size_t)count, values, status);
+    for (Py_ssize_t i = 0; i < count && (by->scale >= 0 || by->strips || by->count || valid); i++) {
+        int64_t start = offsets[i], end = offsets[i + 1];
+        const char *text = data + start;
+        Py_ssize_t size = (Py_ssize_t)(end - start);
+        if (valid && !(valid[i / 8] >> i % 8 & 1)) status[i] = MISSING;
+        else if (offsets[0] > start || start > end || end > offsets[count]) status[i] = PELTZIVAR_VALUE_REFUSED;
+        else if (is_none(by, &text, &size) || by->scale >= 0 || size != end - start)
+            status[i] = parse_cell(by, data + start, (Py_ssize_t)(end - start), values + i * width);
     }
-    for (Py_ssize_t i = 0; i < of_texts && !kind; i++) {
+}
+
+/* Parses a tuple of texts of one type. Returns false with an error for a cell of another type. */
+static bool parse_texts(const Cells *by, PyObject *cells, PyObject *na, char *values, Py_ssize_t width, uint8_t *status) {
+    const char *kind = NULL;
+    Py_ssize_t count = PyTuple_Size(cells);
+    for (Py_ssize_t i = 0; i < count && !kind; i++) {
         PyObject *it = PyTuple_GetItem(cells, i);
         kind = PyUnicode_Check(it) ? "str" : PyBytes_Check(it) ? "bytes" : NULL;
     }
-    for (Py_ssize_t i = 0; i < of_texts && !PyErr_Occurred(); i++) {
-        PyObject *it = PyTuple_GetItem(cells, i), *name, *index;
+    for (Py_ssize_t i = 0; i < count && !PyErr_Occurred(); i++) {
+        PyObject *it = PyTuple_GetItem(cells, i), *name;
         Text text;
         bool is_text_of_kind = kind && *kind == 'b' ? PyBytes_Check(it) : PyUnicode_Check(it);
-        int is_none = 0;
         if (is_text_of_kind && opened(it, &text)) {
-            char *value = (char *)values.buf + i * size;
-            statuses[i] = scale < 0 ? parse_as((char)format, by->forms, &text, value)
-                                    : parse_scaled(by->forms, text.bytes, text.size, (uint8_t)scale, (int64_t *)value);
+            status[i] = parse_cell(by, text.bytes, text.size, values + i * width);
             Py_DECREF(text.data);
-        } else if (!PyErr_Occurred() && (is_none = is_missing(it, na)) == 1 && (index = PyLong_FromSsize_t(i))) {
-            statuses[i] = PyList_Append(missing, index) ? 1 : UINT8_MAX;
-            Py_DECREF(index);
+        } else if (!PyErr_Occurred() && is_missing(it, na) == 1) {
+            status[i] = MISSING;
         } else if (!PyErr_Occurred() && (name = PyType_GetName(Py_TYPE(it)))) {
             PyErr_Format(PyExc_TypeError, "cell %zd must be a %s, not %S", i, kind ? kind : "str", name);
             Py_DECREF(name);
         }
     }
-    for (Py_ssize_t i = 0; i < count && !PyErr_Occurred(); i++)
-        if (statuses[i]) {
-            memcpy((char *)values.buf + i * size, fill.buf, (size_t)size);
-            if (statuses[i] == UINT8_MAX) statuses[i] = 0;
-        }
-    PyBuffer_Release(&data), PyBuffer_Release(&offsets), PyBuffer_Release(&values);
-    PyBuffer_Release(&status), PyBuffer_Release(&fill);
-    PyObject *result = PyErr_Occurred() ? NULL : PyList_AsTuple(missing);
-    Py_DECREF(missing);
+    return !PyErr_Occurred();
+}
+
+/* _column(cells, data, offsets, valid, format, values, status, fill, na, scale, strips, texts): the indexes of missing
+ * cells. The cells are a tuple of texts, or () for data with offsets, whose memory nothing else changes. `fill` has the
+ * bytes of other values. */
+static PyObject *reader_column(PyObject *self, PyObject *given) {
+    Reader *by = (Reader *)self;
+    PyObject *cells, *na, *texts, *missing = PyList_New(0);
+    Py_buffer data, offsets, valid, values, status, fill;
+    Cells how = {0};
+    if (!missing || !is_made(by) || !PyArg_ParseTuple(given, "O!y*y*z*Cw*w*y*OipO!", &PyTuple_Type, &cells, &data,
+        &offsets, &valid, &how.format, &values, &status, &fill, &na, &how.scale, &how.strips, &PyTuple_Type, &texts))
+        return Py_XDECREF(missing), NULL;
+    Py_ssize_t width = fill.len, count = status.len, of_texts = PyTuple_Size(cells);
+    uint8_t *statuses = status.buf;
+    Text *known = PyMem_Calloc((size_t)PyTuple_Size(texts) + 1, sizeof *known);
+    bool is_done = known;
+    for (; is_done && how.count < PyTuple_Size(texts); how.count += is_done) {
+        Text *it = &known[how.count];
+        is_done = is_text(PyTuple_GetItem(texts, how.count), it);
+        if (is_done && it->size > how.longest) how.longest = it->size;
+    }
+    how.forms = by->forms, how.texts = known;
+    bool is_wrong = of_texts ? of_texts != count : offsets.len != 8 * (count + 1);
+    is_wrong |= width != (how.format == 'f' ? 4 : 8) || values.len != count * width;
+    if (!known) {
+        PyErr_NoMemory();
+    } else if (is_done && (is_wrong || (valid.buf && valid.len < (count + 7) / 8))) {
+        PyErr_SetString(PyExc_ValueError, is_wrong ? "the sizes differ" : "there are fewer bits of validity than cells");
+    } else if (is_done && of_texts) {
+        parse_texts(&how, cells, na, values.buf, width, statuses);
+    } else if (is_done) {
+        Py_BEGIN_ALLOW_THREADS
+        parse_cells(&how, data.buf, offsets.buf, count, valid.buf, values.buf, width, statuses);
+        Py_END_ALLOW_THREADS
+    }
+    for (Py_ssize_t i = 0; i < count && missing && !PyErr_Occurred(); i++) {
+        if (statuses[i]) memcpy((char *)values.buf + i * width, fill.buf, (size_t)width);
+        if (statuses[i] == MISSING) append(&missing, PyLong_FromSsize_t(i)), statuses[i] = 0;
+    }
+    while (how.count) Py_DECREF(known[--how.count].data);
+    PyMem_Free(known);
+    Py_buffer *const all[] = {&data, &offsets, &valid, &values, &status, &fill};
+    for (size_t i = 0; i < sizeof all / sizeof *all; i++) PyBuffer_Release(all[i]);
+    PyObject *result = missing && !PyErr_Occurred() ? PyList_AsTuple(missing) : NULL;
+    Py_XDECREF(missing);
     return result;
 }
 
@@ -835,12 +892,6 @@ static PyObject *digit(uint32_t it) {
 static PyObject *fields(peltzivar_fields it) { return tuple_of(&fields_members, (const char *)&it); }
 static PyObject *separators(peltzivar_separators it) {
     return Py_BuildValue("(NNNN)", TRUTH(it.internal), TRUTH(it.leading), TRUTH(it.trailing), TRUTH(it.consecutive));
-}
-
-/* Appends a new object to a list. Without the object or memory, the list is gone. */
-static void append(PyObject **list, PyObject *it) {
-    if (!it || PyList_Append(*list, it)) Py_CLEAR(*list);
-    Py_XDECREF(it);
 }
 
 static PyObject *edits(peltzivar_word word) {

@@ -72,6 +72,30 @@ class Columns(unittest.TestCase):
             empty = [offsets[0] <= offsets[it.index] == offsets[it.index + 1] <= offsets[-1] for it in wrong]
             self.assertEqual([str(it)[:12] for it in wrong], ["expected a d" if it else "the offsets " for it in empty])
 
+    def test_blank_null_and_missing_texts_of_each_kind_of_column(self):
+        numbers, names, blanks = {"1": 1, "12": 12, "-7": -7}, ["", "-", "NA", "\u00e9"], ["", " ", "\t\r\n", "\v \f"]
+        cells = [before + it + after for it in (*numbers, *names, "x", "1 2") for before, after in itertools.product(blanks, repeat=2)]
+        encoded, bits = [*map(str.encode, cells)], bytearray(len(cells) // 8 + 1)
+        for at in range(0, len(cells), 3):
+            bits[at // 8] |= 1 << at % 8
+        ends = array("i", itertools.accumulate(map(len, encoded), initial=0))
+        data, kinds = b"".join(encoded), [float, Decimal, "f", "q", "Q", "q"]
+        rows = itertools.product(enumerate(kinds), (False, True), ((), names, ("-", b"x")), (cells, encoded, (data, ends), (data, ends, bits)))
+        for (at, kind), strip, missing, given in rows:
+            read = [it.strip(" \t\n\v\f\r") if strip else it for it in cells]
+            known = [it if isinstance(it, str) else it.decode() for it in missing]
+            absent = [of for of, it in enumerate(read) if it in known or len(given) == 3 and of % 3]
+            wrong = [of for of, it in enumerate(read) if of not in absent and (it not in numbers or kind == "Q" and it == "-7")]
+            more = {"scale": 2} if at == 5 else {}
+            column = Language.CSV_DE.column(given, kind, errors="coerce", fill=99, missing=missing, strip=strip, **more)
+            values = [99 if of in absent + wrong else numbers[it] * 10 ** more.get("scale", 0) for of, it in enumerate(read)]
+            self.assertEqual(([*column.values], column.missing, [it.index for it in column.wrong]), (values, (*absent,), wrong))
+            self.assertEqual([it.text for it in column.wrong], [(cells if given is cells else encoded)[it] for it in wrong])
+            for it in column.wrong:
+                self.assertIn(getattr(it.error, "text", "-7"), (read[it.index], read[it.index].encode()))
+        for wrong, sentence in ((bits[:-2], "fewer bits"), (array("h", [1] * 99), "^validity must be bytes")):
+            self.assertRaisesRegex((ValueError, TypeError), sentence, Language.CSV_DE.column, (data, ends, wrong))
+
     def test_one_text(self):
         rows = [("1.5", float, 1.5), (b"15", int, 15), ("-inf", float, -math.inf)]
         for text, kind, value in [*rows, ("9" * 30, int, int("9" * 30)), ("1" * 99, float, float("1" * 99))]:
@@ -166,12 +190,17 @@ class Columns(unittest.TestCase):
             "offsets": (0.9, lambda: json.column((data, offsets))),
             "refused": (1.5, lambda: json.column(wrong, errors="coerce")),
         }
-        for name, (limit, call) in rows.items():
+        plain, buffers, how = lambda: [float(it) for it in texts], (data, offsets), {"missing": ("", "-", "NA"), "strip": True}
+        rows = {name: (*row, plain) for name, row in rows.items()}
+        rows["stripped"] = 1.2, lambda: json.column(texts, **how), rows["column"][1]
+        rows["stripped offsets"] = 1.2, lambda: json.column(buffers, **how), rows["offsets"][1]
+        rows["validity"] = 1.2, lambda: json.column((*buffers, b"\xff" * 100)), rows["offsets"][1]
+        for name, (limit, call, other) in rows.items():
             ratios = []
             while min(ratios, default=math.inf) > limit:
-                times = (min(timeit.repeat(it, number=1, repeat=9)) for it in (call, lambda: [float(it) for it in texts]))
+                times = (min(timeit.repeat(it, number=1, repeat=9)) for it in (call, other))
                 ratios.append(operator.truediv(*times))
-                self.assertLess(len(ratios), 99, f"{name}: {min(ratios):.1f} times that of float, above {limit}. Is the machine busy?")
+                self.assertLess(len(ratios), 99, f"{name}: {min(ratios):.1f} times that of float or without, above {limit}. Is the machine busy?")
 
 
 if __name__ == "__main__":

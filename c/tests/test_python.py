@@ -530,6 +530,8 @@ WRONG = [
     ("Language.JSON.column(memoryview(b'1234').cast('B', (2, 2)))", TypeError, f"cells {COLUMN} memoryview"),
     ("Language.JSON.format_column({'1': 2})", TypeError, f"numbers {COLUMN} dict"),
     ("Language.JSON.column((b'12', [0, 1, 2]))", TypeError, "offsets must be an array, such as array('q', [0, 3]), not list"),
+    ("Language.JSON.column(['1'], missing='NA')", TypeError, "missing must be a sequence of texts, not str"),
+    ("Language.JSON.column(['1'], missing=[5])", TypeError, "a text of `missing` must be a str or bytes, not int"),
     ("Language.JSON.column(['1'], fill='0')", TypeError, "fill must be a number of the column, not str"),
     ("Forms({'a': Syntax(Format())}, suffixes={'a': Suffixes('k 5k')})", ValueError, "a suffix begins with a digit, with which the number goes on: '5k'"),
     ("Language.JSON.column([1])", TypeError, "cell 0 must be a str, not int"),
@@ -901,6 +903,7 @@ def each_call():
     calls = [lambda: forms.token("7u8;\u00e9"), lambda: forms.token("7u9", FormatView(0)), lambda: forms.read(text), lambda: forms.parse("9" * 99, int)]
     calls += [lambda: Language.CSV_DE.column(["1,5", None, "x", "\ud800"], errors="coerce").wrong[0].error.span, lambda: Language.C.column([1.5])]
     calls += [lambda: Language.CSV_DE.format_column(prices, fill="", decimals=2), number.decimal, number.fraction, lambda: number.parts, lambda: forms.read("x")]
+    calls += [lambda: Language.CSV_DE.column((b" 1NA", array("i", [0, 2, 4]), b"\3"), fill=Fraction(1, 2), missing=["NA", "-"], strip=True)]
     calls += [lambda: SYNTAX.format_number(10**50, group=3), lambda: SYNTAX.format_number(1.5, decimals=300), lambda: Syntax.of("radix=40"), lambda: repr(SYNTAX)]
     calls += [lambda: forms.format_number(1.5, min_digits=255, group=1), FormatView(-1 & 2**128 - 1).reasons, SYNTAX.format.edits, SYNTAX.format.notes]
     calls += [Language.C._members, SYNTAX.grammar, lambda: FormatView(0).options_reasons("1", "2"), lambda: Syntax.notes_of("radix=2", "radix=3")]
