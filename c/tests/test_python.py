@@ -22,6 +22,7 @@ import subprocess
 import sys
 import sysconfig
 import tempfile
+import threading
 import time
 import tracemalloc
 import typing
@@ -896,6 +897,10 @@ def halved(part):
     return column, own, Language.CSV_DE.column(part, Decimal, errors="coerce", fill=Decimal(0))
 
 
+# The kinds of columns.
+COLUMNS = [(float, {}), ("f", {}), ("q", {}), ("Q", {}), (int, {"scale": 1}), (Decimal, {})]
+
+
 def each_call():
     """Returns calls of each part of the module, with values and errors."""
     forms = Forms({"a": SYNTAX}, nan="x", kinds={"a": Kind(8)}, suffixes={"a": Suffixes("u8", stops=[("", ".", "0")])}, tokens=Tokens())
@@ -941,6 +946,46 @@ class Extension(unittest.TestCase):
             gc.collect()
             used.append(tracemalloc.get_traced_memory()[0])
         self.assertLess(used[3] - used[1], 20_000, used)
+
+    def test_long_columns_of_each_kind_keep_no_memory(self):
+        cells = [None, "x", " 1,5 ", "-", "2"] * 200
+        texts = [(it or "").encode() for it in cells]
+        buffers = b"".join(texts), array("i", itertools.accumulate(map(len, texts), initial=0)), b"\xbd" * 125
+        ways = [*itertools.product((cells, buffers[:2], buffers), ({}, {"missing": ["-"], "strip": True}))]
+        for kind, more in (*COLUMNS, ("d", {"out": array("d", bytes(8000))})):
+            read = lambda: [len(Language.CSV_DE.column(it, kind, errors="coerce", fill=7, **way, **more).wrong) for it, way in ways]
+            read(), gc.collect()
+            used = sys.getallocatedblocks()
+            for _ in range(500):
+                read()
+            gc.collect()
+            self.assertLess(sys.getallocatedblocks() - used, 99, (kind, more))
+
+    def test_another_thread_runs_while_a_column_of_data_with_offsets_is_read(self):
+        data, offsets, valid, turns = b"12" * 50_000, array("q", range(0, 100_001, 2)), b"\xff" * 6250, [0]
+
+        def count():
+            while turns[0] >= 0:
+                turns[0] += 1
+                time.sleep(0)
+
+        # In so many seconds, no thread loses the lock unless it releases it.
+        self.addCleanup(sys.setswitchinterval, sys.getswitchinterval())
+        sys.setswitchinterval(99)
+        thread = threading.Thread(target=count)
+        thread.start()
+        self.addCleanup(thread.join)
+        self.addCleanup(turns.__setitem__, 0, -sys.maxsize)
+        ways = [{}, {"missing": ["-"], "strip": True}]
+        for (kind, more), way, cells in itertools.product(COLUMNS, ways, ((data, offsets), (data, offsets, valid))):
+            for _ in range(99):
+                time.sleep(0.001)
+                before = turns[0]
+                Language.JSON.column(cells, kind, fill=0, **way, **more)
+                if turns[0] > before:
+                    break
+            else:
+                self.fail(f"the lock is kept: {kind}, {way}, {more}")
 
     @unittest.skipUnless(importlib.util.find_spec("_testcapi"), "_testcapi")
     def test_an_allocation_that_fails_is_an_error_of_memory(self):
