@@ -80,7 +80,7 @@ def stub():
 
     calls, kinds = peltzivar._peltzivar, "Setter Rule Error Part Role ReadErrorKind Spelling Language".split()
     lines = ["# Made by make_python.py from the imported module.", "from typing import Any, Optional, Union", ""]
-    lines += ["from . import _Language", "from .words import Byte, Edit, _Error, _Named, _Rule"]
+    lines += ["from . import _Language", "from .words import Byte, Edit, _Error, _Named"]
     for kind in (calls.Reader, calls.Found):
         lines += ["", f"class {kind.__name__}:"]
         names = "; ".join(f"{name}:~Any" for name in sorted(vars(kind)) if name[0] == "_" != name[1])

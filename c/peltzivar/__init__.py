@@ -78,8 +78,8 @@ class LiteralError(ValueError, metaclass=_Class):
     with. If it is the length of the text, characters are missing. `span` is the first index and the end of the
     characters to show, maybe none, as in `text[slice(*span)]`. `kind` is the kind of the cause, and `part` the part of
     a separator or of missing digits. `mask` has the flags to blame as bits of a word, and `conditions` the names of
-    conditions. A wrong byte and missing digits blame none. `error` is the cause as one of the errors of the parsers of
-    Rust's crate `lexical`. `form` is the name of the form of a language for which most of the text is right, or empty.
+    conditions. A wrong byte and missing digits blame none. `form` is the name of the form of a language for which most
+    of the text is right, or empty.
     """
 
     sentence: str
@@ -90,7 +90,6 @@ class LiteralError(ValueError, metaclass=_Class):
     kind: ReadErrorKind
     part: Optional[Part]
     mask: int
-    error: Error
     form: str
     conditions: Tuple[str, ...]
 
@@ -100,7 +99,7 @@ class LiteralError(ValueError, metaclass=_Class):
             raise AttributeError(name)
         owner, text, *start = self.args
         at, found = start[0] if start else 0, owner._explain(text, start[0] if start else -1)
-        self.sentence, self.full_sentence, valid, begin, end, kind, part, mask, code, form, bits = found
+        self.sentence, self.full_sentence, valid, begin, end, kind, part, mask, form, bits = found
         self.text, self.valid_up_to, self.span = text, at + valid, (at + begin, at + end)
         # Python shows each character, also one that a terminal does not.
         wrong = "" if isinstance(text, bytes) else text[self.valid_up_to : self.valid_up_to + 1]
@@ -109,7 +108,7 @@ class LiteralError(ValueError, metaclass=_Class):
         self.kind, self.mask = ReadErrorKind(kind), _joined(mask)
         self.part = next(iter(_members(Part, 1 << part)), None)
         self.conditions = tuple(it for bit, it in enumerate(_CONDITIONS) if bits >> bit & 1)
-        self.error, self.form = Error(code), owner._listed[form][0]
+        self.form = owner._listed[form][0]
         return vars(self)[name]
 
     def __repr__(self) -> str:
@@ -695,7 +694,9 @@ class Syntax(_Reader, metaclass=_Class):
         format = self.format.normal_form()
         if self.exponent is not None and self.point is not None:
             options = _byte("exponent", self.exponent), _byte("point", self.point)
-            format.check_options(*options)
+            found = _c.options_reasons(format._halves, *options)
+            if reasons := tuple(Reason(text, _joined(mask), options=_members(Role, of)) for text, mask, of in found):
+                raise OptionsError(reasons)
         elif self.exponent is not self.point:
             sentence = str(_c.settings_text(b"exponent=none"))
             raise OptionsError((Reason(sentence, options=(Role.EXPONENT, Role.POINT)),))

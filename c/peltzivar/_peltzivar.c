@@ -424,8 +424,8 @@ static PyObject *reader_explain(PyObject *self, PyObject *const *given, Py_ssize
         }
         Py_ssize_t at[] = {(Py_ssize_t)error.valid_up_to, (Py_ssize_t)why.span.start, (Py_ssize_t)why.span.end};
         for (int i = 0; i < 3 && PyUnicode_Check(given[0]); i++) at[i] = characters(rest.bytes, at[i]);
-        result = Py_BuildValue("(NNnnniiNiiK)", shown(sentence), shown(full), at[0], at[1], at[2], why.kind, why.part,
-            halves(why.mask), (int)why.code, error.form, why.conditions);
+        result = Py_BuildValue("(NNnnniiNiK)", shown(sentence), shown(full), at[0], at[1], at[2], why.kind, why.part,
+            halves(why.mask), error.form, why.conditions);
     }
     Py_DECREF(rest.data);
     return is_right ? Py_NewRef(Py_None) : result;
@@ -866,23 +866,15 @@ static PyType_Spec LITERAL = {"peltzivar._peltzivar.Found", sizeof(Literal), 0,
         return PyArg_ParseTuple(given, "(KK)|bbb", &w.low, &w.high, &a, &b, &c) ? (result) : NULL; \
     }
 #define ROW(name, result) {#name, word_##name, METH_VARARGS, NULL},
-#define TRUTH(it) PyBool_FromLong(it)
 #define WORDS(it) \
     it(check, PyLong_FromUnsignedLong(peltzivar_check(w))) \
     it(normal_form, halves(peltzivar_normal_form(w))) \
-    it(is_built, TRUTH(peltzivar_is_built(w))) \
-    it(flag, TRUTH(peltzivar_flag(w, a))) \
     it(mantissa_digit, digit(peltzivar_mantissa_digit(w, a))) \
     it(exponent_digit, digit(peltzivar_exponent_digit(w, a))) \
-    it(is_separator, TRUTH(peltzivar_is_separator(w, a))) \
-    it(is_base_prefix, TRUTH(peltzivar_is_base_prefix(w, a))) \
-    it(is_base_suffix, TRUTH(peltzivar_is_base_suffix(w, a))) \
     it(role_of, PyLong_FromLong(peltzivar_role_of(w, a, b, c))) \
-    it(separators_of, separators(peltzivar_separators_of(w, a))) \
     it(fields_of, fields(peltzivar_fields_of(w))) \
     it(edits_of, edits(w)) \
     it(word_text, (peltzivar_word_text(w, text, sizeof text), shown(text))) \
-    it(source, (peltzivar_source(w, text, sizeof text), shown(text))) \
     it(reasons, reasons(w, false, 0, 0)) \
     it(options_reasons, reasons(w, true, a, b))
 
@@ -890,9 +882,6 @@ static PyObject *digit(uint32_t it) {
     return it == PELTZIVAR_NO_DIGIT ? Py_NewRef(Py_None) : PyLong_FromUnsignedLong(it);
 }
 static PyObject *fields(peltzivar_fields it) { return tuple_of(&fields_members, (const char *)&it); }
-static PyObject *separators(peltzivar_separators it) {
-    return Py_BuildValue("(NNNN)", TRUTH(it.internal), TRUTH(it.leading), TRUTH(it.trailing), TRUTH(it.consecutive));
-}
 
 static PyObject *edits(peltzivar_word word) {
     peltzivar_edit edits[PELTZIVAR_FIELD_COUNT];
@@ -1000,7 +989,6 @@ static PyObject *describe(PyObject *self, PyObject *given) {
     peltzivar_edit edit = {number, value};
     if (!strcmp(what, "edit")) return peltzivar_edit_text(edit, text, sizeof text), shown(text);
     if (!strcmp(what, "error")) return shown(peltzivar_description(number));
-    if (!strcmp(what, "rule")) return shown(peltzivar_rule_condition(number));
     return shown(what[0] == 'v' ? peltzivar_value_description(number) : peltzivar_write_description(number));
 }
 

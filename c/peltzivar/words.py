@@ -28,20 +28,13 @@ from . import _peltzivar
 _c: Any = _peltzivar
 
 __all__ = ["Edit", "Error", "Format", "FormatError", "FormatView", "Note", "OptionsError", "Part", "Reason"]
-__all__ += ["ReasonsError", "Role", "Rule", "Separators", "Setter", "notes_of"]
+__all__ += ["ReasonsError", "Role", "Rule", "Setter", "notes_of"]
 
 
 
 class _Named(Enum):
     def __str__(self) -> str:
         return self.name
-
-
-class _Rule(_Named):
-    @property
-    def condition(self) -> str:
-        """What the rule requires of a word."""
-        return str(_c.describe("rule", self.value))
 
 
 class _Error(_Named):
@@ -57,7 +50,7 @@ class _Error(_Named):
 # The enumerations: their documentation, and what they have beside their members, which C names.
 _ENUMERATIONS: Any = {
     "Setter": (_Named, "The setters. A member has the name of the setter in uppercase."),
-    "Rule": (_Rule, "The rules, in the order in which they are checked. `condition` is what one requires of a word."),
+    "Rule": (_Named, "The rules, in the order in which they are checked, which docs/FORMAT.md states."),
     "Error": (_Error, "The errors, with their sentences as `description`, and success, which is 0, and false."),
     "Part": (_Named, "The parts of a number that can have digit separators."),
     "Role": (_Named, "The roles of a byte in a number."),
@@ -99,7 +92,7 @@ class _Class(ABCMeta):
     """A class of which `dir`, and so `help`, leaves out what each exception and each data class has."""
 
     def __dir__(cls) -> List[str]:
-        common = {*dir(ValueError), "__post_init__", *(it for it in type.__dir__(Separators) if it.startswith("__"))}
+        common = {*dir(ValueError), "__post_init__", *(it for it in type.__dir__(Note) if it.startswith("__"))}
         return [it for it in super().__dir__() if it not in common]
 
 
@@ -308,16 +301,6 @@ class Reason(Note):
     options: Tuple[Role, ...] = ()
 
 
-@dataclass(frozen=True)
-class Separators(metaclass=_Class):
-    """Where a part of a number may have digit separators: between, before and after digits, and several in a row."""
-
-    internal: bool
-    leading: bool
-    trailing: bool
-    consecutive: bool
-
-
 @dataclass(eq=False)
 class ReasonsError(ValueError, metaclass=_Class):
     """Raised with the reasons why there is no such format or syntax. Options are checked if the format is lawful."""
@@ -348,12 +331,13 @@ class _Field:
 
     def __set_name__(self, owner: type, name: str) -> None:
         self._name, self._setter = name, _SETTERS[name]
+        self._mask = _joined(_c.describe("mask", self._setter.value))
 
     def __get__(self, view: Optional[FormatView], owner: type) -> Any:
         if view is None:
             return self
         if self._setter not in _BYTES + _RADIXES:
-            return _c.flag(view._halves, self._setter.value)
+            return view._word & self._mask != 0
         byte = _c.fields_of(view._halves)[1 + (*_BYTES, *_RADIXES).index(self._setter)]
         return _value(self._setter, byte) if self._setter in _BYTES else byte
 
@@ -457,22 +441,6 @@ class FormatView(_Keyed):
         """Returns the value of a byte as a digit of the exponent, or None if it is not one."""
         return cast(Optional[int], _c.exponent_digit(self._halves, _byte("a byte", byte)))
 
-    def separators(self, part: Part) -> Separators:
-        """Returns where a part of a number may have digit separators, such as `separators(Part.FRACTION).internal`."""
-        return Separators(*_c.separators_of(self._halves, _typed("part", part, Part).value))
-
-    def is_separator(self, byte: Byte) -> bool:
-        """Returns whether a byte is the digit separator, and some flag allows it."""
-        return bool(_c.is_separator(self._halves, _byte("a byte", byte)))
-
-    def is_base_prefix(self, byte: Byte) -> bool:
-        """Returns whether the base prefix matches a byte. A letter matches both cases unless it is case-sensitive."""
-        return bool(_c.is_base_prefix(self._halves, _byte("a byte", byte)))
-
-    def is_base_suffix(self, byte: Byte) -> bool:
-        """Returns whether the base suffix matches a byte. A letter matches both cases unless it is case-sensitive."""
-        return bool(_c.is_base_suffix(self._halves, _byte("a byte", byte)))
-
     def role_of(self, byte: Byte, *, exponent: Byte = 0, point: Byte = 0) -> Optional[Role]:
         """Returns the first role that a byte has in numbers with this exponent character and this decimal point, or
         None. An option that is 0 matches no byte. If this is a `Format` and the options fit it, no byte has two
@@ -512,18 +480,9 @@ class FormatView(_Keyed):
         found = _c.reasons(self._halves)
         return tuple(Reason(text, _joined(mask), rules=_members(Rule, bits)) for text, mask, bits in found)
 
-    def options_reasons(self, exponent: Byte, point: Byte) -> Tuple[Reason, ...]:
-        """Returns each reason why an exponent character and a decimal point do not fit the word."""
-        found = _c.options_reasons(self._halves, _byte("exponent", exponent), _byte("point", point))
-        return tuple(Reason(text, _joined(mask), options=_members(Role, bits)) for text, mask, bits in found)
-
     def notes(self) -> Tuple[Note, ...]:
         """Returns the notes on fields of the word that have no effect."""
         return _notes(_c.fields_of(self._halves))
-
-    def source(self) -> str:
-        """Returns Rust code that sets the fields of the word and packs them."""
-        return str(_c.source(self._halves))
 
     @classmethod
     def _packed(cls: Type[View], fields: Tuple[int, ...], settings: Iterable[Union[Edit, str]]) -> View:
@@ -553,7 +512,7 @@ class FormatView(_Keyed):
 
     def __repr__(self) -> str:
         name = type(self).__name__
-        if not _c.is_built(self._halves):
+        if _c.pack(_c.NEW_FIELDS, [it._numbers() for it in self.edits()])[1] != self._halves:
             return f"{name}({self})"
         return f"{name}.of({', '.join(f'{edit.name}={edit.value!r}' for edit in self.edits())})"
 
@@ -567,11 +526,6 @@ class Format(FormatView):
         super().__init__(word)
         if error := self.error():
             raise FormatError(self.reasons(), FormatView(word), error)
-
-    def check_options(self, exponent: Byte, point: Byte) -> None:
-        """Raises OptionsError with every reason if an exponent character and a decimal point do not fit the format."""
-        if reasons := self.options_reasons(exponent, point):
-            raise OptionsError(reasons)
 
 
 @_takes(_peltzivar.fields)

@@ -124,9 +124,6 @@ class Words(unittest.TestCase):
         self.assertEqual(int(Format().normal_form()), 0x0A0A0A0000000000000000000000000C)
         self.assertNotEqual(Format().normal_form(), Format())
         self.assertEqual([format(Format(), it) for it in "bdoxX"], [format(int(Format()), it) for it in "bdoxX"])
-        source = "NumberFormatBuilder::new().no_special(true).mantissa_radix(16).build_or_panic()"
-        self.assertEqual(FormatView(0x0000100000000000000000000000040C).source(), source)
-        self.assertRegex(FormatView((1 << 128) - 1).source(), r"^NumberFormatBuilder::new\(\).{900,}\.build_unchecked\(\)$")
         self.assertRaisesRegex(AttributeError, "no_special=True", setattr, Format(), "no_special", True)
         self.assertEqual((f"{Format():>36}", f"{Format():#034x}"), (f"  {Format()}", "0x00000a0000000000000000000000000c"))
         self.assertEqual((repr(Format.no_special), f"{Rule(7)}"), ("<field no_special>", "PUNCTUATION_DIFFERS"))
@@ -134,38 +131,31 @@ class Words(unittest.TestCase):
         self.assertEqual(sum(doctest.testfile(str(TOP / "docs" / it), module_relative=False).failed for it in ("C.md", "PYTHON.md")), 0)
 
     def test_options(self):
-        self.assertIsNone(Format().check_options("e", "."))
-        self.assertIsNone(Format().check_options(101, 46))
         sentence = "the exponent character 'e' is a digit in radix 16"
-        (reason,) = FormatView.of(radix=16, exponent_radix=2).options_reasons("e", ".")
-        self.assertEqual((str(reason), reason.mask, reason.rules), (sentence, 0xFF << 104, ()))
-        masks = [it.mask for it in FormatView.of(radix=16, base_prefix="x").options_reasons("x", "a")]
-        self.assertEqual(masks, [0xFF << 120 | 0xFF << 104, 0xFF << 88])
         with self.assertRaisesRegex(OptionsError, f"^{sentence}; the decimal point '1' is") as caught:
-            Format.of(radix=16).check_options("e", "1")
-        self.assertEqual([it.options for it in pickle.loads(pickle.dumps(caught.exception)).reasons], [(Role.EXPONENT,), (Role.POINT,)])
+            Syntax(Format.of(radix=16, exponent_radix=2), "e", "1")
+        reasons = pickle.loads(pickle.dumps(caught.exception)).reasons
+        self.assertEqual([it.options for it in reasons], [(Role.EXPONENT,), (Role.POINT,)])
+        self.assertEqual((str(reasons[0]), reasons[0].mask, reasons[0].rules), (sentence, 0xFF << 104, ()))
 
     def test_bytes_are_numbers_or_characters(self):
         view = FormatView.of(radix=16, exponent_radix=10, base_prefix="x", base_suffix="H", case_sensitive_base_prefix=True,
                              digit_separator="_", fraction_internal_digit_separator=True)  # fmt: skip
-        for call, characters in ((view.is_base_prefix, "x"), (view.is_base_suffix, "Hh"), (view.is_separator, "_")):
-            self.assertEqual("".join(filter(call, map(chr, range(128)))), characters)
-            self.assertEqual([it for it in range(256) if call(it) and call(bytes([it]))], [ord(it) for it in characters])
+        for role, characters in ((Role.PREFIX, "x"), (Role.SUFFIX, "Hh"), (Role.SEPARATOR, "_")):
+            self.assertEqual("".join(it for it in map(chr, range(128)) if view.role_of(it) is role), characters)
+            both = [it for it in range(256) if view.role_of(it) is view.role_of(bytes([it])) is role]
+            self.assertEqual(both, [ord(it) for it in characters])
         self.assertEqual([view.mantissa_digit(it) for it in ("0", "9", b"a", "f", "A", b"F", "g", "G", 66)], [0, 9, 10, 15, 10, 15, None, None, 11])
         self.assertEqual([view.exponent_digit(it) for it in "09a"], [0, 9, None])
         for byte in range(256):
             wanted = None if byte == 0 else chr(byte) if byte < 128 else byte
             self.assertEqual((Edit(f"base_prefix={byte}").value, FormatView.of(base_prefix=byte).base_prefix), (wanted, wanted))
 
-    def test_roles_and_separators(self):
+    def test_roles(self):
         view = Format.of(radix=16, base_prefix="x", base_suffix="H", digit_separator="_", internal_digit_separator=True)
         names = "DIGIT DIGIT SIGN SEPARATOR PREFIX SUFFIX EXPONENT POINT".split()
         self.assertEqual([view.role_of(byte, exponent="p", point=".") for byte in "0f+_XhP."], [Role[name] for name in names])
         self.assertEqual([view.role_of(byte, exponent=112) for byte in (112, ".", 0, 233, "g")], [Role.EXPONENT] + 4 * [None])
-        for number, name in FLAGS:
-            if found := re.fullmatch(r"(\w+?)_(\w+)_digit_separator", name):
-                allowed = FormatView(1 << int(number)).separators(Part[found[1].upper()])
-                self.assertEqual((sum(vars(allowed).values()), getattr(allowed, found[2])), (1, True))
 
     def test_setters_have_the_bits_and_defaults_of_the_tables(self):
         masks = {name: 1 << int(bit) for bit, name in FLAGS} | {name: sum(1 << int(bit) for bit in bits.split()) for name, bits in GROUPS}
@@ -372,8 +362,7 @@ class Literals(unittest.TestCase):
                 own.read(text)
             error = pickle.loads(pickle.dumps(caught.exception))
             self.assertEqual((error.form, str(error), error.span, error.valid_up_to), (form, sentence, span, span[0]))
-            wanted = Error.EMPTY_INTEGER if span[0] == span[1] else Error.INVALID_DIGIT
-            self.assertEqual((error.error, error.kind), (wanted, ReadErrorKind.OPENING if form else ReadErrorKind.BYTE))
+            self.assertEqual(error.kind, ReadErrorKind.OPENING if form else ReadErrorKind.BYTE)
         # A token is read from a window, which goes on behind each byte of an opening.
         for text in ("#x-FH", "#x" + "0" * 40 + "FHu8", "Z'" + "0" * 30 + "F'"):
             self.assertEqual([own.token(text + rest).end for rest in ("", " - 1", ", x" * 40)], [len(text)] * 3)
@@ -415,7 +404,7 @@ class Literals(unittest.TestCase):
             with self.assertRaises(LiteralError) as caught:
                 Syntax(Format()).read(text)
             error, sentence = caught.exception, f"unexpected character {text[index]!r}"
-            self.assertEqual((error.valid_up_to, error.error, str(error)), (index, Error.INVALID_DIGIT, sentence))
+            self.assertEqual((error.valid_up_to, error.kind, str(error)), (index, ReadErrorKind.BYTE, sentence))
         with self.assertRaisesRegex(LiteralError, "unexpected character '\u20ac'"):
             Syntax(Format()).read("7\u20ac".encode())
 
@@ -574,15 +563,15 @@ class Wrong(unittest.TestCase):
     def test_other_objects_are_refused_by_name(self):
         view, syntax = FormatView((1 << 128) - 1), Syntax(Format())
         calls = {
-            "a byte": [view.is_separator, view.mantissa_digit, view.role_of, syntax.role_of],
+            "a byte": [view.mantissa_digit, view.role_of, syntax.role_of],
             "a format word": [FormatView, Format, Format.parse],
             "a setting|=|unknown|takes": [Edit, Format().edit, Syntax.of, Syntax.notes_of],
             "a text|here$|expected": [syntax.read, syntax.read_prefix, Language.JSON.read],
-            "part must be": [view.separators, syntax.read("1").digits],
+            "part must be": [syntax.read("1").digits],
             "format must be": [Syntax, Syntax.integers],
             "base_prefix must be": [lambda it: notes_of(base_prefix=it), lambda it: Format.of(base_prefix=it)],
             "setter|radix": [lambda it: Edit.of(it, 8), lambda it: Edit.of("radix", it)],
-            "exponent|point": [lambda it: Syntax(Format(), it), lambda it: Format().check_options("e", it)],
+            "exponent|point": [lambda it: Syntax(Format(), it), lambda it: Syntax(Format(), "e", it)],
             "spelling|a text": [lambda it: Specials(it).read(syntax, ""), lambda it: Specials().read(syntax, it)],
         }
         for names, call in [(names, call) for names, some in calls.items() for call in some]:
@@ -600,7 +589,7 @@ Format.of(mantissa_radix="x", base_prefx=3)
 Format().edit(no_special=1)
 Syntax.of(radix=16, point=1.5).read("1").value.real
 notes_of(mantissa_radix=None)
-print(Format().no_special + "", Format().check_options("e", None))
+print(Format().no_special + "", Format().check(5), Syntax(Format(), 1.5))
 Syntax(Format()).format_number("1")
 languages.JSON.column(["1"], str)
 languages.JSON.column(["1"], errors="ignore")
@@ -911,7 +900,7 @@ def each_call():
     calls += [lambda: Language.CSV_DE.column((b" 1NA", array("i", [0, 2, 4]), b"\3"), fill=Fraction(1, 2), missing=["NA", "-"], strip=True)]
     calls += [lambda: SYNTAX.format_number(10**50, group=3), lambda: SYNTAX.format_number(1.5, decimals=300), lambda: Syntax.of("radix=40"), lambda: repr(SYNTAX)]
     calls += [lambda: forms.format_number(1.5, min_digits=255, group=1), FormatView(-1 & 2**128 - 1).reasons, SYNTAX.format.edits, SYNTAX.format.notes]
-    calls += [Language.C._members, SYNTAX.grammar, lambda: FormatView(0).options_reasons("1", "2"), lambda: Syntax.notes_of("radix=2", "radix=3")]
+    calls += [Language.C._members, SYNTAX.grammar, lambda: Syntax(Format(), "1", "2"), lambda: Syntax.notes_of("radix=2", "radix=3")]
     return [*calls, each_call]
 
 

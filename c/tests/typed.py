@@ -9,28 +9,22 @@ from typing import assert_type as typed
 from peltzivar import Column, ColumnError, Forms, Kind, Literal, LiteralError, Opening, Parts, ReadErrorKind
 from peltzivar import SettingsError, Special, Specials, Spelling, Suffixes, Syntax, Token, Tokens, WrongCell, languages
 from peltzivar.words import Edit, Error, Format, FormatError, FormatView, Note, OptionsError, Part, Reason
-from peltzivar.words import ReasonsError, Role, Rule, Separators, Setter, notes_of
+from peltzivar.words import ReasonsError, Role, Rule, Setter, notes_of
 
 format = typed(Format.of("radix=16", Edit.of(Setter.NO_SPECIAL, True), base_prefix=b"x"), Format)
 view = typed(FormatView.of(mantissa_radix=16, base_prefix=120, digit_separator="_").edit("no_special=true"), FormatView)
 typed((view.normal_form(), format.edit(exponent_base=None).normal_form()), Tuple[FormatView, Format])
-checked = typed(FormatView.parse("0x0A0A0A0000000000000000000000000C").check(), Format)
+typed(FormatView.parse("0x0A0A0A0000000000000000000000000C").check(), Format)
 typed((view.mantissa_digit("f"), view.exponent_digit(b"f")), Tuple[Optional[int], Optional[int]])
-separators = typed(view.separators(Part.INTEGER), Separators)
-typed((separators.internal, separators.leading), Tuple[bool, bool])
-typed((separators.trailing, separators.consecutive), Tuple[bool, bool])
-typed((view.is_separator("_"), view.is_base_prefix(b"x"), view.is_base_suffix(104)), Tuple[bool, bool, bool])
 typed(view.role_of("p", exponent=b"p", point=46), Optional[Role])
 edit = typed(view.edits()[0], Edit)
 typed((edit.setter, edit.value, edit.name, edit.mask), Tuple[Setter, Union[bool, int, str, None], str, int])
-typed((view.error(), view.source(), str(view)), Tuple[Error, str, str])
-typed((Error.EMPTY.description, Rule.PUNCTUATION_DIFFERS.condition), Tuple[str, str])
-reasons = typed(FormatView(0).reasons() + FormatView().options_reasons("1", b"1"), Tuple[Reason, ...])
+typed((view.error(), Error.EMPTY.description, str(view)), Tuple[Error, str, str])
+reasons = typed(FormatView(0).reasons(), Tuple[Reason, ...])
 typed((reasons[0].text, reasons[0].mask, reasons[0].indexes), Tuple[str, int, Tuple[int, ...]])
 typed((reasons[0].rules, reasons[0].options), Tuple[Tuple[Rule, ...], Tuple[Role, ...]])
 typed(view.notes() + notes_of(digit_separator="_"), Tuple[Note, ...])
 typed(Syntax.notes_of("radix=2", radix=3) + Syntax.of().notes(), Tuple[Note, ...])
-checked.check_options("e", 46)
 syntax = typed(Syntax.of("radix = 10", digit_separator="_", internal_digit_separator=True, point=b","), Syntax)
 integers = typed(Syntax.integers(format), Syntax)
 typed((syntax.exponent, syntax.point), Tuple[Union[int, str, bytes, None], Union[int, str, bytes, None]])
@@ -92,7 +86,7 @@ except LiteralError as why:
     typed((why.sentence, why.full_sentence, why.text, why.form), Tuple[str, str, Union[str, bytes], str])
     typed((why.valid_up_to, why.span, why.kind), Tuple[int, Tuple[int, int], ReadErrorKind])
     typed((why.part, why.mask, why.conditions), Tuple[Optional[Part], int, Tuple[str, ...]])
-    typed((why.error, why.edits), Tuple[Error, Tuple[Edit, ...]])
+    typed(why.edits, Tuple[Edit, ...])
 try:
     Format(0)
 except FormatError as unlawful:
