@@ -37,20 +37,17 @@ import functools
 import inspect
 import math
 import operator
-import re
 import reprlib
 import sys
 import typing
-from abc import ABCMeta
 from array import array
 from dataclasses import dataclass, field
 from decimal import MAX_EMAX, MIN_EMIN, ROUND_05UP, ROUND_HALF_EVEN, Context, Decimal, DecimalException
 from decimal import InvalidOperation, Overflow, Rounded, Subnormal
-from enum import Enum
 from fractions import Fraction
 from itertools import count
-from typing import Any, AnyStr, Callable, Dict, Generic, Iterable, Iterator, List, Mapping, Optional, ParamSpec
-from typing import Sequence, SupportsFloat, SupportsIndex, Tuple, Type, TypeVar, Union, cast
+from typing import Any, AnyStr, Dict, Generic, Iterable, Iterator, List, Mapping, Optional, Sequence, SupportsFloat
+from typing import SupportsIndex, Tuple, Type, Union, cast
 
 from . import _peltzivar
 from .words import *
@@ -63,7 +60,6 @@ __all__ += ["ReadErrorKind", "SettingsError", "Special", "Specials", "Spelling",
 __all__ += ["Tokens", "WrongCell", "languages"]
 
 __version__: str = _c.VERSION
-Result = TypeVar("Result")
 
 
 class SettingsError(ReasonsError):
@@ -938,32 +934,11 @@ class Specials(metaclass=_Class):
     inf: Optional[str] = None
     infinity: Optional[str] = None
 
-    def read(self, syntax: Syntax, text: Union[str, bytes]) -> Optional[Special]:
-        """Returns the special value that a text is, or None. The flags of the syntax decide which signs, cases of
-        letters and digit separators it may have. A text can also be a literal, such as `inf` in radix 36."""
-        return _special(self._reader(syntax)._special(text))
-
-    def format(self, syntax: Syntax, special: Special) -> str:
-        """Returns a special value as a text: its sign, if that is `-` or one is required, and the first of its
-        spellings that is read back, in the order inf, infinity. Raises ValueError if there is none.
-
-            >>> Specials(nan="NaN", infinity="Infinity").format(Syntax(Format.of()), Special("-", Spelling.INF))
-            '-Infinity'
-        """
-        sign, spelling = _typed("special", special, Special).sign, special.spelling.value
-        return str(self._reader(syntax)._spelled(spelling, ord(sign or "\0")))
-
-    def _reader(self, syntax: Syntax) -> Any:
-        """Returns what reads special values by the flags of a syntax."""
-        form, reader = (None, _typed("syntax", syntax, Syntax)._by, *_PLAIN), _Reader()
-        _c.make(reader, ((form,), self._spellings(), None), True)
-        return reader
-
     def _spellings(self) -> Tuple[bytes, ...]:
-        spellings = tuple(_encoded("a spelling", "" if it is None else it) for it in vars(self).values())
-        if any(b"\0" in it for it in spellings):
+        spellings = tuple(_typed("a spelling", "" if it is None else it, str) for it in vars(self).values())
+        if any("\0" in it for it in spellings):
             raise ValueError(f"a spelling has a null character: {self}")
-        return spellings
+        return tuple(it.encode("utf-8", "surrogatepass") for it in spellings)
 
 
 class _Several(_Reader):
@@ -977,12 +952,13 @@ class _Several(_Reader):
 
     def _spelled_as(self, special: Special) -> str:
         """Returns a special value by the first of its spellings that is read as it."""
-        for name in ("nan",) if special.spelling is Spelling.NAN else ("inf", "infinity"):
-            one = Specials(**{name: getattr(self.specials, name)})
+        names = ("nan",) if special.spelling is Spelling.NAN else ("inf", "infinity")
+        is_signed = next(iter(self._named.values())).format.required_mantissa_sign
+        sign = "-" if special.sign == "-" else "+" * is_signed
+        for text in (sign + spelling for name in names if (spelling := getattr(self.specials, name))):
             with contextlib.suppress(ValueError):
-                text = one.format(next(iter(self._named.values())), special)
                 if isinstance(found := self.read(text), Special) and repr(found.value) == repr(special.value):
-                    return text
+                    return str(text)
         raise ValueError(_c.describe("write", _c.WRITE_SPECIAL))
 
     def token(self, text: AnyStr, start: int = 0) -> Token[AnyStr]:

@@ -567,7 +567,7 @@ static peltzivar_write_status write_number(
 #define WRITE(call, value) (by->is_list ? peltzivar_forms_##call(by->forms, value, style, text, len, needed) \
                                         : peltzivar_##call(&by->forms->forms->syntax, value, style, text, len, needed))
     int is_long;
-    if (PyFloat_CheckExact(number)) {
+    if (PyFloat_Check(number)) {
         double real = PyFloat_AsDouble(number);
         return WRITE(format_f64, real == real ? real : Py_NAN);
     }
@@ -594,6 +594,15 @@ static PyObject *written(Reader *by, PyObject *number, const peltzivar_style *st
 
 static PyObject *unwritten(peltzivar_write_status status) {
     return PyErr_SetString(PyExc_ValueError, peltzivar_write_description(status)), NULL;
+}
+
+/* Returns the text of a float that is not NaN, or of an int of 64 bits that is not rounded. Returns NULL without an error
+ * for another number, and for one that is not written. */
+static PyObject *written_at_once(Reader *by, PyObject *number, const peltzivar_style *style) {
+    peltzivar_write_status status;
+    double real = PyFloat_Check(number) ? PyFloat_AsDouble(number) : Py_NAN;
+    bool is_own = real == real || (PyLong_CheckExact(number) && !style->has_decimals);
+    return is_own ? written(by, number, style, &status) : NULL;
 }
 
 /* Wishes: a group (g), a flag (b), or a number. */
@@ -624,15 +633,12 @@ static bool wished(PyObject *name, PyObject *value, peltzivar_style *style) {
 static PyObject *reader_format_number(PyObject *self, PyObject *const *given, Py_ssize_t count, PyObject *names) {
     Reader *by = (Reader *)self;
     peltzivar_style style = {0};
-    peltzivar_write_status status;
     if (!is_made(by)) return NULL;
     bool is_plain = count == 1;
     for (Py_ssize_t i = 0; is_plain && names && i < PyTuple_Size(names); i++)
         is_plain = wished(PyTuple_GetItem(names, i), given[1 + i], &style);
-    if (is_plain && (PyFloat_CheckExact(given[0]) || (PyLong_CheckExact(given[0]) && !style.has_decimals))) {
-        PyObject *result = written(by, given[0], &style, &status);
-        if (result || PyErr_Occurred()) return result;
-    }
+    PyObject *result = is_plain ? written_at_once(by, given[0], &style) : NULL;
+    if (result || PyErr_Occurred()) return result;
     return by_python(by->state->slow[1], self, given, count, names);
 }
 
@@ -645,38 +651,16 @@ static PyObject *reader_write(PyObject *self, PyObject *given) {
     if (kept && is_made((Reader *)self) && PyArg_ParseTuple(given, "O!OO", &PyTuple_Type, &numbers, &wishes, &other) &&
         packed(&style_members, wishes, (char *)&style, kept)) result = PyList_New(PyTuple_Size(numbers));
     for (Py_ssize_t i = 0; result && i < PyTuple_Size(numbers); i++) {
-        PyObject *it = PyTuple_GetItem(numbers, i), *text = NULL;
-        double real = PyFloat_CheckExact(it) ? PyFloat_AsDouble(it) : Py_NAN;
+        PyObject *it = PyTuple_GetItem(numbers, i);
         bool is_all = other == Py_None;
-        bool is_own = is_all || real == real || (PyLong_CheckExact(it) && !style.has_decimals);
-        if (is_own) text = written((Reader *)self, it, &style, &status);
+        PyObject *text = is_all ? written((Reader *)self, it, &style, &status)
+                                : written_at_once((Reader *)self, it, &style);
         if (!text && is_all && !PyErr_Occurred()) unwritten(status);
         if (!text && !PyErr_Occurred()) text = PyObject_CallFunctionObjArgs(other, it, NULL);
         if (!text || PyList_SetItem(result, i, text)) Py_CLEAR(result);
     }
     Py_XDECREF(kept);
     return result;
-}
-
-/* _special(text): the numbers of a special value, or None. _spelled(spelling, sign): its text. */
-static PyObject *reader_special(PyObject *self, PyObject *given) {
-    Text text;
-    peltzivar_special special;
-    if (!is_made((Reader *)self) || !is_text(given, &text)) return NULL;
-    bool is_one = peltzivar_forms_read_special(((Reader *)self)->forms, text.bytes, (size_t)text.size, &special);
-    Py_DECREF(text.data);
-    return is_one ? tuple_of(&special_members, (const char *)&special) : Py_NewRef(Py_None);
-}
-
-static PyObject *reader_spelled(PyObject *self, PyObject *given) {
-    const peltzivar_forms *by = ((Reader *)self)->forms;
-    peltzivar_special special;
-    char text[PELTZIVAR_FLOAT_SIZE];
-    size_t needed = 0;
-    if (!is_made((Reader *)self) || !PyArg_ParseTuple(given, "bb", &special.spelling, &special.sign)) return NULL;
-    peltzivar_write_status status =
-        peltzivar_format_special(&by->forms->syntax, &by->specials, special, text, sizeof text, &needed);
-    return status ? unwritten(status) : PyUnicode_FromStringAndSize(text, (Py_ssize_t)needed - 1);
 }
 
 /* _members(): the forms as a tuple. _notation(number): a sentence, a grammar, a regular expression, or why a syntax is
@@ -702,8 +686,6 @@ static PyMethodDef READER_METHODS[] = {
     {"_explain", (PyCFunction)(void (*)(void))reader_explain, METH_FASTCALL, NULL},
     {"_column", reader_column, METH_VARARGS, NULL},
     {"_write", reader_write, METH_VARARGS, NULL},
-    {"_special", reader_special, METH_O, NULL},
-    {"_spelled", reader_spelled, METH_VARARGS, NULL},
     {"_members", reader_members, METH_NOARGS, NULL},
     {"_notation", reader_notation, METH_O, NULL},
     {NULL, NULL, 0, NULL},

@@ -5,8 +5,7 @@ from . import _Language
 from .words import Byte, Edit, _Error, _Named
 
 class Reader:
-    _column: Any; _explain: Any; _members: Any; _notation: Any; _read: Any; _special: Any; _spelled: Any; _token: Any
-    _write: Any
+    _column: Any; _explain: Any; _members: Any; _notation: Any; _read: Any; _token: Any; _write: Any
 
 class Found:
     _ends: Any; _form: Any; _int: Any; _owner: Any; _plain: Any; _suffix: Any; _times: Any

@@ -175,7 +175,8 @@ class Columns(unittest.TestCase):
             except LiteralError:
                 pass
 
-        floats, german = [*map(float, texts)], Language.CSV_DE
+        # An array of numpy.float64 has objects of a class of its own.
+        floats, german, reals = [*map(float, texts)], Language.CSV_DE, [*map(type("Real", (float,), {}), texts)]
         rows = {
             "parse": (2.5, lambda: [json.parse(it) for it in texts]),
             "value": (5, lambda: [json.read(it).value for it in texts]),
@@ -184,6 +185,7 @@ class Columns(unittest.TestCase):
             "fraction": (12, lambda: [it.fraction() for it in literals]),
             "written": (6, lambda: [german.format_number(it, decimals=2) for it in floats]),
             "column written": (6, lambda: german.format_column(floats, decimals=2)),
+            "column written of another class": (6, lambda: german.format_column(reals, decimals=2)),
             "column": (0.9, lambda: json.column(texts)),
             "missing": (0.9, lambda: json.column(gaps)),
             "other characters": (1.5, lambda: json.column([it or "1\u00e9" for it in gaps], errors="coerce")),

@@ -457,9 +457,9 @@ class Literals(unittest.TestCase):
         for text, wanted in (("+inf", "+INF"), (b"-nan", "-NAN"), ("inf", "INF")):
             special = Language.TOML.read(text)
             self.assertEqual((str(special), repr(float(str(special)))), (wanted, repr(float(text))))
-        specials = Specials(nan="n\u00e4n", infinity="\u221e")
-        self.assertEqual(specials.read(Syntax(Format()), "-\u221e"), Special("-", Spelling.INFINITY))
-        self.assertEqual((specials.read(Syntax(Format()), ""), Language.TOML.specials), (None, Specials("nan", "inf")))
+        forms = Forms({"": Syntax(Format())}, nan="n\u00e4n", infinity="\u221e")
+        self.assertEqual((forms.read("-\u221e"), Language.TOML.specials), (Special("-", Spelling.INFINITY), Specials("nan", "inf")))
+        self.assertRaises(LiteralError, forms.read, "")
 
     def test_settings_make_a_syntax(self):
         lines = ["# hexadecimal\r\n", "radix = 16\n", "base_prefix='x'", "", "exponent = 'p'"]
@@ -572,7 +572,7 @@ class Wrong(unittest.TestCase):
             "base_prefix must be": [lambda it: notes_of(base_prefix=it), lambda it: Format.of(base_prefix=it)],
             "setter|radix": [lambda it: Edit.of(it, 8), lambda it: Edit.of("radix", it)],
             "exponent|point": [lambda it: Syntax(Format(), it), lambda it: Syntax(Format(), "e", it)],
-            "spelling|a text": [lambda it: Specials(it).read(syntax, ""), lambda it: Specials().read(syntax, it)],
+            "spelling": [lambda it: Forms({"": syntax}, nan=it).specials and None],
         }
         for names, call in [(names, call) for names, some in calls.items() for call in some]:
             for it in (1.5, -1, 1 << 128, 10**5000, "\u00e9\u00e9", "\ud800\ud800", "a\0b", b"\xff\xff", [], {}, object(), print, Error.EMPTY):
