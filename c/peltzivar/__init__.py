@@ -455,7 +455,7 @@ class _Reader(_peltzivar.Reader):
         """Returns a list, or an array of numpy, as texts, as `format_number` does with the same wishes, several times
         as fast. If `fill` is a text, that of None, NaN and `pandas.NA` is this."""
         style = _style(group, fraction_group, without_base, lowercase, min_digits, exponent, decimals)
-        listed: Any = _one_column("numbers", numbers)
+        listed: Any = _sequence("numbers", numbers)
         listed = listed.tolist() if hasattr(listed, "tolist") else listed
         other: Any = lambda it: self._text_of(it, style)
         if fill is not None:
@@ -514,10 +514,8 @@ class _Reader(_peltzivar.Reader):
         if scale is not None and kind != "q":
             raise TypeError("with a scale, type must be int, or the format q")
         places = -1 if scale is None else _number("scale", scale)
-        if isinstance(missing, (str, bytes)):
-            raise TypeError(f"missing must be a sequence of texts, not {missing.__class__.__name__}")
-        buffers = _buffers_of(cells)
-        texts = () if buffers else tuple(_one_column("cells", cells))
+        buffers, missing = _buffers_of(cells), _sequence("missing", missing, "a sequence of texts")
+        texts = () if buffers else tuple(_sequence("cells", cells))
         data, offsets, valid = buffers or (b"", array("q", [0]), None)
         status, size = bytearray(len(texts) or len(offsets) - 1), {"f": 4}.get(kind, 8)
         if errors not in ("raise", "coerce"):
@@ -559,10 +557,11 @@ _FORMATS = ("d", "f", "q", "Q")
 
 def _format(type: Any, out: Any) -> str:
     """Returns the format of values. Raises TypeError if it does not fit the type."""
-    formats: str = cast(Any, {float: "df", int: "qQ", **{it: it for it in _FORMATS}}).get(type, "")
+    own = type if isinstance(type, str) and type in _FORMATS else ""
+    formats = "df" if type is float else "qQ" if type is int else own
     if not formats:
         raise TypeError(f"type must be float, int, or one of the formats d, f, q and Q, not {type!r}")
-    found = formats[:1] if out is None else memoryview(out).format
+    found = formats[:1] if out is None else _view("out", out).format
     found = {"l": "q", "L": "Q"}.get(found, found)
     if found not in _FORMATS or found not in formats:
         raise TypeError(f"out must have the format {' or '.join(formats)}, not {found!r}")
@@ -584,7 +583,7 @@ def _filling(kind: str, fill: Any, is_decimal: bool) -> Any:
 
 def _checked(out: Any, count: int) -> Any:
     """Returns a buffer to which this many values are written. Raises an error if it cannot have them."""
-    with memoryview(out) as view:
+    with _view("out", out) as view:
         if view.shape != (count,):
             raise ValueError(f"out has the shape {view.shape}, and there are {count} cells")
         if view.readonly or not view.contiguous:
@@ -607,9 +606,9 @@ def _buffers_of(cells: Any) -> Optional[Tuple[Any, Any, Any]]:
         return None
     if given.format not in _OFFSETS:
         raise TypeError(f"offsets must have one of the formats {', '.join(_OFFSETS)}, not {given.format!r}")
-    if valid is not None and (valid := memoryview(valid)).format not in ("B", "b", "c"):
+    if valid is not None and (valid := _view("validity", valid)).format not in ("B", "b", "c"):
         raise TypeError(f"validity must be bytes, with a bit for each text, and not of the format {valid.format!r}")
-    data, offsets = memoryview(data), array("q", bytes(8 * (len(given) or 1)))
+    data, offsets = _view("data", data), array("q", bytes(8 * (len(given) or 1)))
     is_kept = data.readonly and data.ndim == data.itemsize == 1 and data.contiguous
     # Offsets of 32 bits are the lower halves of the others.
     halves = given.itemsize == 4
@@ -619,11 +618,20 @@ def _buffers_of(cells: Any) -> Optional[Tuple[Any, Any, Any]]:
     return data if is_kept else bytes(data), offsets, None if valid is None else bytes(valid)
 
 
-def _one_column(name: str, given: Any) -> Any:
-    """Returns what a column is made of. Raises an error that names the argument if it is a text or a table."""
-    if isinstance(given, (str, bytes, Mapping)) or len(getattr(given, "shape", (0,))) != 1:
-        raise TypeError(f"{name} must be a sequence, such as one column of a table, not {type(given).__name__}")
+def _sequence(name: str, given: Any, wanted: str = "a sequence, such as one column of a table") -> Any:
+    """Returns a sequence. Raises an error that names the argument if it is a text, a table, or no sequence."""
+    is_one = len(getattr(given, "shape", (0,))) == 1 and (hasattr(given, "__iter__") or hasattr(given, "__getitem__"))
+    if isinstance(given, (str, bytes, Mapping)) or not is_one:
+        raise TypeError(f"{name} must be {wanted}, not {type(given).__name__}")
     return given
+
+
+def _view(name: str, given: Any) -> memoryview:
+    """Returns a buffer. Raises an error that names the argument if it is not one."""
+    try:
+        return memoryview(given)
+    except TypeError:
+        raise TypeError(f"{name} must be a buffer, such as an array, not {type(given).__name__}") from None
 
 
 def _style(
