@@ -476,12 +476,13 @@ static void parse_cells(const Cells *by, const char *data, const int64_t *offset
     if (by->scale < 0) parse_column((char)by->format, by->forms, data, offsets, (size_t)count, values, status);
     for (Py_ssize_t i = 0; i < count && (by->scale >= 0 || by->strips || by->count || valid); i++) {
         int64_t start = offsets[i], end = offsets[i + 1];
-        const char *text = data + start;
-        Py_ssize_t size = (Py_ssize_t)(end - start);
+        bool is_text = offsets[0] <= start && start <= end && end <= offsets[count];
+        const char *text = is_text ? data + start : data;
+        Py_ssize_t size = is_text ? (Py_ssize_t)(end - start) : 0;
         if (valid && !(valid[i / 8] >> i % 8 & 1)) status[i] = MISSING;
-        else if (offsets[0] > start || start > end || end > offsets[count]) status[i] = PELTZIVAR_VALUE_REFUSED;
+        else if (!is_text) status[i] = PELTZIVAR_VALUE_REFUSED;
         else if (is_none(by, &text, &size) || by->scale >= 0 || size != end - start)
-            status[i] = parse_cell(by, data + start, (Py_ssize_t)(end - start), values + i * width);
+            status[i] = parse_cell(by, text, size, values + i * width);
     }
 }
 
