@@ -1,5 +1,5 @@
 #!/usr/bin/env python3
-"""Writes what is made of rust/src and docs: in peltzivar/__init__.py the attributes of a view, in _peltzivar.c the
+"""Writes what is made of rust/src and docs: in peltzivar/words.py the attributes of a view, in _peltzivar.c the
 names of rules and errors, in peltzivar.h the calls of languages, in peltzivar_words.h the numbers of setters, rules and
 errors, and the stub of the extension module, if that is built.
 
@@ -80,7 +80,7 @@ def stub():
 
     calls, kinds = peltzivar._peltzivar, "Setter Rule Error Part Role ReadErrorKind Spelling Language".split()
     lines = ["# Made by make_python.py from the imported module.", "from typing import Any, Optional, Union", ""]
-    lines += ["from . import Byte, Edit, _Error, _Language, _Named, _Rule"]
+    lines += ["from . import _Language", "from .words import Byte, Edit, _Error, _Named"]
     for kind in (calls.Reader, calls.Found):
         lines += ["", f"class {kind.__name__}:"]
         names = "; ".join(f"{name}:~Any" for name in sorted(vars(kind)) if name[0] == "_" != name[1])
@@ -117,7 +117,7 @@ def made(text):
 
 if __name__ == "__main__":
     paths = [HERE / "peltzivar.h", HERE / "peltzivar_words.h"]
-    paths += [HERE / "peltzivar" / it for it in ("__init__.py", "_peltzivar.c", "_peltzivar.pyi")]
+    paths += [HERE / "peltzivar" / it for it in ("words.py", "_peltzivar.c", "_peltzivar.pyi")]
     for path in paths:
         old = path.read_text()
         try:

@@ -1,5 +1,16 @@
 """Reads numbers in the notation of a language, a file or your own, with their values, and says why a text is not one.
 
+    languages       the notations of languages and files, such as `languages.CSV_DE`, each a `Language`
+    Syntax          a notation of your own, which `Syntax.of` makes of settings
+    Forms           several syntaxes, such as decimal and hexadecimal numbers
+    Literal         a number that `read` has found in a text: its value, also exact, and its parts
+    LiteralError    why a text is not a number, and where
+    Column          the values of many texts, which `column` reads several times as fast
+    ColumnError     which of them are wrong
+    Token           a number that `token` has found in source text, with its suffix
+    Special         NaN or infinity
+    SettingsError   why settings make no syntax
+
     >>> from peltzivar import Syntax, languages
     >>> languages.TOML.read("1_000.5").value, languages.RUST.parse("0x1F", int)
     (1000.5, 31)
@@ -8,19 +19,15 @@
     >>> prices = Syntax.of(
     ...     digit_separator=".", integer_internal_digit_separator=True, integer_group_size=3, point=","
     ... )
-    >>> prices.read("1.234,50").decimal()
-    Decimal('1234.50')
+    >>> prices.read("1.234,50").decimal(), prices.format_number(1234.5, group=3, decimals=2)
+    (Decimal('1234.50'), '1.234,50')
     >>> prices.read("12.34")
     Traceback (most recent call last):
     peltzivar.LiteralError: expected groups of 3 digits
 
-`read` returns a `Literal`, or raises a LiteralError, whose `span` has the position. `parse` returns the value alone,
-and `column` those of many texts, several times as fast. A `Language`, such as `languages.CSV_DE`, reads the numbers of
-a language or a file, and `Forms` those of several syntaxes. `Syntax.of` makes a syntax, and raises a SettingsError if
-it is wrong. A value of a wrong type raises a TypeError, and another wrong value a ValueError.
-
-A format is a 128-bit word. It is lawful if it satisfies all rules. A `FormatView` holds any word, and a `Format` a
-lawful one. In the repository, docs/PYTHON.md shows tasks, and docs/FORMAT.md describes fields, rules and literals.
+A value of a wrong type raises a TypeError, and another wrong value a ValueError. `peltzivar.words` has the format of a
+syntax, a 128-bit word, with its fields and rules. In the repository, docs/PYTHON.md shows tasks, and docs/FORMS.md
+describes literals.
 """
 
 from __future__ import annotations
@@ -30,340 +37,29 @@ import functools
 import inspect
 import math
 import operator
-import re
 import reprlib
 import sys
 import typing
-from abc import ABCMeta
 from array import array
 from dataclasses import dataclass, field
 from decimal import MAX_EMAX, MIN_EMIN, ROUND_05UP, ROUND_HALF_EVEN, Context, Decimal, DecimalException
 from decimal import InvalidOperation, Overflow, Rounded, Subnormal
-from enum import Enum
 from fractions import Fraction
 from itertools import count
-from typing import Any, AnyStr, Callable, Dict, Generic, Iterable, Iterator, List, Mapping, Optional, ParamSpec
-from typing import Sequence, SupportsFloat, SupportsIndex, Tuple, Type, TypeVar, Union, cast
+from typing import Any, AnyStr, Dict, Generic, Iterable, Iterator, List, Mapping, Optional, Sequence, SupportsFloat
+from typing import SupportsIndex, Tuple, Type, Union, cast
 
 from . import _peltzivar
+from .words import *
+from .words import _CONDITIONS, _SETTING, Byte, Typed, Value, _byte, _c, _Class, _condition, _encoded, _joined, _Keyed
+from .words import _members, _Named, _number, _of, _takes, _typed
+from ._peltzivar import ReadErrorKind, Spelling
 
-# The calls of C.
-_c: Any = _peltzivar
-
-__all__ = ["STANDARD", "Byte", "Column", "ColumnError", "Edit", "Error", "Format", "FormatError"]
-__all__ += ["FormatView", "Forms"]
-__all__ += ["Kind", "Language", "Literal", "LiteralError", "Note", "Opening", "OptionsError", "Part", "Parts", "ReadErrorKind"]
-__all__ += ["Reason", "ReasonsError", "Role", "Rule", "Separators", "Setter", "SettingsError", "Special", "Specials"]
-__all__ += ["Spelling", "Suffixes", "Syntax", "Token", "Tokens", "Value", "WrongCell", "languages", "notes_of"]
-
-
-class _Named(Enum):
-    def __str__(self) -> str:
-        return self.name
-
-
-class _Rule(_Named):
-    @property
-    def condition(self) -> str:
-        """What the rule requires of a word."""
-        return str(_c.describe("rule", self.value))
-
-
-class _Error(_Named):
-    @property
-    def description(self) -> str:
-        """The description of the error in single quotes."""
-        return str(_c.describe("error", self.value))
-
-    def __bool__(self) -> bool:
-        return bool(self.value)
-
-
-# The enumerations: their documentation, and what they have beside their members, which C names.
-_ENUMERATIONS: Any = {
-    "Setter": (_Named, "The setters. A member has the name of the setter in uppercase."),
-    "Rule": (_Rule, "The rules, in the order in which they are checked. `condition` is what one requires of a word."),
-    "Error": (_Error, "The errors, with their sentences as `description`, and success, which is 0, and false."),
-    "Part": (_Named, "The parts of a number that can have digit separators."),
-    "Role": (_Named, "The roles of a byte in a number."),
-    "ReadErrorKind": (_Named, "The kinds of causes why a text is not a literal."),
-    "Spelling": (_Named, "The spellings of special values."),
-}
-for _name, (_kind, _doc) in _ENUMERATIONS.items():
-    _names, _first = _c.MEMBERS.get(_name, ([(it.upper(), number) for it, number in _c.SETTERS], 1))
-    _made: Any = _kind(_name, _names, start=_first, module=__name__)
-    _made.__doc__ = _doc
-    setattr(_c, _name, _made)
-from ._peltzivar import Error, Part, ReadErrorKind, Role, Rule, Setter, Spelling
+__all__ = ["Column", "ColumnError", "Forms", "Kind", "Literal", "LiteralError", "Opening", "Parts"]
+__all__ += ["ReadErrorKind", "SettingsError", "Special", "Specials", "Spelling", "Suffixes", "Syntax", "Token"]
+__all__ += ["Tokens", "WrongCell", "languages"]
 
 __version__: str = _c.VERSION
-STANDARD: int = _c.STANDARD[1] << 64 | _c.STANDARD[0]
-
-# A byte: a number from 0 to 255, or one ASCII character.
-Byte = Union[int, str, bytes]
-# The value of a setting: a bool for a flag or a group, and otherwise a number or a Byte, or None if it is absent.
-Value = Union[bool, Byte, None]
-Typed = TypeVar("Typed")
-View = TypeVar("View", bound="FormatView")
-Owner = TypeVar("Owner")
-Number = TypeVar("Number", int, float)
-Result = TypeVar("Result")
-P = ParamSpec("P")
-
-_RADIXES = (Setter.MANTISSA_RADIX, Setter.EXPONENT_BASE, Setter.EXPONENT_RADIX)
-_BYTES = (Setter.DIGIT_SEPARATOR, Setter.BASE_PREFIX, Setter.BASE_SUFFIX)
-_SETTERS = {**{it.name.lower(): it for it in Setter}, "radix": Setter.MANTISSA_RADIX}
-# The conditions of a syntax, with their types.
-_CONDITIONS: Dict[str, Any] = {it: int if it.endswith("size") else bool for it in _c.CONDITIONS}
-# The names of the arguments that are fields, and of all settings.
-_c.fields = (*_SETTERS,)
-_c.settings = (*_SETTERS, "exponent", "point", *_CONDITIONS)
-_SETTING = "a str or an Edit (pass a list as `*settings`)"
-
-
-class _Class(ABCMeta):
-    """A class of which `dir`, and so `help`, leaves out what each exception and each data class has."""
-
-    def __dir__(cls) -> List[str]:
-        common = {*dir(ValueError), "__post_init__", *(it for it in type.__dir__(Parts) if it.startswith("__"))}
-        return [it for it in super().__dir__() if it not in common]
-
-
-class _Keyed(metaclass=_Class):
-    """Objects that are equal if their keys are."""
-
-    __slots__ = ()
-
-    _key: Any
-
-    def __eq__(self, other: object) -> bool:
-        if (key := getattr(other, "_key", None)) is None:
-            return NotImplemented
-        return bool(self._key() == key())
-
-    def __hash__(self) -> int:
-        return hash(self._key())
-
-
-def _members(kind: Type[Any], bits: int) -> Tuple[Any, ...]:
-    """Returns the members whose numbers are those of bits that are set."""
-    return tuple(it for it in kind if bits >> it.value & 1)
-
-
-def _notes(fields: Tuple[int, ...]) -> Tuple[Note, ...]:
-    """Returns the notes on fields."""
-    return tuple(Note(text, _joined(mask)) for text, mask in _c.notes(fields))
-
-
-def _joined(halves: Tuple[int, int]) -> int:
-    """Returns the word of two halves."""
-    return halves[1] << 64 | halves[0]
-
-
-def _typed(name: str, value: object, kind: Type[Typed], wanted: str = "") -> Typed:
-    """Returns a value of this type. Raises an error that names the argument if the value has another one."""
-    if not isinstance(value, kind):
-        a = "an" if kind.__name__[0] in "aeiouAEIOU" else "a"
-        raise TypeError(f"{name} must be {wanted or f'{a} {kind.__name__}'}, not {type(value).__name__}")
-    return value
-
-
-def _number(name: str, value: Any, limit: int = 256, wanted: str = "a number from 0 to 255") -> int:
-    """Returns a number below the limit. Raises an error that names the argument if the value is not one."""
-    if isinstance(value, bool) or not hasattr(type(value), "__index__"):
-        raise TypeError(f"{name} must be {wanted}, not {type(value).__name__}")
-    number = operator.index(value)
-    if not 0 <= number < limit:
-        raise ValueError(f"{name} must be {wanted}, not {number if number.bit_length() < 64 else hex(number)}")
-    return number
-
-
-def _byte(name: str, value: Any) -> int:
-    """Returns a byte as a number. Raises an error that names the argument if the value is not a byte."""
-    wanted = "one ASCII character or a number from 0 to 255"
-    if not isinstance(value, (str, bytes)):
-        return _number(name, value, wanted=wanted)
-    if len(value) != 1 or isinstance(value, str) and not value.isascii():
-        raise ValueError(f"{name} must be {wanted}, not {reprlib.repr(value)}")
-    return ord(value)
-
-
-def _encoded(name: str, text: object, wanted: str = "a str or bytes") -> bytes:
-    """Returns a text as bytes. Raises an error that names the argument if it is not a text."""
-    return text if isinstance(text, bytes) else _typed(name, text, str, wanted).encode("utf-8", "surrogatepass")
-
-
-def _refusal(setting: str) -> str:
-    """Returns the reason why a setting is refused."""
-    text, name = _encoded("a setting", setting), reprlib.repr(setting.partition("=")[0].strip(" \t\n\f\r"))
-    return str(_c.setting_error(text)).replace("unknown setting name", f"unknown setting `{name[1:-1]}`")
-
-
-class _OfFields(Generic[P]):
-    """What type checkers take for a method that takes fields and returns an object of the class."""
-
-    def __get__(self, owner: Optional[Owner], kind: Type[Owner]) -> Callable[P, Owner]:
-        raise NotImplementedError
-
-
-def _takes(names: Callable[P, object]) -> Callable[[Callable[..., Result]], Callable[P, Result]]:
-    """Makes a call pass its keyword arguments as settings, in order and behind its other settings."""
-
-    def made(call: Any) -> Any:
-        return functools.wraps(call)(lambda *it, **fields: call(*it, *_settings(names, call, fields)))
-
-    return made
-
-
-def _of(names: Callable[P, object]) -> Callable[[Callable[..., object]], _OfFields[P]]:
-    """Does the same for a method."""
-    made: Any = lambda call: classmethod(_takes(names)(call)) if call.__name__ == "of" else _takes(names)(call)
-    return cast(Callable[[Callable[..., object]], _OfFields[P]], made)
-
-
-def _settings(names: Any, call: Any, fields: Dict[str, Any]) -> Iterator[Union[Edit, str]]:
-    """Returns keyword arguments as settings."""
-    if unknown := [it for it in fields if it not in names]:
-        setting = f"{unknown[0]}="
-        text = _c.settings_text(setting.encode()) if "point" in names else _refusal(setting)
-        raise TypeError(f"{call.__name__}() got an unexpected keyword argument {unknown[0]!r}: {text}")
-    for name, value in fields.items():
-        if name in _CONDITIONS:
-            yield f"{name}={str(_condition(name, value)).lower()}"
-        elif name in _SETTERS:
-            yield Edit.of(name, value)
-        else:
-            yield f"{name}={'none' if value is None else _byte(name, value)}"
-
-
-def _condition(name: str, value: Value) -> Optional[int]:
-    """Returns the value of a condition, None for 0. Raises an error that names it if it does not take the value."""
-    if _CONDITIONS[name] is bool:
-        return _typed(name, value, bool)
-    return None if value is None else _number(name, value) or None
-
-
-@dataclass(frozen=True, init=False, repr=False)
-class Edit(metaclass=_Class):
-    """An edit: a setter and its value, parsed from a text NAME=VALUE such as `Edit("digit_separator='_'")`.
-
-    A flag or a group takes `true` or `false`, and a byte a number such as 95 or `0x5F`. Every byte except
-    `mantissa_radix` also takes `none`, and a separator, prefix or suffix a character in single quotes. White space
-    around the name and the value is skipped. `radix` is another name of `mantissa_radix`. Raises ValueError if the text
-    is not a setting. `value` is a bool, an ASCII character, a number, or None. A byte of 128 or more is a number.
-    """
-
-    setter: Setter
-    value: Union[bool, int, str, None]
-
-    def __init__(self, text: str) -> None:
-        if not (edit := _c.parse_edit(_encoded("a setting", _typed("a setting", text, str)))):
-            raise ValueError(f"{text}: {_refusal(text)}")
-        vars(self).update(setter=Setter(edit[0]), value=_value(Setter(edit[0]), edit[1]))
-
-    @classmethod
-    def of(cls, setter: Union[Setter, str], value: Value) -> Edit:
-        """Returns the edit with this setter, or the setter with this name, and this value, such as
-        `Edit.of("digit_separator", "_")`. Raises TypeError or ValueError if the setter does not take the value."""
-        text = setter.strip(" \t\n\f\r") if isinstance(setter, str) else ""
-        named = _SETTERS.get(text) if isinstance(setter, str) else _typed("setter", setter, Setter)
-        if named is None:
-            raise ValueError(f"setter {reprlib.repr(setter)}: {_refusal(f'{setter}=')}")
-        vars(edit := cls.__new__(cls)).update(setter=named, value=_value(named, _number_of(named, value)))
-        return edit
-
-    @property
-    def name(self) -> str:
-        """The name of the setter in lower case."""
-        return self.setter.name.lower()
-
-    @property
-    def mask(self) -> int:
-        """A mask of the bits of a word that the edit writes."""
-        return _joined(_c.describe("mask", self.setter.value))
-
-    def _numbers(self) -> Tuple[int, int]:
-        return self.setter.value, int(_number_of(self.setter, self.value))
-
-    def __str__(self) -> str:
-        return str(_c.describe("edit", *self._numbers()))
-
-    def __repr__(self) -> str:
-        return f"Edit({str(self)!r})"
-
-
-def _number_of(setter: Setter, value: Value) -> int:
-    """Returns the number of a value. Raises an error that names the setter if it does not take the value."""
-    name = setter.name.lower()
-    if value is None and (setter in _BYTES or setter in _RADIXES[1:]):
-        return 0
-    if setter in _BYTES or setter in _RADIXES:
-        return _byte(name, value) if setter in _BYTES else _number(name, value)
-    return _typed(name, value, bool)
-
-
-def _value(setter: Setter, number: int) -> Union[bool, int, str, None]:
-    """Returns the value that a setter has as this number."""
-    if setter in _BYTES:
-        return chr(number) if 0 < number < 128 else number or None
-    if setter in _RADIXES:
-        return None if number == 0 and setter != Setter.MANTISSA_RADIX else number
-    return bool(number)
-
-
-@dataclass(frozen=True)
-class Note(metaclass=_Class):
-    """A note on fields that have no effect, with a mask of their bits, or on settings, with their indexes."""
-
-    text: str
-    mask: int = 0
-    indexes: Tuple[int, ...] = ()
-
-    def __str__(self) -> str:
-        return self.text
-
-
-@dataclass(frozen=True)
-class Reason(Note):
-    """A reason why a word is not lawful, or why options do not fit it: its text, a mask of the bits that it blames, the
-    rules that it breaks, and the options that it blames, which are `Role.EXPONENT` and `Role.POINT`. An edit is to
-    blame if its mask has a bit in common with this mask that no later edit writes. If settings cause the reason, it has
-    the indexes of those to blame instead."""
-
-    rules: Tuple[Rule, ...] = ()
-    options: Tuple[Role, ...] = ()
-
-
-@dataclass(frozen=True)
-class Separators(metaclass=_Class):
-    """Where a part of a number may have digit separators: between, before and after digits, and several in a row."""
-
-    internal: bool
-    leading: bool
-    trailing: bool
-    consecutive: bool
-
-
-@dataclass(eq=False)
-class ReasonsError(ValueError, metaclass=_Class):
-    """Raised with the reasons why there is no such format or syntax. Options are checked if the format is lawful."""
-
-    reasons: Tuple[Reason, ...]
-
-    def __str__(self) -> str:
-        return "; ".join(reason.text for reason in self.reasons)
-
-
-@dataclass(eq=False)
-class FormatError(ReasonsError):
-    """Raised if a word is not lawful. `view` is the view of the word, and `error` its error."""
-
-    view: FormatView
-    error: Error
-
-
-class OptionsError(ReasonsError):
-    """Raised if an exponent character and a decimal point do not fit a format, or if it contradicts a condition."""
 
 
 class SettingsError(ReasonsError):
@@ -378,8 +74,8 @@ class LiteralError(ValueError, metaclass=_Class):
     with. If it is the length of the text, characters are missing. `span` is the first index and the end of the
     characters to show, maybe none, as in `text[slice(*span)]`. `kind` is the kind of the cause, and `part` the part of
     a separator or of missing digits. `mask` has the flags to blame as bits of a word, and `conditions` the names of
-    conditions. A wrong byte and missing digits blame none. `error` is the cause as one of the errors of the parsers of
-    Rust's crate `lexical`. `form` is the name of the form of a language for which most of the text is right, or empty.
+    conditions. A wrong byte and missing digits blame none. `form` is the name of the form of a language for which most
+    of the text is right, or empty.
     """
 
     sentence: str
@@ -390,7 +86,6 @@ class LiteralError(ValueError, metaclass=_Class):
     kind: ReadErrorKind
     part: Optional[Part]
     mask: int
-    error: Error
     form: str
     conditions: Tuple[str, ...]
 
@@ -400,7 +95,7 @@ class LiteralError(ValueError, metaclass=_Class):
             raise AttributeError(name)
         owner, text, *start = self.args
         at, found = start[0] if start else 0, owner._explain(text, start[0] if start else -1)
-        self.sentence, self.full_sentence, valid, begin, end, kind, part, mask, code, form, bits = found
+        self.sentence, self.full_sentence, valid, begin, end, kind, part, mask, form, bits = found
         self.text, self.valid_up_to, self.span = text, at + valid, (at + begin, at + end)
         # Python shows each character, also one that a terminal does not.
         wrong = "" if isinstance(text, bytes) else text[self.valid_up_to : self.valid_up_to + 1]
@@ -409,7 +104,7 @@ class LiteralError(ValueError, metaclass=_Class):
         self.kind, self.mask = ReadErrorKind(kind), _joined(mask)
         self.part = next(iter(_members(Part, 1 << part)), None)
         self.conditions = tuple(it for bit, it in enumerate(_CONDITIONS) if bits >> bit & 1)
-        self.error, self.form = Error(code), owner._listed[form][0]
+        self.form = owner._listed[form][0]
         return vars(self)[name]
 
     def __repr__(self) -> str:
@@ -423,240 +118,6 @@ class LiteralError(ValueError, metaclass=_Class):
 
     def __str__(self) -> str:
         return self.sentence
-
-
-class _Field:
-    """A field or a group of a view. Its name is the name of its setter."""
-
-    def __init__(self, meaning: str) -> None:
-        self.__doc__ = meaning
-
-    def __set_name__(self, owner: type, name: str) -> None:
-        self._name, self._setter = name, _SETTERS[name]
-
-    def __get__(self, view: Optional[FormatView], owner: type) -> Any:
-        if view is None:
-            return self
-        if self._setter not in _BYTES + _RADIXES:
-            return _c.flag(view._halves, self._setter.value)
-        byte = _c.fields_of(view._halves)[1 + (*_BYTES, *_RADIXES).index(self._setter)]
-        return _value(self._setter, byte) if self._setter in _BYTES else byte
-
-    def __set__(self, view: FormatView, value: Value) -> None:
-        raise AttributeError(f"a view does not change: edit({self._name}={value!r}) returns another one")
-
-    def __repr__(self) -> str:
-        return f"<field {self._name}>"
-
-
-# Fields of each type: flags, bytes with a role, and radixes.
-_flag = cast(Callable[[str], bool], lambda meaning: _Field(f"Whether {meaning}."))
-_mark = cast(Callable[[str], Union[str, int, None]], lambda meaning: _Field(f"The {meaning}, or None if it is absent."))
-_radix = cast(Callable[[str], int], lambda meaning: _Field(f"The {meaning}."))
-
-
-class FormatView(_Keyed):
-    """A view of a format word, lawful or not. `int(view)` is the word, and `str(view)` is its text.
-
-    An absent digit separator, base prefix or base suffix is None. An absent exponent base or exponent radix has the
-    value of the mantissa radix. Raises ValueError if the word is negative or has more than 128 bits.
-    """
-
-    __slots__ = ("_word", "_halves")
-
-    # Made by make_python.py: attributes
-    required_integer_digits = _flag("the format requires digits before the decimal point")
-    required_fraction_digits = _flag("the format requires digits after a decimal point")
-    required_exponent_digits = _flag("the format requires digits after an exponent character")
-    required_mantissa_digits = _flag("the format requires a digit in the mantissa of a float")
-    no_positive_mantissa_sign = _flag("the format forbids a `+` before an integer or a float")
-    required_mantissa_sign = _flag("the format requires a sign before an integer or a float")
-    no_exponent_notation = _flag("the format forbids an exponent in a float")
-    no_positive_exponent_sign = _flag("the format forbids a `+` in the exponent")
-    required_exponent_sign = _flag("the format requires a sign in the exponent")
-    no_exponent_without_fraction = _flag("the format requires a decimal point before an exponent")
-    no_special = _flag("the format forbids all special values")
-    case_sensitive_special = _flag("special values are case-sensitive")
-    no_integer_leading_zeros = _flag("the format forbids leading zeros in an integer")
-    no_float_leading_zeros = _flag("the format forbids leading zeros in a float")
-    required_exponent_notation = _flag("the format requires an exponent in a float")
-    case_sensitive_exponent = _flag("the exponent character is case-sensitive")
-    case_sensitive_base_prefix = _flag("the base prefix is case-sensitive")
-    case_sensitive_base_suffix = _flag("the base suffix is case-sensitive")
-    integer_internal_digit_separator = _flag("the format allows a digit separator between integer digits")
-    fraction_internal_digit_separator = _flag("the format allows a digit separator between fraction digits")
-    exponent_internal_digit_separator = _flag("the format allows a digit separator between exponent digits")
-    integer_leading_digit_separator = _flag("the format allows a digit separator before the integer digits")
-    fraction_leading_digit_separator = _flag("the format allows a digit separator before the fraction digits")
-    exponent_leading_digit_separator = _flag("the format allows a digit separator before the exponent digits")
-    integer_trailing_digit_separator = _flag("the format allows a digit separator after the integer digits")
-    fraction_trailing_digit_separator = _flag("the format allows a digit separator after the fraction digits")
-    exponent_trailing_digit_separator = _flag("the format allows a digit separator after the exponent digits")
-    integer_consecutive_digit_separator = _flag("the format allows consecutive digit separators in the integer part")
-    fraction_consecutive_digit_separator = _flag("the format allows consecutive digit separators in the fraction")
-    exponent_consecutive_digit_separator = _flag("the format allows consecutive digit separators in the exponent")
-    special_digit_separator = _flag("the format allows digit separators in special values")
-    digit_separator = _mark("digit separator: the byte that separates groups of digits")
-    base_prefix = _mark("base prefix: the byte that may follow a leading zero to indicate the radix")
-    base_suffix = _mark("base suffix: the byte that may follow the digits to indicate the radix")
-    mantissa_radix = _radix("mantissa radix: the radix of the integer and fraction digits")
-    exponent_base = _radix("exponent base: the base that is raised to the exponent")
-    exponent_radix = _radix("exponent radix: the radix of the exponent digits")
-    required_digits = _flag("any of the flags that require digits is set")
-    internal_digit_separator = _flag("any of the flags that allow a digit separator between digits is set")
-    leading_digit_separator = _flag("any of the flags that allow a digit separator before digits is set")
-    trailing_digit_separator = _flag("any of the flags that allow a digit separator after digits is set")
-    consecutive_digit_separator = _flag("any of the flags that allow consecutive digit separators is set")
-    digit_separator_flags = _flag("any of the flags that allow digit separators is set")
-    integer_digit_separator_flags = _flag("any of the flags that allow digit separators in the integer part is set")
-    fraction_digit_separator_flags = _flag("any of the flags that allow digit separators in the fraction is set")
-    exponent_digit_separator_flags = _flag("any of the flags that allow digit separators in the exponent is set")
-    # End
-
-    def __init__(self, word: int = STANDARD) -> None:
-        self._word = _number("a format word", word, 1 << 128, "a number of at most 128 bits")
-        self._halves = self._word & (1 << 64) - 1, self._word >> 64
-
-    @_of(_peltzivar.fields)
-    def of(cls: Any, *settings: Union[Edit, str], **fields: Value) -> FormatView:
-        """Applies the settings and then the fields, in order, to the default fields, and returns a view of the word.
-
-        If no flag allows the digit separator, a `FormatView` drops it, and `notes_of` reports it. A `Format` raises a
-        ValueError then, and a FormatError if the word is not lawful.
-        """
-        return cast(FormatView, cls._packed(_c.NEW_FIELDS, settings))
-
-    @classmethod
-    def parse(cls: Type[View], text: str) -> View:
-        """Parses `0x` followed by 1 to 32 hexadecimal digits. Raises ValueError if the text has another form."""
-        error, word = _c.parse_word(_encoded("a format word", _typed("a format word", text, str)))
-        if error:
-            raise ValueError(f"{reprlib.repr(text)} is not a format word: {Error(error).description}")
-        return cls(_joined(word))
-
-    def mantissa_digit(self, byte: Byte) -> Optional[int]:
-        """Returns the value of a byte as a digit of the integer or the fraction, or None if it is not one."""
-        return cast(Optional[int], _c.mantissa_digit(self._halves, _byte("a byte", byte)))
-
-    def exponent_digit(self, byte: Byte) -> Optional[int]:
-        """Returns the value of a byte as a digit of the exponent, or None if it is not one."""
-        return cast(Optional[int], _c.exponent_digit(self._halves, _byte("a byte", byte)))
-
-    def separators(self, part: Part) -> Separators:
-        """Returns where a part of a number may have digit separators, such as `separators(Part.FRACTION).internal`."""
-        return Separators(*_c.separators_of(self._halves, _typed("part", part, Part).value))
-
-    def is_separator(self, byte: Byte) -> bool:
-        """Returns whether a byte is the digit separator, and some flag allows it."""
-        return bool(_c.is_separator(self._halves, _byte("a byte", byte)))
-
-    def is_base_prefix(self, byte: Byte) -> bool:
-        """Returns whether the base prefix matches a byte. A letter matches both cases unless it is case-sensitive."""
-        return bool(_c.is_base_prefix(self._halves, _byte("a byte", byte)))
-
-    def is_base_suffix(self, byte: Byte) -> bool:
-        """Returns whether the base suffix matches a byte. A letter matches both cases unless it is case-sensitive."""
-        return bool(_c.is_base_suffix(self._halves, _byte("a byte", byte)))
-
-    def role_of(self, byte: Byte, *, exponent: Byte = 0, point: Byte = 0) -> Optional[Role]:
-        """Returns the first role that a byte has in numbers with this exponent character and this decimal point, or
-        None. An option that is 0 matches no byte. If this is a `Format` and the options fit it, no byte has two
-        roles."""
-        options = _byte("exponent", exponent), _byte("point", point)
-        role = _c.role_of(self._halves, *options, _byte("a byte", byte))
-        return Role(role) if role else None
-
-    @_of(_peltzivar.fields)
-    def edit(self, *settings: Union[Edit, str], **fields: Value) -> FormatView:
-        """Applies the settings and then the fields to the word, in order, and returns a view of the new word.
-
-        Before that, the mantissa radix replaces an absent exponent base or exponent radix. After that, a separator that
-        no flag allows is dropped. So set a digit separator and its flags in one call. A `Format` raises a ValueError if
-        it would drop a separator that was passed, and a FormatError if the new word is not lawful.
-        """
-        return self._packed(_c.fields_of(self._halves), settings)
-
-    def edits(self) -> Tuple[Edit, ...]:
-        """Returns an edit for each field of the word that differs from its default, in the order of the bits."""
-        return tuple(Edit.of(Setter(it), _value(Setter(it), value)) for it, value in _c.edits_of(self._halves))
-
-    def normal_form(self: View) -> View:
-        """Returns the normal form of the word. Equivalent words have the same normal form."""
-        return type(self)(_joined(_c.normal_form(self._halves)))
-
-    def check(self) -> Format:
-        """Returns the word as a `Format`. Raises FormatError if the word is not lawful."""
-        return Format(self._word)
-
-    def error(self) -> Error:
-        """Returns the error of the first rule that the word breaks, or `Error.SUCCESS` if the word is lawful."""
-        return Error(_c.check(self._halves))
-
-    def reasons(self) -> Tuple[Reason, ...]:
-        """Returns each reason why the word is not lawful."""
-        found = _c.reasons(self._halves)
-        return tuple(Reason(text, _joined(mask), rules=_members(Rule, bits)) for text, mask, bits in found)
-
-    def options_reasons(self, exponent: Byte, point: Byte) -> Tuple[Reason, ...]:
-        """Returns each reason why an exponent character and a decimal point do not fit the word."""
-        found = _c.options_reasons(self._halves, _byte("exponent", exponent), _byte("point", point))
-        return tuple(Reason(text, _joined(mask), options=_members(Role, bits)) for text, mask, bits in found)
-
-    def notes(self) -> Tuple[Note, ...]:
-        """Returns the notes on fields of the word that have no effect."""
-        return _notes(_c.fields_of(self._halves))
-
-    def source(self) -> str:
-        """Returns Rust code that sets the fields of the word and packs them."""
-        return str(_c.source(self._halves))
-
-    @classmethod
-    def _packed(cls: Type[View], fields: Tuple[int, ...], settings: Iterable[Union[Edit, str]]) -> View:
-        """Applies settings to fields, and returns a view of the word."""
-        edits = _edits(settings)
-        changed, word = _c.pack(fields, [it._numbers() for it in edits])
-        view = cls(_joined(word))
-        is_dropped = changed[1] and view.digit_separator is None
-        if is_dropped and issubclass(cls, Format) and Setter.DIGIT_SEPARATOR in [edit.setter for edit in edits]:
-            raise ValueError("; ".join(note.text for note in _notes(changed) if note.mask >> 64 & 255))
-        return view
-
-    def _key(self) -> int:
-        return self._word
-
-    def __int__(self) -> int:
-        return self._word
-
-    __index__ = __int__
-
-    def __str__(self) -> str:
-        return str(_c.word_text(self._halves))
-
-    def __format__(self, specification: str) -> str:
-        """Formats the text of the word or, if the specification is one of numbers such as `#x`, the number."""
-        return format(self._word if specification.endswith(tuple("bdoxX")) else str(self), specification)
-
-    def __repr__(self) -> str:
-        name = type(self).__name__
-        if not _c.is_built(self._halves):
-            return f"{name}({self})"
-        return f"{name}.of({', '.join(f'{edit.name}={edit.value!r}' for edit in self.edits())})"
-
-
-class Format(FormatView):
-    """A view of a lawful word. Raises FormatError if the word is not lawful."""
-
-    __slots__ = ()
-
-    def __init__(self, word: int = STANDARD) -> None:
-        super().__init__(word)
-        if error := self.error():
-            raise FormatError(self.reasons(), FormatView(word), error)
-
-    def check_options(self, exponent: Byte, point: Byte) -> None:
-        """Raises OptionsError with every reason if an exponent character and a decimal point do not fit the format."""
-        if reasons := self.options_reasons(exponent, point):
-            raise OptionsError(reasons)
 
 
 @dataclass(frozen=True)
@@ -879,20 +340,26 @@ class ColumnError(ValueError, metaclass=_Class):
 class _Wrong(Sequence[WrongCell]):
     """Wrong cells of texts by their indexes or, if there are none, of data with offsets."""
 
-    def __init__(self, owner: _Reader, texts: Any, data: bytes, offsets: Any, status: bytes) -> None:
-        self._owner, self._texts, self._data, self._offsets, self._status = owner, texts, data, offsets, status
-        self._count = len(status) - status.count(0)
+    def __init__(self, owner: _Reader, texts: Any, data: Any, offsets: Any, strips: bool, status: bytes) -> None:
+        self._owner, self._texts, self._data, self._offsets, self._strips = owner, texts, data, offsets, strips
+        self._status, self._count = status, len(status) - status.count(0)
 
     def __reduce__(self) -> Tuple[Any, ...]:
         """Returns what makes the same of the wrong cells alone."""
-        return _Wrong, (self._owner, {it: self._text(it) for it in self.indexes}, b"", None, self._status)
+        texts = {it: self._text(it) for it in self.indexes}
+        return _Wrong, (self._owner, texts, b"", None, self._strips, self._status)
 
     def _text(self, index: int) -> Any:
         """Returns a text, or None if its offsets do not ascend, or are not between the first and the last."""
         if self._texts:
             return self._texts[index]
         start, end = self._offsets[index : index + 2]
-        return self._data[start:end] if self._offsets[0] <= start <= end <= self._offsets[-1] else None
+        return bytes(self._data[start:end]) if self._offsets[0] <= start <= end <= self._offsets[-1] else None
+
+    def _read_text(self, index: int) -> Any:
+        """Returns what is read of a text, which has a place."""
+        text = self._text(index)
+        return text.strip(_BLANKS if isinstance(text, str) else _BLANKS.encode()) if self._strips else text
 
     def __len__(self) -> int:
         return self._count
@@ -908,11 +375,16 @@ class _Wrong(Sequence[WrongCell]):
         if text is None:
             return WrongCell(index, b"", ValueError("the offsets do not ascend here"))
         if status == _c.REFUSED:
-            return WrongCell(index, text, LiteralError(self._owner, text))
+            return WrongCell(index, text, LiteralError(self._owner, self._read_text(index)))
         return WrongCell(index, text, ValueError(_TOO_LONG if status == _LONG else _c.describe("value", status)))
 
     def __repr__(self) -> str:
         return f"<{len(self)} wrong cells>"
+
+
+class _Writable(typing.Protocol):
+    def __len__(self) -> int: ...
+    def __setitem__(self, index: int, value: Any, /) -> None: ...
 
 
 class _Reader(_peltzivar.Reader):
@@ -975,11 +447,16 @@ class _Reader(_peltzivar.Reader):
         """
         return self._text_of(value, _style(group, without_base, lowercase, min_digits, exponent, decimals))
 
-    def format_column(self, numbers: Iterable[Any], *, fill: Optional[str] = None, **wishes: Any) -> List[str]:
+    def format_column(
+        self, numbers: Iterable[Any], *, fill: Optional[str] = None, group: Optional[int] = None,
+        without_base: bool = False, lowercase: bool = False, min_digits: int = 0,
+        exponent: Optional[typing.Literal["never", "always"]] = None, decimals: Optional[int] = None
+    ) -> List[str]:
         """Returns a list, or an array of numpy, as texts, as `format_number` does with the same wishes, several times
         as fast. If `fill` is a text, that of None, NaN and `pandas.NA` is this."""
-        style = _style(**wishes)
-        listed: Any = numbers.tolist() if hasattr(numbers, "tolist") else numbers
+        style = _style(group, without_base, lowercase, min_digits, exponent, decimals)
+        listed: Any = _sequence("numbers", numbers)
+        listed = listed.tolist() if hasattr(listed, "tolist") else listed
         other: Any = lambda it: self._text_of(it, style)
         if fill is not None:
             na, fill = _na(), _typed("fill", fill, str)
@@ -996,7 +473,11 @@ class _Reader(_peltzivar.Reader):
         syntax = next((it for it in syntaxes if it.point and it.format.mantissa_radix == 10), syntaxes[0])
         return str(self._write((_writable(value, radix, syntax, style),), style, None)[0])
 
-    def parse(self, text: Union[str, bytes], type: Type[Number] = cast(Any, float)) -> Number:
+    @typing.overload
+    def parse(self, text: Union[str, bytes], type: Type[int]) -> int: ...
+    @typing.overload
+    def parse(self, text: Union[str, bytes], type: Type[float] = ...) -> float: ...
+    def parse(self, text: Union[str, bytes], type: Any = float) -> Any:
         """Returns the value of a text as a `float` or an `int`, faster than `read` does. Raises LiteralError if the
         text is not a number, and ValueError if an `int` is wanted and it is not an integer."""
         if type is not float and type is not int:
@@ -1007,20 +488,24 @@ class _Reader(_peltzivar.Reader):
         return type(number)
 
     def column(
-        self, cells: Union[Iterable[Union[str, bytes, None]], Tuple[Any, Any]],
+        self, cells: Union[Iterable[Union[str, bytes, None]], Tuple[Any, Any], Tuple[Any, Any, Any]],
         type: Union[Type[float], Type[Decimal], typing.Literal["d", "f", "q", "Q"]] = float, *,
-        errors: typing.Literal["raise", "coerce"] = "raise", fill: Union[float, Decimal, None] = None, out: Any = None,
-        scale: Optional[int] = None
+        errors: typing.Literal["raise", "coerce"] = "raise", fill: Union[float, Decimal, None] = None,
+        out: Optional[_Writable] = None, scale: Optional[int] = None, missing: Iterable[Union[str, bytes]] = (),
+        strip: bool = False
     ) -> Column:
         """Returns the values of cells, some ten times as fast as `read` does.
 
         `cells` is a sequence of `str`, such as a column of pandas, or of `bytes`, or a tuple `(data, offsets)` of
         buffers, as Arrow holds texts, with offsets of 32 or 64 bits: `memoryview(offsets).cast("i")` or `"q"` if the
-        buffer has bytes. None, NaN and `pandas.NA` in a sequence are missing, and not wrong. `type` is `float`, `int`,
-        `Decimal`, whose values are a list, or the format of an array: `d` or `f` for floats, `q` or `Q` for integers of
-        64 bits. `values` is an `array.array`, or `out`, a writable buffer of such a format, such as an array of numpy.
-        A cell that is missing or wrong has the value `fill`, which is NaN if it is None, and which integers need. With
-        the `errors` "raise", a wrong cell raises ColumnError after the whole column is read.
+        buffer has bytes, and maybe with Arrow's bits of validity, or None, as a third member. Data that is read-only is
+        not copied, and must not change meanwhile. `strip` takes white space of ASCII around a number away. Missing, and
+        not wrong, are None, NaN and `pandas.NA` in a sequence, texts that are null by their bits, and those that are
+        then one of `missing`, such as `("", "-", "NA")`.
+        `type` is `float`, `int`, `Decimal`, whose values are a list, or the format of an array: `d` or `f` for floats,
+        `q` or `Q` for integers of 64 bits. `values` is an `array.array`, or `out`, a writable buffer of such a format,
+        such as an array of numpy. A cell that is missing or wrong has the value `fill`, which is NaN if it is None, and
+        which integers need. With the `errors` "raise", a wrong cell raises ColumnError after the whole column is read.
         With a `scale` from 0 to 255, `type` is `int`, and the values are those of `scaled(scale)` of literals: with 2,
         prices in cents. A product that is neither whole nor of 64 bits is not whole, but from 2^90 on (28 digits), it
         may be too large or too small.
@@ -1029,40 +514,32 @@ class _Reader(_peltzivar.Reader):
         if scale is not None and kind != "q":
             raise TypeError("with a scale, type must be int, or the format q")
         places = -1 if scale is None else _number("scale", scale)
-        texts, data, offsets = _texts_of(cells)
+        buffers, missing = _buffers_of(cells), _sequence("missing", missing, "a sequence of texts")
+        texts = () if buffers else tuple(_sequence("cells", cells))
+        data, offsets, valid = buffers or (b"", array("q", [0]), None)
         status, size = bytearray(len(texts) or len(offsets) - 1), {"f": 4}.get(kind, 8)
         if errors not in ("raise", "coerce"):
             raise ValueError(f"errors must be 'raise' or 'coerce', not {errors!r}")
         is_left = fill is None and kind in "qQ"
         fill = fill if fill is not None else 0 if is_left else Decimal("NaN") if type is Decimal else math.nan
-        try:
-            filling: Any = array(kind, [cast(Any, fill)])
-            if type is not Decimal and math.isinf(filling[0]) and filling[0] != fill:
-                raise OverflowError
-        except OverflowError:
-            raise ValueError(f"fill is not a value of the column: {fill!r}") from None
-        values = array(kind, bytes(size * len(status))) if out is None else out
-        if out is not None:
-            with memoryview(out) as view:
-                if view.shape != (len(status),):
-                    raise ValueError(f"out has the shape {view.shape}, and there are {len(status)} cells")
-                if view.readonly or not view.contiguous:
-                    raise TypeError("out must be writable, and have its items one after another")
-        missing = self._column(texts, data, offsets, kind, values, status, filling, _na(), places)
-        if is_left and (missing or errors == "coerce"):
+        values: Any = array(kind, bytes(size * len(status))) if out is None else _checked(out, len(status))
+        filling, known = _filling(kind, fill, type is Decimal), tuple(_encoded("a text of `missing`", it) for it in missing)
+        how = filling, _na(), places, _typed("strip", strip, bool), known
+        absent = self._column(texts, data, offsets, valid, kind, values, status, *how)
+        if is_left and (absent or errors == "coerce"):
             raise ValueError("integers have no NaN: pass `fill`, the value of cells that are missing or wrong")
-        wrong = _Wrong(self, texts, data, offsets, bytes(status))
+        wrong = _Wrong(self, texts, data, offsets, strip, bytes(status))
         if type is Decimal:
             # A float needs other radixes than a Decimal.
-            values, left, codes = [fill] * len(status), {*missing}, (0, _c.RADIX)
+            values, left, codes = [fill] * len(status), {*absent}, (0, _c.RADIX)
             for at, code in enumerate(status):
                 if code in codes and at not in left:
                     try:
-                        values[at], status[at] = self.read(wrong._text(at)).decimal(), 0
+                        values[at], status[at] = self.read(wrong._read_text(at)).decimal(), 0
                     except (OverflowError, ValueError):
                         status[at] = code or _LONG
-            wrong = _Wrong(self, texts, data, offsets, bytes(status))
-        column = Column(values, wrong, missing)
+            wrong = _Wrong(self, texts, data, offsets, strip, bytes(status))
+        column = Column(values, wrong, absent)
         if wrong and errors == "raise":
             raise ColumnError(column)
         return column
@@ -1073,46 +550,92 @@ def _na() -> Any:
     return getattr(sys.modules.get("pandas"), "NA", None)
 
 
+_BLANKS = " \t\n\v\f\r"
 _OFFSETS = ("i", "I", "l", "L", "q", "Q")
 _FORMATS = ("d", "f", "q", "Q")
 
 
 def _format(type: Any, out: Any) -> str:
     """Returns the format of values. Raises TypeError if it does not fit the type."""
-    formats: str = cast(Any, {float: "df", int: "qQ", **{it: it for it in _FORMATS}}).get(type, "")
+    own = type if isinstance(type, str) and type in _FORMATS else ""
+    formats = "df" if type is float else "qQ" if type is int else own
     if not formats:
         raise TypeError(f"type must be float, int, or one of the formats d, f, q and Q, not {type!r}")
-    found = formats[:1] if out is None else memoryview(out).format
+    found = formats[:1] if out is None else _view("out", out).format
     found = {"l": "q", "L": "Q"}.get(found, found)
     if found not in _FORMATS or found not in formats:
         raise TypeError(f"out must have the format {' or '.join(formats)}, not {found!r}")
     return found
 
 
-def _texts_of(cells: Any) -> Tuple[Tuple[Any, ...], bytes, Any]:
-    """Returns cells as a tuple of texts, or as bytes with whole offsets of their own."""
-    given = None
-    if type(cells) is tuple and len(cells) == 2 and not isinstance(cells[1], (str, bytes)):
-        with contextlib.suppress(TypeError):
-            given = memoryview(cells[1])
-    if given is not None and given.ndim:
-        if given.format not in _OFFSETS:
-            raise TypeError(f"offsets must have one of the formats {', '.join(_OFFSETS)}, not {given.format!r}")
-        data, offsets = bytes(memoryview(cells[0])), array("q", bytes(8 * (len(given) or 1)))
-        # Offsets of 32 bits are the lower halves of the others.
-        halves = given.itemsize == 4
-        memoryview(offsets).cast("B").cast(given.format)[: len(given) << halves : 1 + halves] = given
-        if offsets[0] < 0 or offsets[-1] > len(data):
-            raise ValueError(f"offsets are not within the data, which has {len(data)} bytes")
-        return (), data, offsets
-    if isinstance(cells, (str, bytes)):
-        raise TypeError(f"cells must be a sequence of texts, not {type(cells).__name__}")
-    return tuple(cells), b"", array("q", [0])
+def _filling(kind: str, fill: Any, is_decimal: bool) -> Any:
+    """Returns what cells without a value have. Raises an error if a column of this format does not have it."""
+    try:
+        filling: Any = array(kind, [fill])
+        if not is_decimal and math.isinf(filling[0]) and filling[0] != fill:
+            raise OverflowError
+        return filling
+    except TypeError:
+        raise TypeError(f"fill must be a number of the column, not {type(fill).__name__}") from None
+    except OverflowError:
+        raise ValueError(f"fill is not a value of the column: {fill!r}") from None
+
+
+def _checked(out: Any, count: int) -> Any:
+    """Returns a buffer to which this many values are written. Raises an error if it cannot have them."""
+    with _view("out", out) as view:
+        if view.shape != (count,):
+            raise ValueError(f"out has the shape {view.shape}, and there are {count} cells")
+        if view.readonly or not view.contiguous:
+            raise TypeError("out must be writable, and have its items one after another")
+    return out
+
+
+def _buffers_of(cells: Any) -> Optional[Tuple[Any, Any, Any]]:
+    """Returns bytes, whole offsets of their own, and bits of validity or None. Returns None for a sequence of texts."""
+    if type(cells) is not tuple or len(cells) not in (2, 3) or isinstance(cells[1], (str, bytes)):
+        return None
+    data, given, valid = (*cells, None)[:3]
+    try:
+        given = memoryview(given)
+    except TypeError:
+        if isinstance(given, Sequence):
+            raise TypeError(f"offsets must be an array, such as array('q', [0, 3]), not {type(given).__name__}") from None
+        return None
+    if not given.ndim:
+        return None
+    if given.format not in _OFFSETS:
+        raise TypeError(f"offsets must have one of the formats {', '.join(_OFFSETS)}, not {given.format!r}")
+    if valid is not None and (valid := _view("validity", valid)).format not in ("B", "b", "c"):
+        raise TypeError(f"validity must be bytes, with a bit for each text, and not of the format {valid.format!r}")
+    data, offsets = _view("data", data), array("q", bytes(8 * (len(given) or 1)))
+    is_kept = data.readonly and data.ndim == data.itemsize == 1 and data.contiguous
+    # Offsets of 32 bits are the lower halves of the others.
+    halves = given.itemsize == 4
+    memoryview(offsets).cast("B").cast(given.format)[: len(given) << halves : 1 + halves] = given
+    if offsets[0] < 0 or offsets[-1] > data.nbytes:
+        raise ValueError(f"offsets are not within the data, which has {data.nbytes} bytes")
+    return data if is_kept else bytes(data), offsets, None if valid is None else bytes(valid)
+
+
+def _sequence(name: str, given: Any, wanted: str = "a sequence, such as one column of a table") -> Any:
+    """Returns a sequence. Raises an error that names the argument if it is a text, a table, or no sequence."""
+    is_one = len(getattr(given, "shape", (0,))) == 1 and (hasattr(given, "__iter__") or hasattr(given, "__getitem__"))
+    if isinstance(given, (str, bytes, Mapping)) or not is_one:
+        raise TypeError(f"{name} must be {wanted}, not {type(given).__name__}")
+    return given
+
+
+def _view(name: str, given: Any) -> memoryview:
+    """Returns a buffer. Raises an error that names the argument if it is not one."""
+    try:
+        return memoryview(given)
+    except TypeError:
+        raise TypeError(f"{name} must be a buffer, such as an array, not {type(given).__name__}") from None
 
 
 def _style(
-    group: Any = None, without_base: Any = False, lowercase: Any = False, min_digits: Any = 0, exponent: Any = None,
-    decimals: Any = None
+    group: Any, without_base: Any, lowercase: Any, min_digits: Any, exponent: Any, decimals: Any
 ) -> Tuple[int, ...]:
     """Returns wishes as the members of a style."""
     size = 0 if group is None else _number("group", group, 255, "a number from 0 to 254") or 255
@@ -1122,10 +645,6 @@ def _style(
         raise ValueError(f'exponent must be "never" or "always", not {exponent!r}')
     places = 0 if decimals is None else _number("decimals", decimals)
     return size, *flags_of, least, (None, "never", "always").index(exponent), decimals is not None, places
-
-
-# An error names the method whose wishes are passed on.
-_style.__qualname__ = "format_column"
 
 
 # How often 2 and 5 divide each number that no other prime divides.
@@ -1178,7 +697,9 @@ class Syntax(_Reader, metaclass=_Class):
         format = self.format.normal_form()
         if self.exponent is not None and self.point is not None:
             options = _byte("exponent", self.exponent), _byte("point", self.point)
-            format.check_options(*options)
+            found = _c.options_reasons(format._halves, *options)
+            if reasons := tuple(Reason(text, _joined(mask), options=_members(Role, of)) for text, mask, of in found):
+                raise OptionsError(reasons)
         elif self.exponent is not self.point:
             sentence = str(_c.settings_text(b"exponent=none"))
             raise OptionsError((Reason(sentence, options=(Role.EXPONENT, Role.POINT)),))
@@ -1420,32 +941,11 @@ class Specials(metaclass=_Class):
     inf: Optional[str] = None
     infinity: Optional[str] = None
 
-    def read(self, syntax: Syntax, text: Union[str, bytes]) -> Optional[Special]:
-        """Returns the special value that a text is, or None. The flags of the syntax decide which signs, cases of
-        letters and digit separators it may have. A text can also be a literal, such as `inf` in radix 36."""
-        return _special(self._reader(syntax)._special(text))
-
-    def format(self, syntax: Syntax, special: Special) -> str:
-        """Returns a special value as a text: its sign, if that is `-` or one is required, and the first of its
-        spellings that is read back, in the order inf, infinity. Raises ValueError if there is none.
-
-            >>> Specials(nan="NaN", infinity="Infinity").format(Syntax(Format.of()), Special("-", Spelling.INF))
-            '-Infinity'
-        """
-        sign, spelling = _typed("special", special, Special).sign, special.spelling.value
-        return str(self._reader(syntax)._spelled(spelling, ord(sign or "\0")))
-
-    def _reader(self, syntax: Syntax) -> Any:
-        """Returns what reads special values by the flags of a syntax."""
-        form, reader = (None, _typed("syntax", syntax, Syntax)._by, *_PLAIN), _Reader()
-        _c.make(reader, ((form,), self._spellings(), None), True)
-        return reader
-
     def _spellings(self) -> Tuple[bytes, ...]:
-        spellings = tuple(_encoded("a spelling", "" if it is None else it) for it in vars(self).values())
-        if any(b"\0" in it for it in spellings):
+        spellings = tuple(_typed("a spelling", "" if it is None else it, str) for it in vars(self).values())
+        if any("\0" in it for it in spellings):
             raise ValueError(f"a spelling has a null character: {self}")
-        return spellings
+        return tuple(it.encode("utf-8", "surrogatepass") for it in spellings)
 
 
 class _Several(_Reader):
@@ -1459,12 +959,13 @@ class _Several(_Reader):
 
     def _spelled_as(self, special: Special) -> str:
         """Returns a special value by the first of its spellings that is read as it."""
-        for name in ("nan",) if special.spelling is Spelling.NAN else ("inf", "infinity"):
-            one = Specials(**{name: getattr(self.specials, name)})
+        names = ("nan",) if special.spelling is Spelling.NAN else ("inf", "infinity")
+        is_signed = next(iter(self._named.values())).format.required_mantissa_sign
+        sign = "-" if special.sign == "-" else "+" * is_signed
+        for text in (sign + spelling for name in names if (spelling := getattr(self.specials, name))):
             with contextlib.suppress(ValueError):
-                text = one.format(next(iter(self._named.values())), special)
                 if isinstance(found := self.read(text), Special) and repr(found.value) == repr(special.value):
-                    return text
+                    return str(text)
         raise ValueError(_c.describe("write", _c.WRITE_SPECIAL))
 
     def token(self, text: AnyStr, start: int = 0) -> Token[AnyStr]:
@@ -1572,8 +1073,8 @@ class Suffixes(metaclass=_Class):
     integers: str = ""
     floats: str = ""
     any: str = ""
-    kinds: Any = ()
-    stops: Any = ()
+    kinds: Union[Mapping[str, Kind], Iterable[Tuple[str, Kind]]] = ()
+    stops: Iterable[Iterable[str]] = ()
     either_case: bool = False
     written: str = ""
     whole_words: bool = False
@@ -1585,19 +1086,21 @@ class Suffixes(metaclass=_Class):
         stops = tuple(tuple(_typed("a stop", it, str) for it in stop) for stop in self.stops)
         vars(self).update(kinds=kinds, stops=stops)
         [_typed(name, vars(self)[name], bool) for name in ("either_case", "whole_words")]
-        if any(len(stop) != 3 for stop in self.stops):
+        if any(len(stop) != 3 for stop in stops):
             raise ValueError(f"a stop has three strings: {self.stops}")
         texts = self.integers, self.floats, self.any, self.written, self.word_bytes
-        [_string(it) for it in (*texts, *(it for stop in self.stops for it in stop))]
-        words = [*self.integers.split(" "), *self.floats.split(" "), *(it for it, _ in self.kinds)]
+        [_string(it) for it in (*texts, *(it for stop in stops for it in stop))]
         known = "_" + self.word_bytes
-        if wrong := [it for it in words if any(it.isascii() and not it.isalnum() and it not in known for it in it)]:
+        if wrong := [it for it in self._words() if any(it.isascii() and not it.isalnum() and it not in known for it in it)]:
             raise ValueError(f"a suffix has letters, digits, `_` and characters that are not ASCII: {wrong[0]!r}")
+
+    def _words(self) -> List[str]:
+        return [*self.integers.split(" "), *self.floats.split(" "), *dict(self.kinds)]
 
     def _members(self) -> Tuple[Any, ...]:
         """Returns the members of the structure."""
         stops = tuple(tuple(map(_string, stop)) for stop in self.stops)
-        kinds = tuple((_string(it), *kind._numbers()) for it, kind in self.kinds)
+        kinds = tuple((_string(it), *kind._numbers()) for it, kind in cast(Any, self.kinds))
         texts = self.integers, self.floats, self.any, self.written, self.word_bytes
         return *map(_string, texts), kinds, stops, int(self.either_case), int(self.whole_words)
 
@@ -1659,6 +1162,14 @@ class Tokens(metaclass=_Class):
         return [int(_typed(name, vars(self)[name], bool)) for name in names]
 
 
+def _goes_on(syntax: Syntax, word: str) -> bool:
+    """Returns whether each literal in front of a word goes on with its first character."""
+    of, first = syntax.format, word[:1]
+    may_end = of.base_suffix or of.digit_separator or of.no_integer_leading_zeros or of.no_float_leading_zeros
+    is_digit = first > "" and first.isascii() and None not in (of.mantissa_digit(first), of.exponent_digit(first))
+    return is_digit and not may_end
+
+
 _OF_FORMS = "kinds", "suffixes", "tokens", "openings", "only_read"
 
 
@@ -1670,8 +1181,9 @@ class Forms(_Keyed, _Several, Mapping[str, Syntax]):
     most of the text is right. `forms["hexadecimal"]` is the syntax with this name. `kinds` has the kinds of forms, by
     their names, `suffixes` the `Suffixes` of forms, `openings` their `Opening`, `only_read` the names of those by which
     nothing is written, and `tokens` the rules for `token`. They are those of `forms` if these are `Forms`. Raises
-    ValueError if there are no forms or more than 64, if two have the same name, if a name is that of no form, or if
-    forms that have tokens have more than 256 words, kinds of suffixes, or stops.
+    ValueError if there are no forms or more than 64, if two have the same name, if a name is that of no form, if each
+    number goes on with the first digit of a suffix, such as `5k`, or if forms that have tokens have more than 256
+    words, kinds of suffixes, or stops.
     """
 
     def __init__(
@@ -1698,6 +1210,8 @@ class Forms(_Keyed, _Several, Mapping[str, Syntax]):
         behind = self.tokens.forms if self.tokens is not None else None
         given = [(self.kinds.get(it, Kind()), self.suffixes.get(it), self.openings.get(it)) for it in self]
         own = [(name, self[name], *of, name in self.only_read) for name, of in zip(self, given)]
+        if never := [it for _, syntax, _, more, *_ in own if more for it in more._words() if _goes_on(syntax, it)]:
+            raise ValueError(f"a suffix begins with a digit, with which the number goes on: {never[0]!r}")
         self._listed: Any = own + (behind._listed if behind is not None else [])
         made = tuple(
             (None, it._by, *kind._numbers(), more and more._members(), *(opening or Opening())._members(), int(is_read))
@@ -1804,30 +1318,21 @@ class _Language(_Several, _Named):
 
 
 _TITLES: Dict[str, str] = dict(_c.LANGUAGES)
-_made = _Language
+_made: Any = _Language
 _c.Language = _made("Language", [(it, it) for it in _TITLES], module=__name__)
 _c.Language.__doc__ = _Language.__doc__
-from ._peltzivar import Language
+from ._peltzivar import Language as Language
 
 languages = Language
 
 
-@_takes(_peltzivar.fields)
-def notes_of(*settings: Union[Edit, str], **fields: Value) -> Tuple[Note, ...]:
-    """Returns the notes on the fields that settings write, also on a digit separator that `FormatView.of` drops."""
-    return _notes(_c.pack(_c.NEW_FIELDS, [it._numbers() for it in _edits(settings)])[0])
-
-
-def _edits(settings: Iterable[Union[Edit, str]]) -> List[Edit]:
-    """Returns settings as edits."""
-    return [it if isinstance(it, Edit) else Edit(_typed("a setting", it, str, _SETTING)) for it in settings]
-
-
+for _call in (*vars(_Reader).values(), *vars(_Several).values()):
+    if inspect.isfunction(_call) and _call.__name__[0] != "_":
+        _call.__qualname__ = _call.__name__  # An error has no name of a private class.
 for _of_class, _name in ((_Reader, "parse"), (_Reader, "format_number"), (Syntax, "read"), (_Several, "read")):
     # The method is one of C, with the signature and the documentation of that above, which it calls for what it leaves.
     _call = vars(_of_class)[_name]
     _call.__annotations__.clear()
-    _call.__qualname__ = _name
     _shown_as = str(inspect.signature(_call)).replace("(self", "($self", 1).replace("<class 'float'>", "float")
     setattr(_of_class, _name, _c.fast(_of_class, _call, f"{_name}{_shown_as}\n--\n\n{inspect.getdoc(_call)}"))
 _c.register(Literal, LiteralError)

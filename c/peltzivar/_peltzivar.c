@@ -132,8 +132,10 @@ static PyObject *tuple_of(const Structure *as, const char *from) {
         else if (kind == '[') {
             size_t size = *(const size_t *)(from + as->members[i].count);
             value = PyTuple_New((Py_ssize_t)size);
-            for (size_t j = 0; value && j < size; j++)
-                if (PyTuple_SetItem(value, (Py_ssize_t)j, tuple_of(of, pointed + j * of->size))) Py_CLEAR(value);
+            for (size_t j = 0; value && j < size; j++) {
+                PyObject *item = tuple_of(of, pointed + j * of->size);
+                if (!item || PyTuple_SetItem(value, (Py_ssize_t)j, item)) Py_CLEAR(value);
+            }
         } else if (!pointed) value = Py_NewRef(Py_None);
         else value = kind == 's' ? PyBytes_FromString(pointed) : tuple_of(of, pointed);
         if (!value || PyTuple_SetItem(made, i, value)) Py_CLEAR(made);
@@ -154,12 +156,14 @@ static bool opened(PyObject *text, Text *to) {
     to->data = NULL;
     if (PyUnicode_Check(text)) {
         if ((to->bytes = PyUnicode_AsUTF8AndSize(text, &to->size))) return (to->data = Py_NewRef(text)) != NULL;
+        if (!PyErr_ExceptionMatches(PyExc_UnicodeEncodeError)) return false;
         PyErr_Clear();
         to->data = PyUnicode_AsEncodedString(text, "utf-8", "surrogatepass");
     } else if (PyBytes_Check(text)) {
         to->data = Py_NewRef(text);
     }
-    return to->data && !PyBytes_AsStringAndSize(to->data, (char **)&to->bytes, &to->size);
+    if (to->data && PyBytes_AsStringAndSize(to->data, (char **)&to->bytes, &to->size)) Py_CLEAR(to->data);
+    return to->data;
 }
 
 /* Does the same, and raises a TypeError for another type. */
@@ -180,6 +184,12 @@ static Py_ssize_t characters(const char *bytes, Py_ssize_t size) {
 
 static PyObject *shown(const char *text) { return PyUnicode_DecodeUTF8(text, (Py_ssize_t)strlen(text), "replace"); }
 static PyObject *halves(peltzivar_word word) { return Py_BuildValue("(KK)", word.low, word.high); }
+
+/* Appends a new object to a list. Without the object or memory, the list is gone. */
+static void append(PyObject **list, PyObject *it) {
+    if (!it || PyList_Append(*list, it)) Py_CLEAR(*list);
+    Py_XDECREF(it);
+}
 
 /* READING */
 
@@ -209,14 +219,15 @@ static void parse_column(char format, const peltzivar_forms *by, const char *dat
 }
 
 /* Parses a text as a column, which is faster than the call for one text. */
-static peltzivar_value_status parse_as(char format, const peltzivar_forms *by, const Text *text, void *out) {
-    const int64_t offsets[] = {0, text->size};
+static peltzivar_value_status parse_as(
+    char format, const peltzivar_forms *by, const char *text, Py_ssize_t size, void *out) {
+    const int64_t offsets[] = {0, size};
     uint8_t status;
-    parse_column(format, by, text->bytes, offsets, 1, out, &status);
+    parse_column(format, by, text, offsets, 1, out, &status);
     return status;
 }
 
-/* Parses a text, or each text of a column, as its value times a power of ten. */
+/* Parses a text as its value times a power of ten. */
 static peltzivar_value_status parse_scaled(
     const peltzivar_forms *by, const char *text, Py_ssize_t size, uint8_t places, int64_t *out) {
     peltzivar_literal it;
@@ -224,16 +235,6 @@ static peltzivar_value_status parse_scaled(
     if (!peltzivar_forms_read(by, text, (size_t)size, &it, NULL)) return peltzivar_to_scaled_i64(&it, places, out);
     return !peltzivar_forms_read_special(by, text, (size_t)size, &special) ? PELTZIVAR_VALUE_SPECIAL
                                                                           : PELTZIVAR_VALUE_REFUSED;
-}
-
-static void parse_scaled_column(const peltzivar_forms *by, const char *data, const int64_t *offsets, Py_ssize_t count,
-    uint8_t places, int64_t *out, uint8_t *status) {
-    for (Py_ssize_t i = 0; i < count; i++) {
-        int64_t start = offsets[i], end = offsets[i + 1];
-        bool is_text = offsets[0] <= start && start <= end && end <= offsets[count];
-        status[i] = is_text ? parse_scaled(by, data + start, (Py_ssize_t)(end - start), places, &out[i])
-                            : PELTZIVAR_VALUE_REFUSED;
-    }
 }
 
 static PyObject *refuse(Reader *self, PyObject *text, PyObject *start) {
@@ -253,7 +254,8 @@ static PyObject *reader_parse(PyObject *self, PyObject *const *given, Py_ssize_t
     peltzivar_value_status status = PELTZIVAR_VALUE_NO_LITERAL;
     if (!is_made(by)) return NULL;
     if (!names && is_known && opened(given[0], &text)) {
-        status = is_int ? parse_as('q', by->forms, &text, &whole) : parse_as('d', by->forms, &text, &real);
+        void *to = is_int ? (void *)&whole : &real;
+        status = parse_as(is_int ? 'q' : 'd', by->forms, text.bytes, text.size, to);
         Py_DECREF(text.data);
     }
     if (status == PELTZIVAR_VALUE_REFUSED) return refuse(by, given[0], NULL);
@@ -269,8 +271,10 @@ static Literal *new_literal(Reader *self, const Text *text) {
 
 /* Returns a part of a text: characters of a str, and bytes otherwise. */
 static PyObject *part_of(PyObject *text, Py_ssize_t start, Py_ssize_t end) {
-    if (start == 0 && end == PyObject_Size(text)) return Py_NewRef(text);
-    return PyUnicode_Check(text) ? PyUnicode_Substring(text, start, end) : PySequence_GetSlice(text, start, end);
+    bool is_str = PyUnicode_Check(text);
+    if (start == 0 && end == (is_str ? PyUnicode_GetLength(text) : PyBytes_Size(text))) return Py_NewRef(text);
+    return is_str ? PyUnicode_Substring(text, start, end)
+                  : PyBytes_FromStringAndSize(PyBytes_AsString(text) + start, end - start);
 }
 
 /* Returns the part of a text that a literal is, where the text begins with these bytes. */
@@ -345,8 +349,8 @@ static bool is_enough(Reader *by, const Text *window) {
 }
 
 /* Finds the bytes of a text from an index on: of a str, those of a window, which is doubled until it is enough. */
-static bool opened_from(Reader *self, PyObject *text, PyObject *start, Text *to) {
-    Py_ssize_t index = PyNumber_AsSsize_t(start, NULL), size = 32;
+static bool opened_from(Reader *self, PyObject *text, Py_ssize_t index, Text *to) {
+    Py_ssize_t size = 32;
     if (index < 0 && !PyErr_Occurred()) PyErr_SetString(PyExc_ValueError, "start must be an index of the text");
     if (!is_made(self) || PyErr_Occurred()) return false;
     if (!PyUnicode_Check(text)) {
@@ -372,12 +376,12 @@ static PyObject *reader_token(PyObject *self, PyObject *const *given, Py_ssize_t
     peltzivar_read_error error = {0};
     peltzivar_explanation why;
     char sentence[PELTZIVAR_TEXT_SIZE];
-    if (count != 2 || !opened_from(by, given[0], given[1], &rest)) return NULL;
-    PyObject *result = NULL;
+    Py_ssize_t start = count == 2 ? PyNumber_AsSsize_t(given[1], NULL) : -1;
+    if (!opened_from(by, given[0], start, &rest)) return NULL;
+    PyObject *result = NULL, *index;
     Literal *it = NULL;
     if (!peltzivar_forms_token(by->forms, rest.bytes, (size_t)rest.size, &token, &error)) {
-        Py_ssize_t start = PyNumber_AsSsize_t(given[1], NULL), middle = start + (Py_ssize_t)token.suffix.start;
-        Py_ssize_t end = start + (Py_ssize_t)token.size;
+        Py_ssize_t middle = start + (Py_ssize_t)token.suffix.start, end = start + (Py_ssize_t)token.size;
         if (PyUnicode_Check(given[0])) end = start + characters(rest.bytes, (Py_ssize_t)token.size);
         if ((it = new_literal(by, &rest))) {
             it->found = token.literal, it->text = part_of_literal(given[0], &token.literal, rest.bytes, start);
@@ -385,7 +389,8 @@ static PyObject *reader_token(PyObject *self, PyObject *const *given, Py_ssize_t
             if (it->text && it->suffix) result = Py_BuildValue("(OOnO)", it, it->suffix, end, given[0]);
         }
     } else if (!peltzivar_explain(&error, &why)) {
-        refuse(by, given[0], given[1]);
+        if ((index = PyLong_FromSsize_t(start))) refuse(by, given[0], index);
+        Py_XDECREF(index);
     } else {
         peltzivar_read_error_text(&error, sentence, sizeof sentence);
         PyErr_SetString(PyExc_ValueError, sentence);
@@ -402,9 +407,10 @@ static PyObject *reader_explain(PyObject *self, PyObject *const *given, Py_ssize
     peltzivar_explanation why;
     char sentence[PELTZIVAR_TEXT_SIZE], full[PELTZIVAR_TEXT_SIZE];
     PyObject *result = NULL;
-    if (count != 2) return NULL;
-    bool is_token = PyObject_RichCompareBool(given[1], Py_False, Py_GE) > 0;
-    if (!(is_token ? opened_from(by, given[0], given[1], &rest) : is_made(by) && is_text(given[0], &rest))) return NULL;
+    Py_ssize_t start = count == 2 ? PyNumber_AsSsize_t(given[1], NULL) : -1;
+    if (PyErr_Occurred()) return NULL;
+    bool is_token = start >= 0;
+    if (!(is_token ? opened_from(by, given[0], start, &rest) : is_made(by) && is_text(given[0], &rest))) return NULL;
     memset(&error, 0, sizeof error);
     bool is_right = is_token ? !peltzivar_forms_token(by->forms, rest.bytes, (size_t)rest.size, NULL, &error)
                              : !peltzivar_forms_read(by->forms, rest.bytes, (size_t)rest.size, NULL, &error);
@@ -419,8 +425,8 @@ static PyObject *reader_explain(PyObject *self, PyObject *const *given, Py_ssize
         }
         Py_ssize_t at[] = {(Py_ssize_t)error.valid_up_to, (Py_ssize_t)why.span.start, (Py_ssize_t)why.span.end};
         for (int i = 0; i < 3 && PyUnicode_Check(given[0]); i++) at[i] = characters(rest.bytes, at[i]);
-        result = Py_BuildValue("(NNnnniiNiiK)", shown(sentence), shown(full), at[0], at[1], at[2], why.kind, why.part,
-            halves(why.mask), (int)why.code, error.form, why.conditions);
+        result = Py_BuildValue("(NNnnniiNiK)", shown(sentence), shown(full), at[0], at[1], at[2], why.kind, why.part,
+            halves(why.mask), error.form, why.conditions);
     }
     Py_DECREF(rest.data);
     return is_right ? Py_NewRef(Py_None) : result;
@@ -436,60 +442,120 @@ static int is_missing(PyObject *cell, PyObject *na) {
     return result;
 }
 
-/* _column(cells, data, offsets, format, values, status, fill, na, scale): the indexes of missing cells. The cells are a
- * tuple of texts, or () for data with offsets, whose memory nothing else changes. `fill` has the bytes of other values.
- * Integers have a scale, unless it is below 0. */
-static PyObject *reader_column(PyObject *self, PyObject *given) {
-    Reader *by = (Reader *)self;
-    PyObject *cells, *na, *missing = PyList_New(0);
-    const char *kind = NULL;
-    Py_buffer data, offsets, values, status, fill;
-    int format, scale;
-    if (!missing || !is_made(by) || !PyArg_ParseTuple(given, "O!y*y*Cw*w*y*Oi", &PyTuple_Type, &cells, &data, &offsets,
-        &format, &values, &status, &fill, &na, &scale)) return Py_XDECREF(missing), NULL;
-    Py_ssize_t size = fill.len, count = status.len, of_texts = PyTuple_Size(cells);
-    uint8_t *statuses = status.buf;
-    bool is_wrong = of_texts ? of_texts != count : offsets.len != 8 * (count + 1);
-    if (is_wrong || size != (format == 'f' ? 4 : 8) || values.len != count * size) {
-        PyErr_SetString(PyExc_ValueError, "the sizes differ");
-    } else if (!of_texts) {
-        Py_BEGIN_ALLOW_THREADS
-        if (scale >= 0)
-            parse_scaled_column(by->forms, data.buf, offsets.buf, count, (uint8_t)scale, values.buf, statuses);
-        else parse_column((char)format, by->forms, data.buf, offsets.buf, (size_t)count, values.buf, statuses);
-        Py_END_ALLOW_THREADS
+/* How the cells of a column are read: values of a format, with a scale unless it is below 0. Blanks around a number are
+ * taken away if `strips`, and a cell that is then one of the `texts` is missing. */
+typedef struct {
+    const peltzivar_forms *forms;
+    int format, scale, strips;
+    Py_ssize_t count, longest;
+    const Text *texts;
+} Cells;
+
+/* The status of a cell that is missing. */
+#define MISSING 255
+
+static bool is_blank(char it) { return it == ' ' || (it >= '\t' && it <= '\r'); }
+
+/* Takes blanks away from a cell, and returns whether it is missing. */
+static inline bool is_none(const Cells *by, const char **text, Py_ssize_t *size) {
+    for (; by->strips && *size && is_blank((*text)[*size - 1]); --*size) {}
+    for (; by->strips && *size && is_blank(**text); --*size) ++*text;
+    for (Py_ssize_t i = *size > by->longest ? by->count : 0; i < by->count; i++)
+        if (by->texts[i].size == *size && !memcmp(by->texts[i].bytes, *text, (size_t)*size)) return true;
+    return false;
+}
+
+static uint8_t parse_cell(const Cells *by, const char *text, Py_ssize_t size, void *to) {
+    if (is_none(by, &text, &size)) return MISSING;
+    return by->scale < 0 ? parse_as((char)by->format, by->forms, text, size, to)
+                         : parse_scaled(by->forms, text, size, (uint8_t)by->scale, to);
+}
+
+/* Parses data with offsets. A cell whose bit of `valid` is 0 is missing, if there are such bits. */
+static void parse_cells(const Cells *by, const char *data, const int64_t *offsets, Py_ssize_t count,
+    const uint8_t *valid, char *values, Py_ssize_t width, uint8_t *status) {
+    if (by->scale < 0) parse_column((char)by->format, by->forms, data, offsets, (size_t)count, values, status);
+    for (Py_ssize_t i = 0; i < count && (by->scale >= 0 || by->strips || by->count || valid); i++) {
+        int64_t start = offsets[i], end = offsets[i + 1];
+        bool is_text = offsets[0] <= start && start <= end && end <= offsets[count];
+        const char *text = is_text ? data + start : data;
+        Py_ssize_t size = is_text ? (Py_ssize_t)(end - start) : 0;
+        if (valid && !(valid[i / 8] >> i % 8 & 1)) status[i] = MISSING;
+        else if (!is_text) status[i] = PELTZIVAR_VALUE_REFUSED;
+        else if (is_none(by, &text, &size) || by->scale >= 0 || size != end - start)
+            status[i] = parse_cell(by, text, size, values + i * width);
     }
-    for (Py_ssize_t i = 0; i < of_texts && !kind; i++) {
+}
+
+/* Parses a tuple of texts of one type. Returns false with an error for a cell of another type. */
+static bool parse_texts(const Cells *by, PyObject *cells, PyObject *na, char *values, Py_ssize_t width, uint8_t *status) {
+    const char *kind = NULL;
+    Py_ssize_t count = PyTuple_Size(cells);
+    for (Py_ssize_t i = 0; i < count && !kind; i++) {
         PyObject *it = PyTuple_GetItem(cells, i);
         kind = PyUnicode_Check(it) ? "str" : PyBytes_Check(it) ? "bytes" : NULL;
     }
-    for (Py_ssize_t i = 0; i < of_texts && !PyErr_Occurred(); i++) {
-        PyObject *it = PyTuple_GetItem(cells, i), *name, *index;
+    for (Py_ssize_t i = 0; i < count && !PyErr_Occurred(); i++) {
+        PyObject *it = PyTuple_GetItem(cells, i), *name;
         Text text;
         bool is_text_of_kind = kind && *kind == 'b' ? PyBytes_Check(it) : PyUnicode_Check(it);
-        int is_none = 0;
         if (is_text_of_kind && opened(it, &text)) {
-            char *value = (char *)values.buf + i * size;
-            statuses[i] = scale < 0 ? parse_as((char)format, by->forms, &text, value)
-                                    : parse_scaled(by->forms, text.bytes, text.size, (uint8_t)scale, (int64_t *)value);
+            status[i] = parse_cell(by, text.bytes, text.size, values + i * width);
             Py_DECREF(text.data);
-        } else if (!PyErr_Occurred() && (is_none = is_missing(it, na)) == 1 && (index = PyLong_FromSsize_t(i))) {
-            statuses[i] = PyList_Append(missing, index) ? 1 : UINT8_MAX;
-            Py_DECREF(index);
+        } else if (!PyErr_Occurred() && is_missing(it, na) == 1) {
+            status[i] = MISSING;
         } else if (!PyErr_Occurred() && (name = PyType_GetName(Py_TYPE(it)))) {
             PyErr_Format(PyExc_TypeError, "cell %zd must be a %s, not %S", i, kind ? kind : "str", name);
             Py_DECREF(name);
         }
     }
-    for (Py_ssize_t i = 0; i < count && !PyErr_Occurred(); i++)
-        if (statuses[i]) {
-            memcpy((char *)values.buf + i * size, fill.buf, (size_t)size);
-            if (statuses[i] == UINT8_MAX) statuses[i] = 0;
-        }
-    PyBuffer_Release(&data), PyBuffer_Release(&offsets), PyBuffer_Release(&values);
-    PyBuffer_Release(&status), PyBuffer_Release(&fill);
-    PyObject *result = PyErr_Occurred() ? NULL : PyList_AsTuple(missing);
-    Py_DECREF(missing);
+    return !PyErr_Occurred();
+}
+
+/* _column(cells, data, offsets, valid, format, values, status, fill, na, scale, strips, texts): the indexes of missing
+ * cells. The cells are a tuple of texts, or () for data with offsets, whose memory nothing else changes. `fill` has the
+ * bytes of other values. */
+static PyObject *reader_column(PyObject *self, PyObject *given) {
+    Reader *by = (Reader *)self;
+    PyObject *cells, *na, *texts, *missing = PyList_New(0);
+    Py_buffer data, offsets, valid, values, status, fill;
+    Cells how = {0};
+    if (!missing || !is_made(by) || !PyArg_ParseTuple(given, "O!y*y*z*Cw*w*y*OipO!", &PyTuple_Type, &cells, &data,
+        &offsets, &valid, &how.format, &values, &status, &fill, &na, &how.scale, &how.strips, &PyTuple_Type, &texts))
+        return Py_XDECREF(missing), NULL;
+    Py_ssize_t width = fill.len, count = status.len, of_texts = PyTuple_Size(cells);
+    uint8_t *statuses = status.buf;
+    Text *known = PyMem_Calloc((size_t)PyTuple_Size(texts) + 1, sizeof *known);
+    bool is_done = known;
+    for (; is_done && how.count < PyTuple_Size(texts); how.count += is_done) {
+        Text *it = &known[how.count];
+        is_done = is_text(PyTuple_GetItem(texts, how.count), it);
+        if (is_done && it->size > how.longest) how.longest = it->size;
+    }
+    how.forms = by->forms, how.texts = known;
+    bool is_wrong = of_texts ? of_texts != count : offsets.len != 8 * (count + 1);
+    is_wrong |= width != (how.format == 'f' ? 4 : 8) || values.len != count * width;
+    if (!known) {
+        PyErr_NoMemory();
+    } else if (is_done && (is_wrong || (valid.buf && valid.len < (count + 7) / 8))) {
+        PyErr_SetString(PyExc_ValueError, is_wrong ? "the sizes differ" : "there are fewer bits of validity than cells");
+    } else if (is_done && of_texts) {
+        parse_texts(&how, cells, na, values.buf, width, statuses);
+    } else if (is_done) {
+        Py_BEGIN_ALLOW_THREADS
+        parse_cells(&how, data.buf, offsets.buf, count, valid.buf, values.buf, width, statuses);
+        Py_END_ALLOW_THREADS
+    }
+    for (Py_ssize_t i = 0; i < count && missing && !PyErr_Occurred(); i++) {
+        if (statuses[i]) memcpy((char *)values.buf + i * width, fill.buf, (size_t)width);
+        if (statuses[i] == MISSING) append(&missing, PyLong_FromSsize_t(i)), statuses[i] = 0;
+    }
+    while (how.count) Py_DECREF(known[--how.count].data);
+    PyMem_Free(known);
+    Py_buffer *const all[] = {&data, &offsets, &valid, &values, &status, &fill};
+    for (size_t i = 0; i < sizeof all / sizeof *all; i++) PyBuffer_Release(all[i]);
+    PyObject *result = missing && !PyErr_Occurred() ? PyList_AsTuple(missing) : NULL;
+    Py_XDECREF(missing);
     return result;
 }
 
@@ -503,7 +569,7 @@ static peltzivar_write_status write_number(
 #define WRITE(call, value) (by->is_list ? peltzivar_forms_##call(by->forms, value, style, text, len, needed) \
                                         : peltzivar_##call(&by->list->forms->syntax, value, style, text, len, needed))
     int is_long;
-    if (PyFloat_CheckExact(number)) {
+    if (PyFloat_Check(number)) {
         double real = PyFloat_AsDouble(number);
         return WRITE(format_f64, real == real ? real : Py_NAN);
     }
@@ -519,8 +585,10 @@ static PyObject *written(Reader *by, PyObject *number, const peltzivar_style *st
     char text[PELTZIVAR_FLOAT_SIZE], *to = text;
     size_t needed;
     *status = by->forms ? write_number(by, number, style, text, sizeof text, &needed) : PELTZIVAR_WRITE_ARGUMENT;
-    if (*status == PELTZIVAR_WRITE_BUFFER && (to = PyMem_Malloc(needed)))
+    if (*status == PELTZIVAR_WRITE_BUFFER) {
+        if (!(to = PyMem_Malloc(needed))) return PyErr_NoMemory();
         *status = write_number(by, number, style, to, needed, &needed);
+    }
     PyObject *result = *status ? NULL : PyUnicode_FromStringAndSize(to, (Py_ssize_t)needed - 1);
     if (to != text) PyMem_Free(to);
     return result;
@@ -528,6 +596,15 @@ static PyObject *written(Reader *by, PyObject *number, const peltzivar_style *st
 
 static PyObject *unwritten(peltzivar_write_status status) {
     return PyErr_SetString(PyExc_ValueError, peltzivar_write_description(status)), NULL;
+}
+
+/* Returns the text of a float that is not NaN, or of an int of 64 bits that is not rounded. Returns NULL without an error
+ * for another number, and for one that is not written. */
+static PyObject *written_at_once(Reader *by, PyObject *number, const peltzivar_style *style) {
+    peltzivar_write_status status;
+    double real = PyFloat_Check(number) ? PyFloat_AsDouble(number) : Py_NAN;
+    bool is_own = real == real || (PyLong_CheckExact(number) && !style->has_decimals);
+    return is_own ? written(by, number, style, &status) : NULL;
 }
 
 /* Wishes: a group (g), a flag (b), or a number. */
@@ -557,15 +634,12 @@ static bool wished(PyObject *name, PyObject *value, peltzivar_style *style) {
 static PyObject *reader_format_number(PyObject *self, PyObject *const *given, Py_ssize_t count, PyObject *names) {
     Reader *by = (Reader *)self;
     peltzivar_style style = {0};
-    peltzivar_write_status status;
     if (!is_made(by)) return NULL;
     bool is_plain = count == 1;
     for (Py_ssize_t i = 0; is_plain && names && i < PyTuple_Size(names); i++)
         is_plain = wished(PyTuple_GetItem(names, i), given[1 + i], &style);
-    if (is_plain && (PyFloat_CheckExact(given[0]) || (PyLong_CheckExact(given[0]) && !style.has_decimals))) {
-        PyObject *result = written(by, given[0], &style, &status);
-        if (result || PyErr_Occurred()) return result;
-    }
+    PyObject *result = is_plain ? written_at_once(by, given[0], &style) : NULL;
+    if (result || PyErr_Occurred()) return result;
     return by_python(by->state->slow[1], self, given, count, names);
 }
 
@@ -578,38 +652,16 @@ static PyObject *reader_write(PyObject *self, PyObject *given) {
     if (kept && is_made((Reader *)self) && PyArg_ParseTuple(given, "O!OO", &PyTuple_Type, &numbers, &wishes, &other) &&
         packed(&style_members, wishes, (char *)&style, kept)) result = PyList_New(PyTuple_Size(numbers));
     for (Py_ssize_t i = 0; result && i < PyTuple_Size(numbers); i++) {
-        PyObject *it = PyTuple_GetItem(numbers, i), *text = NULL;
-        double real = PyFloat_CheckExact(it) ? PyFloat_AsDouble(it) : Py_NAN;
+        PyObject *it = PyTuple_GetItem(numbers, i);
         bool is_all = other == Py_None;
-        bool is_own = is_all || real == real || (PyLong_CheckExact(it) && !style.has_decimals);
-        if (is_own) text = written((Reader *)self, it, &style, &status);
+        PyObject *text = is_all ? written((Reader *)self, it, &style, &status)
+                                : written_at_once((Reader *)self, it, &style);
         if (!text && is_all && !PyErr_Occurred()) unwritten(status);
         if (!text && !PyErr_Occurred()) text = PyObject_CallFunctionObjArgs(other, it, NULL);
         if (!text || PyList_SetItem(result, i, text)) Py_CLEAR(result);
     }
     Py_XDECREF(kept);
     return result;
-}
-
-/* _special(text): the numbers of a special value, or None. _spelled(spelling, sign): its text. */
-static PyObject *reader_special(PyObject *self, PyObject *given) {
-    Text text;
-    peltzivar_special special;
-    if (!is_made((Reader *)self) || !is_text(given, &text)) return NULL;
-    bool is_one = !peltzivar_forms_read_special(((Reader *)self)->forms, text.bytes, (size_t)text.size, &special);
-    Py_DECREF(text.data);
-    return is_one ? tuple_of(&special_members, (const char *)&special) : Py_NewRef(Py_None);
-}
-
-static PyObject *reader_spelled(PyObject *self, PyObject *given) {
-    const peltzivar_list *by = ((Reader *)self)->list;
-    peltzivar_special special = {0};
-    char text[PELTZIVAR_FLOAT_SIZE];
-    size_t needed = 0;
-    if (!is_made((Reader *)self) || !PyArg_ParseTuple(given, "bb", &special.spelling, &special.sign)) return NULL;
-    peltzivar_write_status status =
-        peltzivar_format_special(&by->forms->syntax, &by->specials, &special, text, sizeof text, &needed);
-    return status ? unwritten(status) : PyUnicode_FromStringAndSize(text, (Py_ssize_t)needed - 1);
 }
 
 /* _members(): the forms as a tuple. _notation(number): a sentence, a grammar, a regular expression, or why a syntax is
@@ -635,8 +687,6 @@ static PyMethodDef READER_METHODS[] = {
     {"_explain", (PyCFunction)(void (*)(void))reader_explain, METH_FASTCALL, NULL},
     {"_column", reader_column, METH_VARARGS, NULL},
     {"_write", reader_write, METH_VARARGS, NULL},
-    {"_special", reader_special, METH_O, NULL},
-    {"_spelled", reader_spelled, METH_VARARGS, NULL},
     {"_members", reader_members, METH_NOARGS, NULL},
     {"_notation", reader_notation, METH_O, NULL},
     {NULL, NULL, 0, NULL},
@@ -799,23 +849,15 @@ static PyType_Spec LITERAL = {"peltzivar._peltzivar.Found", sizeof(Literal), 0,
         return PyArg_ParseTuple(given, "(KK)|bbb", &w.low, &w.high, &a, &b, &c) ? (result) : NULL; \
     }
 #define ROW(name, result) {#name, word_##name, METH_VARARGS, NULL},
-#define TRUTH(it) PyBool_FromLong(it)
 #define WORDS(it) \
     it(check, PyLong_FromUnsignedLong(peltzivar_check(w))) \
     it(normal_form, halves(peltzivar_normal_form(w))) \
-    it(is_built, TRUTH(peltzivar_is_built(w))) \
-    it(flag, TRUTH(peltzivar_flag(w, a))) \
     it(mantissa_digit, digit(peltzivar_mantissa_digit(w, a))) \
     it(exponent_digit, digit(peltzivar_exponent_digit(w, a))) \
-    it(is_separator, TRUTH(peltzivar_is_separator(w, a))) \
-    it(is_base_prefix, TRUTH(peltzivar_is_base_prefix(w, a))) \
-    it(is_base_suffix, TRUTH(peltzivar_is_base_suffix(w, a))) \
     it(role_of, PyLong_FromLong(peltzivar_role_of(w, a, b, c))) \
-    it(separators_of, separators(w, a)) \
     it(fields_of, fields(peltzivar_fields_of(w))) \
     it(edits_of, edits(w)) \
     it(word_text, (peltzivar_word_text(w, text, sizeof text), shown(text))) \
-    it(source, (peltzivar_source(w, text, sizeof text), shown(text))) \
     it(reasons, reasons(w, false, 0, 0)) \
     it(options_reasons, reasons(w, true, a, b))
 
@@ -823,23 +865,12 @@ static PyObject *digit(uint32_t it) {
     return it == PELTZIVAR_NO_DIGIT ? Py_NewRef(Py_None) : PyLong_FromUnsignedLong(it);
 }
 static PyObject *fields(peltzivar_fields it) { return tuple_of(&fields_members, (const char *)&it); }
-static PyObject *separators(peltzivar_word word, peltzivar_part part) {
-    peltzivar_separators it = {0};
-    (void)!peltzivar_separators_of(word, part, &it);
-    return Py_BuildValue("(NNNN)", TRUTH(it.internal), TRUTH(it.leading), TRUTH(it.trailing), TRUTH(it.consecutive));
-}
-
-/* Appends a new object to a list. */
-static void append(PyObject *list, PyObject *it) {
-    if (it) PyList_Append(list, it);
-    Py_XDECREF(it);
-}
 
 static PyObject *edits(peltzivar_word word) {
     peltzivar_edit edits[PELTZIVAR_FIELD_COUNT];
     size_t count = peltzivar_edits_of(word, edits, PELTZIVAR_FIELD_COUNT);
     PyObject *list = PyList_New(0);
-    for (size_t i = 0; list && i < count; i++) append(list, tuple_of(&edit_members, (const char *)&edits[i]));
+    for (size_t i = 0; list && i < count; i++) append(&list, tuple_of(&edit_members, (const char *)&edits[i]));
     return list;
 }
 
@@ -850,7 +881,7 @@ static PyObject *reasons(peltzivar_word word, bool of_options, uint8_t exponent,
 #define OF(call, ...) (of_options ? peltzivar_options_reason_##call(word, exponent, point, __VA_ARGS__) \
                                   : peltzivar_reason_##call(word, __VA_ARGS__))
     for (size_t i = 0; list && OF(text, i, text, sizeof text); i++)
-        append(list, Py_BuildValue("(NNI)", shown(text), halves(OF(mask, i)),
+        append(&list, Py_BuildValue("(NNI)", shown(text), halves(OF(mask, i)),
             of_options ? peltzivar_options_reason_roles(word, exponent, point, i) : peltzivar_reason_rules(word, i)));
     return list;
 }
@@ -864,7 +895,7 @@ static PyObject *notes(PyObject *self, PyObject *given) {
     (void)self;
     if (list && !packed(&fields_members, given, (char *)&fields, NULL)) Py_CLEAR(list);
     for (size_t i = 0; list && peltzivar_note_text(&fields, i, text, sizeof text); i++)
-        append(list, Py_BuildValue("(NN)", shown(text), halves(peltzivar_note_mask(&fields, i))));
+        append(&list, Py_BuildValue("(NN)", shown(text), halves(peltzivar_note_mask(&fields, i))));
     return list;
 }
 
@@ -918,7 +949,7 @@ static PyObject *lines(const char *from, size_t len, size_t index) {
     size_t lines[PELTZIVAR_FIELD_COUNT];
     size_t count = peltzivar_settings_lines(from, len, index, lines, PELTZIVAR_FIELD_COUNT);
     PyObject *list = PyList_New(0);
-    for (size_t i = 0; list && i < count && i < PELTZIVAR_FIELD_COUNT; i++) append(list, PyLong_FromSize_t(lines[i]));
+    for (size_t i = 0; list && i < count && i < PELTZIVAR_FIELD_COUNT; i++) append(&list, PyLong_FromSize_t(lines[i]));
     return list;
 }
 
@@ -942,7 +973,6 @@ static PyObject *describe(PyObject *self, PyObject *given) {
     peltzivar_edit edit = {number, value};
     if (!strcmp(what, "edit")) return peltzivar_edit_text(edit, text, sizeof text), shown(text);
     if (!strcmp(what, "error")) return shown(peltzivar_description(number));
-    if (!strcmp(what, "rule")) return shown(peltzivar_rule_condition(number));
     return shown(what[0] == 'v' ? peltzivar_value_description(number) : peltzivar_write_description(number));
 }
 
@@ -1068,12 +1098,13 @@ static int filled(PyObject *module) {
         if (!names || PyDict_SetItemString(members, NAMES[i].name, names)) return -1;
         Py_DECREF(names);
     }
-    for (int number = 0; number < PELTZIVAR_NO_SETTER; number++)
+    for (int number = 0; setters && number < PELTZIVAR_NO_SETTER; number++)
         if (peltzivar_setter_name((peltzivar_setter)number)[0])
-            append(setters, Py_BuildValue("(si)", peltzivar_setter_name((peltzivar_setter)number), number));
-    for (size_t i = 0; peltzivar_language_name(i)[0]; i++)
-        append(languages, Py_BuildValue("(ss)", peltzivar_language_name(i), peltzivar_language_title(i)));
-    for (size_t i = 4; syntax_members.members[i].kind; i++) append(conditions, shown(syntax_members.members[i].name));
+            append(&setters, Py_BuildValue("(si)", peltzivar_setter_name((peltzivar_setter)number), number));
+    for (size_t i = 0; languages && peltzivar_language_name(i)[0]; i++)
+        append(&languages, Py_BuildValue("(ss)", peltzivar_language_name(i), peltzivar_language_title(i)));
+    for (size_t i = 4; conditions && syntax_members.members[i].kind; i++)
+        append(&conditions, shown(syntax_members.members[i].name));
     peltzivar_fields new = PELTZIVAR_NEW_FIELDS;
     if (PyErr_Occurred() || PyModule_AddType(module, (PyTypeObject *)literal)) return -1;
     if (PyModule_AddType(module, state->reader)) return -1;

@@ -1,11 +1,11 @@
 # Made by make_python.py from the imported module.
 from typing import Any, Optional, Union
 
-from . import Byte, Edit, _Error, _Language, _Named, _Rule
+from . import _Language
+from .words import Byte, Edit, _Error, _Named
 
 class Reader:
-    _column: Any; _explain: Any; _members: Any; _notation: Any; _read: Any; _special: Any; _spelled: Any; _token: Any
-    _write: Any
+    _column: Any; _explain: Any; _members: Any; _notation: Any; _read: Any; _token: Any; _write: Any
 
 class Found:
     _ends: Any; _form: Any; _int: Any; _owner: Any; _plain: Any; _suffix: Any; _times: Any
@@ -29,7 +29,7 @@ class Setter(_Named):
     DIGIT_SEPARATOR_FLAGS = 133; INTEGER_DIGIT_SEPARATOR_FLAGS = 134; FRACTION_DIGIT_SEPARATOR_FLAGS = 135
     EXPONENT_DIGIT_SEPARATOR_FLAGS = 136
 
-class Rule(_Rule):
+class Rule(_Named):
     MANTISSA_RADIX_IN_RANGE = 1; EXPONENT_BASE_IN_RANGE = 2; EXPONENT_RADIX_IN_RANGE = 3
     DIGIT_SEPARATOR_IS_PUNCTUATION = 4; BASE_PREFIX_IS_PUNCTUATION = 5; BASE_SUFFIX_IS_PUNCTUATION = 6
     PUNCTUATION_DIFFERS = 7; EXPONENT_FLAGS_AGREE = 8; MANTISSA_SIGN_FLAGS_AGREE = 9; EXPONENT_SIGN_FLAGS_AGREE = 10

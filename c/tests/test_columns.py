@@ -27,7 +27,7 @@ class Columns(unittest.TestCase):
     def test_cells_of_each_kind(self):
         texts, german = ["1.234,5", "-7", "10"], Language.CSV_DE
         data, offsets = "".join(texts).encode(), [0, 7, 9, 11]
-        cells = [texts, tuple(texts), iter(texts), [*map(type("Text", (str,), {}), texts)], [*map(str.encode, texts)], {it: 0 for it in texts}]
+        cells = [texts, tuple(texts), iter(texts), [*map(type("Text", (str,), {}), texts)], [*map(str.encode, texts)], {it: 0 for it in texts}.keys()]
         cells += [(bytearray(data), array(it, offsets)) for it in "iIlLqQ"] + [(memoryview(data), memoryview(array("i", [5, *offsets]))[1:])]
         for it in cells:
             values, wrong, missing = german.column(it)
@@ -71,6 +71,30 @@ class Columns(unittest.TestCase):
             self.assertEqual([it.index for it in wrong], [index for index, it in enumerate(outside) if it], offsets)
             empty = [offsets[0] <= offsets[it.index] == offsets[it.index + 1] <= offsets[-1] for it in wrong]
             self.assertEqual([str(it)[:12] for it in wrong], ["expected a d" if it else "the offsets " for it in empty])
+
+    def test_blank_null_and_missing_texts_of_each_kind_of_column(self):
+        numbers, names, blanks = {"1": 1, "12": 12, "-7": -7}, ["", "-", "NA", "\u00e9"], ["", " ", "\t\r\n", "\v \f"]
+        cells = [before + it + after for it in (*numbers, *names, "x", "1 2") for before, after in itertools.product(blanks, repeat=2)]
+        encoded, bits = [*map(str.encode, cells)], bytearray(len(cells) // 8 + 1)
+        for at in range(0, len(cells), 3):
+            bits[at // 8] |= 1 << at % 8
+        ends = array("i", itertools.accumulate(map(len, encoded), initial=0))
+        data, kinds = b"".join(encoded), [float, Decimal, "f", "q", "Q", "q"]
+        rows = itertools.product(enumerate(kinds), (False, True), ((), names, ("-", b"x")), (cells, encoded, (data, ends), (data, ends, bits)))
+        for (at, kind), strip, missing, given in rows:
+            read = [it.strip(" \t\n\v\f\r") if strip else it for it in cells]
+            known = [it if isinstance(it, str) else it.decode() for it in missing]
+            absent = [of for of, it in enumerate(read) if it in known or len(given) == 3 and of % 3]
+            wrong = [of for of, it in enumerate(read) if of not in absent and (it not in numbers or kind == "Q" and it == "-7")]
+            more = {"scale": 2} if at == 5 else {}
+            column = Language.CSV_DE.column(given, kind, errors="coerce", fill=99, missing=missing, strip=strip, **more)
+            values = [99 if of in absent + wrong else numbers[it] * 10 ** more.get("scale", 0) for of, it in enumerate(read)]
+            self.assertEqual(([*column.values], column.missing, [it.index for it in column.wrong]), (values, (*absent,), wrong))
+            self.assertEqual([it.text for it in column.wrong], [(cells if given is cells else encoded)[it] for it in wrong])
+            for it in column.wrong:
+                self.assertIn(getattr(it.error, "text", "-7"), (read[it.index], read[it.index].encode()))
+        for wrong, sentence in ((bits[:-2], "fewer bits"), (array("h", [1] * 99), "^validity must be bytes")):
+            self.assertRaisesRegex((ValueError, TypeError), sentence, Language.CSV_DE.column, (data, ends, wrong))
 
     def test_one_text(self):
         rows = [("1.5", float, 1.5), (b"15", int, 15), ("-inf", float, -math.inf)]
@@ -151,7 +175,8 @@ class Columns(unittest.TestCase):
             except LiteralError:
                 pass
 
-        floats, german = [*map(float, texts)], Language.CSV_DE
+        # An array of numpy.float64 has objects of a class of its own.
+        floats, german, reals = [*map(float, texts)], Language.CSV_DE, [*map(type("Real", (float,), {}), texts)]
         rows = {
             "parse": (2.5, lambda: [json.parse(it) for it in texts]),
             "value": (5, lambda: [json.read(it).value for it in texts]),
@@ -160,18 +185,24 @@ class Columns(unittest.TestCase):
             "fraction": (12, lambda: [it.fraction() for it in literals]),
             "written": (6, lambda: [german.format_number(it, decimals=2) for it in floats]),
             "column written": (6, lambda: german.format_column(floats, decimals=2)),
+            "column written of another class": (6, lambda: german.format_column(reals, decimals=2)),
             "column": (0.9, lambda: json.column(texts)),
             "missing": (0.9, lambda: json.column(gaps)),
             "other characters": (1.5, lambda: json.column([it or "1\u00e9" for it in gaps], errors="coerce")),
             "offsets": (0.9, lambda: json.column((data, offsets))),
             "refused": (1.5, lambda: json.column(wrong, errors="coerce")),
         }
-        for name, (limit, call) in rows.items():
+        plain, buffers, how = lambda: [float(it) for it in texts], (data, offsets), {"missing": ("", "-", "NA"), "strip": True}
+        rows = {name: (*row, plain) for name, row in rows.items()}
+        rows["stripped"] = 1.2, lambda: json.column(texts, **how), rows["column"][1]
+        rows["stripped offsets"] = 1.2, lambda: json.column(buffers, **how), rows["offsets"][1]
+        rows["validity"] = 1.2, lambda: json.column((*buffers, b"\xff" * 100)), rows["offsets"][1]
+        for name, (limit, call, other) in rows.items():
             ratios = []
             while min(ratios, default=math.inf) > limit:
-                times = (min(timeit.repeat(it, number=1, repeat=9)) for it in (call, lambda: [float(it) for it in texts]))
+                times = (min(timeit.repeat(it, number=1, repeat=9)) for it in (call, other))
                 ratios.append(operator.truediv(*times))
-                self.assertLess(len(ratios), 99, f"{name}: {min(ratios):.1f} times that of float, above {limit}. Is the machine busy?")
+                self.assertLess(len(ratios), 99, f"{name}: {min(ratios):.1f} times that of float or without, above {limit}. Is the machine busy?")
 
 
 if __name__ == "__main__":

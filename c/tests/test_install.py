@@ -208,7 +208,7 @@ class Package(InFolder):
             folder = checkout if "install -e" in command else ".*/site-packages"
             self.assertRegex(self.run_in("python", *IMPORT[1:]), f"^{WORD} {folder}/peltzivar/__init__.py$")
             modules = "import pkgutil, peltzivar; print(*(it.name for it in pkgutil.iter_modules(peltzivar.__path__)))"
-            self.assertEqual(self.run_in("python", "-B", "-c", modules), "_peltzivar\n")
+            self.assertEqual(self.run_in("python", "-B", "-c", modules), "_peltzivar words\n")
         self.assertFalse([*checkout.parent.rglob("target")])
 
 

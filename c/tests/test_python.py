@@ -22,6 +22,7 @@ import subprocess
 import sys
 import sysconfig
 import tempfile
+import threading
 import time
 import tracemalloc
 import typing
@@ -29,13 +30,15 @@ import unittest
 import weakref
 from array import array
 from decimal import Decimal
+from enum import Enum
 from fractions import Fraction
+from unittest import mock
 
 TESTS = pathlib.Path(__file__).resolve().parent
 TOP = TESTS.parent.parent
 sys.path.insert(0, os.environ.get("PELTZIVAR_PACKAGE", str(TESTS.parent)))
 import peltzivar
-from peltzivar import Edit, Error, Format, FormatError, FormatView, Forms, Kind, Language, LiteralError, Opening, OptionsError, Part, ReadErrorKind
+from peltzivar import Edit, Error, Format, FormatError, FormatView, Forms, Kind, Language, Literal, LiteralError, Opening, OptionsError, Part, ReadErrorKind
 from peltzivar import Role, Rule, Setter, SettingsError, Special, Specials, Spelling, Suffixes, Syntax, Tokens, languages, notes_of
 
 numpy = importlib.import_module("numpy") if importlib.util.find_spec("numpy") else None
@@ -121,48 +124,38 @@ class Words(unittest.TestCase):
         self.assertEqual(int(Format().normal_form()), 0x0A0A0A0000000000000000000000000C)
         self.assertNotEqual(Format().normal_form(), Format())
         self.assertEqual([format(Format(), it) for it in "bdoxX"], [format(int(Format()), it) for it in "bdoxX"])
-        source = "NumberFormatBuilder::new().no_special(true).mantissa_radix(16).build_or_panic()"
-        self.assertEqual(FormatView(0x0000100000000000000000000000040C).source(), source)
-        self.assertRegex(FormatView((1 << 128) - 1).source(), r"^NumberFormatBuilder::new\(\).{900,}\.build_unchecked\(\)$")
         self.assertRaisesRegex(AttributeError, "no_special=True", setattr, Format(), "no_special", True)
         self.assertEqual((f"{Format():>36}", f"{Format():#034x}"), (f"  {Format()}", "0x00000a0000000000000000000000000c"))
         self.assertEqual((repr(Format.no_special), f"{Rule(7)}"), ("<field no_special>", "PUNCTUATION_DIFFERS"))
-        self.assertEqual(doctest.testmod(peltzivar).failed, 0)
+        self.assertEqual([doctest.testmod(it).failed for it in (peltzivar, peltzivar.words)], [0, 0])
         self.assertEqual(sum(doctest.testfile(str(TOP / "docs" / it), module_relative=False).failed for it in ("C.md", "PYTHON.md")), 0)
 
     def test_options(self):
-        self.assertIsNone(Format().check_options("e", "."))
-        self.assertIsNone(Format().check_options(101, 46))
         sentence = "the exponent character 'e' is a digit in radix 16"
-        (reason,) = FormatView.of(radix=16, exponent_radix=2).options_reasons("e", ".")
-        self.assertEqual((str(reason), reason.mask, reason.rules), (sentence, 0xFF << 104, ()))
-        masks = [it.mask for it in FormatView.of(radix=16, base_prefix="x").options_reasons("x", "a")]
-        self.assertEqual(masks, [0xFF << 120 | 0xFF << 104, 0xFF << 88])
         with self.assertRaisesRegex(OptionsError, f"^{sentence}; the decimal point '1' is") as caught:
-            Format.of(radix=16).check_options("e", "1")
-        self.assertEqual([it.options for it in pickle.loads(pickle.dumps(caught.exception)).reasons], [(Role.EXPONENT,), (Role.POINT,)])
+            Syntax(Format.of(radix=16, exponent_radix=2), "e", "1")
+        reasons = pickle.loads(pickle.dumps(caught.exception)).reasons
+        self.assertEqual([it.options for it in reasons], [(Role.EXPONENT,), (Role.POINT,)])
+        self.assertEqual((str(reasons[0]), reasons[0].mask, reasons[0].rules), (sentence, 0xFF << 104, ()))
 
     def test_bytes_are_numbers_or_characters(self):
         view = FormatView.of(radix=16, exponent_radix=10, base_prefix="x", base_suffix="H", case_sensitive_base_prefix=True,
                              digit_separator="_", fraction_internal_digit_separator=True)  # fmt: skip
-        for call, characters in ((view.is_base_prefix, "x"), (view.is_base_suffix, "Hh"), (view.is_separator, "_")):
-            self.assertEqual("".join(filter(call, map(chr, range(128)))), characters)
-            self.assertEqual([it for it in range(256) if call(it) and call(bytes([it]))], [ord(it) for it in characters])
+        for role, characters in ((Role.PREFIX, "x"), (Role.SUFFIX, "Hh"), (Role.SEPARATOR, "_")):
+            self.assertEqual("".join(it for it in map(chr, range(128)) if view.role_of(it) is role), characters)
+            both = [it for it in range(256) if view.role_of(it) is view.role_of(bytes([it])) is role]
+            self.assertEqual(both, [ord(it) for it in characters])
         self.assertEqual([view.mantissa_digit(it) for it in ("0", "9", b"a", "f", "A", b"F", "g", "G", 66)], [0, 9, 10, 15, 10, 15, None, None, 11])
         self.assertEqual([view.exponent_digit(it) for it in "09a"], [0, 9, None])
         for byte in range(256):
             wanted = None if byte == 0 else chr(byte) if byte < 128 else byte
             self.assertEqual((Edit(f"base_prefix={byte}").value, FormatView.of(base_prefix=byte).base_prefix), (wanted, wanted))
 
-    def test_roles_and_separators(self):
+    def test_roles(self):
         view = Format.of(radix=16, base_prefix="x", base_suffix="H", digit_separator="_", internal_digit_separator=True)
         names = "DIGIT DIGIT SIGN SEPARATOR PREFIX SUFFIX EXPONENT POINT".split()
         self.assertEqual([view.role_of(byte, exponent="p", point=".") for byte in "0f+_XhP."], [Role[name] for name in names])
         self.assertEqual([view.role_of(byte, exponent=112) for byte in (112, ".", 0, 233, "g")], [Role.EXPONENT] + 4 * [None])
-        for number, name in FLAGS:
-            if found := re.fullmatch(r"(\w+?)_(\w+)_digit_separator", name):
-                allowed = FormatView(1 << int(number)).separators(Part[found[1].upper()])
-                self.assertEqual((sum(vars(allowed).values()), getattr(allowed, found[2])), (1, True))
 
     def test_setters_have_the_bits_and_defaults_of_the_tables(self):
         masks = {name: 1 << int(bit) for bit, name in FLAGS} | {name: sum(1 << int(bit) for bit in bits.split()) for name, bits in GROUPS}
@@ -369,8 +362,7 @@ class Literals(unittest.TestCase):
                 own.read(text)
             error = pickle.loads(pickle.dumps(caught.exception))
             self.assertEqual((error.form, str(error), error.span, error.valid_up_to), (form, sentence, span, span[0]))
-            wanted = Error.EMPTY_INTEGER if span[0] == span[1] else Error.INVALID_DIGIT
-            self.assertEqual((error.error, error.kind), (wanted, ReadErrorKind.OPENING if form else ReadErrorKind.BYTE))
+            self.assertEqual(error.kind, ReadErrorKind.OPENING if form else ReadErrorKind.BYTE)
         # A token is read from a window, which goes on behind each byte of an opening.
         for text in ("#x-FH", "#x" + "0" * 40 + "FHu8", "Z'" + "0" * 30 + "F'"):
             self.assertEqual([own.token(text + rest).end for rest in ("", " - 1", ", x" * 40)], [len(text)] * 3)
@@ -412,7 +404,7 @@ class Literals(unittest.TestCase):
             with self.assertRaises(LiteralError) as caught:
                 Syntax(Format()).read(text)
             error, sentence = caught.exception, f"unexpected character {text[index]!r}"
-            self.assertEqual((error.valid_up_to, error.error, str(error)), (index, Error.INVALID_DIGIT, sentence))
+            self.assertEqual((error.valid_up_to, error.kind, str(error)), (index, ReadErrorKind.BYTE, sentence))
         with self.assertRaisesRegex(LiteralError, "unexpected character '\u20ac'"):
             Syntax(Format()).read("7\u20ac".encode())
 
@@ -465,9 +457,9 @@ class Literals(unittest.TestCase):
         for text, wanted in (("+inf", "+INF"), (b"-nan", "-NAN"), ("inf", "INF")):
             special = Language.TOML.read(text)
             self.assertEqual((str(special), repr(float(str(special)))), (wanted, repr(float(text))))
-        specials = Specials(nan="n\u00e4n", infinity="\u221e")
-        self.assertEqual(specials.read(Syntax(Format()), "-\u221e"), Special("-", Spelling.INFINITY))
-        self.assertEqual((specials.read(Syntax(Format()), ""), Language.TOML.specials), (None, Specials("nan", "inf")))
+        forms = Forms({"": Syntax(Format())}, nan="n\u00e4n", infinity="\u221e")
+        self.assertEqual((forms.read("-\u221e"), Language.TOML.specials), (Special("-", Spelling.INFINITY), Specials("nan", "inf")))
+        self.assertRaises(LiteralError, forms.read, "")
 
     def test_settings_make_a_syntax(self):
         lines = ["# hexadecimal\r\n", "radix = 16\n", "base_prefix='x'", "", "exponent = 'p'"]
@@ -500,9 +492,12 @@ class Literals(unittest.TestCase):
         self.assertEqual([it.indexes for it in caught.exception.reasons], [(0,), (1, 2), (3, 4, 5, 6)])
 
 
+# The classes that are documented.
+KINDS_OF_OBJECTS = [it for of in (peltzivar, peltzivar.words) for it in map(vars(of).get, of.__all__) if isinstance(it, type)]
 BYTE = "one ASCII character or a number from 0 to 255"
 SUGGESTION = "unknown setting `digit_seperator`; did you mean `digit_separator`?"
 ONE_OPTION = "only one of the exponent character and the decimal point is absent: for numbers without an exponent, keep both, and set no_exponent_notation"
+COLUMN = "must be a sequence, such as one column of a table, not"
 WRONG = [
     ("Format(-1)", ValueError, "a format word must be a number of at most 128 bits, not -1"),
     ("Format.of(no_special=1)", TypeError, "no_special must be a bool, not int"),
@@ -520,7 +515,19 @@ WRONG = [
     ("Edit(\"radix='x'\")", ValueError, "radix='x': radix takes a number, 2 to 36 in a lawful format"),
     ("Syntax(Format(), exponent=None)", ValueError, ONE_OPTION),
     ("Syntax.of('radix=16\\nradix=2')", ValueError, "a setting is one line: 'radix=16\\nradix=2'"),
-    ("Language.JSON.column('12')", TypeError, "cells must be a sequence of texts, not str"),
+    ("Language.JSON.column('12')", TypeError, f"cells {COLUMN} str"),
+    ("Language.JSON.column({'1': 2})", TypeError, f"cells {COLUMN} dict"),
+    ("Language.JSON.column(memoryview(b'1234').cast('B', (2, 2)))", TypeError, f"cells {COLUMN} memoryview"),
+    ("Language.JSON.format_column({'1': 2})", TypeError, f"numbers {COLUMN} dict"),
+    ("Language.JSON.column((b'12', [0, 1, 2]))", TypeError, "offsets must be an array, such as array('q', [0, 3]), not list"),
+    ("Language.JSON.column(['1'], out=[0.5])", TypeError, "out must be a buffer, such as an array, not list"),
+    ("Language.JSON.column(('1', array('q', [0, 1])))", TypeError, "data must be a buffer, such as an array, not str"),
+    ("Language.JSON.column(5)", TypeError, f"cells {COLUMN} int"),
+    ("Language.JSON.column(['1'], [])", TypeError, "type must be float, int, or one of the formats d, f, q and Q, not []"),
+    ("Language.JSON.column(['1'], missing='NA')", TypeError, "missing must be a sequence of texts, not str"),
+    ("Language.JSON.column(['1'], missing=[5])", TypeError, "a text of `missing` must be a str or bytes, not int"),
+    ("Language.JSON.column(['1'], fill='0')", TypeError, "fill must be a number of the column, not str"),
+    ("Forms({'a': Syntax(Format())}, suffixes={'a': Suffixes('k 5k')})", ValueError, "a suffix begins with a digit, with which the number goes on: '5k'"),
     ("Language.JSON.column([1])", TypeError, "cell 0 must be a str, not int"),
     ("Language.JSON.column([], complex)", TypeError, "type must be float, int, or one of the formats d, f, q and Q, not <class 'complex'>"),
     ("Language.JSON.column(['1'], out=bytearray(8))", TypeError, "out must have the format d or f, not 'B'"),
@@ -560,16 +567,16 @@ class Wrong(unittest.TestCase):
     def test_other_objects_are_refused_by_name(self):
         view, syntax = FormatView((1 << 128) - 1), Syntax(Format())
         calls = {
-            "a byte": [view.is_separator, view.mantissa_digit, view.role_of, syntax.role_of],
+            "a byte": [view.mantissa_digit, view.role_of, syntax.role_of],
             "a format word": [FormatView, Format, Format.parse],
             "a setting|=|unknown|takes": [Edit, Format().edit, Syntax.of, Syntax.notes_of],
             "a text|here$|expected": [syntax.read, syntax.read_prefix, Language.JSON.read],
-            "part must be": [view.separators, syntax.read("1").digits],
+            "part must be": [syntax.read("1").digits],
             "format must be": [Syntax, Syntax.integers],
             "base_prefix must be": [lambda it: notes_of(base_prefix=it), lambda it: Format.of(base_prefix=it)],
             "setter|radix": [lambda it: Edit.of(it, 8), lambda it: Edit.of("radix", it)],
-            "exponent|point": [lambda it: Syntax(Format(), it), lambda it: Format().check_options("e", it)],
-            "spelling|a text": [lambda it: Specials(it).read(syntax, ""), lambda it: Specials().read(syntax, it)],
+            "exponent|point": [lambda it: Syntax(Format(), it), lambda it: Syntax(Format(), "e", it)],
+            "spelling": [lambda it: Forms({"": syntax}, nan=it).specials and None],
         }
         for names, call in [(names, call) for names, some in calls.items() for call in some]:
             for it in (1.5, -1, 1 << 128, 10**5000, "\u00e9\u00e9", "\ud800\ud800", "a\0b", b"\xff\xff", [], {}, object(), print, Error.EMPTY):
@@ -581,12 +588,12 @@ class Wrong(unittest.TestCase):
 
     @unittest.skipUnless(shutil.which("mypy"), "mypy")
     def test_a_type_checker_accepts_right_arguments_and_refuses_wrong_ones(self):
-        program = """from decimal import Decimal; from peltzivar import Format, Kind, Special, Spelling, Suffixes, Syntax, Tokens, languages, notes_of
+        program = """from decimal import Decimal; import peltzivar.words; from peltzivar import Format, Kind, Special, Spelling, Suffixes, Syntax, Tokens, languages, notes_of
 Format.of(mantissa_radix="x", base_prefx=3)
 Format().edit(no_special=1)
 Syntax.of(radix=16, point=1.5).read("1").value.real
 notes_of(mantissa_radix=None)
-print(Format().no_special + "", Format().check_options("e", None))
+print(Format().no_special + "", Format().check(5), Syntax(Format(), 1.5))
 Syntax(Format()).format_number("1")
 languages.JSON.column(["1"], str)
 languages.JSON.column(["1"], errors="ignore")
@@ -603,40 +610,63 @@ Tokens(forms=5)
 Syntax.notes_of(radix="x")
 Syntax(Format()).format_number(1, exponent="often")
 Syntax(Format()).read("1").parts.whole
+languages.JSON.format_column([1], groups=3)
 """
         page = re.findall(r"^    (?:>>>|\.\.\.) (.*)$", ANALYSTS, re.M)
         program += "\n".join(it if it.startswith(("import", "from", " ")) else it for it in page) + "\n"
-        command = ["mypy", "--strict", f"--python-version={OLDEST}", "--cache-dir=/dev/null", peltzivar.__file__, TESTS / "typed.py", "/dev/stdin"]
+        first = program.count("\n") + 1
+        # Each argument of each call of each class refuses an object.
+        for kind in KINDS_OF_OBJECTS:
+            for name, call in [("", kind), *inspect.getmembers(kind, inspect.isroutine)]:
+                of = getattr(call, "__objclass__", call).__module__ if name else kind.__module__
+                if name[:1] == "_" or not of.startswith("peltzivar") or not name and issubclass(kind, (Enum, ValueError, Literal)):
+                    continue
+                # inspect does not know the signature of `parse` of texts, since its default is a class.
+                is_known = not hasattr(call, "__objclass__") or name != "parse"
+                for it in inspect.signature(call if is_known else lambda text, type: 0).parameters.values():
+                    given = "" if it.kind is it.VAR_POSITIONAL else 'text="1", type=' if it.name == "type" else f"{it.name}="
+                    if it.name not in ("self", "values") and it.kind is not it.VAR_KEYWORD:
+                        of = f"{kind.__module__}.{kind.__name__}"
+                        program += f"def _(it: {of}) -> None: {f'it.{name}' if name else of}({given}object())\n"
+        path = TESTS / "typed.py"
+        command = ["mypy", "--strict", f"--python-version={OLDEST}", "--cache-dir=/dev/null", peltzivar.__file__, path, "/dev/stdin"]
         ran = subprocess.run(command, env={**os.environ, "MYPYPATH": str(TESTS.parent)}, input=program, capture_output=True, text=True)
-        wrong = [int(line) for path, line in re.findall(r"^(.*):(\d+): error", ran.stdout, re.M) if path == "/dev/stdin" or self.fail(ran)]
-        self.assertEqual(wrong, [2, 2, 3, 4, 5, 6, 6, 6, *range(7, 23)], ran)
+        errors = re.findall(r"^(.*):(\d+): error: .*\[(.*)\]", ran.stdout, re.M)
+        wrong = [int(line) for file, line, _ in errors if file == "/dev/stdin" or self.fail(ran)]
+        self.assertEqual([it for it in wrong if it < first], [2, 2, 3, 4, 5, 6, 6, 6, *range(7, 24)], ran)
+        refused = {int(line) for _, line, code in errors if code in ("arg-type", "type-var", "call-overload")}
+        lines = program.splitlines()
+        self.assertEqual([lines[it - 1] for it in {*range(first, len(lines) + 1)} - refused], [])
 
     def test_values_have_the_types_of_a_typed_program(self):
         def fits(value, kind):
             origin, arguments = typing.get_origin(kind) or kind, typing.get_args(kind)
-            if origin is typing.Union:
-                return any(fits(value, it) for it in arguments)
+            if origin in (typing.Union, typing.Any):
+                return origin is typing.Any or any(fits(value, it) for it in arguments)
             if origin is not tuple:
                 return isinstance(value, origin)
             each = arguments[:1] * len(value) if arguments[1:] == (...,) else arguments
             return len(each) == len(value) and all(map(fits, value, each))
 
+        def typed(value, kind):
+            self.assertTrue(fits(value, kind), (kind, value))
+            return value
+
         path = TESTS / "typed.py"
-        made = runpy.run_path(str(path))
-        for name, kind in made["__annotations__"].items():
-            self.assertTrue(fits(made[name], kind), (name, kind, made[name]))
-        kinds = [it for it in map(vars(peltzivar).get, peltzivar.__all__) if isinstance(it, type)]
-        names = {name for kind in kinds for name in (*vars(kind), *vars(kind).get("__annotations__", ())) if name[0] != "_" and not name.isupper()}
+        with mock.patch("typing.assert_type", typed):
+            runpy.run_path(str(path))
+        names = {name for kind in KINDS_OF_OBJECTS for name in (*vars(kind), *vars(kind).get("__annotations__", ())) if name[0] != "_" and not name.isupper()}
         self.assertEqual(names - {*re.findall(r"\w+", path.read_text())} - {it.name.lower() for it in Setter}, set())
 
-    def test_help_has_no_private_names(self):
-        text = pydoc.plain(pydoc.render_doc(peltzivar))
-        self.assertEqual(re.findall(r"^ +\|  (_[a-z]\w*)", text, re.M), [])
-        self.assertNotRegex(text, r"builtins\.int|ctypes|Ellipsis|libpeltzivar|'_[A-Z][a-z]")
-        kinds = "Error|Language|Part|ReadErrorKind|Role|Rule|Setter|Spelling"
-        others = re.sub(rf"(?s)    (?:languages = )?class (?:{kinds})\(.*?\n *\n(?= {{0,4}}\w)", "", text)
-        self.assertLessEqual(len(others.splitlines()), 1500)
-        self.assertRegex(text, r"(?s)DESCRIPTION\n.*?\.read\(.*?\.value.*?Syntax\.of\(.*?Error.*?128-bit")
+    def test_help_begins_with_what_people_need_and_has_no_private_names(self):
+        text, words = (pydoc.plain(pydoc.render_doc(it)) for it in (peltzivar, peltzivar.words))
+        for it in (text, words):
+            self.assertEqual(re.findall(r"^ +\|  (_[a-z]\w*)", it, re.M), [])
+            self.assertNotRegex(it, r"builtins\.int|ctypes|Ellipsis|libpeltzivar|'_[A-Z][a-z]")
+        self.assertLessEqual(len(text.splitlines()), 1300)
+        first = re.findall(r"^ {8}(\w+) {2,}", text[: text.index(">>>")], re.M)
+        self.assertEqual((len(first), {*first} - {*peltzivar.__all__}), (10, set()))
+        self.assertEqual([it for it in peltzivar.words.__all__ if getattr(peltzivar, it) is not getattr(peltzivar.words, it)], [])
 
 
 BITS = 1, 8, 32, 64
@@ -856,6 +886,24 @@ def halved(part):
     return column, own, Language.CSV_DE.column(part, Decimal, errors="coerce", fill=Decimal(0))
 
 
+# The kinds of columns.
+COLUMNS = [(float, {}), ("f", {}), ("q", {}), ("Q", {}), (int, {"scale": 1}), (Decimal, {})]
+
+
+def each_call():
+    """Returns calls of each part of the module, with values and errors."""
+    forms = Forms({"a": SYNTAX}, nan="x", kinds={"a": Kind(8)}, suffixes={"a": Suffixes("u8", stops=[("", ".", "0")])}, tokens=Tokens())
+    text, number, prices = type("Text", (str,), {"__len__": None})("7x"), Language.C.read("0x1F"), [1.5, None, Decimal("2.50")]
+    calls = [lambda: forms.token("7u8;\u00e9"), lambda: forms.token("7u9", FormatView(0)), lambda: forms.read(text), lambda: forms.parse("9" * 99, int)]
+    calls += [lambda: Language.CSV_DE.column(["1,5", None, "x", "\ud800"], errors="coerce").wrong[0].error.span, lambda: Language.C.column([1.5])]
+    calls += [lambda: Language.CSV_DE.format_column(prices, fill="", decimals=2), number.decimal, number.fraction, lambda: number.parts, lambda: forms.read("x")]
+    calls += [lambda: Language.CSV_DE.column((b" 1NA", array("i", [0, 2, 4]), b"\3"), fill=Fraction(1, 2), missing=["NA", "-"], strip=True)]
+    calls += [lambda: SYNTAX.format_number(10**50, group=3), lambda: SYNTAX.format_number(1.5, decimals=300), lambda: Syntax.of("radix=40"), lambda: repr(SYNTAX)]
+    calls += [lambda: forms.format_number(1.5, min_digits=255, group=1), FormatView(-1 & 2**128 - 1).reasons, SYNTAX.format.edits, SYNTAX.format.notes]
+    calls += [Language.C._members, SYNTAX.grammar, lambda: Syntax(Format(), "1", "2"), lambda: Syntax.notes_of("radix=2", "radix=3")]
+    return [*calls, each_call]
+
+
 class Extension(unittest.TestCase):
     """What is new with an extension module: memory, threads, processes and interpreters."""
 
@@ -873,15 +921,8 @@ class Extension(unittest.TestCase):
         self.assertEqual(str(caught.exception), "cell 2, '-7x': unexpected character 'x'")
 
     def test_no_call_keeps_memory(self):
-        number, prices = Language.C.read("0x1F"), [1.5, None, Decimal("2.50")]
-
         def calls():
-            forms = Forms({"a": SYNTAX}, nan="x", kinds={"a": Kind(8)}, suffixes={"a": Suffixes("u8", stops=[("", ".", "0")])}, tokens=Tokens())
-            calls = [lambda: forms.token("7u8;\u00e9"), lambda: forms.token("7u9"), lambda: forms.read("7x"), lambda: forms.parse("9" * 99, int), lambda: forms.read("x")]
-            calls += [lambda: Language.CSV_DE.column(["1,5", None, "x", "\ud800"], errors="coerce").wrong[0].error.span, lambda: Language.C.column([1.5])]
-            calls += [lambda: Language.CSV_DE.format_column(prices, fill="", decimals=2), lambda: number.decimal(), lambda: number.fraction(), lambda: number.parts]
-            calls += [lambda: SYNTAX.format_number(10**50, group=3), lambda: SYNTAX.format_number(1.5, decimals=300), lambda: Syntax.of("radix=40"), lambda: repr(SYNTAX)]
-            for call in calls:
+            for call in each_call():
                 with contextlib.suppress(ValueError, TypeError):
                     call()
 
@@ -894,6 +935,75 @@ class Extension(unittest.TestCase):
             gc.collect()
             used.append(tracemalloc.get_traced_memory()[0])
         self.assertLess(used[3] - used[1], 20_000, used)
+
+    def test_long_columns_of_each_kind_keep_no_memory(self):
+        cells = [None, "x", " 1,5 ", "-", "2"] * 200
+        texts = [(it or "").encode() for it in cells]
+        buffers = b"".join(texts), array("i", itertools.accumulate(map(len, texts), initial=0)), b"\xbd" * 125
+        ways = [*itertools.product((cells, buffers[:2], buffers), ({}, {"missing": ["-"], "strip": True}))]
+        for kind, more in (*COLUMNS, ("d", {"out": array("d", bytes(8000))})):
+            read = lambda: [len(Language.CSV_DE.column(it, kind, errors="coerce", fill=7, **way, **more).wrong) for it, way in ways]
+            read(), gc.collect()
+            used = sys.getallocatedblocks()
+            for _ in range(500):
+                read()
+            gc.collect()
+            self.assertLess(sys.getallocatedblocks() - used, 99, (kind, more))
+
+    def test_another_thread_runs_while_a_column_of_data_with_offsets_is_read(self):
+        data, offsets, valid, turns = b"12" * 50_000, array("q", range(0, 100_001, 2)), b"\xff" * 6250, [0]
+
+        def count():
+            while turns[0] >= 0:
+                turns[0] += 1
+                time.sleep(0)
+
+        # In so many seconds, no thread loses the lock unless it releases it.
+        self.addCleanup(sys.setswitchinterval, sys.getswitchinterval())
+        sys.setswitchinterval(99)
+        thread = threading.Thread(target=count)
+        thread.start()
+        self.addCleanup(thread.join)
+        self.addCleanup(turns.__setitem__, 0, -sys.maxsize)
+        ways = [{}, {"missing": ["-"], "strip": True}]
+        for (kind, more), way, cells in itertools.product(COLUMNS, ways, ((data, offsets), (data, offsets, valid))):
+            for _ in range(99):
+                time.sleep(0.001)
+                before = turns[0]
+                Language.JSON.column(cells, kind, fill=0, **way, **more)
+                if turns[0] > before:
+                    break
+            else:
+                self.fail(f"the lock is kept: {kind}, {way}, {more}")
+
+    # Later Pythons crash by themselves if they have no memory for a lambda.
+    @unittest.skipUnless(importlib.util.find_spec("_testcapi") and sys.version_info < (3, 12), "_testcapi of Python 3.11")
+    def test_an_allocation_that_fails_is_an_error_of_memory(self):
+        from _testcapi import remove_mem_hooks, set_nomemory
+
+        self.enterContext(mock.patch("sys.unraisablehook"))
+
+        def found(call):
+            try:
+                return call()
+            except (ValueError, TypeError) as error:
+                return str(error)
+
+        for call in each_call()[:-1]:
+            wanted, goods, at = found(call), 0, 0
+            # Python does without some allocations, and forgets an error if it has no memory for its traceback. Old ones
+            # forget a sentence.
+            while goods < 99:
+                set_nomemory(at, at + 1)
+                try:
+                    it, goods = found(call), goods + 1
+                except (MemoryError, SystemError) as error:
+                    of_python = isinstance(error, MemoryError) or re.search(" without .*exception", str(error))
+                    it, goods = wanted if of_python else error, 0
+                finally:
+                    remove_mem_hooks()
+                self.assertEqual(repr(it), repr("" if it == "" else wanted), at)
+                at += 1
 
     def test_cycles_through_a_literal_are_collected(self):
         text, forms = type("Text", (str,), {})("1.5"), Forms({"": SYNTAX})
