@@ -212,6 +212,21 @@ REPLACED += [
     ("lawful.rt", "Eq)]\npub struct FormatError", "Eq, Hash)]\npub struct FormatError"),
 ]
 
+# Public items that may change in any version: those for `numfmt` or for one or two languages, and fields that have setters.
+MAY_CHANGE = {
+    "source.rt": ["pub struct BuilderExpression("],
+    "kind.rt": ["WrapsModulo(u8)"],
+    "list.rt": ["pub const fn gives_points_to_letters(", "pub const fn any_word_follows("],
+    "suffix.rt": ["pub struct Stop ", *(f"pub const fn {it}(" for it in "whole_words with_word_bytes begins_any_word word_bytes".split())],
+    "layout.rt": [f"    pub {it}: {of}," for it, of in (("group", "Grouping"), ("fraction_group", "Grouping"), ("prefix", "bool"), ("suffix", "bool"),
+                  ("lowercase", "bool"), ("min_digits", "u8"), ("exponent", "ExponentStyle"), ("decimals", "Option<u8>"))],
+}  # fmt: skip
+REPLACED += [(file, item, f"#[doc = may_change!()] {item}") for file, items in MAY_CHANGE.items() for item in items]
+
+# The documentation has the methods of modules first. So that it shows those of the view before its getters, they are in a module.
+MODS, OWN, LAST = "mod bytes;\nmod getters;\nmod roles;\n", "impl NumberFormat {\n    // CONSTRUCTORS", "rebuild(self.format)\n    }\n}\n"
+REPLACED += [("feature_format.rt", MODS, "\n\n\n"), ("feature_format.rt", OWN, f"mod own {{ use super::*; {OWN}"), ("feature_format.rt", LAST, f"{LAST}}}\n{MODS}")]
+
 # Words that plain Rust must not contain. If one is left, a ghost form was not removed.
 GHOST = {
     "ghost", "requires", "ensures", "tactic", "prove", "invariant", "measure", "Model", "Drop", "laws", "rt", "alloc",

@@ -50,6 +50,7 @@ impl Tokens {
     /// Sets that a point at the end of a number belongs to what follows if that is a letter, as in `1.eq.2` of Fortran, but not if
     /// it is another point or `_`, as in `1..eq.2` and `1._8`.
     #[must_use]
+    #[doc = may_change!()]
     pub const fn gives_points_to_letters(self) -> Tokens {
         Tokens { gives_points_back: PointsBack::ToLetters, ..self }
     }
@@ -57,6 +58,7 @@ impl Tokens {
     /// Sets whether any word that does not begin with a digit may follow a number directly that does not end in its decimal point, as in `2x`, a
     /// product in Julia.
     #[must_use]
+    #[doc = may_change!()]
     pub const fn any_word_follows(self, follows: bool) -> Tokens {
         Tokens { any_word_follows: follows, ..self }
     }

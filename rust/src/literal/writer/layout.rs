@@ -49,20 +49,28 @@ pub enum ExponentStyle {
 #[non_exhaustive]
 pub struct Style {
     /// How many digits a group of the integer has, counted from the right.
+    #[doc = may_change!()]
     pub group: Grouping,
     /// How many digits a group of the fraction has, counted from the left.
+    #[doc = may_change!()]
     pub fraction_group: Grouping,
     /// Whether the base prefix is written, if the format has one.
+    #[doc = may_change!()]
     pub prefix: bool,
     /// Whether the base suffix is written, if the format has one.
+    #[doc = may_change!()]
     pub suffix: bool,
     /// Whether digits that are letters are in lowercase.
+    #[doc = may_change!()]
     pub lowercase: bool,
     /// How many digits the integer has at least. Zeros are added where the format allows leading zeros.
+    #[doc = may_change!()]
     pub min_digits: u8,
     /// Whether there is an exponent.
+    #[doc = may_change!()]
     pub exponent: ExponentStyle,
     /// How many digits the fraction of a float has in decimal floats, to which it is rounded. For `None`, as many as its value needs.
+    #[doc = may_change!()]
     pub decimals: Option<u8>,
 }
 
