@@ -151,6 +151,13 @@ REPLACED += [
     ("list.rt", "self.specials.read(", "self.specials.read_bytes("),
     ("list.rt", "fn read<", "fn read_bytes<"),
     ("list.rt", "fn read_prefix<", "fn read_prefix_bytes<"),
+    ("suffix.rt", "\nconst fn begins(", "\npub(crate) const fn begins("),
+    ("lexical_literal/src/stop.rt", "    const fn longest(", "    pub(crate) const fn longest("),
+    # An error knows a suffix behind the part that is right, in bytes that the size of an opening does not need.
+    ("list.rt", "    pub(crate) opened: usize,", "    pub(crate) opened: u8, pub(crate) suffix: [u8; 7],"),
+    ("list.rt", "self.as_slice()[form].refuse(text, form, stop)", "self.with_suffix(text, self.as_slice()[form].refuse(text, form, stop))"),
+    ("lexical_forms/src/behind.rt", "            opened,\n", "            opened: opened as u8, suffix: [0; 7],\n"),
+    ("lexical_forms/src/behind.rt", "            opened: right,\n", "            opened: right as u8, suffix: [0; 7],\n"),
     # Its other calls are written by hand. Their results depend on what is compared.
     ("lexical_literal/src/literal.rt", "#[derive(Drop)]", "#[derive(Clone, Copy, PartialEq, Eq, Hash)]"),
     ("lexical_literal/src/literal.rt", "    text: &'a [u8],\n    counts", "    pub(crate) text: &'a [u8],\n    pub(crate) counts"),

@@ -143,7 +143,8 @@ pub struct FormError {
     /// The name of the form.
     pub name: &'static str,
     // The number of bytes of the opening, or of those that are right where it is not there.
-    pub(crate) opened: usize,
+    pub(crate) opened: u8,
+    pub(crate) suffix: [u8; 7],
     // Why what is behind the opening is not a literal of the syntax, or that the opening is not there.
     pub(crate) error: Result<ReadError, Unopened>,
 }
@@ -461,7 +462,7 @@ impl<'a> Forms<'a> {
     #[inline(always)]
     pub(crate) const fn error_at(&self, text: &[u8], furthest: Furthest) -> FormError {
         let Furthest { form, stop, .. } = furthest;
-        self.as_slice()[form].refuse(text, form, stop)
+        self.with_suffix(text, self.as_slice()[form].refuse(text, form, stop))
     }
 }
 

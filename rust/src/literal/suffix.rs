@@ -347,7 +347,7 @@ pub(crate) const fn word_size(more: &[u8], text: &[u8]) -> usize {
 }
 
 // Returns whether `text` begins with `word`, letter case aside if `either` is true.
-const fn begins(either: bool, word: &[u8], text: &[u8]) -> bool {
+pub(crate) const fn begins(either: bool, word: &[u8], text: &[u8]) -> bool {
     match word {
         [] => true,
         [letter, word @ ..] => match text {
