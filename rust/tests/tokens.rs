@@ -65,7 +65,8 @@ fn a_token_has_an_end_and_an_error_a_place_to_go_on() {
                     "{text}"
                 );
                 assert_eq!(language.read_token(whole).map(|it| it.end()), Ok(whole.len()), "{language}: {whole}");
-                assert!(language.read_token(&text).is_err(), "{language}: {text}");
+                let error = language.read_token(&text).expect_err(&text);
+                assert!(token.suffix.is_empty() || error.span().start == token.end(), "{language}: {text}");
             }
             Err(error) => {
                 let (word, rest) = text.split_at(error.resume(&text));

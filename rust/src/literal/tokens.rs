@@ -25,14 +25,15 @@ impl Forms<'_> {
     ///
     /// # Errors
     ///
-    /// If `text` is not a token, returns why. Behind a token, this is the error of [`read`][Self::read].
+    /// If `text` is not a token, returns why. Behind a token without a suffix, this is the error of [`read`][Self::read], and
+    /// behind a suffix, [`TokenError::Stopped`].
     pub fn read_token<'t>(&self, text: &'t (impl AsRef<[u8]> + ?Sized)) -> Result<Token<'t>, TokenError> {
         let text = text.as_ref();
         let token = self.token_bytes(text)?;
         match self.read(text) {
             _ if token.rest.is_empty() => Ok(token),
-            Err(error) => Err(TokenError::Literal(error)),
-            Ok(_) => Err(TokenError::Stopped { form: token.form, start: token.end(), end: text.len() }),
+            Err(error) if token.suffix.is_empty() => Err(TokenError::Literal(error)),
+            _ => Err(TokenError::Stopped { form: token.form, start: token.end(), end: text.len() }),
         }
     }
 
