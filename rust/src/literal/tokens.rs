@@ -25,8 +25,8 @@ impl Forms<'_> {
     ///
     /// # Errors
     ///
-    /// If `text` is not a token, returns why. Behind a token without a suffix, this is the error of [`read`][Self::read], and
-    /// behind a suffix, [`TokenError::Stopped`].
+    /// If `text` is not a token, returns why. Behind a token without a suffix, this is the error of [`read`][Self::read],
+    /// and behind a suffix, [`TokenError::Stopped`].
     pub fn read_token<'t>(&self, text: &'t (impl AsRef<[u8]> + ?Sized)) -> Result<Token<'t>, TokenError> {
         let text = text.as_ref();
         let token = self.token_bytes(text)?;
@@ -46,8 +46,8 @@ impl Forms<'_> {
         error
     }
 
-    /// Returns the suffix that is all of `text` from where a form stops, if [`token`][Self::token] reads it and it is short,
-    /// with zeros behind it. The library for C has another call for tokens.
+    /// Returns the suffix that is all of `text` from where a form stops, if [`token`][Self::token] reads it and it is
+    /// short, with zeros behind it. The library for C has another call for tokens.
     #[cold]
     #[cfg_attr(not(peltzivar_small), inline(never))]
     pub(crate) const fn suffix_at(&self, text: &[u8], form: usize, stop: Stopped) -> [u8; 7] {
