@@ -107,11 +107,11 @@ conversions! {
     format: Format => NumberFormatBuilder { NumberFormatBuilder::from_word(format.word()) }
 }
 
-/// Defines methods that call those of the view. A row has a name, arguments and a result.
+/// Defines methods that call those of the view. A row has a name, arguments and a result. All have the same mark.
 macro_rules! methods {
-    ($($get:ident($($byte:ident: $Byte:ty),*) -> $Type:ty;)*) => {
+    ($mark:expr; $($get:ident($($byte:ident: $Byte:ty),*) -> $Type:ty;)*) => {
         $(
-            #[doc = concat!("Returns what [`FormatView::", stringify!($get), "`] returns for the word.")]
+            #[doc = concat!("Returns what [`FormatView::", stringify!($get), "`] returns for the word.", $mark)]
             #[must_use]
             #[inline]
             pub const fn $get(&self, $($byte: $Byte),*) -> $Type {
@@ -125,11 +125,11 @@ macro_rules! methods {
 macro_rules! both {
     ($($rows:tt)*) => {
         impl<const FORMAT: u128> NumberFormat<FORMAT> {
-            methods! { $($rows)* }
+            methods! { ""; $($rows)* }
         }
 
         impl Format {
-            methods! { $($rows)* }
+            methods! { ""; $($rows)* }
         }
     };
 }
@@ -142,9 +142,12 @@ macro_rules! fields {
                 #[doc = concat!("What [`FormatView::", stringify!($get), "`] returns for the word.")]
                 pub const $CONST: $Type = Self::VIEW.$get();
             )*
+            methods! { may_change!(); $($get() -> $Type;)* }
         }
 
-        both! { $($get() -> $Type;)* }
+        impl Format {
+            methods! { ""; $($get() -> $Type;)* }
+        }
     };
 }
 
@@ -163,7 +166,7 @@ macro_rules! bytes {
                 #[doc = concat!("What [`FormatView::", stringify!($get), "`] returns for the word, or 0 for `None`.")]
                 pub const $CONST: u8 = flags::$get(FORMAT);
 
-                #[doc = concat!("Returns what [`FormatView::", stringify!($get), "`] returns, or 0 for `None`.")]
+                #[doc = concat!("Returns [`", stringify!($CONST), "`][Self::", stringify!($CONST), "].", may_change!())]
                 #[must_use]
                 pub const fn $get(&self) -> u8 {
                     Self::$CONST
@@ -172,38 +175,19 @@ macro_rules! bytes {
         }
 
         impl Format {
-            methods! { $($get() -> OptionU8;)* }
+            methods! { ""; $($get() -> OptionU8;)* }
         }
     };
 }
 
 impl<const FORMAT: u128> NumberFormat<FORMAT> {
     methods! {
+        "";
         is_valid() -> bool;
         error() -> Error;
         is_valid_radix() -> bool;
         error_radix() -> Error;
     }
-}
-
-crate::with_setters!(flag_fields());
-
-bytes! {
-    DIGIT_SEPARATOR digit_separator;
-    BASE_PREFIX base_prefix;
-    BASE_SUFFIX base_suffix;
-}
-
-fields! {
-    REQUIRED_DIGITS required_digits bool;
-    INTERNAL_DIGIT_SEPARATOR internal_digit_separator bool;
-    LEADING_DIGIT_SEPARATOR leading_digit_separator bool;
-    TRAILING_DIGIT_SEPARATOR trailing_digit_separator bool;
-    CONSECUTIVE_DIGIT_SEPARATOR consecutive_digit_separator bool;
-    MANTISSA_RADIX mantissa_radix u32;
-    RADIX radix u32;
-    EXPONENT_BASE exponent_base u32;
-    EXPONENT_RADIX exponent_radix u32;
 }
 
 both! {
@@ -228,4 +212,24 @@ both! {
     integer_digit_separator_flags() -> u128;
     fraction_digit_separator_flags() -> u128;
     exponent_digit_separator_flags() -> u128;
+}
+
+crate::with_setters!(flag_fields());
+
+bytes! {
+    DIGIT_SEPARATOR digit_separator;
+    BASE_PREFIX base_prefix;
+    BASE_SUFFIX base_suffix;
+}
+
+fields! {
+    REQUIRED_DIGITS required_digits bool;
+    INTERNAL_DIGIT_SEPARATOR internal_digit_separator bool;
+    LEADING_DIGIT_SEPARATOR leading_digit_separator bool;
+    TRAILING_DIGIT_SEPARATOR trailing_digit_separator bool;
+    CONSECUTIVE_DIGIT_SEPARATOR consecutive_digit_separator bool;
+    MANTISSA_RADIX mantissa_radix u32;
+    RADIX radix u32;
+    EXPONENT_BASE exponent_base u32;
+    EXPONENT_RADIX exponent_radix u32;
 }

@@ -68,6 +68,18 @@
 #![allow(clippy::match_like_matches_macro, clippy::module_inception, clippy::needless_lifetimes)]
 #![allow(clippy::question_mark, clippy::redundant_pattern_matching, reason = "code is as it is proved")]
 
+/// What the documentation adds to items that may change in any version. `rust/tools/surface.py` finds it.
+macro_rules! may_change {
+    () => {
+        "\n\n**May change in any version**: see [Until 2.0][crate::docs::changelog#until-20]."
+    };
+}
+
+// The documentation shows methods in this order, so getters of `feature_format` are after the others.
+mod lawful;
+mod lists;
+mod view;
+
 pub mod ascii;
 mod debug;
 pub mod digit;
@@ -96,8 +108,6 @@ pub mod format_builder;
 mod format_error;
 #[doc(hidden)]
 pub mod format_flags;
-mod lawful;
-mod lists;
 pub mod literal;
 mod numeral;
 #[doc(hidden)]
@@ -108,7 +118,6 @@ pub mod short_text;
 #[expect(clippy::exhaustive_structs, reason = "written by callers")]
 pub mod source;
 mod text;
-mod view;
 #[doc(hidden)]
 pub mod word;
 #[doc(hidden)]

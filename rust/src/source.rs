@@ -28,6 +28,7 @@ use core::fmt;
 /// );
 /// ```
 #[derive(Clone, Copy, Debug)]
+#[doc = may_change!()]
 pub struct BuilderExpression(pub u128);
 
 /// Prints the expression. The options of the formatter, such as a width, are ignored.

@@ -272,7 +272,11 @@ fn token(case: &Case, text: &[u8]) -> Ended {
 
 /// What an error answers.
 fn answers(error: FormError) -> (usize, usize, Range<usize>, [String; 2]) {
-    (error.form, error.valid_up_to(), error.span(), [format!("{error}"), format!("{error:#}")])
+    let sentences = [format!("{error}"), format!("{error:#}")];
+    let without_suffix =
+        |it: &str| it.strip_suffix(" is a suffix, which `token` reads")?.rsplit_once("; `").map(|it| it.0.to_string());
+    let sentences = sentences.map(|it| without_suffix(&it).unwrap_or(it));
+    (error.form, error.valid_up_to(), error.span(), sentences)
 }
 
 /// Asserts that two results are the same, and print the same.

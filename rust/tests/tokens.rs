@@ -65,7 +65,8 @@ fn a_token_has_an_end_and_an_error_a_place_to_go_on() {
                     "{text}"
                 );
                 assert_eq!(language.read_token(whole).map(|it| it.end()), Ok(whole.len()), "{language}: {whole}");
-                assert!(language.read_token(&text).is_err(), "{language}: {text}");
+                let error = language.read_token(&text).expect_err(&text);
+                assert!(token.suffix.is_empty() || error.span().start == token.end(), "{language}: {text}");
             }
             Err(error) => {
                 let (word, rest) = text.split_at(error.resume(&text));
@@ -202,4 +203,24 @@ fn an_unknown_suffix_lists_those_that_are_known() {
             assert_eq!(printed(*language, text).ends_with(", .."), suffixes.len() > 6, "{language}: {text}");
         }
     }
+}
+
+/// Where a list refuses what is behind the literal of a token that the whole text is, the error tells the suffix, and no
+/// other error does.
+#[test]
+fn an_error_tells_a_suffix_that_only_a_token_has() {
+    for language in Language::ALL {
+        for (_, text, _) in rows() {
+            let Err(error) = language.read(text) else { continue };
+            let token = language.token(text).ok().filter(|it| it.rest.is_empty());
+            let is_behind = |it: Token| it.form == error.form && it.literal.end() == error.valid_up_to();
+            let (sentence, told) = (error.to_string(), token.is_some_and(is_behind));
+            assert_eq!(sentence.ends_with(" is a suffix, which `token` reads"), told, "{language} {text}: {sentence}");
+            assert_eq!(language.parse::<f64>(text).map_err(|it| it.to_string()), Err(sentence));
+            assert_eq!(language.read_bytes(text.as_bytes()), Err(error));
+        }
+    }
+    let sentence = |it: &str| Language::RUST.parse::<u8>(it).unwrap_err().to_string();
+    assert_eq!(sentence("10u8"), "unexpected character 'u'; `u8` is a suffix, which `token` reads");
+    assert_eq!(sentence("10u9"), "unexpected character 'u'");
 }

@@ -151,6 +151,13 @@ REPLACED += [
     ("list.rt", "self.specials.read(", "self.specials.read_bytes("),
     ("list.rt", "fn read<", "fn read_bytes<"),
     ("list.rt", "fn read_prefix<", "fn read_prefix_bytes<"),
+    ("suffix.rt", "\nconst fn begins(", "\npub(crate) const fn begins("),
+    ("lexical_literal/src/stop.rt", "    const fn longest(", "    pub(crate) const fn longest("),
+    # An error knows a suffix behind the part that is right, in bytes that the size of an opening does not need.
+    ("list.rt", "    pub(crate) opened: usize,", "    pub(crate) opened: u8, pub(crate) suffix: [u8; 7],"),
+    ("list.rt", "self.as_slice()[form].refuse(text, form, stop)", "self.with_suffix(text, self.as_slice()[form].refuse(text, form, stop))"),
+    ("lexical_forms/src/behind.rt", "            opened,\n", "            opened: opened as u8, suffix: [0; 7],\n"),
+    ("lexical_forms/src/behind.rt", "            opened: right,\n", "            opened: right as u8, suffix: [0; 7],\n"),
     # Its other calls are written by hand. Their results depend on what is compared.
     ("lexical_literal/src/literal.rt", "#[derive(Drop)]", "#[derive(Clone, Copy, PartialEq, Eq, Hash)]"),
     ("lexical_literal/src/literal.rt", "    text: &'a [u8],\n    counts", "    pub(crate) text: &'a [u8],\n    pub(crate) counts"),
@@ -211,6 +218,21 @@ REPLACED += [
     ("cause.rt", "#[derive(Debug, Clone, Copy, PartialEq, Eq, Hash)]\npub struct ReadError {", "#[derive(Clone, Copy, PartialEq, Eq, Hash)]\npub struct ReadError {"),
     ("lawful.rt", "Eq)]\npub struct FormatError", "Eq, Hash)]\npub struct FormatError"),
 ]
+
+# Public items that may change in any version: those for `numfmt` or for one or two languages, and fields that have setters.
+MAY_CHANGE = {
+    "source.rt": ["pub struct BuilderExpression("],
+    "kind.rt": ["WrapsModulo(u8)"],
+    "list.rt": ["pub const fn gives_points_to_letters(", "pub const fn any_word_follows("],
+    "suffix.rt": ["pub struct Stop ", *(f"pub const fn {it}(" for it in "whole_words with_word_bytes begins_any_word word_bytes".split())],
+    "layout.rt": [f"    pub {it}: {of}," for it, of in (("group", "Grouping"), ("base", "bool"), ("lowercase", "bool"),
+                  ("min_digits", "u8"), ("exponent", "ExponentStyle"), ("decimals", "Option<u8>"))],
+}  # fmt: skip
+REPLACED += [(file, item, f"#[doc = may_change!()] {item}") for file, items in MAY_CHANGE.items() for item in items]
+
+# The documentation has the methods of modules first. So that it shows those of the view before its getters, they are in a module.
+MODS, OWN, LAST = "mod bytes;\nmod getters;\nmod roles;\n", "impl NumberFormat {\n    // CONSTRUCTORS", "rebuild(self.format)\n    }\n}\n"
+REPLACED += [("feature_format.rt", MODS, "\n\n\n"), ("feature_format.rt", OWN, f"mod own {{ use super::*; {OWN}"), ("feature_format.rt", LAST, f"{LAST}}}\n{MODS}")]
 
 # Words that plain Rust must not contain. If one is left, a ghost form was not removed.
 GHOST = {

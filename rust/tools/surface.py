@@ -4,7 +4,8 @@
     rust/tools/surface.py
 
 The program compiles only if each item still has its path and its type, with any version of Rust. The items are those
-that `cargo doc` shows, on pages whose form is that of Rust 1.95.
+that `cargo doc` shows, on pages whose form is that of Rust 1.95. Those whose documentation has the mark `may_change` of
+rust/src/lib.rs are in a second list.
 """
 import html
 import pathlib
@@ -16,8 +17,7 @@ RUST = pathlib.Path(__file__).resolve().parents[1]
 TARGET = RUST.parent / "target/surface"
 HEAD = """// Made by rust/tools/surface.py from what `cargo doc` shows: run that program.
 
-//! What does not change until 2.0: the path and the type of each public item. If this program compiles, so do programs
-//! that use them.
+//! The path and the type of each public item. If this program compiles, so do programs that use them.
 #![allow(dead_code, unused_imports, deprecated, clippy::all)]
 
 use peltzivar::{edits::*, error::*, feature_format::*, format::STANDARD, format_builder::*, literal::*, source::*, *};
@@ -28,9 +28,11 @@ use std::{hash::Hash, iter::FusedIterator, num::NonZero, ops::Index, ops::Range,
 macro_rules! items {
     ($($item:item)*) => { $($item)* };
 }
-
-items! {
 """
+MARK = "May change in any version"
+LISTS = "// Does not change until 2.0.\nitems! {", f"// {MARK}.\nitems! {{"
+# An argument of a type of the second list, in a call of the first, where it is an empty list.
+LISTED = re.compile(r", (\w+): &'static \[Stop\](.*\W)\1\)")
 # An item that has a page, a re-export, a member or a trait of a type, and a field.
 SHOWN = re.compile(r"""item-decl"><code>(.*?)</code></pre>|<code>(pub[ ]use[ ].*?)</code>
 |<section[ ]id="[^"]*"[ ]class="(\w+|associatedtype[ ]trait-impl)">.*?<h[34][ ]class="code-header">(.*?)</h[34]>
@@ -103,11 +105,22 @@ def statements(path, page):
         yield f"const _: fn({own}) = |it| {{ let {name} {{ {', '.join(f'{it}: _' for it in fields)} }} = it; }};"
 
 
+def promised(page):
+    """Returns a page without the items that have the mark."""
+    starts = [found.start() for found in SHOWN.finditer(page)]
+    pieces = [page[start:end] for start, end in zip(starts, [*starts[1:], len(page)])]
+    return "".join(it for it in pieces if MARK not in it and MARK not in pieces[0])
+
+
 shutil.rmtree(TARGET / "doc", ignore_errors=True)
 command = ["cargo", "doc", "--quiet", "--no-deps", "--package=peltzivar", f"--target-dir={TARGET}"]
 subprocess.run(command, cwd=RUST, check=True)
-lines = set()
+lists = set(), set()
 for page in (TARGET / "doc/peltzivar").rglob("*.html"):
     path = re.sub(r"/(\w+\.(?=\w+$)|index$)", lambda it: "/" * (it[1] != "index"), str(page.relative_to(TARGET / "doc").with_suffix("")))
-    lines |= {*statements(path.replace("/", "::"), page.read_text().split('<h2 id="synthetic-implementations"')[0])}
-(RUST / "tests/surface.rs").write_text("\n".join([HEAD[:-1], *sorted(lines), "}", ""]))
+    path, text = path.replace("/", "::"), page.read_text().split('<h2 id="synthetic-implementations"')[0]
+    kept = {LISTED.sub(r"\2&[])", it) for it in statements(path, promised(text))}
+    for known, found in zip(lists, (kept, {*statements(path, text)} - kept)):
+        known |= found
+lines = [line for head, known in zip(LISTS, lists) for line in ("", head, *sorted(known), "}")]
+(RUST / "tests/surface.rs").write_text("\n".join([HEAD[:-1], *lines, ""]))

@@ -14,6 +14,23 @@ calls! {
     std_refuses: |_group| |text| black_box(text.parse::<f64>()).is_err();
     std_returns: |_group| |text| matches!(black_box(text.parse::<f64>()), Ok(_) | Err(_));
     prefix: |group| { let it = syntax(group); move |text| black_box(it.read_prefix(text)).is_ok() };
+    list_prefix: |group| { let it = group.language; move |text| black_box(it.read_prefix(text)).is_ok() };
+    value_prefix: |group| { let it = group.language; move |text| black_box(it.parse_prefix::<i64>(text)).is_ok() };
+    scaled: |group| {
+        let it = group.language;
+        move |text| it.read(text).is_ok_and(|it| it.literal().is_some_and(|it| black_box(it.to_scaled::<i64>(2)).is_ok()))
+    };
+    front_by_hand: |_group| |text| {
+        let size = text.bytes().take_while(u8::is_ascii_digit).count();
+        black_box(text[..size].parse::<i64>()).is_ok()
+    };
+    digits_by_hand: |_group| |text| black_box(digits_of(text)).is_some();
+}
+
+/// Returns the integer of the digits of a text. So it is an amount of money in cents.
+fn digits_of(text: &str) -> Option<i64> {
+    let digits = text.bytes().filter(|it| !matches!(it, b'.' | b',' | b'_' | b'\''));
+    digits.map(|it| (it as char).to_digit(10)).try_fold(0_i64, |sum, it| sum.checked_mul(10)?.checked_add(it?.into()))
 }
 
 #[cfg(peers)]
@@ -83,6 +100,12 @@ fn readers(random: &mut Random) -> Vec<Row> {
         "parse::<f64>, 1.5.1, over parse", [JSON 0 RUST 0 C 0 CSV_DE 0], list_refuses_float, std_refuses, |_it| money(random) + ".1";
         "parse::<f64>, 0x1FG, over parse", [JSON 0 RUST 0 C 0 CSV_DE 0], list_refuses_float, std_refuses, |_it| hexadecimal(random) + "G";
         "parse::<f64>, -12.50, over parse", [RUST 0 C 0], list_refuses_float, std_returns, |_it| "-".to_string() + &money(random);
+        "parse::<i64>, grouped, over by hand", [RUST 0 C 0 CSV_DE 0], list_value, digits_by_hand, |_it| integer(random, Some('_'));
+        "to_scaled, money, over by hand", [JSON 0 RUST 0 C 0 CSV_DE 0], scaled, digits_by_hand, |_it| money(random);
+        "to_scaled, grouped, over by hand", [RUST 0 C 0 CSV_DE 0], scaled, digits_by_hand, |_it| integer(random, Some('_')) + "." + &fixed(random, 2);
+        "read_prefix, 1 to 9 digits, over by hand", [JSON 0 RUST 0 C 0 CSV_DE 0], list_prefix, front_by_hand, |_it| integer(random, None) + " + x;";
+        "parse_prefix::<i64>, 1 to 9 digits, over by hand", [JSON 0 RUST 0 C 0 CSV_DE 0], value_prefix, front_by_hand, |_it| integer(random, None) + " + x;";
+        "token, 1 to 9 digits, over by hand", [RUST 0 C 0], token, front_by_hand, |_it| integer(random, None) + " + x;";
         "token, decimal, over read_prefix", [RUST 0 C 0], token, prefix, |_it| mixed(random) + random.pick(&[";", " ", ")"]);
         "token, prefixed, over read_prefix", [RUST 2 C 2], token, prefix, |_it| hexadecimal(random) + random.pick(&[";", " ", ")"]);
         "token, suffix, over read_prefix", [RUST 0 C 0], token, prefix, |it| {

@@ -114,7 +114,7 @@ impl Form {
         }
         let (_, rest) = text.split_at(opened);
         let error = Ok(self.error_of(rest, stop.at(stop.size - opened)));
-        FormError { form, name: self.name, opened, error }
+        FormError { form, name: self.name, opened: opened as u8, suffix: [0; 7], error }
     }
 
     // Returns that the opening is not there behind the first `right` bytes of `text`.
@@ -123,7 +123,7 @@ impl Form {
         let byte = byte_at(text, right);
         let tail = tail_at(text, right, byte);
         let unopened = Unopened { opening: self.opening, byte, tail };
-        FormError { form, name: self.name, opened: right, error: Err(unopened) }
+        FormError { form, name: self.name, opened: right as u8, suffix: [0; 7], error: Err(unopened) }
     }
 
     // Returns why `text` is not a literal of the syntax, which stops at `stop`.

@@ -185,7 +185,8 @@ impl<'a> Forms<'a> {
         if cfg!(peltzivar_small) {
             return Err(ParseError::Read(self.error_at(text, furthest)));
         }
-        Err(ParseError::Read(FormError { form, name, opened: 0, error: Ok(stop.error(syntax, text)) }))
+        let suffix = self.suffix_at(text, form, stop);
+        Err(ParseError::Read(FormError { form, name, opened: 0, suffix, error: Ok(stop.error(syntax, text)) }))
     }
 
     /// Returns the value of the longest literal of any form that `text` begins with, and the rest of `text`, as
@@ -305,7 +306,7 @@ impl FormError {
     #[doc(hidden)]
     #[must_use]
     pub const fn alone(error: ReadError) -> FormError {
-        FormError { form: 0, name: "", opened: 0, error: Ok(error) }
+        FormError { form: 0, name: "", opened: 0, suffix: [0; 7], error: Ok(error) }
     }
 
     /// Returns why what is behind the [opening][Form::with_opening] is not a literal of the syntax, or `None` if the opening
@@ -313,7 +314,7 @@ impl FormError {
     #[must_use]
     pub const fn error(&self) -> Option<ReadError> {
         match &self.error {
-            Ok(error) => Some(error.behind(self.opened)),
+            Ok(error) => Some(error.behind(self.opened as usize)),
             Err(_) => None,
         }
     }
@@ -329,7 +330,8 @@ impl FormError {
                 0..first_character(&[*byte, tail[0], tail[1], tail[2]]).len()
             }
         };
-        self.opened + start..self.opened + end
+        let opened = self.opened as usize;
+        opened + start..opened + end
     }
 
     /// Returns the kind, as [`ReadError::kind`] does, or `None` if the opening is not there.
@@ -369,16 +371,22 @@ impl FormError {
     #[must_use]
     pub const fn valid_up_to(&self) -> usize {
         match &self.error {
-            Ok(error) => self.opened + error.valid_up_to(),
-            Err(_) => self.opened,
+            Ok(error) => self.opened as usize + error.valid_up_to(),
+            Err(_) => self.opened as usize,
         }
     }
 }
 
-/// Prints the error of the form, or that the opening is not there.
+/// Prints the error of the form, or that the opening is not there. If a suffix is behind the number, with which
+/// [`token`][Forms::token] reads it, prints that, too.
 impl fmt::Display for FormError {
     fn fmt(&self, f: &mut fmt::Formatter<'_>) -> fmt::Result {
         match &self.error {
+            Ok(error) if self.suffix[0] != 0 => {
+                let text = if f.alternate() { error.full_text() } else { error.text() };
+                let suffix = str::from_utf8(&self.suffix).unwrap_or_default().trim_end_matches('\0');
+                f.pad(text.and("; `").and(suffix).and("` is a suffix, which `token` reads").as_str())
+            }
             Ok(error) => error.fmt(f),
             Err(Unopened { opening, .. }) => {
                 write!(f, "expected the opening `{}`", str::from_utf8(opening.as_bytes()).unwrap_or_default())

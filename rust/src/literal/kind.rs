@@ -18,6 +18,7 @@ pub enum IntegerKind {
     /// `2 ^ bits` on, the number is too large.
     Wraps(u8),
     /// An integer of so many bits, one of which is its sign: the lowest bits of the number, however large it is.
+    #[doc = may_change!()]
     WrapsModulo(u8),
 }
 

@@ -50,6 +50,7 @@ impl Tokens {
     /// Sets that a point at the end of a number belongs to what follows if that is a letter, as in `1.eq.2` of Fortran, but not if
     /// it is another point or `_`, as in `1..eq.2` and `1._8`.
     #[must_use]
+    #[doc = may_change!()]
     pub const fn gives_points_to_letters(self) -> Tokens {
         Tokens { gives_points_back: PointsBack::ToLetters, ..self }
     }
@@ -57,6 +58,7 @@ impl Tokens {
     /// Sets whether any word that does not begin with a digit may follow a number directly that does not end in its decimal point, as in `2x`, a
     /// product in Julia.
     #[must_use]
+    #[doc = may_change!()]
     pub const fn any_word_follows(self, follows: bool) -> Tokens {
         Tokens { any_word_follows: follows, ..self }
     }
@@ -141,7 +143,8 @@ pub struct FormError {
     /// The name of the form.
     pub name: &'static str,
     // The number of bytes of the opening, or of those that are right where it is not there.
-    pub(crate) opened: usize,
+    pub(crate) opened: u8,
+    pub(crate) suffix: [u8; 7],
     // Why what is behind the opening is not a literal of the syntax, or that the opening is not there.
     pub(crate) error: Result<ReadError, Unopened>,
 }
@@ -458,7 +461,7 @@ impl<'a> Forms<'a> {
     #[inline(always)]
     pub(crate) const fn error_at(&self, text: &[u8], furthest: Furthest) -> FormError {
         let Furthest { form, stop, .. } = furthest;
-        self.as_slice()[form].refuse(text, form, stop)
+        self.with_suffix(text, self.as_slice()[form].refuse(text, form, stop))
     }
 }
 

@@ -196,7 +196,7 @@ impl Syntax {
 
     // Returns the longest front of `text` that is a literal, and the lengths of its parts, if there is one.
     #[cold]
-    const fn longest(&self, text: &[u8]) -> Option<Found> {
+    pub(crate) const fn longest(&self, text: &[u8]) -> Option<Found> {
         let grammar = self.as_grammar();
         let mut at = BEGIN;
         let mut last = FIRST;

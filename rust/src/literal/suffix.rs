@@ -10,6 +10,7 @@ use crate::literal::stop::byte_at;
 /// It has three lists: the last byte of the number is in the first, the next byte in the second, and the one after it in the
 /// third. A list that is empty asks for nothing.
 #[derive(Debug, Clone, Copy, PartialEq, Eq, Hash)]
+#[doc = may_change!()]
 pub struct Stop {
     pub(crate) last: &'static [u8],
     pub(crate) next: &'static [u8],
@@ -80,6 +81,7 @@ impl Suffixes {
 
     /// Sets whether a suffix is the whole word behind a number, as in Ruby, where `1i` has the suffix `i`, and `1if` none.
     #[must_use]
+    #[doc = may_change!()]
     pub const fn whole_words(self, whole: bool) -> Suffixes {
         Suffixes { whole_words: whole, ..self }
     }
@@ -93,6 +95,7 @@ impl Suffixes {
     /// Sets the bytes that words of this form have besides letters, digits, `_` and bytes from 128 up, such as `-` for CSS, where `n-1` is the
     /// suffix of `2n-1`. They do not stop a number: `1-1` ends before `-`.
     #[must_use]
+    #[doc = may_change!()]
     pub const fn with_word_bytes(self, more: &'static [u8]) -> Suffixes {
         Suffixes { more, ..self }
     }
@@ -136,12 +139,14 @@ impl Suffixes {
 
     /// Returns the bytes of which any word that begins with one is a suffix.
     #[must_use]
+    #[doc = may_change!()]
     pub const fn begins_any_word(&self) -> &'static [u8] {
         self.any
     }
 
     /// Returns the bytes that words have besides letters, digits, `_` and bytes from 128 up.
     #[must_use]
+    #[doc = may_change!()]
     pub const fn word_bytes(&self) -> &'static [u8] {
         self.more
     }
@@ -342,7 +347,7 @@ pub(crate) const fn word_size(more: &[u8], text: &[u8]) -> usize {
 }
 
 // Returns whether `text` begins with `word`, letter case aside if `either` is true.
-const fn begins(either: bool, word: &[u8], text: &[u8]) -> bool {
+pub(crate) const fn begins(either: bool, word: &[u8], text: &[u8]) -> bool {
     match word {
         [] => true,
         [letter, word @ ..] => match text {

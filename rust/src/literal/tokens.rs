@@ -3,9 +3,12 @@
 use core::{fmt, ops::Range, str};
 
 use crate::literal::list::PointsBack;
-use crate::literal::suffix::is_word_byte;
-use crate::literal::{Form, Forms, Kind, Stop, Suffixes, Token, TokenError, Tokens};
+use crate::literal::step::part_of;
+use crate::literal::stop::Stopped;
+use crate::literal::suffix::{begins, has_byte, is_word_byte, word_size};
+use crate::literal::{Form, FormError, Forms, Kind, Stop, Suffixes, Token, TokenError, Tokens};
 use crate::short_text::ShortText;
+use crate::Part;
 
 impl Forms<'_> {
     /// Returns the number that `text` begins with as a token, with its suffix, and the rest, as
@@ -22,15 +25,52 @@ impl Forms<'_> {
     ///
     /// # Errors
     ///
-    /// If `text` is not a token, returns why. Behind a token, this is the error of [`read`][Self::read].
+    /// If `text` is not a token, returns why. Behind a token without a suffix, this is the error of [`read`][Self::read],
+    /// and behind a suffix, [`TokenError::Stopped`].
     pub fn read_token<'t>(&self, text: &'t (impl AsRef<[u8]> + ?Sized)) -> Result<Token<'t>, TokenError> {
         let text = text.as_ref();
         let token = self.token_bytes(text)?;
         match self.read(text) {
             _ if token.rest.is_empty() => Ok(token),
-            Err(error) => Err(TokenError::Literal(error)),
-            Ok(_) => Err(TokenError::Stopped { form: token.form, start: token.end(), end: text.len() }),
+            Err(error) if token.suffix.is_empty() => Err(TokenError::Literal(error)),
+            _ => Err(TokenError::Stopped { form: token.form, start: token.end(), end: text.len() }),
         }
+    }
+
+    /// Returns an error of `text` with the suffix behind the part that is right.
+    #[inline(always)]
+    pub(crate) const fn with_suffix(&self, text: &[u8], mut error: FormError) -> FormError {
+        if let Ok(it) = &error.error {
+            error.suffix = self.suffix_at(text, error.form, Stopped { size: error.valid_up_to(), read: it.spot.read });
+        }
+        error
+    }
+
+    /// Returns the suffix that is all of `text` from where a form stops, if [`token`][Self::token] reads it and it is
+    /// short, with zeros behind it. The library for C has another call for tokens.
+    #[cold]
+    #[cfg_attr(not(peltzivar_small), inline(never))]
+    pub(crate) const fn suffix_at(&self, text: &[u8], form: usize, stop: Stopped) -> [u8; 7] {
+        let mut suffix = [0; 7];
+        let it = &self.forms[form];
+        let (Some(tokens), Some(suffixes), rest) = (self.tokens, it.suffixes, text.split_at(stop.size).1) else {
+            return suffix;
+        };
+        let is_float = !matches!(part_of(stop.read.stage), Part::Integer);
+        if cfg!(peltzivar_small) || rest.len() > suffix.len() || !suffixes.has(is_float, rest) {
+            return suffix;
+        }
+        let (opened, inside) = text.split_at(it.opening.size());
+        match it.syntax.longest(inside) {
+            Some(found) if opened.len() + found.size == stop.size => {}
+            _ => return suffix,
+        }
+        let mut index = rest.len();
+        while index > 0 && !it.gives_back(tokens.gives_points_back, text, stop.size) {
+            index -= 1;
+            suffix[index] = rest[index];
+        }
+        suffix
     }
 
     /// Returns the forms that need a suffix, the words that may follow, and whether points are given back, to letters alone, and any word
@@ -51,6 +91,20 @@ impl Forms<'_> {
 }
 
 impl Suffixes {
+    /// Returns whether `text` is a suffix.
+    const fn has(&self, is_float: bool, text: &[u8]) -> bool {
+        let mut words = if is_float { self.floats } else { self.integers };
+        let mut is_one = match text {
+            [] => false,
+            [first, ..] => has_byte(self.any, *first),
+        };
+        while let ([word, rest @ ..], false) = (words, is_one) {
+            is_one = word.len() == text.len() && begins(self.either_case, word, text);
+            words = rest;
+        }
+        is_one && word_size(self.word_bytes(), text) == text.len()
+    }
+
     /// Returns the words behind integers and floats, and the bytes of which any word that begins with one is a suffix.
     #[doc(hidden)]
     #[must_use]

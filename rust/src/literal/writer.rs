@@ -7,7 +7,7 @@ use crate::format::STANDARD;
 use crate::literal::value::number::float::Float;
 use crate::literal::value::number::integer::Integer;
 use crate::literal::value::Other;
-use crate::literal::{Form, FloatKind, Forms, Literal, Number, Sign, Special, Specials, Spelling, Syntax};
+use crate::literal::{FloatKind, Form, Forms, Literal, Number, Sign, Special, Specials, Spelling, Syntax};
 use crate::Format;
 
 mod binary;

@@ -49,16 +49,22 @@ pub enum ExponentStyle {
 pub struct Style {
     /// How many digits a group of the integer has, counted from the right. A group of the fraction has as many as a condition says,
     /// unless there are no groups.
+    #[doc = may_change!()]
     pub group: Grouping,
     /// Whether the base prefix and the base suffix are written, if the format has them.
+    #[doc = may_change!()]
     pub base: bool,
     /// Whether digits that are letters are in lowercase.
+    #[doc = may_change!()]
     pub lowercase: bool,
     /// How many digits the integer has at least. Zeros are added where the format allows leading zeros.
+    #[doc = may_change!()]
     pub min_digits: u8,
     /// Whether there is an exponent.
+    #[doc = may_change!()]
     pub exponent: ExponentStyle,
     /// How many digits the fraction of a float has in decimal floats, to which it is rounded. For `None`, as many as its value needs.
+    #[doc = may_change!()]
     pub decimals: Option<u8>,
 }
 
