@@ -295,6 +295,6 @@ SUFFIXES = {
     "C": [Cause("-", ".*([uU]?(wb|WB)|(wb|WB)[uU])", "an integer of so many bits, of C23, which the tool lacks")],
     "C_PLUS_PLUS": [Cause("+", ".*([uU]?[zZ]|[zZ][uU])", "a size of C++23")],
     "D": [Cause("+", "0[0-9]+([fF]i?|L?i)", "a float of leading zeros")],
-    "NIM": [Cause("+", "0[ob].*", "a float of which the digits are the bits")],
+    "NIM": [Cause("+", "0([ob].*|x.*'.*)", "a float of which the digits are the bits")],
     "C_SHARP": [Cause("+", "[^lLuU]*(?i:[ul]*(u[ul]*u|l[ul]*l)[ul]*)", "a letter that is repeated, beside the standard")],
 }

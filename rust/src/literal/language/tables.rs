@@ -34,7 +34,9 @@ macro_rules! list {
     ($($word:tt)*) => { const { &[$(stringify!($word).as_bytes()),*] } };
 }
 macro_rules! kinds {
-    ($($kind:expr => $($word:ident)*;)*) => { &[$($((stringify!($word).as_bytes(), $kind)),*),*] };
+    ($($kind:expr => $($word:ident)* $($quoted:lifetime)*;)*) => {
+        &[$($((stringify!($word).as_bytes(), $kind),)* $((stringify!($quoted).as_bytes(), $kind),)*)*]
+    };
 }
 
 /// Numbers without signs, which are operators, and without NaN and infinity, which are names.
@@ -289,7 +291,7 @@ const CLOJURE_WORDS: Suffixes = Suffixes::new(&[], &[], CLOJURE_STOPS);
 
 /// What makes a symbol of a number of Common Lisp, or goes on it, and what makes one of Scheme: `1+`, `1/2`.
 const LISP_WORDS: Suffixes = Suffixes::new(&[], &[], &[Stop::new(b"", b"!#$%&*+-./:<=>?@[\\]^{|}~", b"")]);
-const SCHEME_WORDS: Suffixes = Suffixes::new(&[], &[], &[Stop::new(b"", b"!#$%&'*+,-./:<=>?@[\\]^`{|}~", b"")]);
+const SCHEME_WORDS: Suffixes = Suffixes::new(&[], &[], &[Stop::new(b"", b"!#$%&'*+,-./:<=>?@\\^`{|}~", b"")]);
 
 /// Words behind integers and floats, in this case.
 const fn words(integers: &'static [&'static [u8]], floats: &'static [&'static [u8]]) -> Suffixes {
@@ -397,26 +399,33 @@ const KOTLIN_WORDS: Suffixes = words(KOTLIN_INTEGERS, &[]).with_kinds(KOTLIN_KIN
 const KOTLIN_KINDS: &[(&[u8], Kind)] = kinds! { UNSIGNED_64 => u U uL UL; SINGLE => f F; };
 const KOTLIN_FLOATS: Suffixes = words(&[b"f", b"F"], &[]).with_kinds(FLOAT);
 
-/// Suffixes of Nim, in either case. A word behind `'`, as in `1'i8`, is refused, and so is a second point.
+/// Suffixes of Nim, in either case, also behind `'`. Any other word behind `'`, as in `1'x`, is refused, and so is a second point.
 const NIM_STOPS: &[Stop] = &[Stop::new(b"", b"'", b""), Stop::new(b"", b".", b"0123456789")];
-const NIM_INTEGERS: Suffixes = Suffixes::new(list![i8 i16 i32 i64 u u8 u16 u32 u64], &[], NIM_STOPS)
-    .either_case(true)
-    .with_kinds(NIM_KINDS)
-    .with_written(&[b"u64"]);
-const NIM_DECIMALS: Suffixes =
-    Suffixes::new(list![i8 i16 i32 i64 u u8 u16 u32 u64 f f32 f64 d], list![f f32 f64 d], NIM_STOPS)
+const NIM_INTEGERS: Suffixes =
+    Suffixes::new(list![i8 i16 i32 i64 u u8 u16 u32 u64 'i8 'i16 'i32 'i64 'u 'u8 'u16 'u32 'u64], &[], NIM_STOPS)
         .either_case(true)
-        .with_kinds(NIM_DECIMAL_KINDS)
+        .with_word_bytes(b"'")
+        .with_kinds(NIM_KINDS)
         .with_written(&[b"u64"]);
+const NIM_DECIMALS: Suffixes = Suffixes::new(
+    list![i8 i16 i32 i64 u u8 u16 u32 u64 f f32 f64 d 'i8 'i16 'i32 'i64 'u 'u8 'u16 'u32 'u64 'f 'f32 'f64 'd],
+    list![f f32 f64 d 'f 'f32 'f64 'd],
+    NIM_STOPS,
+)
+.either_case(true)
+.with_word_bytes(b"'")
+.with_kinds(NIM_DECIMAL_KINDS)
+.with_written(&[b"u64"]);
 const NIM_KINDS: &[(&[u8], Kind)] = kinds! {
-    whole(IntegerKind::Wraps(8)) => i8; whole(IntegerKind::Wraps(16)) => i16; WRAPS_32 => i32;
-    whole(IntegerKind::Unsigned(8)) => u8; whole(IntegerKind::Unsigned(16)) => u16;
-    whole(IntegerKind::Unsigned(32)) => u32; UNSIGNED_64 => u u64;
+    whole(IntegerKind::Wraps(8)) => i8 'i8; whole(IntegerKind::Wraps(16)) => i16 'i16; WRAPS_32 => i32 'i32;
+    whole(IntegerKind::Unsigned(8)) => u8 'u8; whole(IntegerKind::Unsigned(16)) => u16 'u16;
+    whole(IntegerKind::Unsigned(32)) => u32 'u32; UNSIGNED_64 => u u64 'u 'u64;
 };
 const NIM_DECIMAL_KINDS: &[(&[u8], Kind)] = kinds! {
-    whole(IntegerKind::Signed(8)) => i8; whole(IntegerKind::Signed(16)) => i16; SIGNED_32 => i32;
-    whole(IntegerKind::Unsigned(8)) => u8; whole(IntegerKind::Unsigned(16)) => u16;
-    whole(IntegerKind::Unsigned(32)) => u32; UNSIGNED_64 => u u64; SINGLE => f f32; Kind::EXACT => f64 d;
+    whole(IntegerKind::Signed(8)) => i8 'i8; whole(IntegerKind::Signed(16)) => i16 'i16; SIGNED_32 => i32 'i32;
+    whole(IntegerKind::Unsigned(8)) => u8 'u8; whole(IntegerKind::Unsigned(16)) => u16 'u16;
+    whole(IntegerKind::Unsigned(32)) => u32 'u32; UNSIGNED_64 => u u64 'u 'u64; SINGLE => f f32 'f 'f32;
+    Kind::EXACT => f64 d 'f64 'd;
 };
 
 /// Suffixes of OCaml, whose names may have `'`.
@@ -492,6 +501,9 @@ const fn no_name() -> [u8; 73] {
 
 /// Tokens whose last point belongs to what follows: `1..2` and `1.max(2)`.
 const POINTS_BACK: Tokens = Tokens::new(&[], &[]).gives_points_back(true);
+
+/// The same before any word, as in `1to` of Pascal and `1x3` of Perl.
+const WORDS_FOLLOW: Tokens = POINTS_BACK.any_word_follows(true);
 
 languages! {
     /// Ada's decimal and based literals (Reference Manual 2012, 2.4.1 and 2.4.2). Digits of another base from 2 to 16 are as in `16#FF#`
@@ -632,7 +644,7 @@ languages! {
             .required_digits(true) // rejects `.5`, `1.`, `1e` and `.`
             .no_exponent_without_fraction(true) // rejects `1e5`, not `1.0e5`
         ) => ERLANG_WORDS; finite(Kind::EXACT),
-    } radixes "" "#" { integers(2, separated(b'_'), UNSIGNED) } => POINTS_BACK;
+    } radixes "" "#" { integers(2, separated(b'_'), UNSIGNED) } => WORDS_FOLLOW;
 
     /// Fortran's signed integers and reals (ISO/IEC 1539-1:2018, 7.4.3). Binary, octal and hexadecimal
     /// constants, such as `Z'FF'`, have no type of their own: here, they have at most 128 bits, and are not written.
@@ -788,7 +800,7 @@ languages! {
 
     /// Nim's integers and floats, with the sign `-` (Nim Manual 1.6, Numeric literals). A hexadecimal, octal or binary integer
     /// keeps its last 64 bits: `0xffffffffffffffff` is -1. Nim also accepts `0c17`, which the manual does not.
-    /// Tokens with `'` are refused here, and so is `0b1f32`, whose digits are the bits of a float.
+    /// Suffixes of users, such as `'big`, are refused here, and so is `0b1f32`, whose digits are the bits of a float.
     NIM: "Nim" = {
         "decimal": numbers(b'e', b'.', separated(b'_').required_digits(true)) => NIM_DECIMALS; SIGNED_64, // rejects `.5`, `1.`, `1e` and `.`
         "hexadecimal": signed(prefixed(b'x', 16, separated(b'_'))) => NIM_INTEGERS; LAST_64,
@@ -820,7 +832,7 @@ languages! {
         "hexadecimal" behind "$": integers(16, TOKENS, UNSIGNED); WRAPS_64,
         "octal" behind "&": integers(8, TOKENS, UNSIGNED); WRAPS_64,
         "binary" behind "%": integers(2, TOKENS, UNSIGNED); WRAPS_64,
-    } => POINTS_BACK;
+    } => WORDS_FOLLOW;
 
     /// Perl's numeric literals (perldata 5.36, Scalar value constructors). Where Perl warns of a misplaced `_`, as in `1__0`, they
     /// are refused. A format cannot accept `07_7` and `01.4p0` but reject `0_7` and `0.4p0`. In Perl, an integer from 2^64 on is a
@@ -831,11 +843,11 @@ languages! {
         "hexadecimal": prefixed(b'x', 16, separated(b'_')),
         "octal, 0o": prefixed(b'o', 8, separated(b'_')),
         "binary": prefixed(b'b', 2, separated(b'_')),
-        "hexadecimal float": binary_floats(b'x', 16, separated(b'_').required_exponent_notation(true)), // rejects `0x1.8`
-        "octal float, 0o": binary_floats(b'o', 8, separated(b'_').required_exponent_notation(true)), // rejects `0o1.4`
-        "binary float": binary_floats(b'b', 2, separated(b'_').required_exponent_notation(true)), // rejects `0b1.1`
-        "octal float": powers_of_two(8, separated(b'_').required_exponent_notation(true), UNSIGNED.required_leading_zero(true)), // rejects `01.4`
-    } => POINTS_BACK;
+        "hexadecimal float" only_read true: binary_floats(b'x', 16, separated(b'_').required_exponent_notation(true)), // rejects `0x1.8`
+        "octal float, 0o" only_read true: binary_floats(b'o', 8, separated(b'_').required_exponent_notation(true)), // rejects `0o1.4`
+        "binary float" only_read true: binary_floats(b'b', 2, separated(b'_').required_exponent_notation(true)), // rejects `0b1.1`
+        "octal float" only_read true: powers_of_two(8, separated(b'_').required_exponent_notation(true), UNSIGNED.required_leading_zero(true)), // rejects `01.4`
+    } => WORDS_FOLLOW;
 
     /// PHP's integers and floats (Manual, 8.1 and later, Integers and Floating point numbers). In PHP, an integer from 2^63 on is
     /// a float.
