@@ -184,7 +184,7 @@ def made():
     for name, rows in forms().items():
         special = re.findall(r'Some\(b"(.*?)"\)', written[name])
         tool = " and ".join(compared.get(name, ["none: its grammar"]))
-        yield row_of(name, about[name][0], rows, read, special, not re.search(r"[})]\s*=> [^;]*;\s*$", written[name]), tool)
+        yield row_of(name, about[name][0], rows, read, special, not re.search(r"\}\s*=> ", written[name]), tool)
     yield NOTES
     for name, (_, text) in about.items():
         # The first sentence names the grammar behind what the table has.
