@@ -73,7 +73,7 @@ def unknown_names(text, words):
 
 def unknown_paths(text):
     """Yields the paths in backquotes, of sources or with a `/`, that are in no path but for an extension."""
-    for path in re.findall(r"`([\w.-]+/[\w/.-]*|[\w.-]+\.(?:antt|rt|rs|py|sh|js|[ch]))`", FENCED.sub("", text)):
+    for path in re.findall(r"`((?=\.*[A-Za-z])[\w.-]+/[\w/.-]*|[\w.-]+\.(?:antt|rt|rs|py|sh|js|[ch]))`", FENCED.sub("", text)):
         found = re.compile(rf"(^|/){re.escape(path.rstrip('/'))}($|[/.])")
         if not OWN.search(path) and path.rstrip("/") not in [*BUILT, *NOT_HERE] and not any(map(found.search, PATHS)):
             yield f"no such path: {path}"

@@ -16,9 +16,11 @@ SCALA = "/usr/share/java/scala-compiler.jar:/usr/share/java/scala-library.jar:/u
 OCAMLC = "ocamlc -w -a -I +compiler-libs ocamlcommon.cma"
 TOOLS = {
     "ast": Tool("python3", [PYTHON], f"{PYTHON} --version", "", f"{PYTHON} libraries.py python"),
+    "as": Tool("binutils", ["as", "objcopy"], "as --version", "", f"{PYTHON} compilers.py as"),
     "bash": Tool("bash", ["bash"], "bash --version", "", "./bash.sh"),
     "calc": Tool("libreoffice-calc-nogui python3-xlrd", ["soffice", f"{PACKAGES}/xlrd"], "soffice --version", "", f"{DEBIAN} calc.py"),
     "clojure": Tool("clojure", ["clojure"], "clojure -e '(print \"Clojure\" (clojure-version))'", "", "clojure clojure.clj"),
+    "csv": Tool("python3", [PYTHON], f"echo csv of $({PYTHON} --version)", "", f"{PYTHON} libraries.py csv"),
     "elixir": Tool("elixir", ["elixir"], "elixir --version | tail -1", "", "elixir elixir.exs"),
     "erlang": Tool("erlang-base", ["escript"], "echo Erlang/OTP $(erl -noshell -eval 'io:put_chars(erlang:system_info(otp_release)),halt().')", "",
                    "escript erlang.escript"),
@@ -46,6 +48,7 @@ TOOLS = {
     "nim": Tool("nim", ["nim"], "nim --version", "", "nim e --hints:off nim.nims"),
     "ocaml": Tool("ocaml-nox ocaml-compiler-libs", ["ocamlc"], "echo OCaml $(ocamlc -version)", f"cp ocaml.ml {{work}} && cd {{work}} && {OCAMLC} -o judge ocaml.ml",
                   "{work}/judge"),
+    "octave": Tool("octave", ["octave-cli"], "octave-cli --version", "", "octave-cli -q --no-history octave.m"),
     "perl": Tool("perl", ["perl"], "perl -e 'print \"Perl $^V\"'", "", "perl perl.pl"),
     "php": Tool("php-cli", ["php"], "php --version", "", "php php.php"),
     "postgres": Tool("postgresql libpq-dev", ["pg_config"], "pg_config --version", "", "./postgres.sh"),
@@ -71,13 +74,17 @@ TOOLS = {
 }
 
 # A difference: the mark `+` if the tool alone takes the texts, `-` if the library alone does, `=` if they differ in value, and
-# a pattern of the texts. If it has a group `number`, that is a number of the library. What the library and the tool read pass
+# a pattern of the texts. docs/LANGUAGES.md prints the reason, with a text that is recorded. If it has a group `number`, that is a number of the library. What the library and the tool read pass
 # the test.
 Cause = collections.namedtuple("Cause", "mark pattern reason test", defaults=[lambda ours, theirs: True])
 
 
+# The reason of what has a suffix, which a token has here.
+SUFFIX = "a suffix of a type"
+
+
 def suffix(pattern):
-    return Cause("+", f"(?P<number>.+?)({pattern})", "a suffix of a type")
+    return Cause("+", f"(?P<number>.+?)({pattern})", SUFFIX)
 
 
 def number(text):
@@ -112,17 +119,17 @@ def out_of_range(most):
             return exact is not None and abs(exact) >= most and ours.exact in (None, exact)
         return exact != 0 and abs(ours.double) in (0, math.inf)
 
-    return Cause("-", ".*", "a number that the tool has no type for", test)
+    return Cause("-", ".*", "a number out of range", test)
 
 
 def doubles(least):
     """The tool makes doubles of integers from `least` on. Only those that are written have to be exact."""
-    return Cause("=", ".*", "an integer that is a double to the tool, which rounds it",
+    return Cause("=", ".*", f"an integer from 2^{least.bit_length() - 1} on",
                  lambda ours, theirs: not ours.is_float and isinstance(theirs, float) and least <= abs(theirs) == abs(ours.double))
 
 
-ZERO = Cause("=", r"-[0.,]+([eE].*)?", "a negative zero, which the tool does not have", lambda _, theirs: theirs == 0)
-ROUNDED = Cause("=", ".*", "a fault of the tool, which rounds to the next float", lambda ours, theirs: ours.double == nearest(ours.text)
+ZERO = Cause("=", r"-[0.,]+([eE].*)?", "a negative zero", lambda _, theirs: theirs == 0)
+ROUNDED = Cause("=", ".*", "rounded to the next float", lambda ours, theirs: ours.double == nearest(ours.text)
                 and theirs in [math.nextafter(ours.double, to) for to in (-math.inf, math.inf)])
 
 def is_next(ours, theirs):
@@ -139,7 +146,7 @@ BASED = [
     Cause("+", r"(0[\d_]*|\d_[\d_]*)[#:].*", "a zero or a separator in a base"), Cause("+", r"[\d_]+:.*", "a colon for a number sign"),
     Cause("-", r"[\d_]+[eE]-[\d_]+", "a negative exponent of an integer"), RADIX]
 CELLS = [
-    Cause("+", pattern, f"{what}, which no spreadsheet writes so")
+    Cause("+", pattern, what)
     for pattern, what in (
         (r"\+[\d.,]+([eE][+-]?\d+)?", "a plus sign"),
         (r"-?[\d.,]+[eE][+-]?\d+", "an exponent"),
@@ -147,7 +154,7 @@ CELLS = [
         (r"-?([.,][\d.,]+|[\d.,]+[.,])", "a point without digits"),
         (r"-?\d{4,}[.,]\d{3}[\d.,]*", "a first group of four digits"),
     )
-] + [ZERO, Cause("-", ".*", "a subnormal or infinite number, which the tool has no type for",
+] + [ZERO, Cause("-", ".*", "a subnormal or infinite number",
                 lambda ours, _: ours.exact != 0 and not 2**-1022 <= abs(ours.double) < math.inf),
      doubles(2**53)]
 
@@ -169,8 +176,10 @@ LANGUAGES = [
         Cause("+", r"(#([xXoObB]|\d+[rR]))?[+-]?\w+/\w+", "a ratio"), Cause("+", r"(#[xX])?[+-]?[\d.]+[rR][+-]?\d+", "an exponent of a ratio"),
         Cause("+", r"#\d+[xXoObB].+", "a radix that is ignored"), Cause("+", r"#([xXoObB]|\d+[rR])[+-]?\d+\.", "a point, by which digits are decimal"),
         Cause("+", r"#0\d*[rR].+", "zeros in a radix"), Cause("+", "#.+#.+", "a number behind an opening"),
-        Cause("=", ".*", "a fault of the tool, which rounds to the next float", is_next)]),
+        Cause("=", ".*", "rounded to the next float", is_next)]),
     Language("CSS", "tinycss2", "0189.eE+-x", "_", "1e3px 10%", []),
+    Language("CSV", "csv", "019.,eE+-iN", "_", "1.23E+05 +5 NaN nan Inf -inf Infinity infinity 1,234", [
+        Cause("+", "[^_]*_.*", "a separator, which no program writes"), doubles(2**53)]),
     Language("CSV_DE", "calc 1031", "0125.,-e", ".", "1.234,50 1.234.567,25 12.34 0,50 1.2345,0", CELLS),
     Language("CSV_EN", "calc 1033", "0125.,-e", ",", "1,234.50 1,234,567.25 12,34 0.50 1,2345.0", CELLS),
     Language("C_PLUS_PLUS", "g++", "018.'exp-b", "'", "1u 1UL 1.0f 0x1p3L", [
@@ -181,25 +190,32 @@ LANGUAGES = [
         *(Cause(mark, ".*[mM]", "a number that is not a decimal of 28 digits", lambda ours, _: not 1e-28 < abs(ours.double) < 2**96)
           for mark in "-=")]),
     Language("D", "gdc", "018._exp-b", "_", "1L 1uL 1.5f 1i 0x1p3L 0x.8p3 1e_5 0x_1p_3", [
-        suffix("[uU]?L?[uU]?|[fFL]?i?"), Cause("+", "0[0-7_]+([uU]?L?[uU]?)", "an octal number below 8, beside the specification"),
-        Cause("+", "0[0-9_]*([fF]i?|L?i)", "a float of leading zeros, beside the specification"),
-        Cause("+", r"0[\d_]+\._*([eE][+-]?[\d_]+|_[\d_]*([eE][+-]?[\d_]+)?)?[fFL]?i?", "no digit behind a point and leading zeros, beside the specification"),
-        Cause("+", r"0[xX]_*(\.[\da-fA-F_]*)?[pP][+-]?[\d_]+[fFL]?i?", "no digits behind a prefix, beside the specification"),
+        suffix("[uU]?L?[uU]?|[fFL]?i?"), Cause("+", "0[0-7_]+([uU]?L?[uU]?)", "an octal number below 8"),
+        Cause("+", "0[0-9_]*([fF]i?|L?i)", "a float of leading zeros"),
+        Cause("+", r"0[\d_]+\._*([eE][+-]?[\d_]+|_[\d_]*([eE][+-]?[\d_]+)?)?[fFL]?i?", "no digit behind a point and leading zeros"),
+        Cause("+", r"0[xX]_*(\.[\da-fA-F_]*)?[pP][+-]?[\d_]+[fFL]?i?", "no digits behind a prefix"),
         ROUNDED]),
     Language("ELIXIR", "elixir", "018._exo-+", "_", "1.0e10 1.5e-3", []),
     Language("ERLANG", "erlang", "018._#eF-", "_", "16#FF 16#F_f 2#101 36#Zz 3#12 016#FF 1_6#F 37#1 1#0 16#F.8 16#_F $a 1.0e10 1.5e-3", [
         Cause("+", r"(0[\d_]*|\d+_[\d_]*)#\w+", "zeros or separators in a radix")]),
     Language("FORTRAN", "gfortran", "019.edD-+_'Z", "_", "1.0_8 1d3 1.5d300 Z'FF' z\"fF\" O'17' b\"101\" B'12' Z'F Z'F\" Z'' Z'-1' z'FFFFFFFFFFFFFFFFFFFFFFFFFFFFFFFF'", [
-        Cause("+", r"[bBoOzZ](['\"])\w{33,}\1", "more than 128 bits, of which the tool takes the last"),
-        suffix("_0*(1|2|4|8|10|16)"), Cause("-", "-(2147483648|9223372036854775808_8)", "the least integer, which the tool refuses"),
-        Cause("=", ".*", "a subnormal number, which the tool rounds to zero",
+        Cause("+", r"[bBoOzZ](['\"])\w{33,}\1", "more than 128 bits"),
+        suffix("_0*(1|2|4|8|10|16)"), Cause("-", "-(2147483648|9223372036854775808_8)", "the least integer"),
+        Cause("=", ".*", "a subnormal number, 0 there",
               lambda ours, theirs: theirs == (0.0,) and abs(ours.single) < 2**-126), ROUNDED]),
+    Language("GNU_ASSEMBLER", "as", "018.xebf-d", "", "0e5 0e-1.5 0E+1 0f1.5 0f-1.5e3 0d.5 0D5. 1f 1b 0f 08.5 017.5 1e400 1e-400 0e1e400 1u 0b1e", [
+        Cause("+", "0[a-zA-Z].*", "a letter behind a zero that the manual does not name"),
+        Cause("+", r"[\d.]+[eE][+-]?", "an exponent without digits"), Cause("+", r"0\d+", "a float with a zero in front"),
+        Cause("+", r"\.?([eE].*)?", "no digits before an exponent"),
+        Cause("+", "(?i)nan|inf|infinity", "a name"), Cause("+", ".*'.*", "a character"), suffix("[uUlL]+"),
+        Cause("+", r"\d{39,}", "an integer of more than 128 bits"),
+        Cause("-", ".*[eE]-.*", "a float that vanishes", lambda ours, _: ours.double == 0), ROUNDED]),
     Language("GO", "go", "018._exp-+b", "_", "1i 0x1p3i", [
         suffix("i"), Cause("+", "0[oObB]?[0-9_]+i", "digits of an imaginary number")]),
     Language("HASKELL", "ghc", "018._exo-+", "_", "0o17 0xFF 1e5", []),
     Language("HASKELL_GHC2021", "ghc NumericUnderscores BinaryLiterals HexFloatLiterals", "018._exp-b", "_", "1_e5 0x1_p3 0o_17", [
         Cause("+", r"(0[xX])?[\da-fA-F_]+(\.[\da-fA-F_]+)?_[eEpP][+-]?\d[\d_]*", "a separator before an exponent"),
-        Cause("+", r"_+(?P<number>\d.*)", "a separator before a float, beside the guide")]),
+        Cause("+", r"_+(?P<number>\d.*)", "a separator before a float")]),
     Language("JAVA", "javac", "018._exp-+b", "_", "1L 1f 08f 0x1p3d", [
         suffix("[lLfFdD]"), Cause("+", r"[0-9_]*[fFdD]", "a float by its suffix alone")]),
     Language("JAVASCRIPT", "v8", "018._exn-+b", "_", "1n 0b1n", [suffix("n"), Cause("+", "NaN|Infinity", "a name"), doubles(2**53)]),
@@ -207,36 +223,39 @@ LANGUAGES = [
     Language("JSON5", "json5", "018.eE+-x", "", "NaN Infinity -Infinity +NaN nan -0x1F", [doubles(2**53)]),
     Language("KOTLIN", "kotlinc", "01._exL-", "_", "1L 1f 1u 1uL", [
         suffix("[uU]?L|[uU]|[fF]"), Cause("+", r"\d[\d_]*[fF]", "a float by its suffix alone"),
-        Cause("+", r"[\da-fA-FxXbB_]+_[uU]L?", "a separator before a suffix, beside the specification")]),
+        Cause("+", r"[\da-fA-FxXbB_]+_[uU]L?", "a separator before a suffix")]),
     Language("LUA", "lua", "018.aexp-+", "_", "0x.8 0x1.8 0x1p3", [doubles(2**63)]),
+    Language("MATLAB", "octave", "018.xebds-i", "_", "1d3 1D-3 1i 1e3j 0xFFu8 0xFFs8 0xFFFu8 0b1s64 0xFu64 0x80s8 0x00000000000000001 1. 1.e5", [
+        suffix("[iIjJ]|[us](8|16|32|64)"), Cause("+", ".*_.*", "a separator, of Octave alone"),
+        Cause("+", r"\d+\.([eEdD][+-]?\d+)?[iIjJ]?", "a point without digits"),
+        Cause("-", r"0[xXbB]0\w{16,}", "zeros in front beyond 64 bits"), doubles(2**53)]),
     Language("NASM", "nasm", "01a._hxebd$", "_", "0c8h 0c8x 17q 17o 10d 10t 101b 101y 0h1F 0y1 0q7 0t9 $0c8 1h. 1x. 7q. 7o. 9d. 9t. 1b. 1y. $0FF $0f_f $9 $0 $0x1 $ff $0_", [
-        Cause("+", r"\$(\D[\w$.]*|\w+\..*)?", "the prefix $ twice, or an address"),
+        Cause("+", r"\$(\D[\w$.]*|\w+\..*)?", "two prefixes, or an address"),
         Cause("+", r"0[a-zA-Z][_.]*([eEpP][+-]?[0-9_]*)?", "no digits behind a prefix"),
         Cause("+", r"0[a-zA-Z][\w.]*[pP][+-]_*", "a sign without an exponent"),
         Cause("+", r"[\w.]+(\._+([eEpP][+-]?[\d_]*)?|[eEpP][+-]?_+)|0[a-zA-Z]_+\.[\w.]*([pP][+-]?[\d_]*)?", "a part of separators alone"),
-        ROUNDED, Cause("=", ".*", "an infinite value, which the tool makes NaN",
-                       lambda ours, theirs: ours.double == math.inf and math.isnan(theirs))]),
+        Cause("=", ".*", "an infinite value, NaN there", lambda ours, theirs: ours.double == math.inf and math.isnan(theirs)), ROUNDED]),
     Language("NIM", "nim", "018._exo-b", "_", "1'i8 1'u64 1i8 1u 1.5f32 1d -1.5e3 0xFF'u8 1'x 0c17 0e1000 -9223372036854775808", [
-        suffix("'?([iI](8|16|32|64)|[uU](8|16|32|64)?|[fF](32|64)?|[dD])"), Cause("+", r"-?0[cC][0-7_]+\w*", "the prefix 0c, beside the manual"),
-        Cause("=", r"-?[0_.]+[eE]\+?[\d_]{4,}", "a zero with a large exponent, which the tool makes infinite", lambda _, theirs: math.isinf(theirs))]),
+        suffix("'?([iI](8|16|32|64)|[uU](8|16|32|64)?|[fF](32|64)?|[dD])"), Cause("+", r"-?0[cC][0-7_]+\w*", "the prefix `0c`"),
+        Cause("=", r"-?[0_.]+[eE]\+?[\d_]{4,}", "a zero with a large exponent, infinite there", lambda _, theirs: math.isinf(theirs))]),
     Language("OCAML", "ocaml", "018._exp-+b", "_", "1l 1n 1L 1z", [
         suffix("[lLn]"), Cause("+", r"\w+\._+([eEpP][+-]?\d[\d_]*)?", "a fraction of separators alone"),
         Cause("+", r"[\d_]+", "the least integer without its sign", lambda _, theirs: theirs == -2**62)]),
     Language("PASCAL", "fpc", "018.$%&eF+-", "", "$FF $ff $-F -$F %101 &17 $FFFFFFFFFFFFFFFF $10000000000000000 %2 &8 1.5e300", [
-        Cause("+", r"(\d+|\$[\da-fA-F]+|&[0-7]+|%[01]+)\.(&?[eE][+-]?\d+)?", "no digits behind a point, beside the guide"), doubles(2**64), ROUNDED]),
+        Cause("+", r"(\d+|\$[\da-fA-F]+|&[0-7]+|%[01]+)\.(&?[eE][+-]?\d+)?", "no digits behind a point"), doubles(2**64), ROUNDED]),
     Language("PERL", "perl", "018._exp-o", "_", "01.4p0 0o1.4p0 0b1.1p0 07_7 1.2.3", [
-        Cause("-", "0_[0-7_]+(\\.[0-7_]*)?([pP][+-]?[\\d_]+)?", "a separator behind the first zero, of which the tool warns"),
+        Cause("-", "0_[0-7_]+(\\.[0-7_]*)?([pP][+-]?[\\d_]+)?", "a separator behind the first zero"),
         Cause("-", r"0(\.[0-7_]*)?[pP][+-]?[\d_]+", "an octal float with one digit before its point"),
-        Cause("=", "0.*[pP].*", "a fraction of more than 52 bits, of which the tool drops the rest", lambda ours, theirs: theirs < ours.double),
+        Cause("=", "0.*[pP].*", "a fraction of more than 52 bits", lambda ours, theirs: theirs < ours.double),
         doubles(2**63)]),
     Language("PHP", "php", "018._exo-b", "_", "0o17 0O17 0b1", [doubles(2**63)]),
     Language("POSTSCRIPT", "ghostscript", "0169.#eFz+-", "", "16#FF 16#FFFFFFFFFFFFFFFF 16#FFFFFFFFFFFFFFFFF 36#zZ 2#101 2#12 37#1 016#FF 16# 16#-F "
              "16#F.8 7#1e1 0e1000 -.5", [
         Cause("+", r"0*(3[0-6]|[12]\d|[1-9])#", "a radix without digits"), Cause("+", r"0\d+#[\da-zA-Z]+", "a zero before a radix"),
-        Cause("=", "-.*", "a negative zero, which the tool does not have", lambda _, theirs: theirs == (0,)), out_of_range(2**127),
-        Cause("-", r"[+-]?[0.]+[eE][+-]?\d{4,}", "a zero with an exponent of four digits, which the tool refuses"),
-        Cause("+", r"[+-]?\d{19,}", "an integer from 2^63 on, which is a real to the tool"),
-        *(Cause(mark, r"\d+#\w{13,}", "an integer of more than 64 bits, of which the tool refuses some") for mark in "+-")]),
+        Cause("=", "-.*", "a negative zero", lambda _, theirs: theirs == (0,)),
+        Cause("-", r"[+-]?[0.]+[eE][+-]?\d{4,}", "a zero with an exponent of four digits"), out_of_range(2**127),
+        Cause("+", r"[+-]?\d{19,}", "an integer from 2^63 on, which is a real"),
+        *(Cause(mark, r"\d+#\w{13,}", "an integer of more than 64 bits") for mark in "+-")]),
     Language("PROLOG", "prolog", "0168._e'Fxz", "_", "16'FF 36'zZ 2'101 2'12 37'1 016'FF 16'F_F 16' 0'a 1r3 1.5Inf 1.5NaN 1_0.5 1_0e5 16'F.8 7'1e1", [
         Cause("+", "0'.+", "a character"), Cause("+", r"0\d+'\w+", "a zero before a radix"), Cause("+", r"[\d_]+r[\d_]+", "a rational number"),
         Cause("+", r"\d+\.\d+(Inf|NaN)", "a float without a value")]),
@@ -250,7 +269,7 @@ LANGUAGES = [
         Cause("+", "Inf|NaN", "a name"), *(Cause(mark, ":.*<0[bdox].*>", "a prefix behind a radix") for mark in "+-="),
         Cause("+", ":0.*", "a zero before a radix"),
         Cause("+", r":.*\*.*", "a power of a radix"), RADIX,
-        Cause("-", r"0_[\d_]*(\.[\d_]+)?[eE][+-]?[\d_]+", "a separator behind the first zero of a float, for which the tool has a fault")]),
+        Cause("-", r"0_[\d_]*(\.[\d_]+)?[eE][+-]?[\d_]+", "a separator behind the first zero of a float")]),
     Language("RUBY", "ruby", "018._exr-+b", "_", "1r 1i 1ri 0d10", [suffix("ri?|i")]),
     Language("RUST", "rustc", "018._exo-u", "_", "1u8 1.5f32 1_i64 0x1z", [
         suffix("([ui](8|16|32|64|128|size)|f32|f64)")]),
@@ -261,8 +280,8 @@ LANGUAGES = [
         Cause("+", ".*/.*", "a ratio"), Cause("+", ".*[iI@].*", "a complex or an inexact number"), Cause("+", "#([eE].*|.#[eE].*)", "an exact number"),
         Cause("+", r"(#[bBdDoOxX])?[\w.+-]+#.*", "a digit that is not known"), Cause("+", r"(#[dD])?[+-]?[\d.]+[sSfFdDlL][+-]?\d+", "the size of a float"),
         Cause("+", "[+-](inf|nan).0", "a special value"),
-        Cause("-", r".*[eE][+-]?0*(309|3[1-9]\d|[4-9]\d\d|\d{4,})", "an exponent above 308, which the tool refuses"),
-        Cause("=", r".*[eE]-\d{4,}", "a fault of the tool, which drops digits of an exponent", lambda ours, _: ours.double == 0)]),
+        Cause("-", r".*[eE][+-]?0*(309|3[1-9]\d|[4-9]\d\d|\d{4,})", "an exponent above 308"),
+        Cause("=", r".*[eE]-\d{4,}", "an exponent of four digits", lambda ours, _: ours.double == 0)]),
     Language("SQL", "postgres", "019.eE+-x_", "_", "", [ZERO]),
     Language("SQL", "sqlite", "019.eE+-x_", "_", "", [Cause("+", r"[+-]?0[xX][\da-fA-F]+", "hexadecimal, beyond the standard"), ROUNDED, doubles(2**63)]),
     Language("TCL", "tcl", "018.exo-bI", "", "Inf inf Infinity -Inf 1eq1 017.5", []),
@@ -271,30 +290,34 @@ LANGUAGES = [
         Cause("+", r"'[sS]?[hHoObBdD][\da-fA-FxXzZ?_]+", "a sign, or digits without a value"), Cause("+", "'[01xzXZ]", "all bits of a size")]),
     Language("VHDL", "ghdl", "0169._eF#+-", "_", "16#FF# 2#1.1# 2#1.1#e3 1E-3 16#F.8#E1 16#F_F# 16:FF: 016#FF# 1_6#FF# 3#1.1# 17#1# 2#12# 16#F", [
         *BASED, Cause("-", r"[\d_]+[eE]\+?[\d_]+", "an integer of more than 63 bits", lambda ours, _: not 0 < abs(ours.double) < 2**63),
-        Cause("-", r"21474836[0-4]\d+", "an integer near to 2^31, for which the tool has a fault"),
-        Cause("=", ".*", "a subnormal number, for which the tool has a fault", lambda ours, _: abs(ours.double) < 2**-1022),
+        Cause("-", r"21474836[0-4]\d+", "an integer near to 2^31"),
+        Cause("=", ".*", "a subnormal number", lambda ours, _: abs(ours.double) < 2**-1022),
         out_of_range(2**63), ROUNDED]),
     Language("XML_SCHEMA", "xmllint", "0189.eE+-x", "_", "+1.5 -.5", [
         Cause("-", r"[+-]?[\d.]{25,}", "more than the 24 digits of the tool")]),
+    Language("XML_SCHEMA_DOUBLE", "xmllint double", "0189.eE+-x", "_", "+1.5 -.5 INF -INF +INF NaN -NaN +NaN inf nan", [
+        Cause("-", "[+-]NaN", "a sign of NaN"),
+        Cause("-", r"\+INF", "a plus sign of version 1.1"), Cause("+", ".*[eE][+-]?", "an exponent without digits")]),
     Language("YAML", "yaml", "018.exo-+inf", "_", ".inf -.Inf .NaN .iNF -.nan", [
-        Cause("-", r"[+-]?\.(?i:inf|nan)", "a case or a sign that a format cannot refuse"), doubles(2**53)]),
+        Cause("-", r"[+-]?\.(?i:inf|nan)", "another case, or a sign of NaN"), doubles(2**53)]),
     Language("YAML_1_1", "pyyaml", "018._ex-+:", "_", ".inf -.Inf .NaN .iNF -.nan 1:30 1:30.5 1.5e+3 0b1_ ._5", [
-        Cause("-", r"[+-]?\.(?i:inf|nan)", "a case or a sign that a format cannot refuse"),
-        Cause("-", r"([+-]\.|\._)[\d_]+(e[+-]\d+)?", "a string for PyYAML, beside the standard"),
+        Cause("-", r"[+-]?\.(?i:inf|nan)", "another case, or a sign of NaN"),
+        Cause("-", r"([+-]\.|\._)[\d_]+(e[+-]\d+)?", "a string for PyYAML"),
         Cause("+", r"[+-]?\d[\d_]*(:[0-5]?\d)+(\.[\d_]*)?", "a number of the base 60"),
         Cause("+", r"[+-]?[\d_]+\._+(e[+-]\d+)?", "a fraction of separators alone")]),
 ]
 
 # Languages that no package of Debian has a tool for, and what only its faulty one judges.
-TABLES = {"JULIA": "no tool", "SWIFT": "no tool", "C_SHARP": "separators have no tool", "SCALA": "separators have no tool"}
+TABLES = {"DART": "no tool", "JULIA": "no tool", "SWIFT": "no tool", "VISUAL_BASIC": "no tool", "C_SHARP": "separators have no tool", "SCALA": "separators have no tool"}
 
 # Languages without suffixes that begin with a letter, and suffixes that the tools or the library alone take.
-DATA = """ADA BASH COMMON_LISP CSV_DE CSV_EN ERLANG FORTRAN JSON JSON5 NASM PASCAL POSTSCRIPT PROLOG RAKU SCHEME SQL TOML VERILOG VHDL
-XML_SCHEMA YAML YAML_1_1""".split()
+DATA = """ADA BASH COMMON_LISP CSV CSV_DE CSV_EN DART ERLANG FORTRAN GNU_ASSEMBLER JSON JSON5 NASM PASCAL POSTSCRIPT PROLOG RAKU SCHEME SQL TOML VERILOG VHDL
+XML_SCHEMA XML_SCHEMA_DOUBLE YAML YAML_1_1""".split()
 SUFFIXES = {
     "C": [Cause("-", ".*([uU]?(wb|WB)|(wb|WB)[uU])", "an integer of so many bits, of C23, which the tool lacks")],
     "C_PLUS_PLUS": [Cause("+", ".*([uU]?[zZ]|[zZ][uU])", "a size of C++23")],
     "D": [Cause("+", "0[0-9]+([fF]i?|L?i)", "a float of leading zeros")],
-    "NIM": [Cause("+", "0[ob].*", "a float of which the digits are the bits")],
+    "MATLAB": [Cause("+", r"1\..*", "a point without digits")],
+    "NIM": [Cause("+", "0([ob].*|x.*'.*)", "a float of which the digits are the bits")],
     "C_SHARP": [Cause("+", "[^lLuU]*(?i:[ul]*(u[ul]*u|l[ul]*l)[ul]*)", "a letter that is repeated, beside the standard")],
 }

@@ -1,7 +1,10 @@
 """Tests of the page: languages."""
-import re
+import sys
 
 from test_base import Walk, TOP
+
+sys.path.append(str(TOP / "docs"))
+import languages  # noqa: E402
 
 
 class Languages(Walk):
@@ -16,18 +19,15 @@ class Languages(Walk):
         self.assertEqual(len(self.texts("#readers button")), self.run_script("return page.data.languages.length"))
 
     def test_languages_are_shown_as_they_are_documented(self):
-        page = (TOP / "docs/LANGUAGES.md").read_text().replace("`", "")
         rows = [it.split() for it in (TOP / "rust/tests/literals.txt").read_text().splitlines() if it[:1].isalpha()]
-        all_shown = dict(self.call("shownLanguages"))
-        sections = re.findall(r"^## ([^\n]*) \((\w+)\)\n\n(.*?)(?=\n## |\Z)", page, re.M | re.S)
-        self.assertEqual([*all_shown], [name for _, name, _ in sections])
-        for title, name, section in sections:
-            about = re.split(r"\n\n(?:Compared|\|)", section)[0]
-            # The first two lines of a table are its head. A form with a suffix that is required is one of tokens alone.
-            forms = [it.split(" | ")[0][2:] for it in re.findall(r"^\|.*$", section, re.M)[2:] if not it.endswith("required |")]
+        all_shown, all_forms = dict(self.call("shownLanguages")), languages.forms()
+        self.assertEqual([*all_shown], [*all_forms])
+        for name, (title, about) in languages.documented().items():
+            # A form with a suffix that is required is one of tokens alone. Radixes in front are one row.
+            forms = [*dict.fromkeys(form for form, *_, words in all_forms[name] if not words.endswith("required"))]
             numbers = [("!" if mark == "-" else "") + text for language, mark, text, *_ in rows if language == name]
             codes, *shown = all_shown[name]
-            self.assertEqual(shown, [" ".join(about.split()), forms, numbers, [], title])
+            self.assertEqual(shown, [" ".join(about.replace("`", "").split()), forms, numbers, [], title])
             for code, reader in zip(codes, (f"Language::{name}.", f" peltzivar_language_{name.lower()}().", f"languages.{name}.")):
                 self.assertIn(reader, code)
 

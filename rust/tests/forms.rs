@@ -72,9 +72,10 @@ fn languages_are_found_by_name() {
     }
 }
 
-/// Returns whether a list has no number with the sign of `value`.
+/// Returns whether a list writes no number with the sign of `value`.
 fn is_unsigned(forms: &Forms, value: f64) -> bool {
-    value.is_sign_negative() && forms.into_iter().all(|form| form.syntax().conditions().has(Condition::NegativeSign))
+    let mut written = forms.into_iter().filter(|form| !form.is_only_read());
+    value.is_sign_negative() && written.all(|form| form.syntax().conditions().has(Condition::NegativeSign))
 }
 
 /// Returns digits of std with the point and the groups of a language. Common Lisp and Fortran have `d0` where a single is another number.

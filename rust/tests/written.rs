@@ -68,6 +68,37 @@ fn is_same(language: Language, (own, number): &Given, (back, other): &Given) -> 
     }
 }
 
+/// Returns how a language writes a number of `written.txt`.
+fn text_of(language: Language, source: &str, number: &str) -> Result<String, WriteError> {
+    let forms = language.forms();
+    match source {
+        "integer" => {
+            let Ok(Number::Literal { literal, .. }) = Language::CLOJURE.read(number) else { panic!("{number}") };
+            forms.format_literal(&literal, Style::PLAIN).map(|it| it.to_string())
+        }
+        "f32" => forms.format_float(number.parse::<f32>().unwrap(), Style::PLAIN).map(|it| it.to_string()),
+        "f64" => forms.format_float(number.parse::<f64>().unwrap(), Style::PLAIN).map(|it| it.to_string()),
+        "amount" => {
+            let style = Style::PLAIN.decimals(2);
+            forms.format_float(number.parse::<f64>().unwrap(), style).map(|it| it.to_string())
+        }
+        _ => panic!("{source}"),
+    }
+}
+
+/// A text that is not recorded may be another number to the tool: `compare/languages/run --written --record` asks it.
+#[test]
+fn numbers_are_written_as_the_tools_read_them() {
+    let rows = include_str!("known/written.txt").lines().filter(|row| !row.starts_with('#'));
+    let differs = |row: &&str| {
+        let &[name, source, number, text] = &*row.split(' ').collect::<Vec<_>>() else { panic!("{row}") };
+        let written = text_of(Language::from_name(name).expect(name), source, number);
+        (written.as_deref() != Ok(text)).then(|| format!("{row}: the library writes {written:?}"))
+    };
+    let wrong = Vec::from_iter(rows.filter_map(|row| differs(&row)));
+    assert!(wrong.is_empty(), "{}", wrong.join("\n"));
+}
+
 /// Returns whether a text fits a buffer of its size, and is refused with its size by a buffer of one byte less.
 fn fits(written: &Written, text: &[u8]) -> bool {
     let buffer = &mut vec![0; text.len()];

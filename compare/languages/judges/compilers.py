@@ -10,8 +10,8 @@ import sys
 import tempfile
 
 # A compiler: its command and source; the text before all units, the unit of a number, in three lines, and the text after all;
-# the same of a program that prints each number in a line, the type of numbers of an output without a program, or a command
-# that prints the values of constants. A sign belongs to the number if `signed` is true. A scanner prints how
+# the same of a program that prints each number in a line, the type of numbers of an output without a program, which `run` makes,
+# or a command that prints the values of constants. A sign belongs to the number if `signed` is true. A scanner prints how
 # long the token is that a text begins with; without one, a text is one token if it is none with a blank, or if it is not `several`,
 # a pattern. An error is a line with the source, the line, and `error`, a pattern. The program is run by `run`.
 Compiler = collections.namedtuple("Compiler", "command source head unit tail printing signed scanner several error run",
@@ -70,6 +70,7 @@ impl Show for f32 { fn show(it: f32) { println!("{it:?}f") } }
 impl Show for f64 { fn show(it: f64) { println!("d{:016x}", it.to_bits()) } }
 fn main() {
 """, "Show::show(\n{text}\n);\n", "}\n"
+GAS = "as --fatal-warnings -o a.o"
 VERILOG = "module numbers;\ninitial begin\n", "$display(\n{text}\n);\n", "end\nendmodule\n"
 # A real has a half, and bits.
 PRINT_VERILOG = VERILOG[0], "$display(\"%g %h %0d\", (({text}) * 0 + 3) / 2, $realtobits({text}),\n{text}\n);\n", VERILOG[2]
@@ -96,8 +97,10 @@ COMPILERS = {
     "ghdl": [Compiler("ghdl -a --std=08 -Werror=runtime-error", "a.vhd", *it, it, several=rf"{SIGN}|^\D{other}",
                       error="(?!warning|note)", run="ghdl -r --std=08 a") for it, other in ((VHDL, r"|\."), (REALS, ""))],
     "iverilog": [Compiler("iverilog -g2005 -o out", "a.v", *VERILOG, PRINT_VERILOG, several=f"{SIGN}|'.*[+-]|.'")],
-    "nasm": [Compiler("nasm -f bin -o out", "a.asm", "bits 64\n", "mov rax, {text}\n\n\n", "", "q"),
-             Compiler("nasm -f bin -o out", "a.asm", "bits 64\n", "mov rax, __float64__({text})\n\n\n", "", "d")],
+    "nasm": [Compiler("nasm -f bin -o out", "a.asm", "bits 64\n", "mov rax, {text}\n\n\n", "", "q", run="true"),
+             Compiler("nasm -f bin -o out", "a.asm", "bits 64\n", "mov rax, __float64__({text})\n\n\n", "", "d", run="true")],
+    "as": [Compiler(GAS, "a.s", "", ".octa {text}\n\n\n", "", "16s", several=r"[+-]|^\d+[fb]$", error="(?:Error|Warning)", run="objcopy -O binary -j .text a.o out"),
+           Compiler(GAS, "a.s", "", ".double {text}\n\n\n", "", "d", several="^[+-]", error="(?:Error|Warning)", run="objcopy -O binary -j .text a.o out")],
     "rustc": [Compiler("rustc --error-format=short -o out", "a.rs", *RUST, PRINT_RUST,
                        scanner=[sys.executable, f"{SCANNERS}/rust.py"])],
     "kotlinc": [Compiler("kotlinc -d out", "a.kt", "", "const val number{i} =\n{text}\n\n", "", "javap -constants out/AKt.class",
@@ -129,9 +132,11 @@ def accepted(it, folder, texts, program=None):
 
 def values(it, folder, texts):
     """Returns the values of the texts that the compiler has a type for."""
-    if it.printing in ("q", "d"):
-        compile(it, folder, "".join(f"dq {text}\n" for text in texts))
-        return [value for value, in struct.iter_unpack(it.printing, (folder / "out").read_bytes())]
+    if it.printing in ("q", "d", "16s"):
+        compile(it, folder, "".join(it.unit.format(text=text) if it.unit[0] == "." else f"dq {text}\n" for text in texts))
+        subprocess.run(it.run.split(), cwd=folder, check=True)
+        found = [value for value, in struct.iter_unpack(it.printing, (folder / "out").read_bytes())]
+        return [int.from_bytes(value, "little") if it.printing == "16s" else value for value in found]
     if isinstance(it.printing, str):
         left = accepted(it, folder, texts)
         lines = subprocess.run(it.printing.split(), cwd=folder, capture_output=True, text=True).stdout
@@ -182,5 +187,5 @@ for start in range(0, len(texts), SIZE):
         with tempfile.TemporaryDirectory() as folder:
             folder = pathlib.Path(folder)
             left = tokens(compiler, folder, chunk)
-            found |= dict(zip(left, values(compiler, folder, [chunk[i] for i in left]), strict=True))
+            found = dict(zip(left, values(compiler, folder, [chunk[i] for i in left]), strict=True)) | found
     print("\n".join(f"+ {found[i]}" if i in found else "-" for i in range(len(chunk))))

@@ -1,7 +1,8 @@
-"""Judges of Python: `ast`, `tomllib`, `sqlite3`, `tinycss2` and `yaml`. Reads texts on standard input, and prints `-`, or `+`
+"""Judges of Python: `ast`, `csv`, `tomllib`, `sqlite3`, `tinycss2` and `yaml`. Reads texts on standard input, and prints `-`, or `+`
 and the value.
 """
 import ast
+import csv
 import sqlite3
 import sys
 import tomllib
@@ -38,6 +39,12 @@ def css(text):
     return token and (token.int_value if token.is_integer else token.value)
 
 
+def cell(text):
+    """The reader makes floats of cells without quotes."""
+    cells = next(csv.reader([text], quoting=csv.QUOTE_NONNUMERIC))
+    return cells[0] if len(cells) == 1 else None
+
+
 def yaml(text):
     return PyYAML.safe_load(text)
 
@@ -46,7 +53,7 @@ if sys.argv[1] == "css":
     import tinycss2
 if sys.argv[1] == "yaml":
     import yaml as PyYAML
-judge = {"python": python, "toml": toml, "sqlite": sqlite, "css": css, "yaml": yaml}[sys.argv[1]]
+judge = {"python": python, "csv": cell, "toml": toml, "sqlite": sqlite, "css": css, "yaml": yaml}[sys.argv[1]]
 for line in sys.stdin:
     try:
         value = judge(line.rstrip("\n"))

@@ -1,13 +1,13 @@
 #!/usr/bin/env bash
-# The judge of XML Schema: libxml2, which validates elements of the type decimal. Reads texts on standard input, and prints
-# `-` or `+`.
+# The judge of XML Schema: libxml2, which validates elements of the type decimal, or of that of the argument. Reads texts on standard
+# input, and prints `-` or `+`.
 set -euo pipefail
 work=$(mktemp -d)
 trap 'rm -rf "$work"' EXIT
 cat > "$work/schema" <<XML
 <schema xmlns="http://www.w3.org/2001/XMLSchema">
     <element name="all"><complexType><sequence>
-        <element name="it" type="decimal" maxOccurs="unbounded"/>
+        <element name="it" type="${1:-decimal}" maxOccurs="unbounded"/>
     </sequence></complexType></element>
 </schema>
 XML

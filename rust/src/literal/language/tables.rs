@@ -34,7 +34,9 @@ macro_rules! list {
     ($($word:tt)*) => { const { &[$(stringify!($word).as_bytes()),*] } };
 }
 macro_rules! kinds {
-    ($($kind:expr => $($word:ident)*;)*) => { &[$($((stringify!($word).as_bytes(), $kind)),*),*] };
+    ($($kind:expr => $($word:ident)* $($quoted:lifetime)*;)*) => {
+        &[$($((stringify!($word).as_bytes(), $kind),)* $((stringify!($quoted).as_bytes(), $kind),)*)*]
+    };
 }
 
 /// Numbers without signs, which are operators, and without NaN and infinity, which are names.
@@ -177,6 +179,9 @@ const C: NumberFormatBuilder = separated(b'\''); // accepts `1'000`, not `1''0`
 /// Digits of C#, Java and Kotlin.
 const JAVA: NumberFormatBuilder = separated(b'_').consecutive_digit_separator(true); // accepts `1__0`
 
+/// Digits of Visual Basic behind a prefix.
+const VISUAL_BASIC: NumberFormatBuilder = JAVA.integer_leading_digit_separator(true); // accepts `&H_1F`
+
 /// Digits of Go and Python behind a prefix.
 const GO_PREFIXED: NumberFormatBuilder = separated(b'_').integer_leading_digit_separator(true); // accepts `0x_1F`
 
@@ -289,7 +294,7 @@ const CLOJURE_WORDS: Suffixes = Suffixes::new(&[], &[], CLOJURE_STOPS);
 
 /// What makes a symbol of a number of Common Lisp, or goes on it, and what makes one of Scheme: `1+`, `1/2`.
 const LISP_WORDS: Suffixes = Suffixes::new(&[], &[], &[Stop::new(b"", b"!#$%&*+-./:<=>?@[\\]^{|}~", b"")]);
-const SCHEME_WORDS: Suffixes = Suffixes::new(&[], &[], &[Stop::new(b"", b"!#$%&'*+,-./:<=>?@[\\]^`{|}~", b"")]);
+const SCHEME_WORDS: Suffixes = Suffixes::new(&[], &[], &[Stop::new(b"", b"!#$%&'*+,-./:<=>?@\\^`{|}~", b"")]);
 
 /// Words behind integers and floats, in this case.
 const fn words(integers: &'static [&'static [u8]], floats: &'static [&'static [u8]]) -> Suffixes {
@@ -384,6 +389,14 @@ const SCALA_FLOATS: Suffixes = JAVA_FLOATS.with_kinds(kinds! { finite(SINGLE) =>
 /// The suffix of big integers of JavaScript. A name, which `$` and `\\` may begin, does not follow a number.
 const BIG: Suffixes = Suffixes::new(&[b"n"], &[], &[Stop::new(b"", b"$\\", b"")]);
 
+/// Suffixes of MATLAB: the type of an integer with a prefix, and those of imaginary numbers.
+const MATLAB_INTEGERS: Suffixes = Suffixes::new(list![u8 u16 u32 u64 s8 s16 s32 s64], &[], &[]).with_kinds(kinds! {
+    whole(IntegerKind::Unsigned(8)) => u8; whole(IntegerKind::Unsigned(16)) => u16;
+    whole(IntegerKind::Unsigned(32)) => u32; whole(IntegerKind::Wraps(8)) => s8;
+    whole(IntegerKind::Wraps(16)) => s16; WRAPS_32 => s32; WRAPS_64 => s64;
+});
+const MATLAB_WORDS: Suffixes = Suffixes::new(&[b"i", b"j"], &[b"i", b"j"], POINT_AND_DIGIT).either_case(true);
+
 /// A second point of Julia, Lua and NASM: `1..2` is no number, and no range.
 const JULIA_WORDS: Suffixes = Suffixes::new(&[], &[], &[Stop::new(b"", b".", b"")]);
 const LUA_WORDS: Suffixes = JULIA_WORDS;
@@ -397,26 +410,33 @@ const KOTLIN_WORDS: Suffixes = words(KOTLIN_INTEGERS, &[]).with_kinds(KOTLIN_KIN
 const KOTLIN_KINDS: &[(&[u8], Kind)] = kinds! { UNSIGNED_64 => u U uL UL; SINGLE => f F; };
 const KOTLIN_FLOATS: Suffixes = words(&[b"f", b"F"], &[]).with_kinds(FLOAT);
 
-/// Suffixes of Nim, in either case. A word behind `'`, as in `1'i8`, is refused, and so is a second point.
+/// Suffixes of Nim, in either case, also behind `'`. Any other word behind `'`, as in `1'x`, is refused, and so is a second point.
 const NIM_STOPS: &[Stop] = &[Stop::new(b"", b"'", b""), Stop::new(b"", b".", b"0123456789")];
-const NIM_INTEGERS: Suffixes = Suffixes::new(list![i8 i16 i32 i64 u u8 u16 u32 u64], &[], NIM_STOPS)
-    .either_case(true)
-    .with_kinds(NIM_KINDS)
-    .with_written(&[b"u64"]);
-const NIM_DECIMALS: Suffixes =
-    Suffixes::new(list![i8 i16 i32 i64 u u8 u16 u32 u64 f f32 f64 d], list![f f32 f64 d], NIM_STOPS)
+const NIM_INTEGERS: Suffixes =
+    Suffixes::new(list![i8 i16 i32 i64 u u8 u16 u32 u64 'i8 'i16 'i32 'i64 'u 'u8 'u16 'u32 'u64], &[], NIM_STOPS)
         .either_case(true)
-        .with_kinds(NIM_DECIMAL_KINDS)
+        .with_word_bytes(b"'")
+        .with_kinds(NIM_KINDS)
         .with_written(&[b"u64"]);
+const NIM_DECIMALS: Suffixes = Suffixes::new(
+    list![i8 i16 i32 i64 u u8 u16 u32 u64 f f32 f64 d 'i8 'i16 'i32 'i64 'u 'u8 'u16 'u32 'u64 'f 'f32 'f64 'd],
+    list![f f32 f64 d 'f 'f32 'f64 'd],
+    NIM_STOPS,
+)
+.either_case(true)
+.with_word_bytes(b"'")
+.with_kinds(NIM_DECIMAL_KINDS)
+.with_written(&[b"u64"]);
 const NIM_KINDS: &[(&[u8], Kind)] = kinds! {
-    whole(IntegerKind::Wraps(8)) => i8; whole(IntegerKind::Wraps(16)) => i16; WRAPS_32 => i32;
-    whole(IntegerKind::Unsigned(8)) => u8; whole(IntegerKind::Unsigned(16)) => u16;
-    whole(IntegerKind::Unsigned(32)) => u32; UNSIGNED_64 => u u64;
+    whole(IntegerKind::Wraps(8)) => i8 'i8; whole(IntegerKind::Wraps(16)) => i16 'i16; WRAPS_32 => i32 'i32;
+    whole(IntegerKind::Unsigned(8)) => u8 'u8; whole(IntegerKind::Unsigned(16)) => u16 'u16;
+    whole(IntegerKind::Unsigned(32)) => u32 'u32; UNSIGNED_64 => u u64 'u 'u64;
 };
 const NIM_DECIMAL_KINDS: &[(&[u8], Kind)] = kinds! {
-    whole(IntegerKind::Signed(8)) => i8; whole(IntegerKind::Signed(16)) => i16; SIGNED_32 => i32;
-    whole(IntegerKind::Unsigned(8)) => u8; whole(IntegerKind::Unsigned(16)) => u16;
-    whole(IntegerKind::Unsigned(32)) => u32; UNSIGNED_64 => u u64; SINGLE => f f32; Kind::EXACT => f64 d;
+    whole(IntegerKind::Signed(8)) => i8 'i8; whole(IntegerKind::Signed(16)) => i16 'i16; SIGNED_32 => i32 'i32;
+    whole(IntegerKind::Unsigned(8)) => u8 'u8; whole(IntegerKind::Unsigned(16)) => u16 'u16;
+    whole(IntegerKind::Unsigned(32)) => u32 'u32; UNSIGNED_64 => u u64 'u 'u64; SINGLE => f f32 'f 'f32;
+    Kind::EXACT => f64 d 'f64 'd;
 };
 
 /// Suffixes of OCaml, whose names may have `'`.
@@ -473,6 +493,43 @@ const RUST_KINDS: &[(&[u8], Kind)] = kinds! {
 /// What goes on a number of Verilog: `8'hFF`, `1.x` and `1$`.
 const VERILOG_WORDS: Suffixes = Suffixes::new(&[], &[], &[Stop::new(b"", b"'.$", b"")]);
 
+/// Suffixes of Visual Basic, in either case, of which some are no letters: `1.5!`.
+const VISUAL_BASIC_INTEGERS: Suffixes = words(&[b"S", b"US", b"I", b"%", b"UI", b"L", b"&", b"UL"], &[])
+    .either_case(true)
+    .with_word_bytes(b"%&")
+    .with_kinds(&[
+        (b"S", whole(IntegerKind::Wraps(16))),
+        (b"US", whole(IntegerKind::Unsigned(16))),
+        (b"UI", whole(IntegerKind::Unsigned(32))),
+        (b"L", WRAPS_64),
+        (b"&", WRAPS_64),
+        (b"UL", UNSIGNED_64),
+    ])
+    .with_written(&[b"L", b"UL"]);
+const VISUAL_BASIC_DECIMALS: Suffixes = words(
+    &[b"S", b"US", b"I", b"%", b"UI", b"L", b"&", b"UL", b"F", b"!", b"R", b"#", b"D", b"@"],
+    &[b"F", b"!", b"R", b"#", b"D", b"@"],
+)
+.either_case(true)
+.with_word_bytes(b"%&!#@")
+.with_kinds(&[
+    (b"S", whole(IntegerKind::Signed(16))),
+    (b"US", whole(IntegerKind::Unsigned(16))),
+    (b"I", SIGNED_32),
+    (b"%", SIGNED_32),
+    (b"UI", whole(IntegerKind::Unsigned(32))),
+    (b"L", SIGNED_64),
+    (b"&", SIGNED_64),
+    (b"UL", UNSIGNED_64),
+    (b"F", finite(SINGLE)),
+    (b"!", finite(SINGLE)),
+    (b"R", finite(Kind::EXACT)),
+    (b"#", finite(Kind::EXACT)),
+    (b"D", finite(Kind::EXACT)),
+    (b"@", finite(Kind::EXACT)),
+])
+.with_written(&[b"UL"]);
+
 /// A decimal point before a byte that is neither a second one nor begins a name.
 const POINT_AND_NO_NAME: &[Stop] = &[Stop::new(b"", b".", &NO_NAME)];
 const NO_NAME: [u8; 73] = no_name();
@@ -493,11 +550,12 @@ const fn no_name() -> [u8; 73] {
 /// Tokens whose last point belongs to what follows: `1..2` and `1.max(2)`.
 const POINTS_BACK: Tokens = Tokens::new(&[], &[]).gives_points_back(true);
 
+/// The same before any word, as in `1to` of Pascal and `1x3` of Perl.
+const WORDS_FOLLOW: Tokens = POINTS_BACK.any_word_follows(true);
+
 languages! {
-    /// Ada's decimal and based literals (Reference Manual 2012, 2.4.1 and 2.4.2). Digits of another base from 2 to 16 are as in `16#FF#`
-    /// and `16#F.8#`, but a fraction in a base such as 3 has no `f64`. A format cannot accept `16#FF#E2`, `016#FF#` and `16:FF:`, or accept
-    /// `1.0E-3` and `1E3` but reject `1E-3`. So `1E-3` is read here, but the first form never writes it. At the end of a text, the token of
-    /// `1.` is `1`.
+    /// Ada's decimal and based literals (Reference Manual 2012, 2.4.1 and 2.4.2). `1E3`, an integer in Ada, is a float
+    /// here: `to_scaled(0)` is 1000. At the end of a text, the token of `1.` is `1`.
     ADA: "Ada" = {
         "decimal": decimal(separated(b'_')
             .required_digits(true) // rejects `.5`, `1.`, `1e` and `.`
@@ -508,18 +566,16 @@ languages! {
         ) => ADA_WORDS,
     } radixes "" "#" to 16 { closed(b'#', separated(b'_')) } => POINTS_BACK;
 
-    /// Bash's integers in arithmetic (Bash Reference Manual 5.2, 6.5 Shell Arithmetic). An integer keeps its last 64 bits:
-    /// `9223372036854775808` is -9223372036854775808. Radixes from 37 to 64, as in `64#_`, are refused here, and so is `0x`, which is 0 in
-    /// Bash.
+    /// Bash's integers in arithmetic (Bash Reference Manual 5.2, 6.5 Shell Arithmetic). An integer keeps its last 64
+    /// bits: `9223372036854775808` is -9223372036854775808. A float is written if it is whole.
     BASH: "Bash" = {
         "decimal": integers(10, TOKENS.no_integer_leading_zeros(true), UNSIGNED) => BASH_WORDS; LAST_64, // rejects `08`
         "octal": octal(TOKENS) => BASH_WORDS; LAST_64,
         "hexadecimal": prefixed(b'x', 16, TOKENS) => BASH_WORDS; LAST_64,
     } radixes "" "#" { integers(2, TOKENS, UNSIGNED) => BASH_WORDS; LAST_64 } => Tokens::new(&[], &[]);
 
-    /// C's integer and floating constants (C23, 6.4.4.1 and 6.4.4.2). A decimal integer has the type `long long`, which has 63 bits
-    /// and a sign, unless its suffix has a `u`. The value of a decimal float has all
-    /// its digits: that of `16777217.0df` is not rounded to seven.
+    /// C's integer and floating constants (C23, 6.4.4.1 and 6.4.4.2). A decimal integer has the type `long long`, which
+    /// has 63 bits and a sign, unless its suffix has a `u`. `16777217.0df` is not rounded to seven digits.
     C: "C" = {
         "decimal": decimal(C.no_integer_leading_zeros(true)) => C_DECIMALS; SIGNED_64, // rejects `08`, not `08.5`
         "octal": octal(C) => C_WORDS; UNSIGNED_64,
@@ -528,8 +584,7 @@ languages! {
         "hexadecimal float": binary_floats(b'x', 16, C.required_exponent_notation(true)) => C_WORDS, // rejects `0x1.8`
     } => Tokens::new(&[], &[]);
 
-    /// Clojure's integers and floats, with signs (The Clojure Reader 1.11, Literals, Numbers). The sign of `-16rFF` is before its radix: it is
-    /// refused here. So are ratios.
+    /// Clojure's integers and floats, with signs (The Clojure Reader 1.11, Literals, Numbers).
     CLOJURE: "Clojure" = {
         "decimal": numbers(b'e', b'.', LISP
             .required_integer_digits(true) // rejects `.5`, not `1.`
@@ -542,8 +597,8 @@ languages! {
         &[],
     );
 
-    /// Common Lisp's integers and floats, with signs (Common Lisp HyperSpec, 2.3.2.1 and 2.4.8.7 to 2.4.8.10). `1.` is an integer, and `0.1`,
-    /// but not `0.1d0`, is an `f32`. Ratios are refused here.
+    /// Common Lisp's integers and floats, with signs (Common Lisp HyperSpec, 2.3.2.1 and 2.4.8.7 to 2.4.8.10). `1.` is
+    /// an integer, and `0.1`, but not `0.1d0`, is an `f32`.
     COMMON_LISP: "Common Lisp" = {
         "decimal": integers(10, LISP, Conditions::NONE) => LISP_WORDS,
         "with a point at the end": integers(10, LISP.base_suffix(NonZeroU8::new(b'.')), Conditions::NONE.required_base_suffix(true)) => LISP_WORDS,
@@ -558,21 +613,26 @@ languages! {
         "binary" behind "#b": integers(2, LISP, Conditions::NONE) => LISP_WORDS,
     } radixes "#" "r" { integers(2, LISP, Conditions::NONE) => LISP_WORDS } => Tokens::new(&[], &[]);
 
-    /// CSS's numbers, with signs (CSS Syntax Module Level 3, 4.3.12). A token has a word as its unit, which may
-    /// have `-` behind its first byte. One that begins with `-` or has an escape is refused, and so is the `e` of `1e+x`.
-    /// A token ends before `%`.
+    /// CSS's numbers, with signs (CSS Syntax Module Level 3, 4.3.12). The suffix of a token is its unit, a word that
+    /// may have `-` behind its first byte. A unit that begins with `-` or has an escape is refused, and so is `1e+x`. A
+    /// token ends before `%`.
     CSS: "CSS" = { "decimal": numbers(b'e', b'.', NumberFormatBuilder::new()
         .no_special(true) // rejects `NaN` and `inf`
         .required_fraction_digits(true) // rejects `1.`, not `.5`
     ) => CSS_WORDS } => POINTS_BACK;
 
-    /// Numbers in CSV, as German spreadsheets write cells of the format `#.##0,00` (RFC 4180): `1.234,50`.
-    /// `0.123` is refused for its leading zero, since its groups are right. LibreOffice reads `-0` as 0.
+    /// Numbers in CSV, as programs write them (RFC 4180): `1.23E+05`, `+5` and `NaN`, without groups. Most programs
+    /// read integers as doubles: take them as `f64`.
+    CSV: "CSV" = {
+        "decimal": numbers(b'e', b'.', NumberFormatBuilder::new()),
+    }, Specials { nan: Some(b"NaN"), inf: Some(b"Inf"), infinity: Some(b"Infinity") };
+
+    /// Numbers in CSV, as German spreadsheets write cells of the format `#.##0,00` (RFC 4180): `1.234,50`. `0.123` is
+    /// refused: its point separates groups, so its zero is a leading one.
     CSV_DE: "CSV (German)" = { "decimal": grouped(numbers(b'e', b',', SPREADSHEET.digit_separator(NonZeroU8::new(b'.')))) };
 
-    /// Numbers in CSV, as English spreadsheets write cells of the format `#,##0.00`, in quotes (RFC 4180): `"1,234.50"`.
-    /// Remove the quotes, as CSV readers do. A format cannot accept the minus sign U+2212 of Gnumeric: replace it by `-`.
-    /// LibreOffice reads `-0` as 0.
+    /// Numbers in CSV, as English spreadsheets write cells of the format `#,##0.00`, in quotes (RFC 4180):
+    /// `"1,234.50"`. Remove the quotes, as CSV readers do. Replace the minus sign U+2212 of Gnumeric by `-`.
     CSV_EN: "CSV (English)" = { "decimal": grouped(numbers(b'e', b'.', SPREADSHEET.digit_separator(NonZeroU8::new(b',')))) };
 
     /// C++'s integer and floating literals (C++20, 5.13.2 and 5.13.4). The standard library has the suffixes of durations and
@@ -592,8 +652,7 @@ languages! {
         "binary": prefixed(b'b', 2, JAVA.integer_leading_digit_separator(true)) => words(C_SHARP_INTEGERS, &[]).either_case(true); UNSIGNED_64, // accepts `0b_1`
     } => POINTS_BACK;
 
-    /// D's integers and floats (D Language Specification, Lexical, Integer Literals and Floating Point Literals). Compilers
-    /// also accept leading zeros in `07` and `01f`, which the specification does not.
+    /// D's integers and floats (D Language Specification, Lexical, Integer Literals and Floating Point Literals).
     D: "D" = {
         "decimal": decimal(RUST
             .required_fraction_digits(true) // rejects `1.` and `1.e5`, not `.5`
@@ -614,6 +673,13 @@ languages! {
         ) => D_WORDS; finite(Kind::EXACT),
     } => POINTS_BACK;
 
+    /// Dart's integers and doubles (Dart Language Specification 6, Numbers, and the separators of Dart 3.6). An integer has 64 bits:
+    /// `0xffffffffffffffff` is -1. `9223372036854775808`, which is lawful only after the operator `-`, is too large.
+    DART: "Dart" = {
+        "decimal": decimal(JAVA.required_fraction_digits(true)); SIGNED_64, // rejects `1.`, not `.5`
+        "hexadecimal": prefixed(b'x', 16, JAVA); WRAPS_64,
+    } => POINTS_BACK;
+
     /// Elixir's integers and floats (Syntax reference 1.14, Numbers).
     ELIXIR: "Elixir" = {
         "decimal": decimal(separated(b'_')
@@ -625,21 +691,19 @@ languages! {
         "binary": prefixed(b'b', 2, separated(b'_').case_sensitive_base_prefix(true)), // rejects `0B1`
     } => POINTS_BACK;
 
-    /// Erlang's integers and floats (Reference Manual 13.1 of OTP 25, 3.3 Numbers). Erlang also accepts `016#FF` and `1_6#FF`, which are
-    /// refused here.
+    /// Erlang's integers and floats (Reference Manual 13.1 of OTP 25, 3.3 Numbers).
     ERLANG: "Erlang" = {
         "decimal": decimal(separated(b'_')
             .required_digits(true) // rejects `.5`, `1.`, `1e` and `.`
             .no_exponent_without_fraction(true) // rejects `1e5`, not `1.0e5`
         ) => ERLANG_WORDS; finite(Kind::EXACT),
-    } radixes "" "#" { integers(2, separated(b'_'), UNSIGNED) } => POINTS_BACK;
+    } radixes "" "#" { integers(2, separated(b'_'), UNSIGNED) } => WORDS_FOLLOW;
 
-    /// Fortran's signed integers and reals (ISO/IEC 1539-1:2018, 7.4.3). Binary, octal and hexadecimal
-    /// constants, such as `Z'FF'`, have no type of their own: here, they have at most 128 bits, and are not written.
-    /// Integers have 32 bits, one of which is the sign, and `0.1`, but not `0.1d0`, is an `f32`. The suffix of a token is its
-    /// kind: `0.1_8` is no `f32`. Of a named kind, such as `_dp`, neither the name nor the value is known, nor is that of
-    /// `_08`. Compilers refuse `1_` and `1_8x`, which are tokens here. gfortran also accepts `1q5`, and reads `1.q5` as one
-    /// number. `-2147483648`, which compilers refuse, is read, and written.
+    /// Fortran's signed integers and reals (ISO/IEC 1539-1:2018, 7.4.3). Binary, octal and hexadecimal constants have
+    /// no type of their own: here, they have at most 128 bits, and are not written. `0.1`, but not `0.1d0`, is an
+    /// `f32`. The suffix of a token is its kind: `0.1_8` is no `f32`. A kind such as `_dp` or `_08` is read, but not
+    /// known. Compilers refuse `1_` and `1_8x`, which are tokens here. gfortran also reads `1q5`, and `1.q5` as one
+    /// number.
     FORTRAN: "Fortran" = {
         "decimal": numbers(b'e', b'.', NumberFormatBuilder::new().no_special(true)) => FORTRAN_WORDS; DEFAULT, // rejects `NaN` and `inf`
         "double precision": numbers(b'd', b'.', NumberFormatBuilder::new()
@@ -653,6 +717,20 @@ languages! {
         "octal, \"" behind "o\"" only_read true: suffixed(b'"', 8, TOKENS, SUFFIXED); UNSIGNED_128,
         "binary, \"" behind "b\"" only_read true: suffixed(b'"', 2, TOKENS, SUFFIXED); UNSIGNED_128,
     } => Tokens::new(&[], &[]).gives_points_to_letters();
+
+    /// Integers and floats of the GNU assembler (Using as 2.40, 3.6.2 Number Constants). A float has a point, an
+    /// exponent, or a letter behind a zero: `0e5` is 5, and `0f-1.5` has a sign. Some directives, such as `.double`,
+    /// read integers as decimal floats, also `017`. Local labels, such as `1f` and `1b`, are refused here.
+    GNU_ASSEMBLER: "GNU assembler" = {
+        "decimal": integers(10, TOKENS.no_integer_leading_zeros(true), UNSIGNED); UNSIGNED_128, // rejects `08`
+        "octal": octal(TOKENS); UNSIGNED_128,
+        "hexadecimal": prefixed(b'x', 16, TOKENS); UNSIGNED_128,
+        "binary": prefixed(b'b', 2, TOKENS); UNSIGNED_128,
+        "float, 0e" behind "0e" only_read true: numbers(b'e', b'.', LISP); finite(Kind::EXACT),
+        "float, 0f" behind "0f" only_read true: numbers(b'e', b'.', LISP); finite(Kind::EXACT),
+        "float, 0d" behind "0d" only_read true: numbers(b'e', b'.', LISP); finite(Kind::EXACT),
+        "float": decimal(TOKENS.no_integer_leading_zeros(true)); finite(Kind::EXACT), // rejects `08`, not `08.5`
+    } => Tokens::new(&[], &[]);
 
     /// Go's integer and floating-point literals (Language Specification).
     GO: "Go" = {
@@ -674,9 +752,8 @@ languages! {
         "octal": prefixed(b'o', 8, TOKENS),
     } => POINTS_BACK;
 
-    /// Haskell's integers and floats with the extensions of GHC that `GHC2021` has (GHC User's Guide 9.2, NumericUnderscores,
-    /// BinaryLiterals and HexFloatLiterals). A format cannot accept `1_e5` but reject `1_.5`. GHC also accepts `_0.1`, which the
-    /// guide does not.
+    /// Haskell's integers and floats with the extensions of GHC that `GHC2021` has (GHC User's Guide 9.2,
+    /// NumericUnderscores, BinaryLiterals and HexFloatLiterals).
     HASKELL_GHC2021: "Haskell GHC2021" = {
         "decimal": decimal(JAVA.required_digits(true)), // rejects `.5`, `1.`, `1e` and `.`
         "hexadecimal": binary_floats(b'x', 16, JAVA
@@ -687,9 +764,9 @@ languages! {
         "binary": prefixed(b'b', 2, JAVA.integer_leading_digit_separator(true)), // accepts `0b_1`
     } => POINTS_BACK;
 
-    /// Java's integer and floating-point literals (Language Specification 21, 3.10.1 and 3.10.2). Values are those of `int` or,
-    /// with `L`, of `long`: a hexadecimal, octal or binary integer from 2^31 on is negative, as `0xffffffff`, which is -1.
-    /// `2147483648`, which is lawful only after the operator `-`, is too large.
+    /// Java's integer and floating-point literals (Language Specification 21, 3.10.1 and 3.10.2). Values are those of
+    /// `int` or, with `L`, of `long`: `0xffffffff` is -1. `2147483648`, which is lawful only after the operator `-`, is
+    /// too large.
     JAVA: "Java" = {
         "decimal": decimal(JAVA.no_integer_leading_zeros(true)) => JAVA_DECIMALS; within(SIGNED_32), // rejects `08`, not `08.5`
         "octal": octal(JAVA) => JAVA_INTEGERS; WRAPS_32,
@@ -724,8 +801,8 @@ languages! {
         "hexadecimal": signed(prefixed(b'x', 16, TOKENS.no_positive_mantissa_sign(false))), // accepts `+0x1F`
     }, Specials { nan: Some(b"NaN"), inf: Some(b"Infinity"), infinity: None };
 
-    /// Julia's integers and floats (Manual 1.11, Integers and Floating-Point Numbers). `0.1f0`, but not `0.1`, is an `f32`.
-    /// The token of `2x`, a product, is `2`.
+    /// Julia's integers and floats (Manual 1.11, Integers and Floating-Point Numbers). `0.1f0`, but not `0.1`, is an
+    /// `f32`. The token of `2x` is `2`.
     JULIA: "Julia" = {
         "decimal": decimal(JULIA) => JULIA_WORDS,
         "32 bits": numbers(b'f', b'.', JULIA.case_sensitive_exponent(true)).with_conditions_or_panic(UNSIGNED) => JULIA_WORDS; SINGLE, // accepts `1f3`, not `1F3`
@@ -752,16 +829,27 @@ languages! {
         &[],
     ).gives_points_back(true);
 
-    /// Lua's integers and floats (Reference Manual 5.4, 3.1). In Lua, a decimal integer from 2^63 on is a float: take its
-    /// value as an `f64`. A hexadecimal one keeps its last 64 bits: `0xffffffffffffffff` is -1.
+    /// Lua's integers and floats (Reference Manual 5.4, 3.1). A decimal integer from 2^63 on is a float in Lua: take
+    /// its value as an `f64`. A hexadecimal one keeps its last 64 bits: `0xffffffffffffffff` is -1.
     LUA: "Lua" = {
         "decimal": decimal(TOKENS) => LUA_WORDS,
         "hexadecimal": binary_floats(b'x', 16, TOKENS) => LUA_WORDS; LAST_64,
     } => Tokens::new(&[], &[]);
 
-    /// NASM's numeric constants (NASM manual, Numeric Constants and Floating-Point Constants). A format cannot accept
-    /// `0x_`, `0._` and `1e_`, which have separators alone, or `0h.` and `0op7`, which have no digit. NASM keeps the last 64 bits
-    /// of an integer, with a sign: `0x10000000000000001` is 1, and `0xffffffffffffffff` -1.
+    /// MATLAB's numbers (MATLAB Programming Fundamentals R2023a, Integers and Floating-Point Numbers). A decimal is a
+    /// double: take its value as an `f64`. `1.` is refused here, since `1./x` is `1` and `./`.
+    MATLAB: "MATLAB" = {
+        "decimal": decimal(TOKENS.required_fraction_digits(true)) => MATLAB_WORDS, // rejects `1.`, not `.5`
+        "decimal, d": numbers(b'd', b'.', TOKENS
+            .required_fraction_digits(true)
+            .required_exponent_notation(true) // rejects `1.0`, which the first form reads
+        ).with_conditions_or_panic(UNSIGNED) => MATLAB_WORDS,
+        "hexadecimal": prefixed(b'x', 16, TOKENS) => MATLAB_INTEGERS; UNSIGNED_64,
+        "binary": prefixed(b'b', 2, TOKENS) => MATLAB_INTEGERS; UNSIGNED_64,
+    } => POINTS_BACK;
+
+    /// NASM's numeric constants (NASM manual, Numeric Constants and Floating-Point Constants). An integer keeps its
+    /// last 64 bits: `0x10000000000000001` is 1, and `0xffffffffffffffff` -1.
     NASM: "NASM" = {
         "decimal": decimal(NASM
             .required_integer_digits(true) // rejects `.5`, not `1.`
@@ -786,9 +874,9 @@ languages! {
         "binary, 0y": binary_floats(b'y', 2, NASM_PREFIXED) => NASM_WORDS; LAST_64,
     } => Tokens::new(&[], &[]);
 
-    /// Nim's integers and floats, with the sign `-` (Nim Manual 1.6, Numeric literals). A hexadecimal, octal or binary integer
-    /// keeps its last 64 bits: `0xffffffffffffffff` is -1. Nim also accepts `0c17`, which the manual does not.
-    /// Tokens with `'` are refused here, and so is `0b1f32`, whose digits are the bits of a float.
+    /// Nim's integers and floats, with the sign `-` (Nim Manual 1.6, Numeric literals). A hexadecimal, octal or binary
+    /// integer keeps its last 64 bits: `0xffffffffffffffff` is -1. Suffixes of users, such as `'big`, are refused here,
+    /// and so is `0b1f32`, whose digits are the bits of a float.
     NIM: "Nim" = {
         "decimal": numbers(b'e', b'.', separated(b'_').required_digits(true)) => NIM_DECIMALS; SIGNED_64, // rejects `.5`, `1.`, `1e` and `.`
         "hexadecimal": signed(prefixed(b'x', 16, separated(b'_'))) => NIM_INTEGERS; LAST_64,
@@ -796,9 +884,8 @@ languages! {
         "binary": signed(prefixed(b'b', 2, separated(b'_'))) => NIM_INTEGERS; LAST_64,
     } => POINTS_BACK;
 
-    /// OCaml's integers and floats (Manual 5.2, 11.1 Lexical conventions). A format cannot accept `1._`, whose fraction has a
-    /// separator alone. An integer has 63 bits, so `0x7fffffffffffffff` is -1. `4611686018427387904`, of which OCaml makes its
-    /// least integer, -2^62, is too large.
+    /// OCaml's integers and floats (Manual 5.2, 11.1 Lexical conventions). An integer has 63 bits, so
+    /// `0x7fffffffffffffff` is -1.
     OCAML: "OCaml" = {
         "decimal": decimal(RUST
             .required_integer_digits(true) // rejects `.5`, not `1.`
@@ -812,33 +899,33 @@ languages! {
         "binary": prefixed(b'b', 2, RUST) => OCAML_WORDS; WRAPS_63,
     } => Tokens::new(&[], &[]);
 
-    /// Pascal's integers and reals (Free Pascal Reference Guide 3.2, 1.6 Numbers). A hexadecimal, octal or binary integer has 64 bits:
-    /// `$FFFFFFFFFFFFFFFF` is -1. A decimal integer from 2^64 on is a real there: take its value as an `f64`. The compiler also accepts `1.`
-    /// and `1.e5`, which the guide does not.
+    /// Pascal's integers and reals (Free Pascal Reference Guide 3.2, 1.6 Numbers). A hexadecimal, octal or binary
+    /// integer has 64 bits: `$FFFFFFFFFFFFFFFF` is -1. A decimal integer from 2^64 on is a real there: take its value
+    /// as an `f64`.
     PASCAL: "Pascal" = {
         "decimal": decimal(TOKENS.required_digits(true)), // rejects `.5`, `1.`, `1e` and `.`
         "hexadecimal" behind "$": integers(16, TOKENS, UNSIGNED); WRAPS_64,
         "octal" behind "&": integers(8, TOKENS, UNSIGNED); WRAPS_64,
         "binary" behind "%": integers(2, TOKENS, UNSIGNED); WRAPS_64,
-    } => POINTS_BACK;
+    } => WORDS_FOLLOW;
 
-    /// Perl's numeric literals (perldata 5.36, Scalar value constructors). Where Perl warns of a misplaced `_`, as in `1__0`, they
-    /// are refused. A format cannot accept `07_7` and `01.4p0` but reject `0_7` and `0.4p0`. In Perl, an integer from 2^64 on is a
-    /// float: take its value as an `f64`. A token is refused before a point that may be an operator, as in `1.x` and `0x1F.8`.
+    /// Perl's numeric literals (perldata 5.36, Scalar value constructors). An integer from 2^64 on is a float in Perl:
+    /// take its value as an `f64`. Floats of another radix are only read, since Perl drops bits of them. A token is
+    /// refused before a point that may be an operator, as in `1.x` and `0x1F.8`.
     PERL: "Perl" = {
         "decimal": decimal(without_zeros(separated(b'_'))) => Suffixes::new(&[], &[], PERL_STOPS), // rejects `01.5`
         "octal": octal(separated(b'_')),
         "hexadecimal": prefixed(b'x', 16, separated(b'_')),
         "octal, 0o": prefixed(b'o', 8, separated(b'_')),
         "binary": prefixed(b'b', 2, separated(b'_')),
-        "hexadecimal float": binary_floats(b'x', 16, separated(b'_').required_exponent_notation(true)), // rejects `0x1.8`
-        "octal float, 0o": binary_floats(b'o', 8, separated(b'_').required_exponent_notation(true)), // rejects `0o1.4`
-        "binary float": binary_floats(b'b', 2, separated(b'_').required_exponent_notation(true)), // rejects `0b1.1`
-        "octal float": powers_of_two(8, separated(b'_').required_exponent_notation(true), UNSIGNED.required_leading_zero(true)), // rejects `01.4`
-    } => POINTS_BACK;
+        "hexadecimal float" only_read true: binary_floats(b'x', 16, separated(b'_').required_exponent_notation(true)), // rejects `0x1.8`
+        "octal float, 0o" only_read true: binary_floats(b'o', 8, separated(b'_').required_exponent_notation(true)), // rejects `0o1.4`
+        "binary float" only_read true: binary_floats(b'b', 2, separated(b'_').required_exponent_notation(true)), // rejects `0b1.1`
+        "octal float" only_read true: powers_of_two(8, separated(b'_').required_exponent_notation(true), UNSIGNED.required_leading_zero(true)), // rejects `01.4`
+    } => WORDS_FOLLOW;
 
-    /// PHP's integers and floats (Manual, 8.1 and later, Integers and Floating point numbers). In PHP, an integer from 2^63 on is
-    /// a float.
+    /// PHP's integers and floats (Manual, 8.1 and later, Integers and Floating point numbers). An integer from 2^63 on
+    /// is a float in PHP, and not always the nearest one if it has a prefix.
     PHP: "PHP" = {
         "decimal": decimal(separated(b'_').no_integer_leading_zeros(true)), // rejects `08`, not `08.5`
         "octal": octal(separated(b'_')),
@@ -847,9 +934,8 @@ languages! {
         "binary": prefixed(b'b', 2, separated(b'_')),
     } => Tokens::new(&[], &[]);
 
-    /// PostScript's numbers, with signs (PostScript Language Reference, third edition, 3.2.2), as in Ghostscript. Digits of another radix from
-    /// 2 to 36 are as in `36#ZZ`, without a sign. An integer has 64 bits: `16#FFFFFFFFFFFFFFFF` is -1. A decimal one from 2^63 on, of which
-    /// PostScript makes a real, is too large. A real is an `f32`. PostScript also accepts `016#FF` and `16#`.
+    /// PostScript's numbers, with signs (PostScript Language Reference, third edition, 3.2.2), as in Ghostscript. An
+    /// integer has 64 bits: `16#FFFFFFFFFFFFFFFF` is -1. Floats are singles.
     POSTSCRIPT: "PostScript" = {
         "decimal": numbers(b'e', b'.', NumberFormatBuilder::new()
             .no_special(true) // rejects `NaN` and `inf`
@@ -857,8 +943,8 @@ languages! {
         ) => POSTSCRIPT_WORDS; SHORT_REALS,
     } radixes "" "#" { integers(2, TOKENS, UNSIGNED) => POSTSCRIPT_WORDS; WRAPS_64 } => Tokens::new(&[], &[]);
 
-    /// Prolog's integers and floats (SWI-Prolog 9 Reference Manual, 5.10 and 2.15.1.6). Digits of another radix from 2 to 36 are as in
-    /// `36'ZZ`. A format cannot accept characters, such as `0'a`, which is 97, the rationals `1r3`, `1 000`, and `1.0Inf` and `1.5NaN`.
+    /// Prolog's integers and floats (SWI-Prolog 9 Reference Manual, 5.10 and 2.15.1.6). `1 000`, a number in
+    /// SWI-Prolog, is refused here.
     PROLOG: "Prolog" = {
         "decimal": decimal(TOKENS.required_digits(true)) => PROLOG_WORDS; finite(Kind::EXACT), // rejects `.5`, `1.`, `1e` and `.`
         "decimal, with separators": integers(10, separated(b'_'), UNSIGNED) => PROLOG_WORDS, // accepts `1_000`
@@ -867,8 +953,8 @@ languages! {
         "binary": prefixed(b'b', 2, separated(b'_').case_sensitive_base_prefix(true)), // rejects `0B1`
     } radixes "" "'" { integers(2, separated(b'_'), UNSIGNED) } => POINTS_BACK;
 
-    /// Python's integers and floats (Language Reference 3.12, 2.4.5 and 2.4.6). A format cannot accept `00` and reject `01`.
-    /// CPython takes the `0o` of `0or x` for a prefix, and refuses it: its token here is `0`.
+    /// Python's integers and floats (Language Reference 3.12, 2.4.5 and 2.4.6). The token of `0or x` is `0`, where
+    /// CPython takes `0o` for a prefix, and refuses it.
     PYTHON: "Python" = {
         "decimal": decimal(separated(b'_').no_integer_leading_zeros(true)) => PYTHON_WORDS, // rejects `01`, not `01.0`
         "hexadecimal": prefixed(b'x', 16, GO_PREFIXED),
@@ -879,17 +965,15 @@ languages! {
         PYTHON_KEYWORDS,
     );
 
-    /// R's numeric constants (R Language Definition 4.2, 10.3.1). In R, all are doubles: `9007199254740993` is 9007199254740992
-    /// there.
+    /// R's numeric constants (R Language Definition 4.2, 10.3.1). In R, all are doubles: `9007199254740993` is
+    /// 9007199254740992 there, and a hexadecimal float below 2^-1022 is 0.
     R: "R" = {
         "decimal": decimal(TOKENS) => R_WORDS,
         "hexadecimal": prefixed(b'x', 16, TOKENS) => R_WORDS,
         "hexadecimal float": binary_floats(b'x', 16, TOKENS.required_exponent_notation(true)) => R_WORDS, // rejects `0x1.8`
     } => Tokens::new(&[], &[]);
 
-    /// Raku's integers, rationals and floats (Raku Documentation 2022.12, Number literals). Digits of another radix from 2 to 36 are as in
-    /// `:36<ZZ>` and `:16<F.8>`, but a fraction in a radix such as 3 has no `f64`. A format cannot accept `:16<0xFF>` and
-    /// `:16<F.8*16**2>`, or refuse `:16<0b1>`, which is 1 to Raku.
+    /// Raku's integers, rationals and floats (Raku Documentation 2022.12, Number literals).
     RAKU: "Raku" = {
         "decimal": decimal(separated(b'_').required_fraction_digits(true)) => RAKU_WORDS, // rejects `1.`, not `.5`
         "hexadecimal": prefixed(b'x', 16, RAKU_PREFIXED) => RAKU_WORDS,
@@ -913,10 +997,9 @@ languages! {
     )
     .gives_points_back(true);
 
-    /// Rust's integers and floats (Reference, Integer literals and Floating-point literals). The type of an integer without a suffix
-    /// is inferred, so its value has up to 128 bits. With a suffix, `128i8`, which is lawful only after the operator `-`, is too
-    /// large. At the end of a text, the
-    /// token of `0b1.` is `0b1`, but rustc takes the point, and refuses it.
+    /// Rust's integers and floats (Reference, Integer literals and Floating-point literals). Without a suffix, an
+    /// integer has up to 128 bits. `128i8`, which Rust takes only after the operator `-`, is too large. At the end of a
+    /// text, the token of `0b1.` is `0b1`, but rustc takes the point, and refuses it.
     RUST: "Rust" = {
         "decimal": decimal(RUST
             .required_integer_digits(true) // rejects `.5`
@@ -946,8 +1029,7 @@ languages! {
         &[],
     ).gives_points_back(true);
 
-    /// Scheme's integers and decimals, with signs (R7RS, 7.1.1 Lexical structure). Ratios, complex numbers, those with `#e` or `#i`, and
-    /// `+inf.0` are refused here. Guile also accepts `1d3` and `1#`, and refuses exponents above 308.
+    /// Scheme's integers and decimals, with signs (R7RS, 7.1.1 Lexical structure).
     SCHEME: "Scheme" = {
         "decimal": numbers(b'e', b'.', LISP) => SCHEME_WORDS,
         "decimal, #d" behind "#d": numbers(b'e', b'.', LISP) => SCHEME_WORDS,
@@ -956,7 +1038,7 @@ languages! {
         "binary" behind "#b": integers(2, LISP, Conditions::NONE) => SCHEME_WORDS,
     } => Tokens::new(&[], &[]);
 
-    /// SQL's signed numeric literals (ISO/IEC 9075-2:2016, 5.3 `<literal>`). PostgreSQL reads `-0.0` as 0.
+    /// SQL's signed numeric literals (ISO/IEC 9075-2:2016, 5.3 `<literal>`).
     SQL: "SQL" = { "decimal": numbers(b'e', b'.', NumberFormatBuilder::new().no_special(true)) => SQL_WORDS } => POINTS_BACK; // rejects `NaN` and `inf`
 
     /// Swift's numeric literals, with the sign `-` (The Swift Programming Language, Lexical Structure).
@@ -997,8 +1079,8 @@ languages! {
         "binary": prefixed(b'b', 2, separated(b'_').case_sensitive_base_prefix(true)), // rejects `0B1`
     }, Specials { nan: Some(b"nan"), inf: Some(b"inf"), infinity: None };
 
-    /// Verilog's integers without a size and reals (IEEE 1364-2005, 3.5). A format cannot accept a size, as in `8'hFF`, or the digits `x`,
-    /// `z` and `?`. With a sign, as in `'shFF`, the value depends on the size, so that such a text is refused, too.
+    /// Verilog's integers without a size and reals (IEEE 1364-2005, 3.5). A size, as in `8'hFF`, is refused here, and
+    /// so is `'shFF`, whose value depends on the size.
     VERILOG: "Verilog" = {
         "decimal": decimal(RUST.required_digits(true)) => VERILOG_WORDS, // rejects `.5`, `1.`, `1e` and `.`
         "hexadecimal" behind "'h": integers(16, RUST, UNSIGNED) => VERILOG_WORDS,
@@ -1007,9 +1089,8 @@ languages! {
         "binary" behind "'b": integers(2, RUST, UNSIGNED) => VERILOG_WORDS,
     } => Tokens::new(&[], &[]);
 
-    /// VHDL's abstract literals (IEEE 1076-2008, 15.5). Digits of another base from 2 to 16 are as in `16#FF#` and `16#F.8#`, but a fraction
-    /// in a base such as 3 has no `f64`. A format cannot accept `16#FF#E2`, `016#FF#` and `16:FF:`, or accept `1.0E-3` and `1E3` but reject
-    /// `1E-3`, which the first form never writes. Integers have 64 bits, one of which is the sign, as in GHDL.
+    /// VHDL's abstract literals (IEEE 1076-2008, 15.5). Integers without an exponent have 64 bits, one of which is the
+    /// sign, as in GHDL. `1E3`, an integer in VHDL, is a float here.
     VHDL: "VHDL" = {
         "decimal": decimal(separated(b'_')
             .required_digits(true) // rejects `.5`, `1.`, `1e` and `.`
@@ -1018,24 +1099,37 @@ languages! {
         "integer with an exponent": decimal(separated(b'_').required_digits(true)) => ADA_WORDS; finite(SIGNED_64),
     } radixes "" "#" to 16 { closed(b'#', separated(b'_')) => ADA_WORDS; finite(SIGNED_64) } => Tokens::new(&[], &[]);
 
+    /// Visual Basic's integers, floats and decimals (Visual Basic Language Specification 11, 2.4, and the separators of
+    /// Visual Basic 15.5). Values are those of `Integer` or, with `L` or `&`, of `Long`: `&HFFFFFFFF` is -1.
+    /// `&H100000000` is too large without a suffix, but a decimal integer may have 64 bits.
+    VISUAL_BASIC: "Visual Basic" = {
+        "decimal": decimal(JAVA.required_fraction_digits(true)) => VISUAL_BASIC_DECIMALS; finite(SIGNED_64), // rejects `1.`, not `.5`
+        "hexadecimal" behind "&H": integers(16, VISUAL_BASIC, UNSIGNED) => VISUAL_BASIC_INTEGERS; WRAPS_32,
+        "octal" behind "&O": integers(8, VISUAL_BASIC, UNSIGNED) => VISUAL_BASIC_INTEGERS; WRAPS_32,
+        "binary" behind "&B": integers(2, VISUAL_BASIC, UNSIGNED) => VISUAL_BASIC_INTEGERS; WRAPS_32,
+    } => POINTS_BACK;
+
     /// The decimals of XML Schema, with signs (XML Schema 1.1, Part 2, 3.3.3).
     XML_SCHEMA: "XML Schema" = { "decimal": numbers(b'e', b'.', NumberFormatBuilder::new()
         .no_special(true) // rejects `NaN` and `INF`, which are floats
         .no_exponent_notation(true) // rejects `1e5`
     ) };
 
-    /// YAML's integers and floats (YAML 1.2.2, 10.3.2 Tag Resolution). A format cannot accept `.inf` and `.INF` but reject
-    /// `.iNF`, or accept `-.inf` but reject `-.nan`. Tools for YAML 1.1, such as PyYAML, read `YAML_1_1`: there, `010` is
-    /// 8, and `1e3` is a string.
+    /// The doubles of XML Schema, with signs (XML Schema 1.1, Part 2, 3.3.5): take the values of integers as `f64`.
+    XML_SCHEMA_DOUBLE: "XML Schema double" = {
+        "decimal": numbers(b'e', b'.', NumberFormatBuilder::new().case_sensitive_special(true)), // rejects `nan` and `inf`
+    }, Specials { nan: Some(b"NaN"), inf: Some(b"INF"), infinity: None };
+
+    /// YAML's integers and floats (YAML 1.2.2, 10.3.2 Tag Resolution). `-.nan`, which is read and written here, is a
+    /// string to tools. Tools for YAML 1.1, such as PyYAML, read `YAML_1_1`: there, `010` is 8, and `1e3` is a string.
     YAML: "YAML" = {
         "decimal": numbers(b'e', b'.', NumberFormatBuilder::new()),
         "octal": prefixed(b'o', 8, TOKENS.case_sensitive_base_prefix(true)), // rejects `0O17`
         "hexadecimal": prefixed(b'x', 16, TOKENS.case_sensitive_base_prefix(true)), // rejects `0X1F`
     }, Specials { nan: Some(b".nan"), inf: Some(b".inf"), infinity: None };
 
-    /// YAML 1.1's integers and floats (int.html and float.html of its type repository). A format cannot accept `1:30`, which is
-    /// 90 there, `1._`, whose fraction has a separator alone, or `-.inf` but reject `-.nan` and `.iNF`. PyYAML reads `-.5` and
-    /// `._5` as strings.
+    /// YAML 1.1's integers and floats (int.html and float.html of its type repository). `-.nan`, which is read and
+    /// written here, is a string to tools.
     YAML_1_1: "YAML 1.1" = {
         "decimal": numbers(b'e', b'.', YAML_1_1
             .no_special(false) // accepts `.nan` and `.inf`
