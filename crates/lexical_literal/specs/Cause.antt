@@ -1,6 +1,6 @@
 -- Why a text is not a literal: the cause, the flags and conditions that are to blame, and the bytes to show.
 use Rattle.std.specs.Prelude.{ℕ, ◌≡◌, ◌+◌, ◌^◌, ◌==◌, ◌&&◌, ◌↔◌, ◌⊎◌, ◌||◌, not, Bool}
-use Rattle.std.specs.Prelude.{true, false, if◌then◌else◌, IsTrue, List, [], ◌∷◌, ◌++◌, drop, length, map, nat_lt}
+use Rattle.std.specs.Prelude.{false, if◌then◌else◌, IsTrue, List, [], ◌∷◌, ◌++◌, drop, length, map, nat_lt}
 use Rattle.std.specs.Prelude.{sum_by, take, slice_get, Option, Some, None}
 use Rattle.std.specs.Int.{w128, trailing_zeros}
 use Rattle.std.specs.List.{find, list_any, position_or_len}
