@@ -1,13 +1,13 @@
 -- Forms with an opening: what a syntax reads behind it, and where a text stops.
-use Rattle.lexical_forms.proofs.Common.{Begins, Bool, Form, Found, Furthest, GoesTo, IsBehind, IsCountedFront, IsErrorIn, IsFront, IsFrontIn, IsInside}
-use Rattle.lexical_forms.proofs.Common.{IsLeftOut, IsLow, IsNoFurther, IsOpened, IsOpenedTo, IsRefusal, IsRefusedAt, IsStopped, IsStoppedBefore}
-use Rattle.lexical_forms.proofs.Common.{IsStoppedBehind, IsValidUpTo, List, Literal, NoFrontBy, NoFrontPast, NoLiteral, None, NoneBy, NonePast, Notation}
-use Rattle.lexical_forms.proofs.Common.{Option, Reaches, Reads, ReadsFront, ReadsFrontBy, ReadsIn, Refusal, Some, Stopped, [], ap, arith, behind, drop, false}
-use Rattle.lexical_forms.proofs.Common.{false≢true, get_or, if◌then◌else◌, inl, inr, length, nat_lt, nat_tests, not, notation_of, reach, reached, refl}
-use Rattle.lexical_forms.proofs.Common.{sign_size, spells, subst, sym, take, take_all, true, ℕ, ◌++◌, ◌+◌, ◌-◌, ◌<◌, ◌==◌, ◌∙◌, ◌≡◌, ◌≤◌}
+use Rattle.lexical_forms.proofs.Common.{Begins, BeginsBy, Bool, Form, Found, GoesTo, IsCountedFront, IsErrorIn, IsExcluded, IsFront, IsFrontIn, IsInside}
+use Rattle.lexical_forms.proofs.Common.{IsOpened, IsOpenedTo, IsPassed, IsRefusal, IsRefusedAt, IsStopped, IsStoppedBefore, IsStoppedBehind, IsValidUpTo}
+use Rattle.lexical_forms.proofs.Common.{IsWithin, List, Literal, NoFrontBy, NoFrontPast, NoLiteral, None, NoneBy, NonePast, Notation, Reaches, Reads}
+use Rattle.lexical_forms.proofs.Common.{ReadsFront, ReadsFrontBy, ReadsIn, Refusal, Some, Stopped, [], ap, arith, behind, cases_lt, drop, false}
+use Rattle.lexical_forms.proofs.Common.{if◌then◌else◌, inl, inr, length, nat_lt, nat_tests, not, notation_of, reach, reached, refl, subst, sym, take}
+use Rattle.lexical_forms.proofs.Common.{take_all, true, ℕ, ◌++◌, ◌+◌, ◌-◌, ◌<◌, ◌==◌, ◌∙◌, ◌≡◌, ◌≤◌}
 use Rattle.lexical_forms.proofs.OpeningLemmas.{behind_take, front_opened, no_opening, none_empty, not_longer, not_opened, one_valid, opened_front}
-use Rattle.lexical_forms.proofs.OpeningLemmas.{past_behind, valid_behind}
-use Rattle.lexical_forms.proofs.StrangerLemmas.{reach_least, reach_most}
+use Rattle.lexical_forms.proofs.OpeningLemmas.{front_behind, past_behind, rest_size, valid_behind, valid_inside}
+use Rattle.lexical_forms.proofs.StrangerLemmas.{goes_no_further, none_start, reach_least, reach_most, start_out}
 
 -- A form without an opening.
 pub no_size : (n : ℕ) (some : Bool) → some ≡ not (n == 0) → some ≡ false → n ≡ 0
@@ -50,6 +50,18 @@ module _ (g : Form) where
     pub one_reach : (a b : ℕ) → Reaches text g a → Reaches text g b → a ≡ b
     one_reach a b one other = one.2 ∙ ap (reached g text) (one_valid (ReadsIn g) text one.0 other.0 one.1 other.1) ∙ sym other.2
 
+    reached_before : (size : ℕ) → size < n → reached g text size ≡ size
+    reached_before size short = go (nat_lt size n) refl where
+      go : (b : Bool) → nat_lt size n ≡ b → (if b then size else n + reach m rest (size - n)) ≡ size
+      go true is = refl
+      go false is = absurd (grind (arith, nat_tests))
+
+    reached_behind : (size : ℕ) → n ≤ size → reached g text size ≡ n + reach m rest (size - n)
+    reached_behind size past = go (nat_lt size n) refl where
+      go : (b : Bool) → nat_lt size n ≡ b → (if b then size else n + reach m rest (size - n)) ≡ n + reach m rest (size - n)
+      go true is = absurd (grind (arith, nat_tests))
+      go false is = refl
+
     reached_near : (size : ℕ) → (size ≤ reached g text size) × (reached g text size ≤ size + 1)
     reached_near size = go (nat_lt size n) refl where
       go : (b : Bool) → nat_lt size n ≡ b → (size ≤ (if b then size else n + reach m rest (size - n))) × ((if b then size else n + reach m rest
@@ -61,9 +73,6 @@ module _ (g : Form) where
     module _ (stop : Stopped) (refused : IsRefusedAt text stop g) (k : ℕ) (reaches : Reaches text g k) where
       reached_there : k ≡ reached g text stop.size
       reached_there = reaches.2 ∙ ap (reached g text) (one_valid (ReadsIn g) text reaches.0 stop.size reaches.1 refused.0)
-
-      pub goes_least : stop.size ≤ k
-      goes_least = let near = reached_near stop.size in omega (arith, near.0, reached_there)
 
       pub goes_most : k ≤ stop.size + 1
       goes_most = let near = reached_near stop.size in omega (arith, near.1, reached_there)
@@ -81,9 +90,6 @@ module _ (g : Form) where
 
       pub plain_in : (l : Literal) → Reads m l text → ReadsIn g l text
       plain_in l reads = (no_opening g.opening text none, subst (λ i. Reads m l (drop i text)) (sym none) reads)
-
-      pub none_plain : NoLiteral m text → NoneBy (ReadsIn g) text
-      none_plain is l reads = is l (plain_of l reads)
 
     -- FRONTS
 
@@ -141,21 +147,60 @@ module _ (g : Form) where
           }),
     )
 
+    -- WHERE IT IS KNOWN THAT A FORM GOES NO FURTHER
+
+    -- Its opening is not there.
+    pub passed_before : (size : ℕ) → IsOpenedTo g.opening text size → size < n → IsPassed g text size
+    passed_before size is short = record {
+      none = λ l reads. not_opened g.opening text size is short reads.0;
+      within = longer;
+      low = λ k reaches. elim (cases_lt size reaches.0) [
+        | inl past ↦ absurd (longer reaches.0 past reaches.1.within reaches.1.front)
+        | inr near ↦ omega (arith, near, reaches.2 ∙ reached_before reaches.0 (omega (arith, near, short)))
+      ];
+    } where
+      longer : (more : ℕ) → size < more → more ≤ length text → BeginsBy (ReadsIn g) (take more text) → ⊥
+      longer more past inside front = not_longer text g size is short more front.more past inside front.reads.0
+
+    passed_behind : IsOpened g.opening text → (bound : ℕ) → IsExcluded m rest bound → IsPassed g text (n + bound)
+    passed_behind opened bound out = record {
+      none = λ l reads. out.none l reads.1;
+      within = λ more past inside front. out.within (more - n) (omega (arith, past))
+          (let all = rest_size text g opened.within in omega (arith, all, inside)) (front_behind text g more (omega (arith, past)) inside front);
+      low = λ k reaches. elim (cases_lt reaches.0 n) [
+        | inl short ↦ omega (arith, short, reaches.2 ∙ reached_before reaches.0 short)
+        | inr past ↦ (let most = goes_no_further m rest bound out (reaches.0 - n) (valid_inside text g reaches.0 opened past reaches.1) in
+            omega (arith, most, reaches.2 ∙ reached_behind reaches.0 past))
+      ];
+    }
+
+    -- The opening is there, and `part` is behind it.
+    module _ (opened : ℕ) (part : List ℕ) (size : opened ≡ n) (is : IsOpened g.opening text) (at : part ≡ drop opened text) where
+      at_part : part ≡ rest
+      at_part = at ∙ ap (λ k. drop k text) size
+
+      pub inside_opening : IsInside g text part
+      inside_opening = record { opened = is; is = at_part }
+
+      pub passed_inside : (bound : ℕ) → IsExcluded m part bound → IsPassed g text (opened + bound)
+      passed_inside bound out = subst (IsPassed g text) (let same : n + bound ≡ opened + bound = omega (arith, size) in same)
+          (passed_behind is bound (subst (λ t. IsExcluded m t bound) at_part out))
+
+      pub passed_start : IsWithin m part 0 → IsPassed g text opened
+      passed_start none = subst (IsPassed g text) (let same : opened + 0 ≡ opened = omega arith in same) (passed_inside 0 (start_out m part none))
+
     -- BEHIND THE OPENING
 
     -- It is there, and `part` is behind it.
     module _ (opened : ℕ) (part : List ℕ) (is : IsOpenedTo g.opening text opened) (least : n ≤ opened) (at : part ≡ drop opened text) where
-      whole : opened ≡ n
+      pub whole : opened ≡ n
       whole = let inside = is.inside in omega (arith, least, inside)
 
-      opening_is : IsOpened g.opening text
+      pub opening_is : IsOpened g.opening text
       opening_is = subst (Begins g.opening text) whole is.begins
 
       at_rest : part ≡ rest
       at_rest = at ∙ ap (λ k. drop k text) whole
-
-      pub inside_is : IsInside g text part
-      inside_is = record { opened = opening_is; is = at_rest }
 
       -- The same of what the code finds there.
       pub goes_behind : (size stop : ℕ) → IsValidUpTo m part size → stop ≡ opened + size → GoesTo text g stop
@@ -194,41 +239,25 @@ module _ (g : Form) where
                 ∙ ap (λ k. record inner { size = k }) (sym (ap (λ (f : Found). f.size - n) is) ∙ back))) counted);
           }
 
-    -- The first byte is not that of the opening.
-    pub none_excluded : (byte : ℕ) → byte ≡ get_or text 0 0 → (0 < n) × (spells g.opening 0 byte ≡ false) → NoneBy (ReadsIn g) text
-    none_excluded byte same is l reads = false≢true (sym is.1 ∙ ap (spells g.opening 0) same ∙ reads.0.each 0 is.0)
+    opened_all : IsOpened g.opening text → IsOpenedTo g.opening text n
+    opened_all is = record { inside = omega arith; begins = is; differs = λ short. absurd (omega (arith, short)) }
 
-  -- Without an opening, the form goes as far as its syntax.
-  module _ (text : List ℕ) (none : n ≡ 0) where
-    plain_valid : (size : ℕ) → GoesTo text g size → IsValidUpTo m text size
-    plain_valid size is = record {
-      within = is.within;
-      front = record {
-        more = is.front.more;
-        literal = is.front.literal;
-        reads = plain_of (take size text ++ is.front.more) none is.front.literal is.front.reads;
-      };
-      no_longer = λ more past inside front. is.no_longer more past inside (record {
-        more = front.more;
-        literal = front.literal;
-        reads = plain_in (take more text ++ front.more) none front.literal front.reads;
-      });
-    }
+    -- The syntax stops at `inner` in `part`, which is behind the opening.
+    pub refused_inside : (part : List ℕ) (inner stop : Stopped) → IsInside g text part → IsStopped m part inner → NoLiteral m part
+        → stop ≡ record inner { size = n + inner.size } → IsRefusedAt text stop g
+    refused_inside part inner stop is stopped none same = refused_behind n part (opened_all is.opened) (omega arith) is.is inner stop stopped
+        (λ l reads. none l (subst (Reads m l) (sym is.is) reads.1)) same
 
-    plain_reached : (size : ℕ) → reached g text size ≡ reach m text size
-    plain_reached size = go (nat_lt size n) refl where
-      go : (b : Bool) → nat_lt size n ≡ b → (if b then size else n + reach m (drop n text) (size - n)) ≡ reach m text size
-      go true is = absurd (grind (arith, nat_tests))
-      go false is =
-          let all : reach m (drop n text) (size - n) ≡ reach m text size =
-          ap (λ k. reach m (drop k text) (size - k)) none ∙ ap (reach m text) (let same : size - 0 ≡ size = omega arith in same) in
-          omega (arith, all, none)
+    -- Without an opening, the form stops before the first byte if the syntax does.
+    pub syntax_within : n ≡ 0 → IsPassed g text 0 → IsWithin m text 0
+    syntax_within none passed more past inside front = passed.within more past inside (record {
+      more = front.more;
+      literal = front.literal;
+      reads = (
+        no_opening g.opening (take more text ++ front.more) none,
+        subst (λ i. Reads m front.literal (drop i (take more text ++ front.more))) (sym none) front.reads,
+      );
+    })
 
-    pub low_plain : (size : ℕ) → IsNoFurther m text size → IsLow text size g
-    low_plain size is k reaches =
-        let most = is reaches.0 (plain_valid reaches.0 reaches.1) in omega (arith, most, reaches.2 ∙ plain_reached reaches.0)
-
-    pub left_plain : (furthest : Option Furthest) → IsBehind m text furthest → IsLeftOut text furthest g
-    left_plain None is = low_plain (sign_size text + 2)
-        (λ size valid. let near = is size valid in let most = reach_most m text size in omega (arith, near, most))
-    left_plain (Some best) is = low_plain best.reach is
+    pub refused_start : n ≡ 0 → IsPassed g text 0 → (stop : Stopped) → IsStopped m text stop → IsRefusedAt text stop g
+    refused_start none passed stop stopped = plain_refused stop none stopped (none_start m text (syntax_within none passed))

@@ -1,11 +1,11 @@
 -- The names that most proofs of this crate cite, passed on from one place. Declares nothing.
-pub use Rattle.lexical_forms.specs.Additions.Forms.{AreBelow, AreFalse, GoesTo, IsBehind, IsFirstOf, IsInside, IsFoundForm, IsFoundFrontForm}
-pub use Rattle.lexical_forms.specs.Additions.Forms.{IsFrontIn, IsLed, IsLeftOut, IsLongestPast, IsLow, IsNoFurther, IsOpened}
-pub use Rattle.lexical_forms.specs.Additions.Forms.{IsOpenedTo, IsRefusedAt, IsSpare, IsStoppedBefore, IsStoppedBehind, IsStranger, LacksZero, Leads}
+pub use Rattle.lexical_forms.specs.Additions.Forms.{AreBelow, AreFalse, ArePassed, GoesTo, IsExcluded, IsInside, IsFoundForm, IsFoundFrontForm}
+pub use Rattle.lexical_forms.specs.Additions.Forms.{IsFrontIn, IsLed, IsLongestPast, IsLow, IsOpened, IsPassed, IsPast, IsSilentAt}
+pub use Rattle.lexical_forms.specs.Additions.Forms.{IsOpenedTo, IsRefusedAt, IsSpare, IsStoppedBefore, IsStoppedBehind, IsStranger, LacksLetter, LacksZero, Leads}
 pub use Rattle.lexical_forms.specs.Additions.Forms.{NoFrontPast, NonePast, PlaysNoRole, behind, further}
 pub use Rattle.lexical_forms.specs.Additions.Forms.{special_separator, spells}
 pub use Rattle.lexical_forms.specs.Additions.Token.{AreBare, AreNear, FrontsWithin, HasFrontOfSyntax, IsBestMade, IsBestOf, IsCounted, IsEnd, IsLeading, IsMade}
-pub use Rattle.lexical_forms.specs.Additions.Token.{IsNear, IsOwn, IsPicked, IsWithin, NoOwn, better, go_on_with, goes_on, has_float, has_prefix}
+pub use Rattle.lexical_forms.specs.Additions.Token.{IsNear, IsOwn, IsPicked, NoOwn, better, go_on_with, goes_on, has_float, has_prefix}
 pub use Rattle.lexical_forms.specs.Additions.Token.{is_in_word, suffixed, whole}
 pub use Rattle.lexical_forms.specs.FormList.{FormList, are_opened, have_openings}
 pub use Rattle.lexical_forms.specs.Forms.{Begins, HasFront, IsErrorIn, IsErrorOfForm, IsFirst, IsFormError, IsGreatest, IsReadByForms, NoForm}
@@ -28,7 +28,7 @@ pub use Rattle.lexical_literal.proofs.PieceLemmas.{front_cut, front_read, measur
 pub use Rattle.lexical_literal.specs.Additions.GroupSize.{goes, with_rules}
 pub use Rattle.lexical_literal.specs.Additions.Literal.{AreSums, HasSums, before_exponent, cut}
 pub use Rattle.lexical_literal.specs.Additions.Step.{Cuts, HasLengths, cuts_of, role_at}
-pub use Rattle.lexical_literal.specs.Additions.Stop.{IsCountedFront, IsFronted, IsMeasured, IsStopped}
+pub use Rattle.lexical_literal.specs.Additions.Stop.{IsCountedFront, IsFronted, IsMeasured, IsStopped, IsWithin}
 pub use Rattle.lexical_literal.specs.Cause.{Explained, IsCause, IsRefusal, bare, is_in}
 pub use Rattle.lexical_literal.specs.Front.{BeginsBy, IsFront, IsValidBy, IsValidUpTo, NoFront, NoFrontBy, NoLiteral, NoneBy, ReadsFront, ReadsFrontBy}
 pub use Rattle.lexical_literal.specs.Literal.{Literal, Reads, begins_with, is_absent, is_float, is_none_or_one, is_none_or_prefix, is_present, may_begin}

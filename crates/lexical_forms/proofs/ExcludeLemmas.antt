@@ -1,5 +1,5 @@
 -- Each byte of a literal plays a role, and a literal with a required prefix begins with it.
-use Rattle.lexical_forms.proofs.Common.{All, All-append, All-from_recursion, All-get_or, All-weaker, AllIn, ByteSet, Grammar, IsSpare, IsTrue, IsValidUpTo}
+use Rattle.lexical_forms.proofs.Common.{All, All-append, All-from_recursion, All-get_or, All-weaker, AllIn, ByteSet, Grammar, IsSpare, IsFront, IsTrue}
 use Rattle.lexical_forms.proofs.Common.{LacksZero, List, Literal, NoLiteral, None, Notation, Part, PlaysNoRole, Reads, Role, [], ap, arith, begins_with}
 use Rattle.lexical_forms.proofs.Common.{cases_lt, false, false≢true, get_or, get_or-take, get_or_append_left, inl, inr, is_none_or_one, is_none_or_prefix}
 use Rattle.lexical_forms.proofs.Common.{is_present, length, length-append, length-take-le, may_begin, nat_tests, notation_of, prefix_byte, refl, role_at}
@@ -103,32 +103,41 @@ front_sign (byte ∷ text) rest ℕ.zero within some = omega (arith, some)
 front_sign (byte ∷ text) rest (ℕ.suc more) within some = refl
 
 -- Some literal begins with the first `n` bytes of `text`.
-module _ (m : Notation) (text : List ℕ) (n : ℕ) (is : IsValidUpTo m text n) where
+module _ (m : Notation) (text : List ℕ) (n : ℕ) (within : n ≤ length text) (front : IsFront m (take n text)) where
   abbrev whole : List ℕ
-  whole = take n text ++ is.front.more
+  whole = take n text ++ front.more
 
   pub same_byte : (i : ℕ) → i < n → get_or whole i 0 ≡ get_or text i 0
-  same_byte i below = get_or_append_left (take n text) is.front.more 0 i (rw (length-take-le n text is.within) below) ∙ get_or-take n text i 0 below
+  same_byte i below = get_or_append_left (take n text) front.more 0 i (rw (length-take-le n text within) below) ∙ get_or-take n text i 0 below
 
   pub longer : n ≤ length whole
-  longer = let size = length-take-le n text is.within in let both = length-append (take n text) is.front.more in omega (arith, size, both)
+  longer = let size = length-take-le n text within in let both = length-append (take n text) front.more in omega (arith, size, both)
 
   -- It ends before a byte that plays no role.
   pub near_no_role : (i : ℕ) → PlaysNoRole m (get_or text i 0) → n ≤ i
   near_no_role i none = elim (cases_lt i n) [
     | inl below ↦ absurd (no_role_excludes m whole i (omega (arith, below, longer)) (subst (PlaysNoRole m) (sym (same_byte i below)) none)
-        is.front.literal is.front.reads)
+        front.literal front.reads)
     | inr near ↦ near
   ]
 
   pub same_sign : 0 < n → sign_size whole ≡ sign_size text
-  same_sign some = front_sign text is.front.more n is.within some
+  same_sign some = front_sign text front.more n within some
 
   -- It ends before the first byte behind the sign if that is not a zero that is required.
   pub near_zero : LacksZero m text → n ≤ sign_size text
   near_zero lacks = elim (cases_lt (sign_size text) n) [
     | inl below ↦ absurd (lacks.other (sym (same_byte (sign_size text) below) ∙ ap (λ i. get_or whole i 0) (sym (same_sign (omega (arith, below))))
-        ∙ zero_begins m is.front.literal whole is.front.reads lacks.required))
+        ∙ zero_begins m front.literal whole front.reads lacks.required))
+    | inr near ↦ near
+  ]
+
+  -- It ends before the second byte behind the sign if that is not the letter of a required prefix.
+  pub near_letter : IsTrue (m.condition conditions.BasePrefix) → m.prefix (get_or text (sign_size text + 1) 0) ≡ false → n ≤ sign_size text + 1
+  near_letter required none = elim (cases_lt (sign_size text + 1) n) [
+    | inl below ↦ absurd (false≢true (sym none ∙ ap m.prefix (sym (same_byte (sign_size text + 1) below)
+        ∙ ap (λ k. get_or whole (k + 1) 0) (sym (same_sign (omega (arith, below)))))
+        ∙ (prefix_begins m front.literal whole front.reads required).prefix))
     | inr near ↦ near
   ]
 

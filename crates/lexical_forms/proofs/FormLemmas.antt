@@ -1,16 +1,15 @@
 -- Several forms: what has been found in the first of them, and what one form more adds.
-use Rattle.lexical_forms.proofs.Common.{All, All-more, AreBare, AreBelow, Bool, Bor, Form, FormList, Found, Furthest, GoesTo, HasFront, IsCountedFront}
-use Rattle.lexical_forms.proofs.Common.{IsErrorOfForm, IsFirst, IsFirstOf, IsFormError, IsFoundForm, IsFoundFrontForm, IsFrontIn, IsGreatest, IsLed, IsLeftOut}
-use Rattle.lexical_forms.proofs.Common.{HasOpening, IsLongestPast, IsLow, IsReadByForms, IsRefusedAt, IsSomeAnd, Leads, List}
-use Rattle.lexical_forms.proofs.Common.{NoForm, NoFrontBy, NoFrontPast, None, NonePast, Notation, Ok, Option, Reaches, Read, ReadsForm, ReadsIn, Some}
-use Rattle.lexical_forms.proofs.Common.{Stopped, Tokens, [], are_opened, arith, behind, cases_lt, common_steps, false, false≢true, get_or, get_or-take}
-use Rattle.lexical_forms.proofs.Common.{further, have_openings, if◌then◌else◌, inl, inr, length, length-take-le, nat_lt, nat_tests}
-use Rattle.lexical_forms.proofs.Common.{refl, sign_size, slice_get, slice_get-get_or, slice_get_within, subst, sym, take, take_all, true, ℕ}
-use Rattle.lexical_forms.proofs.Common.{◌+◌, ◌<◌, ◌||◌, ◌∷◌, ◌≡◌, ◌≤◌}
+use Rattle.lexical_forms.proofs.Common.{All, All-more, AreBare, AreBelow, ArePassed, Bool, Bor, Form, FormList, Found, Furthest, GoesTo, HasFront}
+use Rattle.lexical_forms.proofs.Common.{IsCountedFront, IsErrorOfForm, IsFormError, IsFoundForm, IsFoundFrontForm, IsFrontIn, IsGreatest, IsLed}
+use Rattle.lexical_forms.proofs.Common.{IsLongestPast, IsLow, IsPassed, IsPast, IsRefusedAt, IsSomeAnd, Leads, List, NoForm, NoFrontBy, NoFrontPast, None}
+use Rattle.lexical_forms.proofs.Common.{NonePast, Notation, Ok, Option, Reaches, Read, ReadsForm, ReadsIn, Some, Stopped, Tokens, [], ap, are_opened, arith}
+use Rattle.lexical_forms.proofs.Common.{behind, cases_lt, common_steps, false, false≢true, further, get_or, get_or-take, have_openings, if◌then◌else◌, inl}
+use Rattle.lexical_forms.proofs.Common.{inr, length, length-take-le, nat_lt, nat_tests, reached, refl, slice_get, slice_get-get_or, slice_get_within}
+use Rattle.lexical_forms.proofs.Common.{◌∙◌}
+use Rattle.lexical_forms.proofs.Common.{subst, sym, take, take_all, true, ℕ, ◌+◌, ◌<◌, ◌||◌, ◌∷◌, ◌≡◌, ◌≤◌}
 use Rattle.lexical_forms.proofs.BehindLemmas.{front_in, goes_most, no_size, none_empty_in, none_in, one_reach}
 use Rattle.lexical_forms.proofs.OpeningLemmas.{one_size}
 use Rattle.lexical_forms.specs.declared.list.FormError.{FormError}
-use Rattle.lexical_forms.specs.declared.list.Number.TheVariants as numbers
 
 -- What holds of some value of an option holds of the value that it is.
 some_of : {X : Type 0} (P : X → Type 0) (o : Option X) → IsSomeAnd o P → (x : X) × (o ≡ Some x) × P x
@@ -105,28 +104,16 @@ module _ (forms : List Form) (text : List ℕ) where
 
 -- The first form that reads the text.
 pub found_is : (forms : List Form) (text : List ℕ) (i : ℕ) (d : Form) (read : Read) → i < length forms
-    → ReadsForm text (record read { kind = (get_or forms i d).kind }) (get_or forms i d) → NoForm (take i forms) text
+    → ReadsForm text read (get_or forms i d) × (read.opened ≡ (get_or forms i d).opening.size) → NoForm (take i forms) text
     → IsFoundForm forms text (Ok (i, read))
 found_is forms text i d read inside is before = record {
-  found = at_index (λ form. IsFirst forms text i (record read { kind = form.kind })) forms forms d i refl inside (record {
-    reads = at_index (ReadsForm text (record read { kind = (get_or forms i d).kind })) forms forms d i refl inside is;
-    before = before;
-  });
+  found = (
+    record { reads = at_index (ReadsForm text read) forms forms d i refl inside is.0; before = before },
+    at_index (λ form. read.opened ≡ form.opening.size) forms forms d i refl inside is.1,
+  );
   none = λ err. absurd (false≢true err);
   furthest = tt;
 }
-
--- The number that has been found, with the kind of its form.
-pub number_is : (list : FormList) (text : List ℕ) (i : ℕ) (read own : Read) → IsFirstOf list.forms text i read → own.format ≡ read.format
-    → own.literal ≡ read.literal → IsSomeAnd (slice_get list.forms i) (λ form. own.kind ≡ form.kind) → HasOpening list.forms i own
-    → IsReadByForms list text (Ok (numbers.Literal own i))
-number_is list text i read own is format same kind opened = (go (slice_get list.forms i) is kind, opened) where
-  go : (o : Option Form) → IsSomeAnd o (λ form. IsFirst list.forms text i (record read { kind = form.kind })) → IsSomeAnd o (λ form. own.kind ≡ form.kind)
-      → IsFirst list.forms text i own
-  go None is kind = absurd is
-  go (Some form) is kind =
-      let first = subst (IsFirst list.forms text i) (λ j. record { format = sym format j; literal = sym same j; kind = sym kind j; opened = read.opened }) is in
-      record { reads = first.reads; before = first.before }
 
 -- A form of a list without openings has none.
 pub no_one : (a b : Bool) → (a || b) ≡ false → (a ≡ false) × (b ≡ false)
@@ -138,11 +125,7 @@ plain_at [] i d inside none = absurd (omega (arith, inside))
 plain_at (form ∷ forms) ℕ.zero d inside none = no_size form.opening.size _ refl (no_one _ (have_openings forms) none).0
 plain_at (form ∷ forms) (ℕ.suc i) d inside none = plain_at forms i d (omega (arith, inside)) (no_one _ (have_openings forms) none).1
 
--- The forms of a list, without those of its tokens.
-pub plain_forms : (forms : List Form) (t : Option (Bor Tokens)) → are_opened forms t ≡ false → have_openings forms ≡ false
-plain_forms forms None is = is
-plain_forms forms (Some t) is = (no_one _ _ is).0
-
+-- The forms of a list and of its tokens have none.
 pub bare_list : (list : FormList) (t : Bor Tokens) → are_opened list.forms list.tokens ≡ false → list.tokens ≡ Some t → AreBare list t.now
 bare_list list t none same = no_one _ _ (subst (λ o. are_opened list.forms o ≡ false) same none)
 
@@ -249,71 +232,157 @@ module _ (forms : List Form) (text : List ℕ) where
       let same : k ≡ i = omega (arith, low, high) in
       here_at (λ g. (n : ℕ) → Reaches text g n → n < most) forms i d is n (subst (λ k. Reaches text (get_or forms k d) n) same reaches)
 
-  weaker : (a b most more : ℕ) → most ≤ more → AreBelow forms text a b most → AreBelow forms text a b more
-  weaker a b most more less below k d low high n reaches = let is = below k d low high n reaches in omega (arith, is, less)
+  low_below : (i size most : ℕ) → size < most → IsSomeAnd (slice_get forms i) (IsLow text size) → AreBelow forms text i (i + 1) most
+  low_below i size most less low = one_below i most (each (IsLow text size) (λ g. (n : ℕ) → Reaches text g n → n < most) (slice_get forms i)
+      (λ g is n reaches. let most = is n reaches in omega (arith, most, less)) low)
+
+  -- Forms that are passed over go less far.
+  passed_below : (asked limit most : ℕ) → limit ≤ most → ArePassed forms text asked limit → AreBelow forms text 0 asked most
+  passed_below asked limit most more passed k d low below n reaches =
+      let one = passed k d below in let top = one.2.low n reaches in omega (arith, one.1, top, more)
 
   -- The form with the index `i` leads, if those before it go less far.
-  pub leads : (i : ℕ) (stop : Stopped) (best : Furthest) → best.form ≡ i → best.stop ≡ stop → IsSomeAnd (slice_get forms i) (IsRefusedAt text stop)
-      → IsSomeAnd (slice_get forms i) (λ g. Reaches text g best.reach) → AreBelow forms text 0 i best.reach → Leads forms text (i + 1) best
-  leads i stop best at is here reach before = record {
+  pub leads : (i limit : ℕ) (stop : Stopped) (best : Furthest) → best.form ≡ i → best.stop ≡ stop → IsSomeAnd (slice_get forms i) (IsRefusedAt text stop)
+      → IsSomeAnd (slice_get forms i) (λ g. Reaches text g best.reach)
+      → ((most : ℕ) → best.reach ≤ most → limit ≤ most → AreBelow forms text 0 i most) → Leads forms text (i + 1) limit best
+  leads i limit stop best at is here reach before = record {
     here = subst (λ k. IsSomeAnd (slice_get forms k) (IsRefusedAt text best.stop)) (sym at)
         (subst (λ s. IsSomeAnd (slice_get forms i) (IsRefusedAt text s)) (sym is) here);
     reach = subst (λ k. IsSomeAnd (slice_get forms k) (λ g. Reaches text g best.reach)) (sym at) reach;
-    before = subst (λ k. AreBelow forms text 0 k best.reach) (sym at) before;
-    behind = λ k d past below n reaches. absurd (omega (arith, past, below, at));
+    before = λ most less more. subst (λ k. AreBelow forms text 0 k most) (sym at) (before most less more);
+    behind = λ most less more k d past below n reaches. absurd (omega (arith, past, below, at));
   }
 
-  module _ (i : ℕ) (best : Furthest) (old : Leads forms text i best) where
+  -- So does the first one, if none has been asked.
+  pub leads_first : (limit : ℕ) (stop : Stopped) (best : Furthest) → best.form ≡ 0 → best.stop ≡ stop → IsSomeAnd (slice_get forms 0) (IsRefusedAt text stop)
+      → IsSomeAnd (slice_get forms 0) (λ g. Reaches text g best.reach) → Leads forms text 1 limit best
+  leads_first limit stop best at is here reach =
+      leads 0 limit stop best at is here reach (λ most less more k d low below. absurd (omega (arith, below)))
+
+  module _ (i limit : ℕ) (best : Furthest) (old : Leads forms text i limit best) where
     -- One form more goes no further.
-    pub left_out : IsSomeAnd (slice_get forms i) (IsLow text best.reach) → Leads forms text (i + 1) best
+    pub left_out : IsSomeAnd (slice_get forms i) (IsLow text best.reach) → Leads forms text (i + 1) limit best
     left_out most = record {
       here = old.here;
       reach = old.reach;
       before = old.before;
-      behind = both_below (best.form + 1) i (i + 1) (best.reach + 1) old.behind (one_below i (best.reach + 1)
-          (each (IsLow text best.reach) (λ g. (n : ℕ) → Reaches text g n → n < best.reach + 1) (slice_get forms i)
-          (λ g is n reaches. let most = is n reaches in omega (arith, most)) most));
+      behind = λ top less more. both_below (best.form + 1) i (i + 1) top (old.behind top less more) (one_below i top
+          (each (IsLow text best.reach) (λ g. (n : ℕ) → Reaches text g n → n < top) (slice_get forms i)
+          (λ g is n reaches. let most = is n reaches in omega (arith, most, less)) most));
     }
 
-    pub no_further : (stop : Stopped) → IsSomeAnd (slice_get forms i) (IsRefusedAt text stop) → stop.size < best.reach → Leads forms text (i + 1) best
+    no_further : (stop : Stopped) → IsSomeAnd (slice_get forms i) (IsRefusedAt text stop) → stop.size < best.reach → Leads forms text (i + 1) limit best
     no_further stop here less = left_out (each (IsRefusedAt text stop) (IsLow text best.reach) (slice_get forms i)
         (λ g is n reaches. let most = goes_most g text stop is n reaches in omega (arith, most, less)) here)
 
-    pub stays : (reach : ℕ) → IsSomeAnd (slice_get forms i) (λ g. Reaches text g reach) → reach ≤ best.reach → Leads forms text (i + 1) best
+    stays : (reach : ℕ) → IsSomeAnd (slice_get forms i) (λ g. Reaches text g reach) → reach ≤ best.reach → Leads forms text (i + 1) limit best
     stays reach other less = left_out (each (λ g. Reaches text g reach) (IsLow text best.reach) (slice_get forms i)
         (λ g is n reaches. let same = one_reach g text n reach reaches is in omega (arith, same, less)) other)
 
     -- All forms so far go less far.
-    all_below : (most : ℕ) → best.reach < most → AreBelow forms text 0 i most
-    all_below most less = both_below 0 best.form i most (weaker 0 best.form best.reach most (omega (arith, less)) old.before)
+    all_below : (most : ℕ) → best.reach < most → limit ≤ most → AreBelow forms text 0 i most
+    all_below most less more = both_below 0 best.form i most (old.before most (omega (arith, less)) more)
         (both_below best.form (best.form + 1) i most (one_below best.form most
         (each (λ g. Reaches text g best.reach) (λ g. (n : ℕ) → Reaches text g n → n < most) (slice_get forms best.form)
         (λ g is n reaches. let same = one_reach g text n best.reach reaches is in omega (arith, same, less)) old.reach))
-        (weaker (best.form + 1) i (best.reach + 1) most (omega (arith, less)) old.behind))
+        (old.behind most less more))
 
-    pub goes_further : (stop : Stopped) (other : Furthest) → other.form ≡ i → other.stop ≡ stop → IsSomeAnd (slice_get forms i) (IsRefusedAt text stop)
-        → IsSomeAnd (slice_get forms i) (λ g. Reaches text g other.reach) → best.reach < other.reach → Leads forms text (i + 1) other
-    goes_further stop other at is here reach less = leads i stop other at is here reach (all_below other.reach less)
+    goes_further : (stop : Stopped) (other : Furthest) → other.form ≡ i → other.stop ≡ stop → IsSomeAnd (slice_get forms i) (IsRefusedAt text stop)
+        → IsSomeAnd (slice_get forms i) (λ g. Reaches text g other.reach) → best.reach < other.reach → Leads forms text (i + 1) limit other
+    goes_further stop other at is here reach less =
+        leads i limit stop other at is here reach (λ most least more. all_below most (omega (arith, less, least)) more)
 
-  pub leads_all : (i : ℕ) → length forms ≤ i → (best : Furthest) → Leads forms text i best → Leads forms text (length forms) best
-  leads_all i end best is = record {
+  -- One form more, of those of which the best is `furthest`.
+  module _ (i : ℕ) (furthest : Option Furthest) (stop : Stopped) (here : IsSomeAnd (slice_get forms i) (IsRefusedAt text stop)) where
+    pub first_leads : furthest ≡ None → (best : Furthest) → best.form ≡ i → best.stop ≡ stop → IsSomeAnd (slice_get forms i) (λ g. Reaches text g best.reach)
+        → (limit : ℕ) → IsLed forms text i limit furthest → Leads forms text (i + 1) limit best
+    first_leads none best at is reach limit led = leads i limit stop best at is here reach
+        (λ most less more. passed_below i limit most more (subst (IsLed forms text i limit) none led))
+
+    module _ (best : Furthest) (some : furthest ≡ Some best) (limit : ℕ) (led : IsLed forms text i limit furthest) where
+      old : Leads forms text i limit best
+      old = subst (IsLed forms text i limit) some led
+
+      pub best_leads : stop.size < best.reach → Leads forms text (i + 1) limit best
+      best_leads less = no_further i limit best old stop here less
+
+      pub best_stays : (reach : ℕ) → IsSomeAnd (slice_get forms i) (λ g. Reaches text g reach) → reach ≤ best.reach → Leads forms text (i + 1) limit best
+      best_stays reach other less = stays i limit best old reach other less
+
+      pub other_leads : (other : Furthest) → other.form ≡ i → other.stop ≡ stop → IsSomeAnd (slice_get forms i) (λ g. Reaches text g other.reach)
+          → best.reach < other.reach → Leads forms text (i + 1) limit other
+      other_leads other at is reach less = goes_further i limit best old stop other at is here reach less
+
+  -- One form more is passed over, and goes up to `size` at most.
+  pub led_past : (i limit more size : ℕ) (d : Form) (furthest : Option Furthest) → i < length forms → IsLed forms text i limit furthest → limit ≤ more
+      → size < more → IsPassed (get_or forms i d) text size → IsLed forms text (i + 1) more furthest
+  led_past i limit more size d None inside old less past passed = λ k e below. elim (cases_lt k i) [
+    | inl before ↦ (let one = old k e before in (one.0, omega (arith, one.1, less), one.2))
+    | inr last ↦ (size, past, subst (λ g. IsPassed g text size) (same_form k e (omega (arith, below, last))) passed)
+  ] where
+    same_form : (k : ℕ) (e : Form) → k ≡ i → get_or forms i d ≡ get_or forms k e
+    same_form k e same = let one = slice_get-get_or forms i d inside in let other = slice_get-get_or forms i e inside in
+        (let equal : get_or forms i d ≡ get_or forms i e = cc in equal) ∙ ap (λ k. get_or forms k e) (sym same)
+  led_past i limit more size d (Some best) inside old less past passed = record {
+    here = old.here;
+    reach = old.reach;
+    before = λ most least top. old.before most least (omega (arith, less, top));
+    behind = λ most least top. both_below (best.form + 1) i (i + 1) most (old.behind most least (omega (arith, less, top)))
+        (low_below i size most (omega (arith, past, top)) (at_index (IsLow text size) forms forms d i refl inside passed.low));
+  }
+
+  pub leads_all : (i limit : ℕ) → length forms ≤ i → (best : Furthest) → Leads forms text i limit best → Leads forms text (length forms) limit best
+  leads_all i limit end best is = record {
     here = is.here;
     reach = is.reach;
     before = is.before;
-    behind = λ k d low high. is.behind k d low (omega (arith, high, end));
+    behind = λ most less more k d low high. is.behind most less more k d low (omega (arith, high, end));
   }
 
-  pub led_out : (i : ℕ) (furthest : Option Furthest) → IsLed forms text i furthest
-      → IsSomeAnd (slice_get forms i) (IsLeftOut text furthest) → IsLed forms text (i + 1) furthest
-  led_out i None old is = λ k d below n reaches. elim (cases_lt k i) [
-    | inl before ↦ old k d before n reaches
-    | inr past ↦ (let same : k ≡ i = omega (arith, below, past) in
-        here_at (IsLow text (sign_size text + 2)) forms i d is n (subst (λ k. Reaches text (get_or forms k d) n) same reaches))
-  ]
-  led_out i (Some best) old is = left_out i best old is
+  -- No form that has been passed over goes as far, or is before the best.
+  pub leads_past : (bound : ℕ) (best : Furthest) → IsPast best bound → Leads forms text (length forms) (bound + 1) best
+      → Leads forms text (length forms) 0 best
+  leads_past bound best (inl past) is = record {
+    here = is.here;
+    reach = is.reach;
+    before = λ most less more. is.before most less (omega (arith, past, less));
+    behind = λ most less more. is.behind most less (omega (arith, past, less));
+  }
+  leads_past bound best (inr (first, same)) is = record {
+    here = is.here;
+    reach = is.reach;
+    before = λ most less more k d low below. absurd (omega (arith, below, first));
+    behind = λ most less more. is.behind most less (omega (arith, same, less));
+  }
+
+  -- No form that has been passed over goes beyond the beginning, and all have been.
+  pub all_passed : (i bound : ℕ) (furthest : Option Furthest) → length forms ≤ i → furthest ≡ None → bound ≡ 0 → IsLed forms text i (bound + 1) furthest
+      → ArePassed forms text (length forms) 1
+  all_passed i bound furthest end none zero led k d below =
+      let one = subst (IsLed forms text i (bound + 1)) none led k d (omega (arith, below, end)) in (one.0, omega (arith, one.1, zero), one.2)
+
+  -- No form goes beyond the beginning.
+  pub leads_start : (stop : Stopped) → IsSomeAnd (slice_get forms 0) (IsRefusedAt text stop) → ArePassed forms text (length forms) 1 → 0 < length forms
+      → Leads forms text (length forms) 0 (record { form = 0; stop = stop; reach = 0 })
+  leads_start stop here passed some = record {
+    here = here;
+    reach = each_at (slice_get forms 0) refl here;
+    before = λ most less more k d least below. absurd (omega (arith, below));
+    behind = λ most less more k d least below n reaches. let top = low k d below n reaches in omega (arith, top, less);
+  } where
+    low : (k : ℕ) (d : Form) → k < length forms → (n : ℕ) → Reaches text (get_or forms k d) n → n < 1
+    low k d below = passed_below (length forms) 1 1 (omega arith) passed k d (omega arith) below
+
+    each_at : (o : Option Form) → slice_get forms 0 ≡ o → IsSomeAnd o (IsRefusedAt text stop) → IsSomeAnd o (λ g. Reaches text g 0)
+    each_at None at here = here
+    each_at (Some g) at here =
+        let first = slice_get-get_or forms 0 g some in
+        let same : get_or forms 0 g ≡ g = cc in
+        let most = low 0 g some (reached g text stop.size) (subst (λ h. Reaches text h (reached g text stop.size)) (sym same) (stop.size, here.0, refl)) in
+        (stop.size, here.0, (let none : 0 ≡ reached g text stop.size = omega (arith, most) in none))
 
   -- The error of the form that leads all forms.
-  pub error_is : (best : Furthest) → Leads forms text (length forms) best → (error : FormError) → error.form ≡ best.form
+  pub error_is : (best : Furthest) → Leads forms text (length forms) 0 best → (error : FormError) → error.form ≡ best.form
       → IsSomeAnd (slice_get forms best.form) (IsErrorOfForm text error) → IsFormError forms text error
   error_is best is error same own = record {
     furthest = (
@@ -325,11 +394,13 @@ module _ (forms : List Form) (text : List ℕ) where
             let within = inside_of (IsErrorOfForm text error) forms best.form own in
             let size = length-take-le best.form forms (omega (arith, within)) in
             let inside : k < best.form = omega (arith, below, size) in
-            is.before k d (omega arith) inside n (subst (λ g. Reaches text g n) (get_or-take best.form forms k d inside) reaches));
+            is.before best.reach (omega arith) (omega arith) k d (omega arith) inside n
+            (subst (λ g. Reaches text g n) (get_or-take best.form forms k d inside) reaches));
         others = λ k d below. elim (cases_lt k best.form) [
-          | inl before ↦ (λ n reaches. let less = is.before k d (omega arith) before n reaches in omega (arith, less))
+          | inl before ↦ (λ n reaches. let less = is.before best.reach (omega arith) (omega arith) k d (omega arith) before n reaches in omega (arith, less))
           | inr past ↦ (elim (cases_lt best.form k) [
-            | inl behind ↦ (λ n reaches. let less = is.behind k d (omega (arith, behind)) below n reaches in omega (arith, less))
+            | inl behind ↦ (λ n reaches. let less = is.behind (best.reach + 1) (omega arith) (omega arith) k d (omega (arith, behind)) below n reaches in
+                omega (arith, less))
             | inr here ↦ (λ n reaches. let most = one_below best.form (best.reach + 1)
                 (each (λ g. Reaches text g best.reach) (λ g. (n : ℕ) → Reaches text g n → n < best.reach + 1) (slice_get forms best.form)
                 (λ g is n reaches. let one = one_reach g text n best.reach reaches is in omega (arith, one)) is.reach) k d past (omega (arith, here))

@@ -26,7 +26,7 @@ empty_both [] ys is = (refl, is)
 empty_both (x ∷ xs) ys is = absurd (let no = ap length is in omega (arith, no))
 
 -- A literal has a byte.
-no_empty : (m : Notation) → NoLiteral m []
+pub no_empty : (m : Notation) → NoLiteral m []
 no_empty m l reads =
     let a = empty_both l.sign _ reads.whole in let b = empty_both l.prefix _ a.1 in let integer = empty_both l.integer _ b.1 in
     let point = empty_both l.point _ integer.1 in let c = empty_both l.fraction _ point.1 in let character = empty_both l.exponent_character _ c.1 in
@@ -181,6 +181,16 @@ module _ (text : List ℕ) (g : Form) where
             (subst (λ k. IsFront m (take k rest)) (let same : size ≡ n + size - n = omega arith in same) is.front);
         no_longer = λ more past inside front.
             is.no_longer (more - n) (omega (arith, past)) (omega (arith, all, inside)) (front_behind more (omega (arith, past)) inside front);
+      }
+
+  pub valid_inside : (size : ℕ) → IsOpened g.opening text → n ≤ size → IsValidBy (ReadsIn g) text size → IsValidUpTo m rest (size - n)
+  valid_inside size opened past is =
+      let all = rest_size opened.within in let low = is.within in record {
+        within = omega (arith, all, low, past);
+        front = front_behind size past is.within is.front;
+        no_longer = λ more longer inside front. is.no_longer (n + more) (omega (arith, longer, past)) (omega (arith, all, inside))
+            (front_before (n + more) opened (omega arith) (omega (arith, all, inside))
+            (subst (λ k. IsFront m (take k rest)) (let same : more ≡ n + more - n = omega arith in same) front));
       }
 
   module _ (size : ℕ) (is : IsOpenedTo g.opening text size) (short : size < n) where

@@ -1,5 +1,6 @@
 -- A stranger: a byte that plays no role behind the base prefix, and its other case neither.
-use Rattle.lexical_forms.proofs.Common.{All, All-get_or, AreFalse, Bool, Grammar, IsNoFurther, IsSpare, IsStranger, IsTrue}
+use Rattle.lexical_forms.proofs.Common.{All, All-get_or, AreFalse, Bool, Grammar, IsExcluded, IsFront, IsSilentAt, IsSpare}
+use Rattle.lexical_forms.proofs.Common.{IsStranger, IsTrue, IsWithin, LacksLetter, LacksZero, Reads, take_all}
 use Rattle.lexical_forms.proofs.Common.{IsValidUpTo, List, NoLiteral, Notation, PlaysNoRole, Role, [], ap}
 use Rattle.lexical_forms.proofs.Common.{arith, cases_lt, false, false≢true, get_or, if◌then◌else◌, inl, inr, is_in, is_none_or_one, is_other_prefix, not, ◌&&◌}
 use Rattle.lexical_forms.proofs.Common.{is_none_or_prefix, le_antisymm, length, nat_lt, nat_tests, notation_of, other_case, position}
@@ -10,7 +11,10 @@ use Rattle.lexical_util.specs.Layout as layout
 use Rattle.lexical_util.specs.Unfoldable.{cased}
 use Rattle.lexical_util.specs.declared.feature_format.roles.Role.TheVariants as roles
 use Rattle.lexical_util.specs.declared.format_flags.Part.TheVariants as parts
-use Rattle.lexical_forms.proofs.ExcludeLemmas.{longer, near_no_role, rest_known, rest_of, same_byte, same_sign}
+use Rattle.lexical_literal.specs.declared.syntax.Condition.TheVariants as conditions
+use Rattle.lexical_forms.proofs.ExcludeLemmas.{longer, near_letter, near_no_role, near_zero, no_role_excludes, prefix_begins, rest_known, rest_of, same_byte}
+use Rattle.lexical_forms.proofs.ExcludeLemmas.{same_sign, zero_begins}
+use Rattle.lexical_forms.proofs.OpeningLemmas.{begins_whole, no_empty}
 
 module _ (m : Notation) where
   behind_at : (xs ys rest : List ℕ) (i : ℕ) → length xs + length ys ≤ i → i < length (xs ++ (ys ++ rest)) → All (λ b. IsSpare m b → ⊥) rest
@@ -40,16 +44,24 @@ module _ (m : Notation) where
         (subst (λ t. IsSpare m (get_or t i 0)) whole none)
 
 -- A literal ends before a spare byte behind the place of the prefix.
-pub near_spare : (m : Notation) (text : List ℕ) (n : ℕ) → IsValidUpTo m text n → (i : ℕ) → sign_size text + 1 < i → IsSpare m (get_or text i 0) → n ≤ i
-near_spare m text n is i far none = elim (cases_lt i n) [
+near_spare : (m : Notation) (text : List ℕ) (n : ℕ) → n ≤ length text → IsFront m (take n text) → (i : ℕ) → sign_size text + 1 < i
+    → IsSpare m (get_or text i 0) → n ≤ i
+near_spare m text n within front i far none = elim (cases_lt i n) [
   | inl below ↦
-      let whole = take n text ++ is.front.more in
-      let more = longer m text n is in
-      let same = same_sign m text n is (omega (arith, below)) in
+      let whole = take n text ++ front.more in
+      let more = longer m text n within front in
+      let same = same_sign m text n within front (omega (arith, below)) in
       absurd (spare_excludes m whole i (omega (arith, same, far)) (omega (arith, below, more))
-      (subst (IsSpare m) (sym (same_byte m text n is i below)) none) is.front.literal is.front.reads)
+      (subst (IsSpare m) (sym (same_byte m text n within front i below)) none) front.literal front.reads)
   | inr near ↦ near
 ]
+
+-- A text is not a literal if none begins with its first byte.
+pub none_start : (m : Notation) (text : List ℕ) → IsWithin m text 0 → NoLiteral m text
+none_start m [] none l reads = no_empty m l reads
+none_start m (byte ∷ text) none l reads = none (length (byte ∷ text)) (omega arith) (omega arith)
+    (begins_whole (Reads m) (take (length (byte ∷ text)) (byte ∷ text)) l
+    (subst (Reads m l) (sym (take_all (length (byte ∷ text)) (byte ∷ text) (omega arith))) reads))
 
 -- How far a syntax goes where `n` bytes are right.
 module _ (m : Notation) (text : List ℕ) where
@@ -79,28 +91,73 @@ module _ (m : Notation) (text : List ℕ) where
     go true false false is = omega arith
     go false b false is = omega arith
 
-  -- It goes up to less than `size`, or up to there, where it goes no further.
-  near_or : (size : ℕ) → ((n : ℕ) → IsValidUpTo m text n → n ≤ size) → reach m text size ≤ size → IsNoFurther m text size
-  near_or size near here n valid = elim (cases_lt n size) [
-    | inl below ↦ (let most = reach_most n in omega (arith, below, most))
-    | inr past ↦ subst (λ k. reach m text k ≤ size) (le_antisymm past (near n valid)) here
+  -- It goes up to `size` at most.
+  pub goes_no_further : (size : ℕ) → IsExcluded m text size → (n : ℕ) → IsValidUpTo m text n → reach m text n ≤ size
+  goes_no_further size is n valid = elim (cases_lt size n) [
+    | inl past ↦ absurd (is.within n past valid.within valid.front)
+    | inr near ↦ (elim (cases_lt n size) [
+      | inl below ↦ (let most = reach_most n in omega (arith, below, most))
+      | inr all ↦ subst (λ k. reach m text k ≤ size) (le_antisymm all near) is.there
+    ])
   ]
 
-  pub near_is : (size : ℕ) → ((n : ℕ) → IsValidUpTo m text n → n < size) → IsNoFurther m text size
-  near_is size near n valid = let up = near n valid in let most = reach_most n in omega (arith, up, most)
+  no_other : (byte : ℕ) → m.prefix (other_case byte) ≡ false → is_other_prefix m byte ≡ false
+  no_other byte none = go (m.prefix byte) _ none where
+    go : (a b : Bool) → b ≡ false → (not a && b) ≡ false
+    go a b is = grind arith
 
-  -- A byte that plays no role, and its other case neither.
-  pub silent_is : (size : ℕ) → size < length text → PlaysNoRole m (get_or text size 0) → PlaysNoRole m (other_case (get_or text size 0))
-      → IsNoFurther m text size
-  silent_is size inside own other = near_or size (λ n valid. near_no_role m text n valid size own) (reach_other size
-      (ap (is_in (is_other_prefix m)) (slice_get-get_or text size 0 inside) ∙ no_other (m.prefix (get_or text size 0)) _ (other.none roles.Prefix))) where
-        no_other : (a b : Bool) → b ≡ false → (not a && b) ≡ false
-        no_other a b is = grind arith
+  -- What excludes that the text is a literal: a zero that is not there,
+  pub zero_out : LacksZero m text → IsExcluded m text (sign_size text)
+  zero_out lacks = record {
+    inside = sign_within text;
+    none = λ l reads. lacks.other (zero_begins m l text reads lacks.required);
+    within = λ more past inside front. let low = near_zero m text more inside front lacks in omega (arith, past, low);
+    there = reach_far (sign_size text) (λ same. omega (arith, same));
+  } where
+    sign_within : (text : List ℕ) → sign_size text ≤ length text
+    sign_within [] = omega arith
+    sign_within (byte ∷ text) = go (signs byte) where
+      go : (b : Bool) → (if b then 1 else 0) ≤ length (byte ∷ text)
+      go true = omega arith
+      go false = omega arith
 
-  -- A stranger.
-  pub stranger_is : (size : ℕ) → sign_size text + 1 < size → size < length text → IsStranger m (get_or text size 0) → IsNoFurther m text size
-  stranger_is size far inside stranger = near_or size (λ n valid. near_spare m text n valid size far stranger.0)
-      (reach_far size (λ same. omega (arith, far, same)))
+  -- a byte that plays no role, and its other case neither,
+  pub silent_out : (i : ℕ) → IsSilentAt m text i → IsExcluded m text i
+  silent_out i silent = record {
+    inside = let inside = silent.inside in omega (arith, inside);
+    none = no_role_excludes m text i silent.inside silent.own;
+    within = λ more past inside front. let low = near_no_role m text more inside front i silent.own in omega (arith, past, low);
+    there = reach_other i
+        (ap (is_in (is_other_prefix m)) (slice_get-get_or text i 0 silent.inside) ∙ no_other (get_or text i 0) (silent.other.none roles.Prefix));
+  }
+
+  -- a letter that is not that of the prefix,
+  pub letter_out : IsTrue (m.condition conditions.BasePrefix) → LacksLetter m text (sign_size text + 1) → IsExcluded m text (sign_size text + 1)
+  letter_out required lacks = record {
+    inside = let inside = lacks.inside in omega (arith, inside);
+    none = λ l reads. false≢true (sym lacks.other.0 ∙ (prefix_begins m l text reads required).prefix);
+    within = λ more past inside front. let low = near_letter m text more inside front required lacks.other.0 in omega (arith, past, low);
+    there = reach_other (sign_size text + 1) (ap (is_in (is_other_prefix m)) (slice_get-get_or text (sign_size text + 1) 0 lacks.inside)
+        ∙ no_other (get_or text (sign_size text + 1) 0) lacks.other.1);
+  }
+
+  -- a stranger behind the place of the prefix,
+  pub stranger_out : (i : ℕ) → sign_size text + 1 < i → (i < length text) × IsStranger m (get_or text i 0) → IsExcluded m text i
+  stranger_out i far is = record {
+    inside = let inside = is.0 in omega (arith, inside);
+    none = spare_excludes m text i far is.0 is.1.0;
+    within = λ more past inside front. let low = near_spare m text more inside front i far is.1.0 in omega (arith, past, low);
+    there = reach_far i (λ same. omega (arith, far, same));
+  }
+
+  -- or that no literal begins with its first byte.
+  pub start_out : IsWithin m text 0 → IsExcluded m text 0
+  start_out none = record {
+    inside = omega arith;
+    none = none_start m text none;
+    within = none;
+    there = reach_far 0 (λ same. omega (arith, same));
+  }
 
 other_case-twice : (b : ℕ) → other_case (other_case b) ≡ b
 other_case-twice b = grind (arith, nat_tests)

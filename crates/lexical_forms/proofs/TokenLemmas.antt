@@ -1,7 +1,7 @@
 -- Tokens: the best of the candidates of several forms.
 use Rattle.lexical_forms.proofs.Common.{All, All-more, AllShorter, Bool, Candidate, Form, FormList, Found, GoesTo, HasLengths, IfSome, IsAhead, IsBestMade}
 use Rattle.lexical_forms.proofs.Common.{IsBestOf, lets_words}
-use Rattle.lexical_forms.proofs.Common.{IsCandidate, IsChosen, IsCounted, IsCut, IsEnd, IsFirst, IsFirstOf, IsFollowed, IsFrontIn, IsMade, IsMeasured, IsNone}
+use Rattle.lexical_forms.proofs.Common.{IsCandidate, IsChosen, IsCounted, IsCut, IsEnd, IsFirst, IsFollowed, IsFrontIn, IsMade, IsMeasured, IsNone}
 use Rattle.lexical_forms.proofs.Common.{IsOver}
 use Rattle.lexical_forms.proofs.Common.{IsOwn}
 use Rattle.lexical_forms.proofs.Common.{IsPicked, IsRefused, IsSomeAnd, IsToken, IsTokenError, IsTrue, List, Literal, NoCandidate, NoForm, NoLonger, NoOwn}
@@ -340,12 +340,6 @@ some_form forms text i read is none = go (slice_get forms i) refl is.reads where
   go : (o : Option Form) → slice_get forms i ≡ o → IsSomeAnd o (ReadsForm text read) → ⊥
   go None at reads = reads
   go (Some form) at reads = all_at (λ form. NoneBy (ReadsIn form) text) forms i form at none read.literal reads.2
-
-pub some_of_form : (forms : List Form) (text : List ℕ) (i : ℕ) (read : Read) → IsFirstOf forms text i read → NoForm forms text → ⊥
-some_of_form forms text i read is none = go (slice_get forms i) is where
-  go : (o : Option Form) → IsSomeAnd o (λ form. IsFirst forms text i (record read { kind = form.kind })) → ⊥
-  go None is = is
-  go (Some form) is = some_form forms text i (record read { kind = form.kind }) is none
 
 -- The best candidate of the list, and of the forms that need a suffix.
 module _ (list : FormList) (t : Tokens) (text : List ℕ) where

@@ -1,15 +1,14 @@
 //! Forms with an opening: what a syntax reads behind it.
 
-ghost use Rattle.std.specs.Prelude.{◌≡◌, ◌<◌, ◌≤◌, IfSome, IsNone, None, get_or, length};
-ghost use Rattle.lexical_forms.specs.Additions.Forms.{GoesTo, IsFrontIn, IsInside, IsRefusedAt, NonePast};
+ghost use Rattle.std.specs.Prelude.{◌≡◌, ◌<◌, ◌≤◌, IfErr, IfOk, IfSome, IsNone, IsTrue, None, length};
+ghost use Rattle.lexical_forms.specs.Additions.Forms.{GoesTo, IsFrontIn, IsInside, IsLow, IsOpened, IsPassed, IsRefusedAt, NonePast};
 ghost use Rattle.lexical_forms.specs.Forms.{IsErrorIn, IsErrorOfForm, Reaches, ReadsForm, ReadsIn, reached};
 ghost use Rattle.lexical_literal.specs.Additions.Stop.{IsStopped};
 ghost use Rattle.lexical_literal.specs.Cause.{IsRefusal};
-ghost use Rattle.lexical_util.specs.Roles.{other_case};
 ghost use Rattle.lexical_literal.specs.Front.{NoLiteral, NoneBy};
 ghost use Rattle.lexical_literal.specs.Notation.{notation_of};
 
-use crate::exclude::{excludes, lacks_longer, reach, sign_size};
+use crate::exclude::{excludes, lacks_longer, reach};
 use crate::form::Form;
 use crate::list::{FormError, Furthest, Unopened};
 use lexical_literal::cause::ReadError;
@@ -18,60 +17,77 @@ use lexical_literal::literal::Literal;
 use lexical_literal::stop::{BEGIN, Found, Stopped, byte_at, tail_at};
 
 impl Form {
-    // Returns the literal that `text` is, if it is one. Its first byte is `byte`, whose other case is `other`.
+    // Returns what is behind the opening, or how far the form goes at most if this is known at once, and `text` is not a literal: by the
+    // opening, the sign, the first two bytes behind it, or the byte at `reach`.
     #[inline(always)]
-    pub(crate) fn literal_from<'t>(
-        &self,
-        byte: u8,
-        other: u8,
-        text: &'t [u8],
-    ) -> Option<Literal<'t>>
-        requires byte { byte ≡ get_or text.now 0 0 }
-        requires other { other ≡ other_case byte }
-        ensures none { IsNone result → NoneBy (ReadsIn self.now) text.now }
-        ensures some { IfSome result (λ it. ReadsForm text.now (record it { kind = self.now.kind }) self.now) }
+    pub(crate) fn begins<'t>(&self, text: &'t [u8], reach: usize) -> Result<&'t [u8], usize>
+        ensures inside { IfOk result (λ it. IsInside self.now text.now it.now) }
+        ensures passed { IfErr result (IsPassed self.now text.now) }
     {
-        if self.opening.excludes(byte, other) {
-            return None;
+        if self.opening.is_empty() {
+            return self.begins_behind(0, text, reach);
         }
-        self.literal(text)
-    }
-
-    // Returns the literal that `text` is, if it is one.
-    #[inline(always)]
-    pub(crate) fn literal<'t>(&self, text: &'t [u8]) -> Option<Literal<'t>>
-        ensures none { IsNone result → NoneBy (ReadsIn self.now) text.now }
-        ensures some { IfSome result (λ it. ReadsForm text.now (record it { kind = self.now.kind }) self.now) }
-    {
-        let Some(inside) = self.inside(text) else {
-            return None;
-        };
-        let syntax = &self.syntax;
-        if excludes(syntax.grammar(), inside, sign_size(inside)) {
-            return None;
-        }
-        let begun = syntax.begin(false, inside, false);
-        if begun.is_whole(syntax, inside) {
-            return Some(syntax.literal(inside, begun.counts, begun.sums));
-        }
-        match begun.lengths(syntax, inside) {
-            Ok(counts) => Some(syntax.summed(inside, counts)),
-            Err(_) => None,
-        }
-    }
-
-    // Returns what is behind the opening of `text`, if it is there.
-    #[inline(always)]
-    fn inside<'t>(&self, text: &'t [u8]) -> Option<&'t [u8]>
-        ensures none { IsNone result → NoneBy (ReadsIn self.now) text.now }
-        ensures some { IfSome result (λ it. IsInside self.now text.now it.now) }
-    {
         let opened = self.opening.opened(text);
         if opened < self.opening.size() {
-            return None;
+            return Err(opened);
         }
+        self.begins_behind(opened, text, reach)
+    }
+
+    // Returns the same where the opening is there, and has `opened` bytes.
+    #[inline(always)]
+    fn begins_behind<'t>(
+        &self,
+        opened: usize,
+        text: &'t [u8],
+        reach: usize,
+    ) -> Result<&'t [u8], usize>
+        requires size { opened ≡ self.now.opening.size }
+        requires opened { IsOpened self.now.opening text.now }
+        ensures inside { IfOk result (λ it. IsInside self.now text.now it.now) }
+        ensures passed { IfErr result (IsPassed self.now text.now) }
+    {
         let (_, inside) = text.split_at(opened);
-        Some(inside)
+        if self.syntax.refuses_sign(inside) {
+            return Err(opened);
+        }
+        match excludes(self.syntax.grammar(), inside, reach.saturating_sub(opened)) {
+            Some(bound) => Err(opened + bound),
+            None => Ok(inside),
+        }
+    }
+
+    // Returns whether it is known at once that `text` is not a literal, and that the form goes no further than `reach`.
+    #[inline(always)]
+    pub(crate) fn is_behind(&self, text: &[u8], reach: usize) -> bool
+        ensures { IsTrue result → IsLow text.now reach self.now }
+    {
+        match self.begins(text, reach) {
+            Err(bound) => bound <= reach,
+            Ok(_) => false,
+        }
+    }
+
+    // Returns the literal that `_text` is, where `inside` is behind the opening, or where the form stops.
+    #[inline(always)]
+    pub(crate) fn read<'t>(&self, _text: &[u8], inside: &'t [u8]) -> Result<Literal<'t>, Stopped>
+        requires { IsInside self.now _text.now inside.now }
+        ensures some { IfOk result (λ it. ReadsForm _text.now it self.now × (it.opened ≡ self.now.opening.size)) }
+        ensures stop { IfErr result (λ stop. IsRefusedAt _text.now stop self.now) }
+    {
+        let syntax = &self.syntax;
+        let begun = syntax.begin(false, inside, false);
+        if begun.is_whole(syntax, inside) {
+            let literal = syntax.literal(inside, begun.counts, begun.sums);
+            return Ok(literal.with_kind(self.kind).behind(self.opening.size));
+        }
+        match begun.lengths(syntax, inside) {
+            Ok(counts) => {
+                let literal = syntax.summed(inside, counts);
+                Ok(literal.with_kind(self.kind).behind(self.opening.size))
+            }
+            Err(stop) => Err(stop.at(self.opening.size() + stop.size)),
+        }
     }
 
     // Returns the longest front of `text` that is a literal, if it has more than `size` bytes.
@@ -116,6 +132,19 @@ impl Form {
         let (_, rest) = text.split_at(opened);
         let stop = self.syntax.stop(rest);
         stop.at(opened + stop.size)
+    }
+
+    // Returns where reading `text` stops, which no literal of the form begins with more than no byte of, if there is no opening.
+    #[inline(always)]
+    pub(crate) fn beginning(&self, text: &[u8]) -> Option<Stopped>
+        requires { IsPassed self.now text.now 0 }
+        ensures { IfSome result (λ stop. IsRefusedAt text.now stop self.now) }
+    {
+        if self.opening.is_empty() {
+            Some(self.syntax.beginning(text))
+        } else {
+            None
+        }
     }
 
     // Returns how far the form goes, which has the index `form` and stops at `stop`.

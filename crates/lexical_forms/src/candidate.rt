@@ -104,7 +104,7 @@ impl<'a> Forms<'a> {
         let (_, rest) = text.split_at(size);
         let end = size + word_size(&[], rest);
         let (word, _) = text.split_at(end);
-        match self.find_opened(word) {
+        match self.find_literal(word, None) {
             Err(furthest) => TokenError::Literal(self.error_at(word, furthest)),
             Ok(_) => TokenError::NotAToken { end },
         }

@@ -1,11 +1,13 @@
 //! What excludes that a text is a literal of a form: its first bytes, or a byte that plays no role in the form.
 
-ghost use Rattle.std.specs.Prelude.{ℕ, ◌≡◌, ◌+◌, ◌<◌, ◌≤◌, Bool, IsTrue, length};
-ghost use Rattle.lexical_forms.specs.Additions.Forms.{AreFalse, IsNoFurther, IsStranger, LacksZero, NoFrontPast, PlaysNoRole};
+ghost use Rattle.std.specs.Prelude.{◌≡◌, ◌+◌, ◌<◌, ◌≤◌, Bool, IfSome, IsTrue, get_or, length};
+ghost use Rattle.lexical_forms.specs.Additions.Forms.{AreFalse, IsExcluded, IsSilentAt, IsStranger, LacksLetter, LacksZero};
+ghost use Rattle.lexical_forms.specs.Additions.Forms.{NoFrontPast, PlaysNoRole};
 ghost use Rattle.lexical_forms.specs.Forms.{is_other_prefix, reach, sign_size};
 ghost use Rattle.lexical_literal.specs.Cause.{is_in};
-ghost use Rattle.lexical_forms.specs.Additions.Token.{IsWithin, has_prefix};
-ghost use Rattle.lexical_literal.specs.Front.{IsValidUpTo, NoFront, NoLiteral};
+ghost use Rattle.lexical_forms.specs.Additions.Token.{has_prefix};
+ghost use Rattle.lexical_literal.specs.Additions.Stop.{IsWithin};
+ghost use Rattle.lexical_literal.specs.Front.{NoFront};
 ghost use Rattle.lexical_util.specs.Record.{Record};
 ghost use Rattle.lexical_util.specs.Roles.{cased, other_case};
 ghost use Rattle.lexical_literal.specs.Notation.{exponent_character_of, notation_of, point_of};
@@ -15,34 +17,21 @@ use lexical_literal::stop::byte_at;
 use lexical_literal::syntax::{Condition, Grammar, Options};
 use lexical_util::format::{Part, base_prefix, base_suffix, digit_separator};
 
-// Returns whether the first bytes behind the sign, which has this length, exclude that `text` is a literal: there is not the prefix
-// that is required, or the second plays no role. Then no literal begins with both.
+// Returns how far the syntax goes in `text` at most if this is known at once, and `text` is not a literal: the zero or the prefix that is
+// required is not there, or a byte plays no role, of the first two behind the sign, or the one at `reach`, which is behind them.
 #[inline(always)]
-pub(crate) const fn excludes(grammar: Grammar, text: &[u8], sign: usize) -> bool
-    requires { sign ≡ sign_size text.now }
-    ensures none { IsTrue result → NoLiteral (notation_of grammar) text.now }
-    ensures near { IsTrue result → (n : ℕ) → IsValidUpTo (notation_of grammar) text.now n → n ≤ sign_size text.now + 1 }
+pub(crate) const fn excludes(grammar: Grammar, text: &[u8], reach: usize) -> Option<usize>
+    ensures { IfSome result (IsExcluded (notation_of grammar) text.now) }
 {
-    if grammar.conditions.has(Condition::BasePrefix) {
-        !has_prefix(grammar, text, sign)
+    let sign = sign_size(text);
+    if lacks_zero(grammar, text, sign) || is_silent_at(grammar, text, sign) {
+        Some(sign)
+    } else if lacks_second(grammar, text, sign) {
+        Some(sign + 1)
+    } else if sign + 1 < reach && is_stranger_at(grammar, text, reach) {
+        Some(reach)
     } else {
-        sign + 1 < text.len() && is_silent(grammar, text[sign + 1])
-    }
-}
-
-// Returns whether `text` is not a literal of a form, which goes no further than `size`: the first bytes exclude it, or the byte there plays
-// no role.
-pub(crate) const fn is_settled(grammar: Grammar, text: &[u8], size: usize) -> bool
-    ensures none { IsTrue result → NoLiteral (notation_of grammar) text.now }
-    ensures near { IsTrue result → IsNoFurther (notation_of grammar) text.now size }
-{
-    let start = sign_size(text);
-    if start < size && lacks_zero(grammar, text, start) {
-        true
-    } else if size > start + 1 {
-        excludes(grammar, text, start) || (size < text.len() && is_stranger(grammar, text[size]))
-    } else {
-        size < text.len() && is_silent(grammar, text[size])
+        None
     }
 }
 
@@ -56,6 +45,49 @@ const fn lacks_zero(grammar: Grammar, text: &[u8], sign: usize) -> bool
         || grammar.conditions.has(Condition::LeadingZero))
         && sign < text.len()
         && text[sign] != b'0'
+}
+
+// Returns whether the second byte behind the sign, which has this length, is not the letter of a required prefix, in either case, or, where
+// none is required, plays no role.
+#[inline(always)]
+const fn lacks_second(grammar: Grammar, text: &[u8], sign: usize) -> bool
+    requires { sign ≡ sign_size text.now }
+    ensures { IsTrue result → IsExcluded (notation_of grammar) text.now (sign_size text.now + 1) }
+{
+    if grammar.conditions.has(Condition::BasePrefix) {
+        lacks_letter(grammar, text, sign + 1)
+    } else {
+        is_silent_at(grammar, text, sign + 1)
+    }
+}
+
+// Returns whether a byte is at `index` that is not the letter of a prefix, in either case.
+#[inline(always)]
+const fn lacks_letter(grammar: Grammar, text: &[u8], index: usize) -> bool
+    ensures { IsTrue result → LacksLetter (notation_of grammar) text.now index }
+{
+    index < text.len()
+        && is_apart(
+            base_prefix(grammar.word),
+            text[index],
+            other_case(text[index]),
+        )
+}
+
+// Returns whether a byte is at `index` that plays no role, and its other case neither.
+#[inline(always)]
+const fn is_silent_at(grammar: Grammar, text: &[u8], index: usize) -> bool
+    ensures { IsTrue result → IsSilentAt (notation_of grammar) text.now index }
+{
+    index < text.len() && is_silent(grammar, text[index])
+}
+
+// Returns whether a byte is at `index` that plays no role behind the base prefix, and its other case neither.
+#[inline(always)]
+const fn is_stranger_at(grammar: Grammar, text: &[u8], index: usize) -> bool
+    ensures { IsTrue result → (index < length text.now) × IsStranger (notation_of grammar) (get_or text.now index 0) }
+{
+    index < text.len() && is_stranger(grammar, text[index])
 }
 
 // Returns whether `byte` plays no role, and its other case neither. Bytes up to `9` are said to play one: most are digits, and a prefix
@@ -111,6 +143,7 @@ const fn is_apart(own: u8, byte: u8, other: u8) -> bool
 }
 
 // Returns how far the syntax goes where `size` bytes are right: 1 more if the base prefix in its other case is behind a sign, if any, and a zero.
+#[inline(always)]
 pub(crate) const fn reach(grammar: Grammar, text: &[u8], size: usize) -> usize
     requires { size ≤ length text.now }
     ensures { result ≡ reach (notation_of grammar) text.now size }

@@ -1,25 +1,22 @@
 //! Numbers that have several forms, such as `10`, `0x1F` and `0b1`.
 
-ghost use Rattle.std.specs.Prelude.{◌≡◌, ◌<◌, ◌+◌, IfSome, IsSome, IsSomeAnd, IsTrue, None, Some, SomeIff, false, if◌then◌else◌, length};
+ghost use Rattle.std.specs.Prelude.{ℕ, ◌≡◌, ◌<◌, ◌+◌, IfSome, IsSomeAnd, IsTrue, None, Some, SomeIff, false, if◌then◌else◌, length};
 ghost use Rattle.std.specs.Prelude.{slice_get};
-ghost use Rattle.lexical_forms.specs.Additions.Forms.{IsBehind, IsFoundForm, IsFoundFrontForm, IsLed, IsLongestPast, IsRefusedAt, Leads};
+ghost use Rattle.lexical_forms.specs.Additions.Forms.{ArePassed, IsFoundForm, IsFoundFrontForm, IsLed, IsLongestPast, IsPast, IsRefusedAt, Leads};
 ghost use Rattle.lexical_forms.specs.Additions.Token.{IsNarrow};
 ghost use Rattle.lexical_forms.specs.FormList.{have_openings};
 ghost use Rattle.lexical_forms.specs.Forms.{IsFormError, IsFrontByForms, IsReadByForms, NoForm, Reaches, special_by};
-ghost use Rattle.lexical_literal.specs.Front.{NoLiteral};
-ghost use Rattle.lexical_literal.specs.Notation.{notation_of};
 ghost use Rattle.lexical_forms.specs.declared.list.PointsBack.TheVariants as points;
 
-use crate::exclude::{excludes, has_letter_behind_zero, is_settled, sign_size};
+use crate::exclude::{has_letter_behind_zero, sign_size};
 use crate::form::Form;
 use crate::opening::Opening;
 use crate::specials::{Special, Specials};
 use crate::suffix::is_wide;
+use crate::token::larger;
 use lexical_literal::cause::ReadError;
 use lexical_literal::literal::Literal;
-use lexical_literal::step::other_case;
 use lexical_literal::stop::{Found, Stopped};
-use lexical_literal::syntax::Grammar;
 use std::marker::Model;
 
 // What a point at the end of a number is given back to: nothing, another point or a word, or a letter.
@@ -304,7 +301,6 @@ impl<'a> Forms<'a> {
 
     // Returns what `read` returns, where the first form stops at `stop`, if it has been asked.
     #[inline(never)]
-    #[tactic(auto, using(crate::proofs::FormLemmas::plain_forms))]
     pub(crate) fn read_behind<'t>(
         &self,
         text: &'t [u8],
@@ -313,29 +309,8 @@ impl<'a> Forms<'a> {
         requires { IfSome stop (λ stop. IsSomeAnd (slice_get self.now.forms 0) (IsRefusedAt text.now stop)) }
         ensures { IsReadByForms self.now text.now result }
     {
-        if self.opened {
-            self.number(text, self.find_opened(text))
-        } else {
-            self.number(text, self.find_plain(text, stop))
-        }
-    }
-
-    // Returns the number of the form that has been found, or a special value, or the error of the form that goes furthest.
-    #[inline(always)]
-    #[tactic(auto, using(crate::proofs::FormLemmas::inside_of))]
-    fn number<'t>(
-        &self,
-        text: &'t [u8],
-        found: Result<(usize, Literal<'t>), Furthest>,
-    ) -> Result<Number<'t>, FormError>
-        requires { IsFoundForm self.now.forms text.now found }
-        ensures { IsReadByForms self.now text.now result }
-    {
-        match found {
-            Ok((form, found)) => {
-                let literal = self.of_form(form, found);
-                Ok(Number::Literal { literal, form })
-            }
+        match self.find_literal(text, stop) {
+            Ok((form, literal)) => Ok(Number::Literal { literal, form }),
             Err(furthest) => match self.special(text) {
                 Some(special) => Ok(Number::Special(special)),
                 None => Err(self.error_at(text, furthest)),
@@ -385,88 +360,58 @@ impl<'a> Forms<'a> {
         self.specials.read(&self.forms[0].syntax, text)
     }
 
-    // Returns the index of the first form of which `text` is a literal, and the literal, or the form whose error is that of the list. If there is
-    // no literal, all forms are asked again.
-    #[inline(never)]
-    pub(crate) fn find_opened<'t>(&self, text: &'t [u8]) -> Result<(usize, Literal<'t>), Furthest>
-        ensures { IsFoundForm self.now.forms text.now result }
-    {
-        let byte = match text {
-            [first, ..] => *first,
-            [] => 0,
-        };
-        let other = other_case(byte);
-        let mut form = 0;
-        while form < self.forms.len() {
-            if let Some(literal) = self.forms[form].literal_from(byte, other, text) {
-                return Ok((form, literal));
-            }
-            form += 1;
-        }
-        Err(self.furthest(text))
-    }
-
-    // Returns the same in a list without openings, where the first form stops at `stop`, if it has been asked. Each form is asked
-    // once, but if it has not been asked and no form goes beyond the second byte behind the sign, all are asked again.
+    // Returns the index of the first form of which `text` is a literal, and the literal, or the form whose error is that of the list, where
+    // the first form stops at `stop`, if it has been asked. Each form is asked once, but if one that is passed over may go further, all are
+    // asked again.
     #[inline(always)]
-    pub(crate) fn find_plain<'t>(
+    pub(crate) fn find_literal<'t>(
         &self,
         text: &'t [u8],
         stop: Option<Stopped>,
     ) -> Result<(usize, Literal<'t>), Furthest>
-        requires stop { IfSome stop (λ stop. IsSomeAnd (slice_get self.now.forms 0) (IsRefusedAt text.now stop)) }
-        requires plain { have_openings self.now.forms ≡ false }
+        requires { IfSome stop (λ stop. IsSomeAnd (slice_get self.now.forms 0) (IsRefusedAt text.now stop)) }
         ensures { IsFoundForm self.now.forms text.now result }
     {
         let mut furthest = None;
+        let mut bound = 0;
         let mut form = 0;
         if let Some(stop) = stop {
             furthest = Some(self.reached(text, 0, stop));
             form = 1;
         }
         while form < self.forms.len() {
-            let syntax = &self.forms[form].syntax;
-            if !is_behind(syntax.grammar(), text, furthest) {
-                let begun = syntax.begin(false, text, false);
-                if begun.is_whole(syntax, text) {
-                    return Ok((form, syntax.literal(text, begun.counts, begun.sums)));
-                }
-                match begun.lengths(syntax, text) {
-                    Ok(counts) => return Ok((form, syntax.summed(text, counts))),
-                    Err(stop) => furthest = self.further_on(text, furthest, form, stop),
-                }
+            let it = &self.forms[form];
+            match it.begins(text, reach_of(furthest)) {
+                Err(size) => bound = larger(bound, size),
+                Ok(inside) => match it.read(text, inside) {
+                    Ok(literal) => return Ok((form, literal)),
+                    Err(stop) => furthest = Some(self.further(text, furthest, form, stop)),
+                },
             }
             form += 1;
         }
         match furthest {
-            Some(best) => Err(best),
-            None => Err(self.furthest(text)),
+            Some(best) if is_past(best, bound) => Err(best),
+            None if bound == 0 => Err(self.at_once(text)),
+            _ => Err(self.furthest(text)),
         }
     }
 
-    // Returns that the first form, which stops at `stop`, has the error of the list, or `None` if another form has to be asked, or there are
-    // special values.
-    #[cold]
-    #[inline(never)]
-    pub(crate) fn first_leads(&self, text: &[u8], stop: Stopped) -> Option<Furthest>
-        requires { IsSomeAnd (slice_get self.now.forms 0) (IsRefusedAt text.now stop) }
-        ensures none { IsSome result → NoForm self.now.forms text.now }
-        ensures special { IsSome result → special_by self.now text.now ≡ None }
-        ensures leads { IfSome result (Leads self.now.forms text.now (length self.now.forms)) }
+    // Returns the first form, where none goes beyond the beginning of `text`, which is no literal.
+    #[inline(always)]
+    fn at_once(&self, text: &[u8]) -> Furthest
+        requires none { NoForm self.now.forms text.now }
+        requires passed { ArePassed self.now.forms text.now (length self.now.forms) 1 }
+        ensures { Leads self.now.forms text.now (length self.now.forms) 0 result }
     {
-        if !self.specials.are_none() {
-            return None;
+        match self.forms[0].beginning(text) {
+            None => self.furthest(text),
+            Some(stop) => Furthest {
+                form: 0,
+                stop,
+                reach: 0,
+            },
         }
-        let first = self.reached(text, 0, stop);
-        let mut form = 1;
-        while form < self.forms.len() {
-            let it = &self.forms[form];
-            if it.has_opening() || !is_settled(it.syntax.grammar(), text, first.reach) {
-                return None;
-            }
-            form += 1;
-        }
-        Some(first)
     }
 
     // Returns the form whose error is that of the list, where `text` is no literal.
@@ -474,55 +419,37 @@ impl<'a> Forms<'a> {
     #[inline(never)]
     fn furthest(&self, text: &[u8]) -> Furthest
         requires { NoForm self.now.forms text.now }
-        ensures { Leads self.now.forms text.now (length self.now.forms) result }
+        ensures { Leads self.now.forms text.now (length self.now.forms) 0 result }
     {
         let first = self.forms[0].stop(text);
         let mut furthest = self.reached(text, 0, first);
         let mut form = 1;
         while form < self.forms.len() {
             let it = &self.forms[form];
-            if it.has_opening() || !is_settled(it.syntax.grammar(), text, furthest.reach) {
+            if !it.is_behind(text, furthest.reach) {
                 let stop = it.stop(text);
-                furthest = self.further(text, furthest, form, stop);
+                furthest = self.further(text, Some(furthest), form, stop);
             }
             form += 1;
         }
         furthest
     }
 
-    // Returns which of two forms has the error of the list, or `None` if there is but one, which does not go beyond the second byte behind
-    // the sign.
+    // Returns which of two forms has the error of the list: the one that goes further, the first of equals.
     #[inline(always)]
-    fn further_on(
+    fn further(
         &self,
         text: &[u8],
         furthest: Option<Furthest>,
         form: usize,
         stop: Stopped,
-    ) -> Option<Furthest>
-        requires furthest { IsLed self.now.forms text.now form furthest }
-        requires refused { IsSomeAnd (slice_get self.now.forms form) (IsRefusedAt text.now stop) }
-        ensures { IsLed self.now.forms text.now (form + 1) result }
+    ) -> Furthest
+        requires { IsSomeAnd (slice_get self.now.forms form) (IsRefusedAt text.now stop) }
+        ensures { (limit : ℕ) → IsLed self.now.forms text.now form limit furthest → Leads self.now.forms text.now (form + 1) limit result }
     {
-        match furthest {
-            Some(best) => Some(self.further(text, best, form, stop)),
-            None => {
-                let other = self.reached(text, form, stop);
-                if other.reach > sign_size(text) + 2 {
-                    Some(other)
-                } else {
-                    None
-                }
-            }
-        }
-    }
-
-    // Returns which of two forms has the error of the list: the one that goes further, the first of equals.
-    fn further(&self, text: &[u8], best: Furthest, form: usize, stop: Stopped) -> Furthest
-        requires best { Leads self.now.forms text.now form best }
-        requires refused { IsSomeAnd (slice_get self.now.forms form) (IsRefusedAt text.now stop) }
-        ensures { Leads self.now.forms text.now (form + 1) result }
-    {
+        let Some(best) = furthest else {
+            return self.reached(text, form, stop);
+        };
         if stop.size < best.reach {
             return best;
         }
@@ -535,6 +462,7 @@ impl<'a> Forms<'a> {
     }
 
     // Returns how far the form with the index `form` goes, which stops at `stop`.
+    #[inline(always)]
     #[tactic(auto, using(crate::proofs::FormLemmas::at_index, crate::proofs::FormLemmas::form_at, crate::proofs::FormLemmas::inside_of))]
     fn reached(&self, text: &[u8], form: usize, stop: Stopped) -> Furthest
         requires { IsSomeAnd (slice_get self.now.forms form) (IsRefusedAt text.now stop) }
@@ -586,7 +514,7 @@ impl<'a> Forms<'a> {
     // Returns why `text` is not a literal of the form that goes furthest.
     #[inline(always)]
     pub(crate) fn error_at(&self, text: &[u8], furthest: Furthest) -> FormError
-        requires { Leads self.now.forms text.now (length self.now.forms) furthest }
+        requires { Leads self.now.forms text.now (length self.now.forms) 0 furthest }
         ensures { IsFormError self.now.forms text.now result }
     {
         let Furthest { form, stop, .. } = furthest;
@@ -618,14 +546,19 @@ const fn are_wide(forms: &[Form]) -> bool
     }
 }
 
-// Returns whether a form need not be asked: its first bytes exclude that `text` is a literal, or it goes no further than the furthest form.
+// Returns how far the form goes that goes furthest, if there is one.
 #[inline(always)]
-const fn is_behind(grammar: Grammar, text: &[u8], furthest: Option<Furthest>) -> bool
-    ensures none { IsTrue result → NoLiteral (notation_of grammar) text.now }
-    ensures near { IsTrue result → IsBehind (notation_of grammar) text.now furthest }
-{
+const fn reach_of(furthest: Option<Furthest>) -> usize {
     match furthest {
-        None => excludes(grammar, text, sign_size(text)),
-        Some(best) => is_settled(grammar, text, best.reach),
+        None => 0,
+        Some(best) => best.reach,
     }
+}
+
+// Returns whether no form that goes up to `bound` at most can go further than the best, or be before it and go as far.
+#[inline(always)]
+const fn is_past(best: Furthest, bound: usize) -> bool
+    ensures { IsTrue result → IsPast best bound }
+{
+    bound < best.reach || (best.form == 0 && bound == best.reach)
 }

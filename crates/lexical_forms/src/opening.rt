@@ -35,10 +35,9 @@ pub struct Opening {
 }
 
 impl Opening {
-    ghost use Rattle.std.specs.Prelude.{◌==◌, IfSome, IsSome, IsTrue, false};
+    ghost use Rattle.std.specs.Prelude.{◌==◌, IfSome, IsSome, false};
     ghost use Rattle.lexical_forms.specs.Opening.{spelling};
     ghost use Rattle.lexical_forms.specs.Additions.Forms.{spells, IsOpenedTo};
-    ghost use Rattle.lexical_util.specs.Roles.{other_case};
 
     /// No bytes.
     pub const NONE: Opening = Opening {
@@ -113,15 +112,6 @@ impl Opening {
         ensures { result ≡ self.now.size }
     {
         self.size as usize
-    }
-
-    // Returns whether the first byte is neither `byte` nor `other`, which is its other case. Then no text that begins with `byte` is opened.
-    #[inline(always)]
-    pub(crate) const fn excludes(&self, byte: u8, other: u8) -> bool
-        requires { other ≡ other_case byte }
-        ensures { IsTrue result → (0 < self.now.size) × (spells self.now 0 byte ≡ false) }
-    {
-        self.size != 0 && self.bytes[0] != byte && self.bytes[0] != other
     }
 
     // Returns the number of its bytes that `text` begins with.

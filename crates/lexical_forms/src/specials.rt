@@ -149,14 +149,6 @@ impl<'a> Specials<'a> {
         }
     }
 
-    // Returns whether there are no spellings.
-    #[inline(always)]
-    pub(crate) const fn are_none(&self) -> bool
-        ensures { IsTrue result → (m : Notation) (text : List ℕ) → special_of m self.now text ≡ None }
-    {
-        matches!((self.nan, self.inf, self.infinity), (None, None, None))
-    }
-
     // Returns the first spelling that `text` matches.
     const fn spelling(&self, grammar: Grammar, text: &[u8]) -> Option<Spelling>
         ensures { result ≡ spelling_of (notation_of grammar) self.now text.now }

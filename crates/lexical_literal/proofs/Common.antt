@@ -13,7 +13,7 @@ pub use Rattle.lexical_literal.specs.Additions.Step.{finishes, forbids_plus, gap
 pub use Rattle.lexical_literal.specs.Additions.Step.{is_lone, is_negative, is_open, is_run, is_signed, lacks_prefix, leads_to_prefix, may_float, may_follow}
 pub use Rattle.lexical_literal.specs.Additions.Step.{may_lead, move_by, needs_exponent, no_condition, no_cuts, part_of, piece_number, piece_of, role_at, start}
 pub use Rattle.lexical_literal.specs.Additions.Step.{step, step_by, takes, takes_in, tally, tally_by, walk, walk_by, with_prefix}
-pub use Rattle.lexical_literal.specs.Additions.Stop.{HasBegun, HasFound, IsCountedFront, IsFronted, IsLongest, IsMeasured, IsStopped, IsUnderway}
+pub use Rattle.lexical_literal.specs.Additions.Stop.{HasBegun, HasFound, IsCountedFront, IsFronted, IsLongest, IsMeasured, IsStopped, IsUnderway, IsWithin}
 pub use Rattle.lexical_literal.specs.Cause.{Allows, IsCause, IsRefusal, IsUnmet, Marks, adding, bare, binds, case_set, error_of, first_unmet, index_behind}
 pub use Rattle.lexical_literal.specs.Cause.{is_at, is_one_of, lowest, marks_of, number_separator_flags, requirement_flags, requiring, span_of, tail_of}
 pub use Rattle.lexical_literal.specs.Front.{IsFront, IsValidUpTo, NoFront, NoLiteral, ReadsFront}

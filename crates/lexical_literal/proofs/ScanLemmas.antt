@@ -5,8 +5,10 @@ use Rattle.lexical_literal.proofs.Common.{common_steps, count, digits_of, digits
 use Rattle.lexical_literal.proofs.Common.{if◌then◌else◌, is_free, is_negative, is_run, is_signed, lacks_prefix, length, may_follow, may_read, not, or_left}
 use Rattle.lexical_literal.proofs.Common.{part_of, piece_of, refl, role_at, separators_in, subst, sym, take_more, takes, takes_in, true, with_prefix, ℕ, ◌&&◌}
 use Rattle.lexical_literal.proofs.Common.{◌+◌, ◌-◌, ◌<◌, ◌==◌, ◌||◌, ◌∙◌, ◌≡◌, ◌≤◌}
+use Rattle.lexical_literal.proofs.Common.{None, move_by, nat_tests, signs, start, step}
 use Rattle.lexical_literal.proofs.StepLemmas.{awaited_part}
 use Rattle.lexical_literal.specs.Additions.Scan.{IsSign}
+use Rattle.lexical_util.specs.Layout as layout
 use Rattle.lexical_util.specs.declared.feature_format.roles.Role.TheVariants as roles
 use Rattle.lexical_util.specs.declared.format_flags.Part.TheVariants as parts
 use Rattle.lexical_literal.specs.declared.step.Piece.TheVariants as pieces
@@ -240,3 +242,17 @@ module _ (m : Notation) (text : List ℕ) where
 -- No sign.
 pub no_sign : (m : Notation) (text : List ℕ) (part : Part) (size : ℕ) → size ≤ length text → is_signed m part (fresh part) ≡ true → IsSign m text part size 0
 no_sign m text part size within signed = grind arith
+
+-- No literal begins with a sign that is not allowed.
+module _ (m : Notation) (h : HasRoles m) (b : ℕ) where
+  sign_refused : signs b ≡ true → (takes m start (b == 43) roles.Sign && admits m.condition start b roles.Sign) ≡ false → step m start b ≡ None
+  sign_refused sign refused = ap (move_by m.condition m start b) (is_role m parts.Integer b h roles.Sign (λ e. cc) sign) ∙ none _ refused where
+    none : (x : Bool) → x ≡ false → (if x then Some (after start (b == 48) roles.Sign) else None) ≡ None
+    none true is = absurd (false≢true (sym is))
+    none false is = refl
+
+  pub plus_refused : b ≡ 43 → m.flag layout.no_positive_mantissa_sign ≡ true → step m start b ≡ None
+  plus_refused plus forbidden = sign_refused (grind (arith, nat_tests)) (grind (arith, nat_tests))
+
+  pub minus_refused : b ≡ 45 → m.condition conditions.NegativeSign ≡ true → step m start b ≡ None
+  minus_refused minus forbidden = sign_refused (grind (arith, nat_tests)) (grind (arith, nat_tests))

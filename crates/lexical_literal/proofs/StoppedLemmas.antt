@@ -1,6 +1,6 @@
 -- Fronts of a text, and where the loop is left.
 use Rattle.lexical_literal.proofs.Common.{Allows, Bool, Found, Group, HasBegun, HasFound, HasLengths, HasRoles, HasSizes, IsAt, IsCountedFront, IsFront}
-use Rattle.lexical_literal.proofs.Common.{IsFronted, IsLiteral, IsLongest, IsMeasured, IsNone, IsReady, IsRefused, IsStopped, IsUnderway, IsValidUpTo, List}
+use Rattle.lexical_literal.proofs.Common.{IsFronted, IsLiteral, IsLongest, IsMeasured, IsNone, IsReady, IsRefused, IsStopped, IsUnderway, IsValidUpTo, IsWithin, List}
 use Rattle.lexical_literal.proofs.Common.{Literal, NoFront, NoLiteral, None, Notation, Option, Reads, ReadsFront, Role, Some, Stopped, Summary, [], and_parts}
 use Rattle.lexical_literal.proofs.Common.{ap, append-nil, append_assoc, arith, cases_Bool, cases_lt, common_steps, count, cuts_of, drop, false}
 use Rattle.lexical_literal.proofs.Common.{false_from_ne_true, false≢true, first_group, get_or, goes, group_after, group_allows, grow, grown, has_sizes}
@@ -236,6 +236,22 @@ module _ (m : Notation) (ready : IsReady (unsized m)) (sizes : HasSizes m) (text
         → role_at m (part_of at.read.stage) b ≡ Some role → grow m group (Some role) ≡ Some g
         → IsUnderway m text (record { size = at.size + 1; read = t }) g
     underway_more t g role inside taken plays grown = grind (arith, next_scan, next_group, same_grow)
+
+    -- No literal goes on.
+    pub stops_before : IsWithin m text at.size → IsStopped m text at
+    stops_before none = record {
+      valid = record {
+        within = is.begun.within;
+        front = front_of m ready sizes (take at.size text) at.read group is.begun.read is.grouped;
+        no_longer = none;
+      };
+      group = group;
+      read = is;
+      refused = λ inside. rw (slice_get-get_or text at.size 0 inside) (false_from_ne_true _ (λ going. none (at.size + 1) (omega arith) (omega (arith, inside))
+          (subst (IsFront m) (sym (take_more text at.size 0 inside)) ((decides (Some b)).0 going))));
+      complete = (decides None).0;
+      incomplete = no_literal_at;
+    }
 
     -- A byte that is not taken, or the end of the text.
     pub stops_at : (at.size < length text → (step_of ≡ None) ⊎ (group_of ≡ None)) → IsStopped m text at

@@ -1,11 +1,12 @@
 //! Where reading a text stops, and whether that is a literal: what has begun, and what has stopped.
 
-ghost use Rattle.std.specs.Prelude.{◌≡◌, ◌+◌, ◌<◌, ◌≤◌, ◌^◌, IfSome, Some, IsErrAnd, IsNone, None, ℕ, List, [], false, get_or, true};
+ghost use Rattle.std.specs.Prelude.{◌≡◌, ◌+◌, ◌<◌, ◌≤◌, ◌^◌, IfSome, Some, IsErrAnd, IsNone, IsTrue, None, ℕ, List, [], false, get_or, true};
 ghost use Rattle.std.specs.Prelude.{length, slice_get, take, IfErr, IfOk, IsErr};
 ghost use Rattle.lexical_literal.specs.Additions.Explained.{grammar_at, refusal_of, tail_byte};
-ghost use Rattle.lexical_literal.specs.Additions.Stop.{HasBegun, IsFronted, IsLongest, IsMeasured, IsStopped, IsUnderway};
-ghost use Rattle.lexical_literal.specs.Additions.GroupSize.{goes};
-ghost use Rattle.lexical_literal.specs.Additions.Step.{HasLengths, count, cuts_of, part_of, role_at};
+ghost use Rattle.lexical_literal.specs.Additions.Scan.{IsReady};
+ghost use Rattle.lexical_literal.specs.Additions.Stop.{HasBegun, IsFronted, IsLongest, IsMeasured, IsStopped, IsUnderway, IsWithin};
+ghost use Rattle.lexical_literal.specs.Additions.GroupSize.{goes, steps_of};
+ghost use Rattle.lexical_literal.specs.Additions.Step.{HasLengths, count, cuts_of, part_of, role_at, start, step};
 ghost use Rattle.lexical_literal.specs.Cause.{IsRefusal, tail_of, tail_size};
 ghost use Rattle.lexical_literal.specs.Front.{NoLiteral};
 ghost use Rattle.lexical_literal.specs.Literal.{Literal, Reads};
@@ -17,7 +18,10 @@ use crate::cause::{ReadError, Spot};
 use crate::group_size::{FIRST, Group, group_after, group_allows, grow};
 use crate::literal::Sums;
 use crate::span::spot;
-use crate::step::{Piece, START, Summary, is_complete, part_of, piece_number, piece_of, step};
+use crate::step::{
+    Piece, START, Summary, allows_minus, allows_plus, is_complete, part_of, piece_number, piece_of,
+    step,
+};
 use crate::syntax::{Grammar, Syntax, has_sizes};
 use lexical_util::format::{Part, Role};
 
@@ -256,6 +260,27 @@ impl Syntax {
         self.begin(false, text, false).stop(self, text)
     }
 
+    // Returns where reading `_text` stops if no literal begins with its first byte.
+    #[inline(always)]
+    pub const fn beginning(&self, _text: &[u8]) -> Stopped
+        ensures { IsWithin (notation_of self.now) _text.now 0 → IsStopped (notation_of self.now) _text.now result }
+    {
+        let _grammar = self.grammar();
+        BEGIN
+    }
+
+    // Returns whether `text` begins with a sign with which no literal begins.
+    #[inline(always)]
+    pub const fn refuses_sign(&self, text: &[u8]) -> bool
+        ensures { IsTrue result → IsWithin (notation_of self.now) text.now 0 }
+    {
+        let grammar = self.grammar();
+        match byte_at(text, 0) {
+            None => false,
+            Some(byte) => refuses_sign(grammar, byte),
+        }
+    }
+
     // Returns where reading `text` stops, and the longest front that is a literal, if there is one.
     #[inline(always)]
     pub fn front(&self, text: &[u8]) -> (Stopped, Option<Found>)
@@ -307,6 +332,21 @@ impl Syntax {
             None => [0; 9],
             Some(found) => found.counts,
         }
+    }
+}
+
+// Returns whether `byte` is a sign with which no literal begins.
+#[inline(always)]
+const fn refuses_sign(grammar: Grammar, byte: u8) -> bool
+    requires { IsReady (steps_of grammar) }
+    ensures { IsTrue result → step (steps_of grammar) start byte ≡ None }
+{
+    if byte == b'+' {
+        !allows_plus(grammar, Part::Integer)
+    } else if byte == b'-' {
+        !allows_minus(grammar, Part::Integer)
+    } else {
+        false
     }
 }
 

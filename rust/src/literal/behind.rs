@@ -3,51 +3,65 @@
 //! Forms with an opening: what a syntax reads behind it.
 
 use crate::literal::cause::ReadError;
-use crate::literal::exclude::{excludes, lacks_longer, reach, sign_size};
+use crate::literal::exclude::{excludes, lacks_longer, reach};
 use crate::literal::form::Form;
 use crate::literal::list::{FormError, Furthest, Unopened};
 use crate::literal::literal::Literal;
 use crate::literal::stop::{byte_at, tail_at, Found, Stopped, BEGIN};
 
 impl Form {
-    // Returns the literal that `text` is, if it is one. Its first byte is `byte`, whose other case is `other`.
+    // Returns what is behind the opening, or how far the form goes at most if this is known at once, and `text` is not a literal: by the
+    // opening, the sign, the first two bytes behind it, or the byte at `reach`.
     #[cfg_attr(not(peltzivar_small), inline(always))]
-    pub(crate) const fn literal_from<'t>(&self, byte: u8, other: u8, text: &'t [u8]) -> Option<Literal<'t>> {
-        if self.opening.excludes(byte, other) {
-            return None;
+    pub(crate) const fn begins<'t>(&self, text: &'t [u8], reach: usize) -> Result<&'t [u8], usize> {
+        if self.opening.is_empty() {
+            return self.begins_behind(0, text, reach);
         }
-        self.literal(text)
-    }
-
-    // Returns the literal that `text` is, if it is one.
-    #[cfg_attr(not(peltzivar_small), inline(always))]
-    pub(crate) const fn literal<'t>(&self, text: &'t [u8]) -> Option<Literal<'t>> {
-        let Some(inside) = self.inside(text) else {
-            return None;
-        };
-        let syntax = &self.syntax;
-        if excludes(syntax.as_grammar(), inside, sign_size(inside)) {
-            return None;
-        }
-        let begun = syntax.begin(false, inside, false);
-        if begun.is_whole(syntax, inside) {
-            return Some(syntax.literal(inside, begun.counts, begun.sums));
-        }
-        match begun.lengths(syntax, inside) {
-            Ok(counts) => Some(syntax.summed(inside, counts)),
-            Err(_) => None,
-        }
-    }
-
-    // Returns what is behind the opening of `text`, if it is there.
-    #[cfg_attr(not(peltzivar_small), inline(always))]
-    pub(crate) const fn inside<'t>(&self, text: &'t [u8]) -> Option<&'t [u8]> {
         let opened = self.opening.opened(text);
         if opened < self.opening.size() {
-            return None;
+            return Err(opened);
         }
+        self.begins_behind(opened, text, reach)
+    }
+
+    // Returns the same where the opening is there, and has `opened` bytes.
+    #[cfg_attr(not(peltzivar_small), inline(always))]
+    const fn begins_behind<'t>(&self, opened: usize, text: &'t [u8], reach: usize) -> Result<&'t [u8], usize> {
         let (_, inside) = text.split_at(opened);
-        Some(inside)
+        if self.syntax.refuses_sign(inside) {
+            return Err(opened);
+        }
+        match excludes(self.syntax.as_grammar(), inside, reach.saturating_sub(opened)) {
+            Some(bound) => Err(opened + bound),
+            None => Ok(inside),
+        }
+    }
+
+    // Returns whether it is known at once that `text` is not a literal, and that the form goes no further than `reach`.
+    #[cfg_attr(not(peltzivar_small), inline(always))]
+    pub(crate) const fn is_behind(&self, text: &[u8], reach: usize) -> bool {
+        match self.begins(text, reach) {
+            Err(bound) => bound <= reach,
+            Ok(_) => false,
+        }
+    }
+
+    // Returns the literal that `_text` is, where `inside` is behind the opening, or where the form stops.
+    #[cfg_attr(not(peltzivar_small), inline(always))]
+    pub(crate) const fn read<'t>(&self, _text: &[u8], inside: &'t [u8]) -> Result<Literal<'t>, Stopped> {
+        let syntax = &self.syntax;
+        let begun = syntax.begin_small(inside, false);
+        if begun.is_whole(syntax, inside) {
+            let literal = syntax.literal(inside, begun.counts, begun.sums);
+            return Ok(literal.with_kind(self.kind).behind(self.opening.size));
+        }
+        match begun.lengths(syntax, inside) {
+            Ok(counts) => {
+                let literal = syntax.summed(inside, counts);
+                Ok(literal.with_kind(self.kind).behind(self.opening.size))
+            }
+            Err(stop) => Err(stop.at(self.opening.size() + stop.size)),
+        }
     }
 
     // Returns the longest front of `text` that is a literal, if it has more than `size` bytes.
@@ -85,6 +99,16 @@ impl Form {
         let (_, rest) = text.split_at(opened);
         let stop = self.syntax.stop(rest);
         stop.at(opened + stop.size)
+    }
+
+    // Returns where reading `text` stops, which no literal of the form begins with more than no byte of, if there is no opening.
+    #[cfg_attr(not(peltzivar_small), inline(always))]
+    pub(crate) const fn beginning(&self, text: &[u8]) -> Option<Stopped> {
+        if self.opening.is_empty() {
+            Some(self.syntax.beginning(text))
+        } else {
+            None
+        }
     }
 
     // Returns how far the form goes, which has the index `form` and stops at `stop`.

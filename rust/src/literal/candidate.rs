@@ -83,7 +83,7 @@ impl<'a> Forms<'a> {
         if cfg!(peltzivar_small) {
             return self.fault(word, end);
         }
-        match self.find_opened(word) {
+        match self.find_literal(word, None) {
             Err(furthest) => TokenError::Literal(self.error_at(word, furthest)),
             Ok(_) => TokenError::NotAToken { end },
         }

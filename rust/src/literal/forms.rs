@@ -2,7 +2,6 @@
 
 use core::{fmt, ops, ops::Range, slice, str};
 
-use crate::literal::exclude::has_letter_behind_zero;
 use crate::literal::list::{Furthest, Unopened};
 use crate::literal::sentence::first_character;
 use crate::literal::stop::{Begun, Stopped};
@@ -64,7 +63,7 @@ impl<'a> Forms<'a> {
     // for C and the page, which set `peltzivar_small`, have no second copy of the reader for this.
     #[inline(always)]
     fn asks_first(&self, text: &[u8]) -> bool {
-        !cfg!(peltzivar_small) && !self.opened && (self.forms.len() == 1 || !has_letter_behind_zero(text))
+        !cfg!(peltzivar_small) && self.forms[0].opening.is_empty() && may_be_decimal(text)
     }
 
     // Returns the literal of the first form that `text` is, if this is known at once, as of most decimal ones, or where the
@@ -87,18 +86,13 @@ impl<'a> Forms<'a> {
     #[doc(hidden)]
     #[must_use]
     pub fn find<'t>(&self, text: &'t [u8]) -> Option<Number<'t>> {
-        if self.opened {
-            return self.read_bytes(text).ok();
-        }
-        let stop = match self.first_decimal(text) {
+        let first = if self.asks_first(text) { self.first_decimal(text) } else { Err(None) };
+        let stop = match first {
             Ok(literal) => return Some(Number::Literal { literal, form: 0 }),
             Err(stop) => stop,
         };
-        match self.find_plain(text, stop) {
-            Ok((form, literal)) => {
-                let literal = literal.with_kind(self.forms[form].kind);
-                Some(Number::Literal { literal, form })
-            }
+        match self.find_literal(text, stop) {
+            Ok((form, literal)) => Some(Number::Literal { literal, form }),
             Err(_) => self.special(text).map(Number::Special),
         }
     }
@@ -125,37 +119,21 @@ impl<'a> Forms<'a> {
             let Form { syntax, kind, .. } = self.forms[0];
             match syntax.parse_decimal(kind, text) {
                 Decimal::Value(value) => return Ok(value),
-                Decimal::Stopped(at) => return self.parse_stopped(text, at),
+                Decimal::Stopped(at) => return self.parse_behind(text, Some(at)),
                 Decimal::Unknown => {}
             }
         }
         self.parse_behind(text, None)
     }
 
-    // Returns what `parse` returns, where the first form stops at `stop`.
-    #[cold]
-    #[inline(never)]
-    fn parse_stopped<T: FromLiteral>(&self, text: &[u8], stop: Stopped) -> Result<T, ParseError> {
-        match self.first_leads(text, stop) {
-            Some(furthest) => self.refuse(text, furthest),
-            None => self.parse_behind(text, Some(stop)),
-        }
-    }
-
     // Returns what `parse` returns, where the first form stops at `stop`, if it has been asked.
     #[inline(never)]
     fn parse_behind<T: FromLiteral>(&self, text: &[u8], stop: Option<Stopped>) -> Result<T, ParseError> {
-        if self.opened {
-            return self.parse_opened(text);
-        }
-        let (error, kind) = match self.find_plain(text, stop) {
-            Ok((form, literal)) => {
-                let literal = literal.with_kind(self.forms[form].kind);
-                match T::from_literal(literal) {
-                    Ok(value) => return Ok(value),
-                    Err(error) => (error, literal.integer_kind()),
-                }
-            }
+        let (error, kind) = match self.find_literal(text, stop) {
+            Ok((_, literal)) => match T::from_literal(literal) {
+                Ok(value) => return Ok(value),
+                Err(error) => (error, literal.integer_kind()),
+            },
             Err(furthest) => match self.special(text) {
                 None => return self.refuse(text, furthest),
                 Some(special) => match T::from_special(special) {
@@ -167,22 +145,12 @@ impl<'a> Forms<'a> {
         Err(ParseError::Value(ValueError::of::<T>(error, text.len(), kind)))
     }
 
-    // Returns what `parse` returns in a list with openings.
-    #[cold]
-    fn parse_opened<T: FromLiteral>(&self, text: &[u8]) -> Result<T, ParseError> {
-        let (value, size, kind) = match self.read_bytes(text)? {
-            Number::Special(special) => (T::from_special(special), text.len(), IntegerKind::Exact),
-            Number::Literal { literal, .. } => (T::from_literal(literal), literal.end(), literal.integer_kind()),
-        };
-        value.map_err(|error| ParseError::Value(ValueError::of::<T>(error, size, kind)))
-    }
-
-    // Returns the error of the form that goes furthest, made in its place. The list has no openings.
+    // Returns the error of the form that goes furthest, made in its place.
     #[cold]
     fn refuse<T>(&self, text: &[u8], furthest: Furthest) -> Result<T, ParseError> {
         let Furthest { form, stop, .. } = furthest;
-        let Form { name, ref syntax, .. } = self.forms[form];
-        if cfg!(peltzivar_small) {
+        let Form { name, ref syntax, ref opening, .. } = self.forms[form];
+        if cfg!(peltzivar_small) || !opening.is_empty() {
             return Err(ParseError::Read(self.error_at(text, furthest)));
         }
         let suffix = self.suffix_at(text, form, stop);
@@ -214,6 +182,15 @@ impl<'a> Forms<'a> {
 /// Returns the rest of a text behind a literal, of which each byte is ASCII.
 pub(crate) fn rest_of<'t>(text: &'t str, rest: &[u8]) -> &'t str {
     text.get(text.len() - rest.len()..).unwrap_or_default()
+}
+
+// Returns whether the first byte is not a letter, nor the second behind a zero.
+#[inline(always)]
+const fn may_be_decimal(text: &[u8]) -> bool {
+    match text {
+        [b'0', byte, ..] | [byte, ..] => *byte <= b'9',
+        [] => true,
+    }
 }
 
 impl Syntax {

@@ -3,15 +3,14 @@
 //! Numbers that have several forms, such as `10`, `0x1F` and `0b1`.
 
 use crate::literal::cause::ReadError;
-use crate::literal::exclude::{excludes, has_letter_behind_zero, is_settled, sign_size};
+use crate::literal::exclude::{has_letter_behind_zero, sign_size};
 use crate::literal::form::Form;
 use crate::literal::literal::Literal;
 use crate::literal::opening::Opening;
 use crate::literal::specials::{Special, Specials};
-use crate::literal::step::other_case;
 use crate::literal::stop::{Found, Stopped};
 use crate::literal::suffix::is_wide;
-use crate::literal::syntax::Grammar;
+use crate::literal::token::larger;
 
 // What a point at the end of a number is given back to: nothing, another point or a word, or a letter.
 #[derive(Debug, Clone, Copy, PartialEq, Eq, Hash)]
@@ -221,25 +220,8 @@ impl<'a> Forms<'a> {
     // Returns what `read` returns, where the first form stops at `stop`, if it has been asked.
     #[inline(never)]
     pub(crate) const fn read_behind<'t>(&self, text: &'t [u8], stop: Option<Stopped>) -> Result<Number<'t>, FormError> {
-        if !cfg!(peltzivar_small) && self.opened {
-            self.number(text, self.find_opened(text))
-        } else {
-            self.number(text, self.find_plain(text, stop))
-        }
-    }
-
-    // Returns the number of the form that has been found, or a special value, or the error of the form that goes furthest.
-    #[inline(always)]
-    const fn number<'t>(
-        &self,
-        text: &'t [u8],
-        found: Result<(usize, Literal<'t>), Furthest>,
-    ) -> Result<Number<'t>, FormError> {
-        match found {
-            Ok((form, found)) => {
-                let literal = self.of_form(form, found);
-                Ok(Number::Literal { literal, form })
-            }
+        match self.find_literal(text, stop) {
+            Ok((form, literal)) => Ok(Number::Literal { literal, form }),
             Err(furthest) => match self.special(text) {
                 Some(special) => Ok(Number::Special(special)),
                 None => Err(self.error_at(text, furthest)),
@@ -279,89 +261,47 @@ impl<'a> Forms<'a> {
         self.specials.read_bytes(&self.forms[0].syntax, text)
     }
 
-    // Returns the index of the first form of which `text` is a literal, and the literal, or the form whose error is that of the list. If there is
-    // no literal, all forms are asked again.
-    #[inline(never)]
-    pub(crate) const fn find_opened<'t>(&self, text: &'t [u8]) -> Result<(usize, Literal<'t>), Furthest> {
-        let byte = match text {
-            [first, ..] => *first,
-            [] => 0,
-        };
-        let other = other_case(byte);
-        let mut form = 0;
-        while form < self.forms.len() {
-            if let Some(literal) = self.forms[form].literal_from(byte, other, text) {
-                return Ok((form, literal));
-            }
-            form += 1;
-        }
-        Err(self.furthest(text))
-    }
-
-    // Returns the same in a list without openings, where the first form stops at `stop`, if it has been asked. Each form is asked
-    // once, but if it has not been asked and no form goes beyond the second byte behind the sign, all are asked again.
+    // Returns the index of the first form of which `text` is a literal, and the literal, or the form whose error is that of the list, where
+    // the first form stops at `stop`, if it has been asked. Each form is asked once, but if one that is passed over may go further, all are
+    // asked again.
     #[inline(always)]
-    pub(crate) const fn find_plain<'t>(
+    pub(crate) const fn find_literal<'t>(
         &self,
         text: &'t [u8],
         stop: Option<Stopped>,
     ) -> Result<(usize, Literal<'t>), Furthest> {
         let mut furthest = None;
+        let mut bound = 0;
         let mut form = 0;
         if let Some(stop) = stop {
             furthest = Some(self.reached(text, 0, stop));
             form = 1;
         }
         while form < self.forms.len() {
-            let text = if cfg!(peltzivar_small) && self.opened {
-                match self.forms[form].inside(text) {
-                    Some(inside) => inside,
-                    None => {
-                        form += 1;
-                        continue;
-                    }
-                }
-            } else {
-                text
-            };
-            let syntax = &self.forms[form].syntax;
-            if !is_behind(syntax.as_grammar(), text, furthest) {
-                let begun = syntax.begin_small(text, false);
-                if begun.is_whole(syntax, text) {
-                    return Ok((form, syntax.literal(text, begun.counts, begun.sums)));
-                }
-                match begun.lengths(syntax, text) {
-                    Ok(counts) => return Ok((form, syntax.summed(text, counts))),
-                    Err(_) if cfg!(peltzivar_small) && self.opened => {}
-                    Err(stop) => furthest = self.further_on(text, furthest, form, stop),
-                }
+            let it = &self.forms[form];
+            match it.begins(text, reach_of(furthest)) {
+                Err(size) => bound = larger(bound, size),
+                Ok(inside) => match it.read(text, inside) {
+                    Ok(literal) => return Ok((form, literal)),
+                    Err(stop) => furthest = Some(self.further(text, furthest, form, stop)),
+                },
             }
             form += 1;
         }
         match furthest {
-            Some(best) => Err(best),
-            None => Err(self.furthest(text)),
+            Some(best) if is_past(best, bound) => Err(best),
+            None if bound == 0 => Err(self.at_once(text)),
+            _ => Err(self.furthest(text)),
         }
     }
 
-    // Returns that the first form, which stops at `stop`, has the error of the list, or `None` if another form has to be asked, or there are
-    // special values.
-    #[cold]
-    #[inline(never)]
-    pub(crate) const fn first_leads(&self, text: &[u8], stop: Stopped) -> Option<Furthest> {
-        if !self.specials.are_none() {
-            return None;
+    // Returns the first form, where none goes beyond the beginning of `text`, which is no literal.
+    #[inline(always)]
+    const fn at_once(&self, text: &[u8]) -> Furthest {
+        match self.forms[0].beginning(text) {
+            None => self.furthest(text),
+            Some(stop) => Furthest { form: 0, stop, reach: 0 },
         }
-        let first = self.reached(text, 0, stop);
-        let mut form = 1;
-        while form < self.forms.len() {
-            let it = &self.forms[form];
-            if it.has_opening() || !is_settled(it.syntax.as_grammar(), text, first.reach) {
-                return None;
-            }
-            form += 1;
-        }
-        Some(first)
     }
 
     // Returns the form whose error is that of the list, where `text` is no literal.
@@ -374,40 +314,21 @@ impl<'a> Forms<'a> {
         let mut form = 1;
         while form < self.forms.len() {
             let it = &self.forms[form];
-            if it.has_opening() || !is_settled(it.syntax.as_grammar(), text, furthest.reach) {
+            if !it.is_behind(text, furthest.reach) {
                 let stop = it.stop(text);
-                furthest = self.further(text, furthest, form, stop);
+                furthest = self.further(text, Some(furthest), form, stop);
             }
             form += 1;
         }
         furthest
     }
 
-    // Returns which of two forms has the error of the list, or `None` if there is but one, which does not go beyond the second byte behind
-    // the sign.
-    #[inline(always)]
-    const fn further_on(
-        &self,
-        text: &[u8],
-        furthest: Option<Furthest>,
-        form: usize,
-        stop: Stopped,
-    ) -> Option<Furthest> {
-        match furthest {
-            Some(best) => Some(self.further(text, best, form, stop)),
-            None => {
-                let other = self.reached(text, form, stop);
-                if other.reach > sign_size(text) + 2 {
-                    Some(other)
-                } else {
-                    None
-                }
-            }
-        }
-    }
-
     // Returns which of two forms has the error of the list: the one that goes further, the first of equals.
-    const fn further(&self, text: &[u8], best: Furthest, form: usize, stop: Stopped) -> Furthest {
+    #[inline(always)]
+    const fn further(&self, text: &[u8], furthest: Option<Furthest>, form: usize, stop: Stopped) -> Furthest {
+        let Some(best) = furthest else {
+            return self.reached(text, form, stop);
+        };
         if stop.size < best.reach {
             return best;
         }
@@ -420,6 +341,7 @@ impl<'a> Forms<'a> {
     }
 
     // Returns how far the form with the index `form` goes, which stops at `stop`.
+    #[inline(always)]
     const fn reached(&self, text: &[u8], form: usize, stop: Stopped) -> Furthest {
         self.as_slice()[form].reached(text, form, stop)
     }
@@ -485,11 +407,17 @@ const fn are_wide(forms: &[Form]) -> bool {
     }
 }
 
-// Returns whether a form need not be asked: its first bytes exclude that `text` is a literal, or it goes no further than the furthest form.
+// Returns how far the form goes that goes furthest, if there is one.
 #[inline(always)]
-const fn is_behind(grammar: Grammar, text: &[u8], furthest: Option<Furthest>) -> bool {
+const fn reach_of(furthest: Option<Furthest>) -> usize {
     match furthest {
-        None => excludes(grammar, text, sign_size(text)),
-        Some(best) => is_settled(grammar, text, best.reach),
+        None => 0,
+        Some(best) => best.reach,
     }
+}
+
+// Returns whether no form that goes up to `bound` at most can go further than the best, or be before it and go as far.
+#[inline(always)]
+const fn is_past(best: Furthest, bound: usize) -> bool {
+    bound < best.reach || (best.form == 0 && bound == best.reach)
 }

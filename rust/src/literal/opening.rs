@@ -83,12 +83,6 @@ impl Opening {
         self.size as usize
     }
 
-    // Returns whether the first byte is neither `byte` nor `other`, which is its other case. Then no text that begins with `byte` is opened.
-    #[inline(always)]
-    pub(crate) const fn excludes(&self, byte: u8, other: u8) -> bool {
-        self.size != 0 && self.bytes[0] != byte && self.bytes[0] != other
-    }
-
     // Returns the number of its bytes that `text` begins with.
     #[cfg_attr(not(peltzivar_small), inline(always))]
     pub(crate) const fn opened(&self, text: &[u8]) -> usize {

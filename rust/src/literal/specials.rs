@@ -135,12 +135,6 @@ impl<'a> Specials<'a> {
         }
     }
 
-    // Returns whether there are no spellings.
-    #[inline(always)]
-    pub(crate) const fn are_none(&self) -> bool {
-        matches!((self.nan, self.inf, self.infinity), (None, None, None))
-    }
-
     // Returns the first spelling that `text` matches.
     const fn spelling(&self, grammar: Grammar, text: &[u8]) -> Option<Spelling> {
         if matches(grammar, self.nan, text) {

@@ -6,7 +6,9 @@ use crate::literal::cause::{ReadError, Spot};
 use crate::literal::group_size::{group_after, group_allows, grow, Group, FIRST};
 use crate::literal::literal::Sums;
 use crate::literal::span::spot;
-use crate::literal::step::{is_complete, part_of, piece_number, piece_of, step, Piece, Summary, START};
+use crate::literal::step::{
+    allows_minus, allows_plus, is_complete, part_of, piece_number, piece_of, step, Piece, Summary, START,
+};
 use crate::literal::syntax::{has_sizes, Grammar, Syntax};
 use crate::word::{Part, Role};
 
@@ -182,6 +184,23 @@ impl Syntax {
         self.begin_any(text, false).stop(self, text)
     }
 
+    // Returns where reading `_text` stops if no literal begins with its first byte.
+    #[inline(always)]
+    pub(crate) const fn beginning(&self, _text: &[u8]) -> Stopped {
+        let _grammar = self.as_grammar();
+        BEGIN
+    }
+
+    // Returns whether `text` begins with a sign with which no literal begins.
+    #[inline(always)]
+    pub(crate) const fn refuses_sign(&self, text: &[u8]) -> bool {
+        let grammar = self.as_grammar();
+        match byte_at(text, 0) {
+            None => false,
+            Some(byte) => refuses_sign(grammar, byte),
+        }
+    }
+
     // Returns where reading `text` stops, and the longest front that is a literal, if there is one.
     #[cfg_attr(not(peltzivar_small), inline(always))]
     pub(crate) const fn front(&self, text: &[u8]) -> (Stopped, Option<Found>) {
@@ -222,6 +241,18 @@ impl Syntax {
             None => [0; 9],
             Some(found) => found.counts,
         }
+    }
+}
+
+// Returns whether `byte` is a sign with which no literal begins.
+#[inline(always)]
+const fn refuses_sign(grammar: Grammar, byte: u8) -> bool {
+    if byte == b'+' {
+        !allows_plus(grammar, Part::Integer)
+    } else if byte == b'-' {
+        !allows_minus(grammar, Part::Integer)
+    } else {
+        false
     }
 }
 

@@ -6,9 +6,9 @@ use Rattle.lexical_util.specs.Layout as layout
 use Rattle.lexical_util.specs.Roles.{other_case}
 use Rattle.lexical_util.specs.declared.feature_format.roles.Role.{Role}
 use Rattle.lexical_util.specs.declared.feature_format.roles.Role.TheVariants as roles
-use Rattle.lexical_literal.specs.Additions.Stop.{IsCountedFront, IsStopped}
-use Rattle.lexical_forms.specs.Forms.{Begins, HasFront, IsFirst, IsFormError, IsGreatest, NoForm, Reaches, ReadsIn, reach, sign_size}
-use Rattle.lexical_literal.specs.Front.{IsValidBy, IsValidUpTo, NoFrontBy, NoLiteral, NoneBy}
+use Rattle.lexical_literal.specs.Additions.Stop.{IsCountedFront, IsStopped, IsWithin}
+use Rattle.lexical_forms.specs.Forms.{Begins, HasFront, HasOpening, IsFirst, IsFormError, IsGreatest, NoForm, Reaches, ReadsIn, reach, sign_size}
+use Rattle.lexical_literal.specs.Front.{BeginsBy, IsValidBy, NoFrontBy, NoLiteral, NoneBy}
 use Rattle.lexical_literal.specs.Read.{Read}
 use Rattle.lexical_literal.specs.Notation.{Notation, notation_of, set_of_role}
 use Rattle.lexical_literal.specs.declared.syntax.Condition.TheVariants as conditions
@@ -73,14 +73,23 @@ pub record LacksZero (m : Notation) (text : List ℕ) : Type 0 where
   pub required : IsTrue (m.condition conditions.BasePrefix) ⊎ IsTrue (m.condition conditions.LeadingZero)
   pub other : get_or text (sign_size text) 0 ≡ 48 → ⊥
 
--- `IsNoFurther m text size` holds if the syntax goes up to `size` in `text` at most.
-abbrev pub IsNoFurther : Notation → List ℕ → ℕ → Type 0
-IsNoFurther m text size = (n : ℕ) → IsValidUpTo m text n → reach m text n ≤ size
+-- `LacksLetter m text index` holds if the byte with this index is not the letter of the base prefix in either case.
+pub record LacksLetter (m : Notation) (text : List ℕ) (index : ℕ) : Type 0 where
+  pub inside : index < length text
+  pub other : AreFalse m.prefix (get_or text index 0)
 
--- `IsBehind m text furthest` holds if the syntax goes no further than `furthest` or, where this is `None`, than the first byte behind the sign.
-abbrev pub IsBehind : Notation → List ℕ → Option Furthest → Type 0
-IsBehind m text None = (n : ℕ) → IsValidUpTo m text n → n ≤ sign_size text + 1
-IsBehind m text (Some best) = IsNoFurther m text best.reach
+-- `IsSilentAt m text index` holds if the byte with this index plays no role, and its other case neither.
+pub record IsSilentAt (m : Notation) (text : List ℕ) (index : ℕ) : Type 0 where
+  pub inside : index < length text
+  pub own : PlaysNoRole m (get_or text index 0)
+  pub other : PlaysNoRole m (other_case (get_or text index 0))
+
+-- `IsExcluded m text size` holds if `text` is not a literal, and the syntax goes up to `size` at most.
+pub record IsExcluded (m : Notation) (text : List ℕ) (size : ℕ) : Type 0 where
+  pub inside : size ≤ length text
+  pub none : NoLiteral m text
+  pub within : IsWithin m text size
+  pub there : reach m text size ≤ size
 
 -- `IsStoppedBefore text stop g` holds if reading stops at `stop` in the opening of the form `g`. `IsStoppedBehind text stop g` holds if the opening is
 -- there, and if what is behind it is not a literal, and reading it stops at `stop`. `IsRefusedAt text stop g` holds if one of them does.
@@ -102,43 +111,47 @@ pub record IsInside (g : Form) (text part : List ℕ) : Type 0 where
   pub opened : IsOpened g.opening text
   pub is : part ≡ behind g text
 
--- `IsLow text size g` holds if the form `g` goes up to `size` at most. `IsLeftOut text furthest g` holds if it goes no further than `furthest` or, where this
--- is `None`, than the second byte behind the sign.
+-- `IsLow text size g` holds if the form `g` goes up to `size` at most, and `IsPassed g text size` if `text` is not a literal of it, too, and no literal begins
+-- with more bytes.
 abbrev pub IsLow : List ℕ → ℕ → Form → Type 0
 IsLow text size g = (n : ℕ) → Reaches text g n → n ≤ size
 
-abbrev pub IsLeftOut : List ℕ → Option Furthest → Form → Type 0
-IsLeftOut text None g = IsLow text (sign_size text + 2) g
-IsLeftOut text (Some best) g = IsLow text best.reach g
+pub record IsPassed (g : Form) (text : List ℕ) (size : ℕ) : Type 0 where
+  pub none : NoneBy (ReadsIn g) text
+  pub within : (more : ℕ) → size < more → more ≤ length text → BeginsBy (ReadsIn g) (take more text) → ⊥
+  pub low : IsLow text size g
+
+-- `ArePassed forms text asked limit` holds if each of the first `asked` forms is known to go less far than `limit`.
+abbrev pub ArePassed : List Form → List ℕ → ℕ → ℕ → Type 0
+ArePassed forms text asked limit = (k : ℕ) (d : Form) → k < asked → (size : ℕ) × (size < limit) × IsPassed (get_or forms k d) text size
 
 -- `AreBelow forms text start end most` holds if the forms with indexes from `start` to `end` go less far than `most`.
 abbrev pub AreBelow : List Form → List ℕ → ℕ → ℕ → ℕ → Type 0
 AreBelow forms text start end most = (k : ℕ) (d : Form) → start ≤ k → k < end → (n : ℕ) → Reaches text (get_or forms k d) n → n < most
 
--- `Leads forms text asked best` holds if the form of `best` stops there and goes up to its reach, those before it less far, and those behind it, of the first
--- `asked` forms, no further.
-pub record Leads (forms : List Form) (text : List ℕ) (asked : ℕ) (best : Furthest) : Type 0 where
+-- `Leads forms text asked limit best` holds if the form of `best` stops there and goes up to its reach, those before it less far, and those behind it, of
+-- the first `asked` forms, no further, or less far than `limit`.
+pub record Leads (forms : List Form) (text : List ℕ) (asked limit : ℕ) (best : Furthest) : Type 0 where
   pub here : IsSomeAnd (slice_get forms best.form) (IsRefusedAt text best.stop)
   pub reach : IsSomeAnd (slice_get forms best.form) (λ g. Reaches text g best.reach)
-  pub before : AreBelow forms text 0 best.form best.reach
-  pub behind : AreBelow forms text (best.form + 1) asked (best.reach + 1)
+  pub before : (most : ℕ) → best.reach ≤ most → limit ≤ most → AreBelow forms text 0 best.form most
+  pub behind : (most : ℕ) → best.reach < most → limit ≤ most → AreBelow forms text (best.form + 1) asked most
 
--- `IsLed forms text asked furthest` holds if `furthest` leads the first `asked` forms, or if it is `None`, and none of them goes beyond the second byte
--- behind the sign.
-abbrev pub IsLed : List Form → List ℕ → ℕ → Option Furthest → Type 0
-IsLed forms text asked None = (k : ℕ) (d : Form) → k < asked → IsLow text (sign_size text + 2) (get_or forms k d)
-IsLed forms text asked (Some best) = Leads forms text asked best
+-- `IsLed forms text asked limit furthest` holds if `furthest` leads the first `asked` forms, or if it is `None`, and they are passed over.
+abbrev pub IsLed : List Form → List ℕ → ℕ → ℕ → Option Furthest → Type 0
+IsLed forms text asked limit None = ArePassed forms text asked limit
+IsLed forms text asked limit (Some best) = Leads forms text asked limit best
 
--- `IsFirstOf forms text index read` holds if `read`, with the kind of the form with this index, is the literal `text` of this form, and of none before.
-abbrev pub IsFirstOf : List Form → List ℕ → ℕ → Read → Type 0
-IsFirstOf forms text index read = IsSomeAnd (slice_get forms index) (λ form. IsFirst forms text index (record read { kind = form.kind }))
+-- `IsPast best bound` holds if `best` goes beyond `bound`, or up to there as the first form.
+abbrev pub IsPast : Furthest → ℕ → Type 0
+IsPast best bound = (bound < best.reach) ⊎ ((best.form ≡ 0) × (bound ≡ best.reach))
 
 -- `IsFoundForm forms text result` holds if `result` has the first form of which `text` is a literal and the literal, or if `text` is a literal
 -- of no form, and `result` leads them.
 pub record IsFoundForm (forms : List Form) (text : List ℕ) (result : Result (ℕ × Read) Furthest) : Type 0 where
-  pub found : IfOk result (λ found. IsFirstOf forms text found.0 found.1)
+  pub found : IfOk result (λ found. IsFirst forms text found.0 found.1 × HasOpening forms found.0 found.1)
   pub none : IsErr result → NoForm forms text
-  pub furthest : IfErr result (Leads forms text (length forms))
+  pub furthest : IfErr result (Leads forms text (length forms) 0)
 
 -- `NoFrontPast m text size` holds if no front of `text` with more than `size` bytes is a literal, and `NonePast text size g` if none is one of the form `g`.
 -- `IsFrontIn text found g` holds if `found` has the longest front that is a literal of `g`, and the lengths of its parts behind the opening.

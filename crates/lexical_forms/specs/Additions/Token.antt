@@ -7,13 +7,13 @@ use Rattle.lexical_util.specs.Ascii.{ByteSet}
 use Rattle.lexical_literal.specs.Cause.{is_in}
 use Rattle.lexical_forms.specs.FormList.{FormList, have_openings}
 use Rattle.lexical_forms.specs.Forms.{Begins, ReadsIn}
-use Rattle.lexical_literal.specs.Front.{IsFront, NoneBy, ReadsFront}
+use Rattle.lexical_literal.specs.Front.{NoneBy, ReadsFront}
 use Rattle.lexical_forms.specs.Suffix.{is_word_byte, more_of, stop_end, suffix_size, suffix_words}
 use Rattle.lexical_forms.specs.declared.suffix.Suffixes.{Suffixes}
 use Rattle.lexical_forms.specs.Token.{IsBest, IsCandidate, IsChosen, NoCandidate, gives_back, is_alone, is_shorter}
 use Rattle.lexical_forms.specs.declared.list.PointsBack.{PointsBack}
 use Rattle.lexical_forms.specs.declared.list.Tokens.{Tokens}
-use Rattle.lexical_literal.specs.Additions.Stop.{IsMeasured}
+use Rattle.lexical_literal.specs.Additions.Stop.{IsMeasured, IsWithin}
 use Rattle.lexical_literal.specs.Literal.{Literal, Reads}
 use Rattle.lexical_literal.specs.declared.stop.Found.{Found}
 use Rattle.lexical_literal.specs.Notation.{Notation, notation_of}
@@ -115,12 +115,8 @@ suffixed suffixes needs text own =
     if needs && (suffix_size suffixes (has_float own.counts) (drop own.size text) == 0) then None
     else Some (record { size = own.size; counts = own.counts; end = own.size + suffix_size suffixes (has_float own.counts) (drop own.size text) })
 
--- `IsWithin m text size` holds if no literal begins with more than the first `size` bytes of `text`. `IsNear back form text size` holds if none of `form` does,
--- or only with a point more that is given back. `AreNear back forms but text size` holds if this holds of each of `forms`, but for the one with the
+-- `IsNear back form text size` holds if no literal of `form` begins with more than the first `size` bytes of `text`, or only with a point more that is given back. `AreNear back forms but text size` holds if this holds of each of `forms`, but for the one with the
 -- index `but`. `FrontsWithin text size form` holds if each front of `text` that is a literal has at most `size` bytes.
-abbrev pub IsWithin : Notation → List ℕ → ℕ → Type 0
-IsWithin m text size = (more : ℕ) → size < more → more ≤ length text → IsFront m (take more text) → ⊥
-
 abbrev pub IsNear : PointsBack → Form → List ℕ → ℕ → Type 0
 IsNear back form text size = IsWithin (notation_of form.syntax) text size
     ⊎ (IsWithin (notation_of form.syntax) text (size + 1) × (gives_back back form text (size + 1) ≡ true))

@@ -3,7 +3,7 @@ use Rattle.std.specs.Prelude.{ℕ, ◌≡◌, ◌<◌, ◌≤◌, IsNone, IsTrue
 use Rattle.std.specs.Option.{ForSome}
 use Rattle.lexical_literal.specs.Notation.{Notation}
 use Rattle.lexical_literal.specs.Literal.{Literal, Reads}
-use Rattle.lexical_literal.specs.Front.{IsValidUpTo, NoFront, NoLiteral, ReadsFront}
+use Rattle.lexical_literal.specs.Front.{IsFront, IsValidUpTo, NoFront, NoLiteral, ReadsFront}
 use Rattle.lexical_literal.specs.Additions.GroupSize.{first_group, goes, group_after, unsized}
 use Rattle.lexical_literal.specs.Additions.Step.{HasLengths, cuts_of}
 use Rattle.lexical_literal.specs.declared.stop.Found.{Found}
@@ -50,6 +50,10 @@ pub record HasBegun (m : Notation) (text : List ℕ) (counted : Begun) : Type 0 
   pub literal : IsTrue counted.complete → (l : Literal) × Reads m l (take counted.at.size text)
   pub lengths : IsTrue counted.complete → (l : Literal) → Reads m l (take counted.at.size text) → HasLengths l (cuts_of counted.counts)
   pub refused : IsTrue counted.refused → (counted.at.size < length text) × IsStopped m text counted.at
+
+-- `IsWithin m text size` holds if no literal begins with more than the first `size` bytes of `text`.
+abbrev pub IsWithin : Notation → List ℕ → ℕ → Type 0
+IsWithin m text size = (more : ℕ) → size < more → more ≤ length text → IsFront m (take more text) → ⊥
 
 -- `IsMeasured m text counts` holds if `text` is a literal, and if its parts have the lengths `counts`.
 pub record IsMeasured (m : Notation) (text counts : List ℕ) : Type 0 where

@@ -1,6 +1,6 @@
 -- The word where the form that goes furthest stops is a literal.
 use Rattle.lexical_forms.proofs.Common.{FormList, GoesTo, IsFormError, IsGreatest, NoForm, [], ap, subst, sym, word_size, ℕ, ◌+◌, ◌∙◌}
-use Rattle.lexical_forms.proofs.TokenLemmas.{some_of_form}
+use Rattle.lexical_forms.proofs.TokenLemmas.{some_form}
 use Rattle.lexical_forms.proofs.list.Forms.fail.Goals as goal
 
 pub returns-in-Err : goal.returns-in-Err
@@ -21,6 +21,6 @@ returns-in-Ok c =
     let furthest = subst (λ (l : FormList). (i : ℕ) × IsGreatest (GoesTo c.args.text.now) l.forms i stop) c.self.view_is c.furthest_stop-size.ensures in (
       c.requires,
       (furthest.0, stop, furthest.1, ap (λ n. stop + n) (c.word_size.ensures.size ∙ ap (word_size []) c.split_at.ensures.back)),
-      λ none. some_of_form c.args.self.now.forms c.split_at-2.result.0.now c.in-Ok.field-0.0 c.in-Ok.field-0.1 c.in-Ok.ensures.found
+      λ none. some_form c.args.self.now.forms c.split_at-2.result.0.now c.in-Ok.field-0.0 c.in-Ok.field-0.1 c.in-Ok.ensures.found.0
           (subst (NoForm c.args.self.now.forms) (sym c.split_at-2.ensures.front) none),
     )

@@ -1,10 +1,8 @@
 -- The form whose error is that of the list, of those that have been asked.
-use Rattle.lexical_forms.proofs.Common.{FormList, Grammar, IsLow, IsNoFurther, IsRefusedAt, IsSomeAnd, Leads, NoForm, Reaches, arith, get_or, nat_tests, notation_of}
-use Rattle.lexical_forms.proofs.Common.{refl, slice_get, subst, sym, ◌+◌}
-use Rattle.lexical_forms.proofs.FormLemmas.{at_index, leads, leads_all, left_out}
-use Rattle.lexical_forms.proofs.BehindLemmas.{low_plain}
+use Rattle.lexical_forms.proofs.Common.{FormList, IsLow, IsRefusedAt, IsSomeAnd, Leads, NoForm, Reaches, refl, slice_get, subst, sym, ◌+◌}
+use Rattle.lexical_forms.proofs.FormLemmas.{at_index, leads_all, leads_first, left_out}
 use Rattle.lexical_forms.proofs.list.Forms.furthest.Goals as goal
-use Rattle.lexical_forms.proofs.list.Forms.furthest.Goals.{then-has_opening, else-has_opening+else-not-is_settled}
+use Rattle.lexical_forms.proofs.list.Forms.furthest.Goals.{then-not-is_behind, else-not-is_behind}
 
 pub reached-furthest-requires : goal.reached-furthest-requires
 reached-furthest-requires c =
@@ -16,14 +14,14 @@ reached-furthest-requires c =
 pub loop-form-init : goal.loop-form-init
 loop-form-init c =
     let forms = c.self.inside.forms.now in let text = c.args.text.now in let d = c.index-self-0.result in
-    leads forms text 0 c.stop-first.result c.reached-furthest.result c.reached-furthest.ensures.form c.reached-furthest.ensures.stop
+    leads_first forms text 0 c.stop-first.result c.reached-furthest.result c.reached-furthest.ensures.form c.reached-furthest.ensures.stop
     (at_index (IsRefusedAt text c.stop-first.result) forms forms d 0 refl c.self.invariant.0
     (c.stop-first.ensures.stop (subst (λ (l : FormList). NoForm l.forms text) (sym c.self.view_is) c.requires 0 d c.self.invariant.0)))
     (subst (λ (l : FormList). IsSomeAnd (slice_get l.forms 0) (λ g. Reaches text g c.reached-furthest.result.reach)) (sym c.self.view_is)
-    c.reached-furthest.ensures.reach) (λ k d low below. absurd (omega (arith, below)))
+    c.reached-furthest.ensures.reach)
 
-pub further-furthest-requires-clause-refused : goal.further-furthest-requires-clause-refused
-further-furthest-requires-clause-refused c =
+pub further-furthest-requires : goal.further-furthest-requires
+further-furthest-requires c =
     let forms = c.self.inside.forms.now in
     let text = c.args.text.now in
     let i = c.loop-form.form in
@@ -38,17 +36,15 @@ loop-form-preserved c =
     let text = c.args.text.now in
     let i = c.loop-form.form in
     let best = c.loop-form.furthest in
-    elim c.if-has_opening.branch [
-      | then-has_opening w ↦ subst (Leads forms text (i + 1)) (sym w.furthest-is)
-          (subst (λ (l : FormList). Leads l.forms text (i + 1) w.further-furthest.result) (sym c.self.view_is) w.further-furthest.ensures)
-      | else-has_opening+else-not-is_settled w ↦ subst (Leads forms text (i + 1)) (sym w.furthest-is) (left_out forms text i best c.loop-form.invariant
+    elim c.if-not-is_behind.branch [
+      | then-not-is_behind w ↦ subst (Leads forms text (i + 1) 0) (sym w.furthest-is)
+          (subst (λ (l : FormList). Leads l.forms text (i + 1) 0 w.further-furthest.result) (sym c.self.view_is)
+          (w.further-furthest.ensures 0 (subst (λ (l : FormList). Leads l.forms text i 0 best) c.self.view_is c.loop-form.invariant)))
+      | else-not-is_behind w ↦ subst (Leads forms text (i + 1) 0) (sym w.furthest-is) (left_out forms text i 0 best c.loop-form.invariant
           (at_index (IsLow text best.reach) forms forms c.index-self-form.result i refl c.loop-form-test.true
-          (low_plain (get_or forms i c.index-self-form.result) text
-          (let opened = c.has_opening.ensures in let no = w.if-has_opening.false in grind (arith, nat_tests)) best.reach
-          (subst (λ (g : Grammar). IsNoFurther (notation_of g) text best.reach) w.grammar.ensures.value
-          (w.is_settled.ensures.near w.if-not-is_settled.false)))))
+          (c.is_behind.ensures w.if-not-is_behind.false)))
     ]
 
 pub returns : goal.returns
-returns c = rw (← c.self.view_is) (leads_all c.self.inside.forms.now c.args.text.now c.loop-form.form c.loop-form-test.false c.loop-form.furthest
+returns c = rw (← c.self.view_is) (leads_all c.self.inside.forms.now c.args.text.now c.loop-form.form 0 c.loop-form-test.false c.loop-form.furthest
     c.loop-form.invariant)

@@ -1,0 +1,107 @@
+-- The first form that reads the text, or the form whose error is that of the list.
+use Rattle.lexical_forms.proofs.Common.{All-more, ArePassed, FormList, Furthest, IfSome, IsLed, IsRefusedAt, IsSomeAnd, Leads, NoForm, None, NoneBy, Option, Reaches}
+use Rattle.lexical_forms.proofs.Common.{ReadsIn, Stopped, arith, get_or, length, length-take-le, nat_tests, refl, slice_get, subst, sym, take, ℕ, ◌+◌, ◌≡◌}
+use Rattle.lexical_forms.proofs.BehindLemmas.{none_in}
+use Rattle.lexical_forms.proofs.FormLemmas.{all_passed, all_tried, at_index, first_none, found_is, leads_all, leads_first, leads_past}
+use Rattle.lexical_forms.proofs.FormLemmas.{led_past}
+use Rattle.lexical_forms.proofs.list.Forms.find_literal.Goals as goal
+use Rattle.lexical_forms.proofs.list.Forms.find_literal.Goals.{in-Some, in_default, in-Err, in-Ok+in-Err-read}
+
+pub loop-form-init : goal.loop-form-init
+loop-form-init c =
+    let forms = c.self.inside.forms.now in let text = c.args.text.now in
+    elim c.match-stop.branch [
+      | in-Some w ↦
+          let here = subst (λ (l : FormList). IsSomeAnd (slice_get l.forms 0) (IsRefusedAt text w.in-Some.stop)) (sym c.self.view_is)
+          (subst (λ (o : Option Stopped). IfSome o (λ stop. IsSomeAnd (slice_get c.args.self.now.forms 0) (IsRefusedAt text stop)))
+          w.in-Some.is c.requires) in
+          begun c.match-stop.form 1 c.match-stop.furthest _ w.form-is w.furthest-is (first_none forms text w.in-Some.stop here)
+          (leads_first forms text 1 w.in-Some.stop w.reached.result w.reached.ensures.form w.reached.ensures.stop here
+          (subst (λ (l : FormList). IsSomeAnd (slice_get l.forms 0) (λ g. Reaches text g w.reached.result.reach)) (sym c.self.view_is)
+          w.reached.ensures.reach))
+      | in_default w ↦ begun c.match-stop.form 0 c.match-stop.furthest None w.form-is w.furthest-is
+          (λ k d below. absurd (omega (arith, below, length-take-le 0 forms (omega arith)))) (λ k d below. absurd (omega (arith, below)))
+    ] where
+      begun : (i j : ℕ) (furthest other : Option Furthest) → i ≡ j → furthest ≡ other → NoForm (take j c.self.inside.forms.now) c.args.text.now
+          → IsLed c.self.inside.forms.now c.args.text.now j 1 other
+          → NoForm (take i c.self.inside.forms.now) c.args.text.now × IsLed c.self.inside.forms.now c.args.text.now i 1 furthest
+      begun i j furthest other same is none led = (
+        subst (λ i. NoForm (take i c.self.inside.forms.now) c.args.text.now) (sym same) none,
+        subst (λ i. IsLed c.self.inside.forms.now c.args.text.now i 1 furthest) (sym same)
+            (subst (IsLed c.self.inside.forms.now c.args.text.now j 1) (sym is) led),
+      )
+
+pub returns-in-Ok-read : goal.returns-in-Ok-read
+returns-in-Ok-read c = rw (← c.self.view_is) (found_is c.self.inside.forms.now c.args.text.now c.loop-form.form c.index-self-form.result
+    c.in-Ok-read.literal c.loop-form-test.true c.in-Ok-read.ensures.some c.loop-form.invariant.0)
+
+pub further-requires : goal.further-requires
+further-requires c =
+    let forms = c.self.inside.forms.now in let text = c.args.text.now in let i = c.loop-form.form in
+    subst (λ (l : FormList). IsSomeAnd (slice_get l.forms i) (IsRefusedAt text c.in-Err-read.stop)) c.self.view_is
+    (at_index (IsRefusedAt text c.in-Err-read.stop) forms forms c.index-self-form.result i refl c.loop-form-test.true c.in-Err-read.ensures.stop)
+
+pub loop-form-preserved : goal.loop-form-preserved
+loop-form-preserved c =
+    let forms = c.self.inside.forms.now in let text = c.args.text.now in let i = c.loop-form.form in let d = c.index-self-form.result in
+    let inside = c.loop-form-test.true in let old = c.loop-form.invariant in let furthest = c.loop-form.furthest in let bound = c.loop-form.bound in
+    elim c.match-begins.branch [
+      | in-Err w ↦ (
+        All-more (λ g. NoneBy (ReadsIn g) text) forms i d inside old.0 w.in-Err.ensures.passed.none,
+        subst (λ o. IsLed forms text (i + 1) (c.match-begins.bound + 1) o) (sym w.furthest-is)
+            (subst (λ b. IsLed forms text (i + 1) (b + 1) furthest) (sym w.bound-is)
+            (led_past forms text i (bound + 1) (w.larger-bound.result + 1) w.in-Err.size d furthest inside old.1
+            (let less = w.larger-bound.ensures.one in omega (arith, less)) (let less = w.larger-bound.ensures.other in omega (arith, less))
+            w.in-Err.ensures.passed)),
+      )
+      | in-Ok+in-Err-read w ↦ (
+        All-more (λ g. NoneBy (ReadsIn g) text) forms i d inside old.0 (none_in (get_or forms i d) text w.in-Err-read.stop w.in-Err-read.ensures.stop),
+        subst (λ o. IsLed forms text (i + 1) (c.match-begins.bound + 1) o) (sym w.furthest-is)
+            (subst (λ b. Leads forms text (i + 1) (b + 1) w.further.result) (sym w.bound-is)
+            (subst (λ (l : FormList). Leads l.forms text (i + 1) (bound + 1) w.further.result) (sym c.self.view_is)
+            (w.further.ensures (bound + 1) (subst (λ (l : FormList). IsLed l.forms text i (bound + 1) furthest) c.self.view_is old.1)))),
+      )
+    ]
+
+pub at_once-requires-clause-none : goal.at_once-requires-clause-none
+at_once-requires-clause-none c = subst (λ (l : FormList). NoForm l.forms c.args.text.now) c.self.view_is
+    (all_tried c.self.inside.forms.now c.args.text.now c.loop-form.form c.loop-form-test.false
+    (λ g. NoneBy (ReadsIn g) c.args.text.now) c.loop-form.invariant.0)
+
+pub at_once-requires-clause-passed : goal.at_once-requires-clause-passed
+at_once-requires-clause-passed c = subst (λ (l : FormList). ArePassed l.forms c.args.text.now (length l.forms) 1) c.self.view_is
+    (all_passed c.self.inside.forms.now c.args.text.now c.loop-form.form c.loop-form.bound c.loop-form.furthest c.loop-form-test.false c.in-None.is
+    (let zero = c.if-bound-eq0.true in grind (arith, nat_tests)) c.loop-form.invariant.1)
+
+pub furthest-requires : goal.furthest-requires
+furthest-requires c = subst (λ (l : FormList). NoForm l.forms c.args.text.now) c.self.view_is
+    (all_tried c.self.inside.forms.now c.args.text.now c.loop-form.form c.loop-form-test.false
+    (λ g. NoneBy (ReadsIn g) c.args.text.now) c.loop-form.invariant.0)
+
+pub returns-in-Some-furthest : goal.returns-in-Some-furthest
+returns-in-Some-furthest c =
+    let forms = c.self.inside.forms.now in let text = c.args.text.now in let i = c.loop-form.form in let bound = c.loop-form.bound in
+    rw (← c.self.view_is) (record {
+      found = tt;
+      none = λ _. all_tried forms text i c.loop-form-test.false (λ g. NoneBy (ReadsIn g) text) c.loop-form.invariant.0;
+      furthest = leads_past forms text bound c.in-Some-furthest.best (c.is_past.ensures c.if-is_past.true) (leads_all forms text i (bound + 1)
+          c.loop-form-test.false c.in-Some-furthest.best (subst (IsLed forms text i (bound + 1)) c.in-Some-furthest.is c.loop-form.invariant.1));
+    })
+
+pub returns-in-None : goal.returns-in-None
+returns-in-None c = record {
+  found = tt;
+  none = λ _. subst (λ (l : FormList). NoForm l.forms c.args.text.now) c.self.view_is
+      (all_tried c.self.inside.forms.now c.args.text.now c.loop-form.form c.loop-form-test.false
+      (λ g. NoneBy (ReadsIn g) c.args.text.now) c.loop-form.invariant.0);
+  furthest = c.at_once.ensures;
+}
+
+pub returns-in_default-furthest : goal.returns-in_default-furthest
+returns-in_default-furthest c = record {
+  found = tt;
+  none = λ _. subst (λ (l : FormList). NoForm l.forms c.args.text.now) c.self.view_is
+      (all_tried c.self.inside.forms.now c.args.text.now c.loop-form.form c.loop-form-test.false
+      (λ g. NoneBy (ReadsIn g) c.args.text.now) c.loop-form.invariant.0);
+  furthest = c.furthest.ensures;
+}
