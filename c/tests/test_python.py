@@ -45,7 +45,7 @@ numpy = importlib.import_module("numpy") if importlib.util.find_spec("numpy") el
 
 PAGE = (TOP / "docs/FORMAT.md").read_text()
 ANALYSTS = (TOP / "docs/PYTHON.md").read_text()
-EXPLANATIONS = (TOP / "docs/EXPLANATIONS.md").read_text()
+EXPLANATIONS = "".join((TOP / it).read_text() for it in ("docs/EXPLANATIONS.md", "rust/tests/causes.txt"))
 FLAGS = re.findall(r"^\| (\d+) \| `(\w+)` \| (?:true|false) \|", PAGE, re.M)
 GROUPS = re.findall(r"^\| `(\w+)` \| (\d[\d ]*) \|", PAGE, re.M)
 BYTES = re.findall(r"^\| (\d+) to \d+ \| `(\w+)` \|", PAGE, re.M)

@@ -196,10 +196,11 @@ fn questions_have_the_answers_of_the_page() {
 
 #[test]
 fn causes_are_those_of_the_page() {
-    let causes = table(EXPLANATIONS, "Texts and their causes").flat_map(|row| row[2].split(' '));
+    let rows = [EXPLANATIONS, include_str!("causes.txt")].into_iter();
+    let rows = Vec::from_iter(rows.flat_map(|page| table(page, "Texts and their causes")));
     // The last one is never blamed.
-    has_each_condition(causes.chain(["higher_group_size"]));
-    for row in table(EXPLANATIONS, "Texts and their causes") {
+    has_each_condition(rows.iter().flat_map(|row| row[2].split(' ')).chain(["higher_group_size"]));
+    for row in rows {
         let [text, settings, cause, valid_up_to, span] = row[..] else { panic!("{row:?}") };
         let error = read(syntax_of(settings), text).expect_err(text);
         let mut found = match error.kind() {
