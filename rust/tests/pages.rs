@@ -21,8 +21,8 @@ fn words(command: &str) -> Vec<&str> {
 /// The commands `$ cargo run ..` and `$ numfmt ..` of a page, with the lines below them.
 #[test]
 fn commands_print_what_pages_show() {
-    for name in ["README.md", "docs/FORMAT.md", "docs/EXPLANATIONS.md", "docs/SETTINGS.md", "docs/RUST.md"] {
-        let page = std::fs::read_to_string(format!("{}/../{name}", env!("CARGO_MANIFEST_DIR"))).unwrap();
+    for name in ["README", "docs/FORMAT", "docs/EXPLANATIONS", "docs/SETTINGS", "docs/DIFFERENCES", "docs/RUST"] {
+        let page = std::fs::read_to_string(format!("{}/../{name}.md", env!("CARGO_MANIFEST_DIR"))).unwrap();
         let mut lines = page.lines().peekable();
         let mut count = 0;
         while let Some(line) = lines.next() {
