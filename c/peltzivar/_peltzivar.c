@@ -1,5 +1,6 @@
 /* The calls of both headers for Python, by its stable ABI. __init__.py has the classes and their documentation. It
- * passes structures as tuples of their members, words as (low, high), and strings as bytes. */
+ * passes structures as tuples of their members, words as (low, high), and strings as bytes. The limited API before 3.11
+ * lacks buffers and fast calls. */
 #define Py_LIMITED_API 0x030B0000
 #define PY_SSIZE_T_CLEAN
 #include <Python.h>

@@ -1,4 +1,7 @@
 //! Settings that are read from texts, and what they build.
+//!
+//! [`Settings`] keeps the last setting of each field, and 32 that others override. This is enough to blame settings, and
+//! takes the same memory for files of any length.
 
 use core::array;
 use core::fmt::{self, Write};

@@ -1,5 +1,8 @@
 //! What the header has for lists of forms, the call that makes a list of it in memory of the caller, and that which writes
 //! what a list is made of.
+//!
+//! A list is Rust's own, so no call needs the stack or the time to copy forms, or writes memory that threads share. Bytes
+//! that are reserved are refused unless they are 0: a later version cannot tell what an older program left in them.
 
 use crate::arguments::Out;
 use crate::literals::Syntax;

@@ -1,4 +1,7 @@
 //! Calls that check syntaxes, that read literals, and that print why a text is not one.
+//!
+//! A call takes a syntax of any bits: only `peltzivar_check_syntax` tests it, which takes longer than reading a short
+//! text, and a stamp that it would leave in the syntax would forbid a constant.
 
 use crate::arguments::{input, write_text, Out, ValueStatus, REFUSED, SPECIAL};
 use crate::lists::Forms;
