@@ -29,13 +29,13 @@ why the others refuse it. Without a text, it prints each form with its settings.
 
 | Column | Has |
 |---|---|
-| *Sign* | the signs that belong to a number. In the other languages, `-` is an operator: read what is behind it |
+| *Sign* | the signs that belong to a number. In the other languages, `-` is an operator: read what is after it |
 | *Decimals* | which of `.5`, `1.` and `1e5` are numbers |
 | `017` | its value, or nothing if it is refused |
-| *Between digits* | numbers with separators: between digits, two in a row, at the end, and behind a prefix |
-| *Other forms* | an example for each. A prefix is in either case, unless `*` is behind it. `36#ZZ` stands for each radix from 2 on: if it is neither 10 nor a power of two, a fraction has no `f64`. Then the spellings of NaN and infinity |
-| *Range* | of integers, and behind a semicolon that of the other forms. *Wrap*: the first bit is the sign. Without an entry, they have any size. *Finite*: a float that would be infinite is an error; *not 0*: one that would vanish is, too |
-| *Suffixes* | the words behind a number that [`token`](FORMS.md#tokens) reads, in lowercase. A list of data has no tokens |
+| *Between digits* | numbers with separators: between digits, two in a row, at the end, and after a prefix |
+| *Other forms* | an example for each. A prefix is in either case, unless `*` is after it. `36#ZZ` stands for each radix from 2 on: if it is neither 10 nor a power of two, a fraction has no `f64`. Then the spellings of NaN and infinity |
+| *Range* | of integers, and after a semicolon that of the other forms. *Wrap*: the first bit is the sign. Without an entry, they have any size. *Finite*: a float that would be infinite is an error; *not 0*: one that would vanish is, too |
+| *Suffixes* | the words after a number that [`token`](FORMS.md#tokens) reads, in lowercase. A list of data has no tokens |
 | *Tool* | that with which the list is [compared](../compare/README.md#languages-and-their-tools) |
 
 """
