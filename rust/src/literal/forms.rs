@@ -59,11 +59,17 @@ impl<'a> Forms<'a> {
         }
     }
 
-    // Returns whether the first form is tried before the list is asked: it seldom reads texts such as `0x1F`. The library
-    // for C and the page, which set `peltzivar_small`, have no second copy of the reader for this.
+    // Returns whether the first form is tried before the list is asked: it seldom reads texts such as `0x1F`.
+    #[inline(always)]
+    fn may_be_first(&self, text: &[u8]) -> bool {
+        self.forms[0].opening.is_empty() && may_be_decimal(text)
+    }
+
+    // Returns whether it is tried where one number is read. The library for C and the page, which set `peltzivar_small`,
+    // have no second copy of the reader for this.
     #[inline(always)]
     fn asks_first(&self, text: &[u8]) -> bool {
-        !cfg!(peltzivar_small) && self.forms[0].opening.is_empty() && may_be_decimal(text)
+        !cfg!(peltzivar_small) && self.may_be_first(text)
     }
 
     // Returns the literal of the first form that `text` is, if this is known at once, as of most decimal ones, or where the
@@ -86,7 +92,7 @@ impl<'a> Forms<'a> {
     #[doc(hidden)]
     #[must_use]
     pub fn find<'t>(&self, text: &'t [u8]) -> Option<Number<'t>> {
-        let first = if self.asks_first(text) { self.first_decimal(text) } else { Err(None) };
+        let first = if self.may_be_first(text) { self.first_decimal(text) } else { Err(None) };
         let stop = match first {
             Ok(literal) => return Some(Number::Literal { literal, form: 0 }),
             Err(stop) => stop,
