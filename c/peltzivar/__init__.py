@@ -445,7 +445,8 @@ class _Reader(_peltzivar.Reader):
         27 digits or, of an int, 128 bits, of a number of another radix than that of the syntax, which is 10 for a float
         and a Decimal, and, of a float, for another exponent base.
         """
-        return self._text_of(value, _style(group, without_base, lowercase, min_digits, exponent, decimals))
+        style = _style(group, without_base, lowercase, min_digits, exponent, decimals)
+        return self._texts((value,), style, lambda it: self._text_of(it, style))[0]
 
     def format_column(
         self, numbers: Iterable[Any], *, fill: Optional[str] = None, group: Optional[int] = None,
@@ -462,7 +463,14 @@ class _Reader(_peltzivar.Reader):
             na, fill = _na(), _typed("fill", fill, str)
             is_nan: Any = lambda it: it.is_nan() if isinstance(it, Decimal) else it != it
             other = lambda it: fill if it is None or it is na or is_nan(it) else self._text_of(it, style)
-        return cast("List[str]", self._write(tuple(listed), style, other))
+        return self._texts(tuple(listed), style, other)
+
+    def _texts(self, numbers: Tuple[Any, ...], style: Tuple[int, ...], other: Any) -> List[str]:
+        """Returns numbers as texts. `other` writes those that C leaves."""
+        rounded = None
+        if style[-2] and any(it.point and it.format.mantissa_radix == 10 for it in self._named.values()):
+            rounded = operator.methodcaller("quantize", Decimal(1).scaleb(-style[-1]), None, _TO_EVEN)
+        return cast("List[str]", self._write(numbers, style, other, rounded))
 
     def _text_of(self, value: Any, style: Tuple[int, ...]) -> str:
         """Returns a number as a text."""
@@ -471,7 +479,7 @@ class _Reader(_peltzivar.Reader):
             return self._spelled_as(special)
         radix = 10 if isinstance(self, _Several) else syntaxes[0].format.mantissa_radix
         syntax = next((it for it in syntaxes if it.point and it.format.mantissa_radix == 10), syntaxes[0])
-        return str(self._write((_writable(value, radix, syntax, style),), style, None)[0])
+        return str(self._write((_writable(value, radix, syntax, style),), style, None, None)[0])
 
     @typing.overload
     def parse(self, text: Union[str, bytes], type: Type[int]) -> int: ...
@@ -655,6 +663,7 @@ _PLAIN = 0, 0, 0, 0, None, None, 0, 0
 _TOO_LONG = "the exact value has more than 10^6 digits"
 # The status of a cell with such a value, which no call of C returns.
 _LONG = 255
+_TO_EVEN = Context(_MOST_DIGITS, ROUND_HALF_EVEN, MIN_EMIN, MAX_EMAX, traps=[InvalidOperation])
 _EXACT = Context(_MOST_DIGITS, Emin=MIN_EMIN, Emax=MAX_EMAX, traps=[InvalidOperation, Rounded])
 # Numbers that are neither long nor far from 1.
 _NEAR = Context(400, Emin=-999, Emax=999, traps=[InvalidOperation, Rounded, Overflow, Subnormal])
@@ -837,8 +846,7 @@ def _writable(value: Any, radix: int, syntax: Syntax, style: Tuple[int, ...]) ->
     if not is_rounded:
         return _DECIMALS.read(str(value) if abs(value.adjusted()) > 400 else f"{value:f}")
     if syntax.format.no_exponent_notation or not value or wish != 2:
-        exact = Context(_MOST_DIGITS, ROUND_HALF_EVEN, MIN_EMIN, MAX_EMAX, traps=[InvalidOperation])
-        return _DECIMALS.read(f"{exact.quantize(value, Decimal(1).scaleb(-places)):f}")
+        return _DECIMALS.read(f"{_TO_EVEN.quantize(value, Decimal(1).scaleb(-places)):f}")
     return _DECIMALS.read(f"{Context(places + 1, ROUND_HALF_EVEN, MIN_EMIN, MAX_EMAX).plus(value):.{places}E}")
 
 
@@ -1335,4 +1343,4 @@ for _of_class, _name in ((_Reader, "parse"), (_Reader, "format_number"), (Syntax
     _call.__annotations__.clear()
     _shown_as = str(inspect.signature(_call)).replace("(self", "($self", 1).replace("<class 'float'>", "float")
     setattr(_of_class, _name, _c.fast(_of_class, _call, f"{_name}{_shown_as}\n--\n\n{inspect.getdoc(_call)}"))
-_c.register(Literal, LiteralError)
+_c.register(Literal, LiteralError, Decimal)

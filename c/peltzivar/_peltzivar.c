@@ -14,7 +14,7 @@
 
 /* The classes of __init__.py, and its functions that do what `parse` and `format_number` leave. */
 typedef struct {
-    PyObject *literal, *refusal, *slow[3];
+    PyObject *literal, *refusal, *decimal, *slow[3];
     PyTypeObject *reader;
 } State;
 
@@ -210,32 +210,33 @@ static bool is_made(Reader *self) {
     return self->state;
 }
 
+/* How texts are read: values of a format, with a scale unless it is below 0. Blanks around a number are taken away if
+ * `strips`, and a text that is then one of the `texts` is missing. */
+typedef struct {
+    const peltzivar_forms *forms;
+    int format, scale, strips;
+    Py_ssize_t count, longest;
+    const Text *texts;
+} Cells;
+
 /* Parses a column of texts as doubles (d), floats (f), or integers (q, Q), and writes the status of each. */
-static void parse_column(char format, const peltzivar_forms *by, const char *data, const int64_t *offsets, size_t count,
+static void parse_column(const Cells *by, const char *data, const int64_t *offsets, const uint8_t *valid, size_t count,
     void *values, uint8_t *status) {
-    if (format == 'd') (void)peltzivar_parse_f64_column(by, data, offsets, NULL, count, values, status, NULL);
-    else if (format == 'f') (void)peltzivar_parse_f32_column(by, data, offsets, NULL, count, values, status, NULL);
-    else if (format == 'q') (void)peltzivar_parse_i64_column(by, data, offsets, NULL, count, values, status, NULL);
-    else (void)peltzivar_parse_u64_column(by, data, offsets, NULL, count, values, status, NULL);
+#define PARSE(type, ...) (void)peltzivar_parse_##type##_column( \
+    by->forms, data, offsets, valid, count, __VA_ARGS__, status, NULL)
+    if (by->scale >= 0) PARSE(scaled_i64, (uint8_t)by->scale, values);
+    else if (by->format == 'd') PARSE(f64, values);
+    else if (by->format == 'f') PARSE(f32, values);
+    else if (by->format == 'q') PARSE(i64, values);
+    else PARSE(u64, values);
 }
 
 /* Parses a text as a column, which is faster than the call for one text. */
-static peltzivar_value_status parse_as(
-    char format, const peltzivar_forms *by, const char *text, Py_ssize_t size, void *out) {
+static peltzivar_value_status parse_one(const Cells *by, const char *text, Py_ssize_t size, void *out) {
     const int64_t offsets[] = {0, size};
     uint8_t status;
-    parse_column(format, by, text, offsets, 1, out, &status);
+    parse_column(by, text, offsets, NULL, 1, out, &status);
     return status;
-}
-
-/* Parses a text as its value times a power of ten. */
-static peltzivar_value_status parse_scaled(
-    const peltzivar_forms *by, const char *text, Py_ssize_t size, uint8_t places, int64_t *out) {
-    peltzivar_literal it;
-    peltzivar_special special;
-    if (!peltzivar_forms_read(by, text, (size_t)size, &it, NULL)) return peltzivar_to_scaled_i64(&it, places, out);
-    return !peltzivar_forms_read_special(by, text, (size_t)size, &special) ? PELTZIVAR_VALUE_SPECIAL
-                                                                          : PELTZIVAR_VALUE_REFUSED;
 }
 
 static PyObject *refuse(Reader *self, PyObject *text, PyObject *start) {
@@ -255,8 +256,8 @@ static PyObject *reader_parse(PyObject *self, PyObject *const *given, Py_ssize_t
     peltzivar_value_status status = PELTZIVAR_VALUE_NO_LITERAL;
     if (!is_made(by)) return NULL;
     if (!names && is_known && opened(given[0], &text)) {
-        void *to = is_int ? (void *)&whole : &real;
-        status = parse_as(is_int ? 'q' : 'd', by->forms, text.bytes, text.size, to);
+        const Cells how = {.forms = by->forms, .format = is_int ? 'q' : 'd', .scale = -1};
+        status = parse_one(&how, text.bytes, text.size, is_int ? (void *)&whole : &real);
         Py_DECREF(text.data);
     }
     if (status == PELTZIVAR_VALUE_REFUSED) return refuse(by, given[0], NULL);
@@ -443,18 +444,6 @@ static int is_missing(PyObject *cell, PyObject *na) {
     return result;
 }
 
-/* How the cells of a column are read: values of a format, with a scale unless it is below 0. Blanks around a number are
- * taken away if `strips`, and a cell that is then one of the `texts` is missing. */
-typedef struct {
-    const peltzivar_forms *forms;
-    int format, scale, strips;
-    Py_ssize_t count, longest;
-    const Text *texts;
-} Cells;
-
-/* The status of a cell that is missing. */
-#define MISSING 255
-
 static bool is_blank(char it) { return it == ' ' || (it >= '\t' && it <= '\r'); }
 
 /* Takes blanks away from a cell, and returns whether it is missing. */
@@ -467,24 +456,21 @@ static inline bool is_none(const Cells *by, const char **text, Py_ssize_t *size)
 }
 
 static uint8_t parse_cell(const Cells *by, const char *text, Py_ssize_t size, void *to) {
-    if (is_none(by, &text, &size)) return MISSING;
-    return by->scale < 0 ? parse_as((char)by->format, by->forms, text, size, to)
-                         : parse_scaled(by->forms, text, size, (uint8_t)by->scale, to);
+    return is_none(by, &text, &size) ? PELTZIVAR_VALUE_MISSING : parse_one(by, text, size, to);
 }
 
 /* Parses data with offsets. A cell whose bit of `valid` is 0 is missing, if there are such bits. */
 static void parse_cells(const Cells *by, const char *data, const int64_t *offsets, Py_ssize_t count,
     const uint8_t *valid, char *values, Py_ssize_t width, uint8_t *status) {
-    if (by->scale < 0) parse_column((char)by->format, by->forms, data, offsets, (size_t)count, values, status);
-    for (Py_ssize_t i = 0; i < count && (by->scale >= 0 || by->strips || by->count || valid); i++) {
+    parse_column(by, data, offsets, valid, (size_t)count, values, status);
+    for (Py_ssize_t i = 0; i < count && (by->strips || by->count); i++) {
         int64_t start = offsets[i], end = offsets[i + 1];
         bool is_text = offsets[0] <= start && start <= end && end <= offsets[count];
-        const char *text = is_text ? data + start : data;
-        Py_ssize_t size = is_text ? (Py_ssize_t)(end - start) : 0;
-        if (valid && !(valid[i / 8] >> i % 8 & 1)) status[i] = MISSING;
-        else if (!is_text) status[i] = PELTZIVAR_VALUE_REFUSED;
-        else if (is_none(by, &text, &size) || by->scale >= 0 || size != end - start)
-            status[i] = parse_cell(by, text, size, values + i * width);
+        if (!is_text || status[i] == PELTZIVAR_VALUE_MISSING) continue;
+        const char *text = data + start;
+        Py_ssize_t size = (Py_ssize_t)(end - start);
+        if (is_none(by, &text, &size)) status[i] = PELTZIVAR_VALUE_MISSING;
+        else if (size != end - start) status[i] = parse_one(by, text, size, values + i * width);
     }
 }
 
@@ -504,7 +490,7 @@ static bool parse_texts(const Cells *by, PyObject *cells, PyObject *na, char *va
             status[i] = parse_cell(by, text.bytes, text.size, values + i * width);
             Py_DECREF(text.data);
         } else if (!PyErr_Occurred() && is_missing(it, na) == 1) {
-            status[i] = MISSING;
+            status[i] = PELTZIVAR_VALUE_MISSING;
         } else if (!PyErr_Occurred() && (name = PyType_GetName(Py_TYPE(it)))) {
             PyErr_Format(PyExc_TypeError, "cell %zd must be a %s, not %S", i, kind ? kind : "str", name);
             Py_DECREF(name);
@@ -549,7 +535,7 @@ static PyObject *reader_column(PyObject *self, PyObject *given) {
     }
     for (Py_ssize_t i = 0; i < count && missing && !PyErr_Occurred(); i++) {
         if (statuses[i]) memcpy((char *)values.buf + i * width, fill.buf, (size_t)width);
-        if (statuses[i] == MISSING) append(&missing, PyLong_FromSsize_t(i)), statuses[i] = 0;
+        if (statuses[i] == PELTZIVAR_VALUE_MISSING) append(&missing, PyLong_FromSsize_t(i)), statuses[i] = 0;
     }
     while (how.count) Py_DECREF(known[--how.count].data);
     PyMem_Free(known);
@@ -565,11 +551,23 @@ static PyObject *reader_column(PyObject *self, PyObject *given) {
 /* The status of a number that is neither a float, a literal nor an int of 64 bits. */
 #define OTHER_NUMBER 255
 
+/* A number that is written: an object, a literal, or without both an exact amount with places behind the point. */
+typedef struct {
+    PyObject *object;
+    const peltzivar_literal *literal;
+    int64_t units;
+    uint8_t places;
+} Number;
+
 static peltzivar_write_status write_number(
-    Reader *by, PyObject *number, const peltzivar_style *style, char *text, size_t len, size_t *needed) {
+    Reader *by, const Number *it, const peltzivar_style *style, char *text, size_t len, size_t *needed) {
 #define WRITE(call, value) (by->is_list ? peltzivar_forms_##call(by->forms, value, style, text, len, needed) \
                                         : peltzivar_##call(&by->list->forms->syntax, value, style, text, len, needed))
     int is_long;
+    PyObject *number = it->object;
+    if (it->literal) return WRITE(format_literal, it->literal);
+    if (!number)
+        return peltzivar_forms_format_scaled_i64(by->forms, it->units, it->places, style, text, len, needed);
     if (PyFloat_Check(number)) {
         double real = PyFloat_AsDouble(number);
         return WRITE(format_f64, real == real ? real : Py_NAN);
@@ -582,7 +580,8 @@ static peltzivar_write_status write_number(
 }
 
 /* Returns the text of a number, or NULL without an error and a status. */
-static PyObject *written(Reader *by, PyObject *number, const peltzivar_style *style, peltzivar_write_status *status) {
+static PyObject *written(
+    Reader *by, const Number *number, const peltzivar_style *style, peltzivar_write_status *status) {
     char text[PELTZIVAR_FLOAT_SIZE], *to = text;
     size_t needed;
     *status = by->forms ? write_number(by, number, style, text, sizeof text, &needed) : PELTZIVAR_WRITE_ARGUMENT;
@@ -599,13 +598,43 @@ static PyObject *unwritten(peltzivar_write_status status) {
     return PyErr_SetString(PyExc_ValueError, peltzivar_write_description(status)), NULL;
 }
 
-/* Returns the text of a float that is not NaN, or of an int of 64 bits that is not rounded. Returns NULL without an error
- * for another number, and for one that is not written. */
-static PyObject *written_at_once(Reader *by, PyObject *number, const peltzivar_style *style) {
+/* Returns the text of an int of 64 bits or a Decimal, which `rounded` rounds to the decimals of the style, unless it is
+ * None. Returns NULL, perhaps without an error, for another number, and for one that is not written. */
+static PyObject *written_exactly(Reader *by, PyObject *it, const peltzivar_style *style, PyObject *rounded) {
+    const peltzivar_syntax plain = {.format = PELTZIVAR_STANDARD, .exponent = 'e', .decimal_point = '.'};
     peltzivar_write_status status;
-    double real = PyFloat_Check(number) ? PyFloat_AsDouble(number) : Py_NAN;
-    bool is_own = real == real || (PyLong_CheckExact(number) && !style->has_decimals);
-    return is_own ? written(by, number, style, &status) : NULL;
+    peltzivar_literal literal;
+    Number number = {.literal = NULL};
+    int is_long = 0;
+    bool is_int = PyLong_CheckExact(it), is_rounded = rounded != Py_None, has_power;
+    if (is_int) PyLong_AsLongLongAndOverflow(it, &is_long);
+    if (is_long || (!is_int && (PyObject *)Py_TYPE(it) != by->state->decimal)) return NULL;
+    it = is_int || !is_rounded ? Py_NewRef(it) : PyObject_CallFunctionObjArgs(rounded, it, NULL);
+    if (!it && PyErr_ExceptionMatches(PyExc_ArithmeticError)) PyErr_Clear();
+    PyObject *shown = it ? PyObject_Str(it) : NULL, *result = NULL;
+    Py_ssize_t size;
+    const char *text = shown ? PyUnicode_AsUTF8AndSize(shown, &size) : NULL;
+    if (text && ((has_power = strchr(text, 'E')), is_rounded || !has_power) &&
+        !peltzivar_read(&plain, text, (size_t)size, &literal, NULL)) {
+        size_t places = is_rounded ? style->decimals : literal.fraction.end - literal.fraction.start;
+        number.places = (uint8_t)places;
+        bool is_amount = places < 256 && !peltzivar_to_scaled_i64(&literal, number.places, &number.units);
+        if (!is_amount || (!number.units && *text == '-')) number.literal = &literal;
+        if (!number.literal || !(is_int || has_power)) result = written(by, &number, style, &status);
+    }
+    Py_XDECREF(it), Py_XDECREF(shown);
+    return result;
+}
+
+/* Returns the text of a float that is not NaN, an int of 64 bits, or a Decimal. Returns NULL without an error for another
+ * number, and for one that is not written. Without `rounded`, no int or Decimal is rounded. */
+static PyObject *written_at_once(Reader *by, PyObject *it, const peltzivar_style *style, PyObject *rounded) {
+    peltzivar_write_status status;
+    double real = PyFloat_Check(it) ? PyFloat_AsDouble(it) : Py_NAN;
+    if (real == real || (PyLong_CheckExact(it) && !style->has_decimals))
+        return written(by, &(Number){.object = it}, style, &status);
+    bool is_rounded_float = style->has_decimals && style->exponent == PELTZIVAR_STYLE_ALWAYS;
+    return rounded && !is_rounded_float ? written_exactly(by, it, style, rounded) : NULL;
 }
 
 /* Wishes: a group (g), a flag (b), or a number. */
@@ -639,26 +668,28 @@ static PyObject *reader_format_number(PyObject *self, PyObject *const *given, Py
     bool is_plain = count == 1;
     for (Py_ssize_t i = 0; is_plain && names && i < PyTuple_Size(names); i++)
         is_plain = wished(PyTuple_GetItem(names, i), given[1 + i], &style);
-    PyObject *result = is_plain ? written_at_once(by, given[0], &style) : NULL;
+    PyObject *exact = style.has_decimals ? NULL : Py_None;
+    PyObject *result = is_plain ? written_at_once(by, given[0], &style, exact) : NULL;
     if (result || PyErr_Occurred()) return result;
     return by_python(by->state->slow[1], self, given, count, names);
 }
 
-/* _write(numbers, style, other): a list of texts of floats, ints of 64 bits, and literals. `other`, if it is not None,
- * returns those of NaN, and of numbers that are not written. */
+/* _write(numbers, style, other, rounded): a list of texts of floats, ints and Decimals of 64 bits, and literals. `other`,
+ * if it is not None, returns those of NaN, and of numbers that are not written. `rounded` rounds a Decimal, or is None. */
 static PyObject *reader_write(PyObject *self, PyObject *given) {
     peltzivar_style style = {0};
     peltzivar_write_status status;
-    PyObject *numbers, *wishes, *other, *kept = PyDict_New(), *result = NULL;
-    if (kept && is_made((Reader *)self) && PyArg_ParseTuple(given, "O!OO", &PyTuple_Type, &numbers, &wishes, &other) &&
+    PyObject *numbers, *wishes, *other, *rounded, *kept = PyDict_New(), *result = NULL;
+    if (kept && is_made((Reader *)self) &&
+        PyArg_ParseTuple(given, "O!OOO", &PyTuple_Type, &numbers, &wishes, &other, &rounded) &&
         packed(&style_members, wishes, (char *)&style, kept)) result = PyList_New(PyTuple_Size(numbers));
     for (Py_ssize_t i = 0; result && i < PyTuple_Size(numbers); i++) {
-        PyObject *it = PyTuple_GetItem(numbers, i);
+        Number it = {.object = PyTuple_GetItem(numbers, i)};
         bool is_all = other == Py_None;
-        PyObject *text = is_all ? written((Reader *)self, it, &style, &status)
-                                : written_at_once((Reader *)self, it, &style);
+        PyObject *text = is_all ? written((Reader *)self, &it, &style, &status)
+                                : written_at_once((Reader *)self, it.object, &style, rounded);
         if (!text && is_all && !PyErr_Occurred()) unwritten(status);
-        if (!text && !PyErr_Occurred()) text = PyObject_CallFunctionObjArgs(other, it, NULL);
+        if (!text && !PyErr_Occurred()) text = PyObject_CallFunctionObjArgs(other, it.object, NULL);
         if (!text || PyList_SetItem(result, i, text)) Py_CLEAR(result);
     }
     Py_XDECREF(kept);
@@ -1035,11 +1066,13 @@ static PyObject *fast(PyObject *self, PyObject *given) {
     return PyDescr_NewMethod((PyTypeObject *)type, made);
 }
 
-/* register(Literal, LiteralError): the classes of what is read, and of what is raised. */
+/* register(Literal, LiteralError, Decimal): the classes of what is read, of what is raised, and of exact numbers. */
 static PyObject *register_classes(PyObject *self, PyObject *given) {
-    PyObject *literal, *refusal;
-    if (!PyArg_ParseTuple(given, "O!O!", &PyType_Type, &literal, &PyType_Type, &refusal)) return NULL;
+    PyObject *literal, *refusal, *decimal;
+    PyTypeObject *type = &PyType_Type;
+    if (!PyArg_ParseTuple(given, "O!O!O!", type, &literal, type, &refusal, type, &decimal)) return NULL;
     STATE(self)->literal = Py_NewRef(literal), STATE(self)->refusal = Py_NewRef(refusal);
+    STATE(self)->decimal = Py_NewRef(decimal);
     return Py_NewRef(Py_None);
 }
 
@@ -1126,6 +1159,7 @@ static int traversed(PyObject *module, visitproc visit, void *arg) {
     State *state = STATE(module);
     Py_VISIT(state->literal);
     Py_VISIT(state->refusal);
+    Py_VISIT(state->decimal);
     for (int i = 0; i < 3; i++) Py_VISIT(state->slow[i]);
     Py_VISIT(state->reader);
     return 0;
@@ -1135,6 +1169,7 @@ static int cleared(PyObject *module) {
     State *state = STATE(module);
     Py_CLEAR(state->literal);
     Py_CLEAR(state->refusal);
+    Py_CLEAR(state->decimal);
     for (int i = 0; i < 3; i++) Py_CLEAR(state->slow[i]);
     Py_CLEAR(state->reader);
     return 0;

@@ -139,6 +139,10 @@ class Columns(unittest.TestCase):
         numbers = [1234.5, 7, Decimal("-0.125"), 10**30], [1e16, -0.0]
         for wishes, values in itertools.product(({}, {"group": 3}, {"decimals": 2}, {"exponent": "always"}), numbers):
             self.assertEqual(Language.JSON.format_column(values, **wishes), [Language.JSON.format_number(it, **wishes) for it in values])
+        amounts = [sign * Decimal(it).scaleb(-at) for it in (0, 1, 5, 15, 25, 2**63, 10**30) for at in (0, 1, 2, 9) for sign in (1, -1)]
+        for places, given in itertools.product((0, 1, 8), (amounts, [*map(int, amounts)])):
+            texts = [f"{Decimal(it):.{places}f}" for it in given]
+            self.assertEqual(Language.JSON.format_column(given, decimals=places), texts)
         self.assertEqual(Language.CSV_DE.format_column([math.nan, None, 1.5], fill="-"), ["-", "-", "1,5"])
         self.assertRaisesRegex(ValueError, "NaN or infinity", Language.CSV_DE.format_column, [math.nan])
 
@@ -177,6 +181,7 @@ class Columns(unittest.TestCase):
 
         # An array of numpy.float64 has objects of a class of its own.
         floats, german, reals = [*map(float, texts)], Language.CSV_DE, [*map(type("Real", (float,), {}), texts)]
+        exact, wishes = [*map(Decimal, texts)], {"decimals": 2, "group": 3}
         rows = {
             "parse": (2.5, lambda: [json.parse(it) for it in texts]),
             "value": (5, lambda: [json.read(it).value for it in texts]),
@@ -186,6 +191,8 @@ class Columns(unittest.TestCase):
             "written": (6, lambda: [german.format_number(it, decimals=2) for it in floats]),
             "column written": (6, lambda: german.format_column(floats, decimals=2)),
             "column written of another class": (6, lambda: german.format_column(reals, decimals=2)),
+            "column written of Decimals": (13, lambda: german.format_column(exact, **wishes)),
+            "column written of ints": (13, lambda: german.format_column([*map(int, exact)], **wishes)),
             "column": (0.9, lambda: json.column(texts)),
             "missing": (0.9, lambda: json.column(gaps)),
             "other characters": (1.5, lambda: json.column([it or "1\u00e9" for it in gaps], errors="coerce")),
