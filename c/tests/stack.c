@@ -57,9 +57,11 @@ static pthread_barrier_t barrier;
 static void *read_first(void *number) {
     static char own[8][2][5120];
     const size_t first = (size_t)(uintptr_t)number, len = sizeof **own;
+    size_t count = 0;
+    while (*peltzivar_language_name(count)) count++;
     pthread_barrier_wait(&barrier);
-    for (size_t i = 0; *peltzivar_language_name(i); i++) {
-        const char *const name = peltzivar_language_name(i ^ first);
+    for (size_t i = 0; i < count; i++) {
+        const char *const name = peltzivar_language_name((first + i) % count);
         const peltzivar_list *const of = peltzivar_list_of(peltzivar_language(name, strlen(name)), own[first][0], len, NULL);
         const peltzivar_forms *const by[] = {peltzivar_language(name, strlen(name)), peltzivar_make_forms(of, own[first][1], len, NULL)};
         for (int j = 0; j < 2; j++) {
