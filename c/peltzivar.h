@@ -16,8 +16,8 @@
  * LANGUAGES, VALUES OF TEXTS, COLUMNS, LITERALS, TOKENS, WRITING, FORMS OF YOUR OWN and ERRORS. FORMAT.md and
  * FORMS.md, which are installed in share/doc/peltzivar, describe formats, and tokens, kinds and writing.
  *
- * Names: one that ends in _text, and sentence, grammar, regex and source, fills a buffer. One that ends in _name or
- * _description, and rule_condition, returns a constant string. One that begins with forms_, or with parse_ and a type,
+ * Names: one that ends in _text, and sentence, grammar and regex, fills a buffer. One that ends in _name or
+ * _description returns a constant string. One that begins with forms_, or with parse_ and a type,
  * and token_error_text, takes a list of forms. parse_error_text, parse_edit and parse_word take none.
  *
  * A call that can fail returns a status or a peltzivar_error, which is 0 if it succeeds, or a pointer, which is null if
@@ -83,7 +83,7 @@ extern "C" {
 
 /* The size of a buffer for any string of a function whose name ends in `_text`. */
 #define PELTZIVAR_TEXT_SIZE 256
-/* The size of a buffer for any string of peltzivar_sentence, _grammar, _regex and _source. */
+/* The size of a buffer for any string of peltzivar_sentence, _grammar and _regex. */
 #define PELTZIVAR_SOURCE_SIZE 2048
 
 /* Returns the version of the library in the form of PELTZIVAR_VERSION_NUMBER. */
@@ -515,11 +515,6 @@ PELTZIVAR_MUST_USE peltzivar_write_status peltzivar_format_f64(const peltzivar_s
 PELTZIVAR_MUST_USE peltzivar_write_status peltzivar_format_literal(const peltzivar_syntax *syntax,
     const peltzivar_literal *literal, const peltzivar_style *style, char *text, size_t len, size_t *needed);
 
-/* Writes NaN or infinity by a syntax: its sign, and the first of the spellings that is read back as this value,
- * or has PELTZIVAR_WRITE_SPECIAL if there is none. */
-PELTZIVAR_MUST_USE peltzivar_write_status peltzivar_format_special(const peltzivar_syntax *syntax,
-    const peltzivar_specials *specials, const peltzivar_special *special, char *text, size_t len, size_t *needed);
-
 /* Returns what a status means, such as "no literal has the sign '-'", or an empty string if 0 or unknown. */
 const char *peltzivar_write_description(peltzivar_write_status status);
 
@@ -780,18 +775,14 @@ enum {
  * digits, and if conditions alone are to blame, they are 0 and PELTZIVAR_NO_SETTER. `conditions` has those to blame,
  * as bits. `part` is the part of a separator or of missing digits, and otherwise PELTZIVAR_NO_PART. If `kind` is
  * PELTZIVAR_KIND_SEPARATOR, a format with any one of these flags set allows the separator. Otherwise, a syntax without
- * all of these flags and conditions does not have this cause. Either may refuse the text for another one. `code` is a
- * parse error, of PELTZIVAR_KIND_OPENING that of a wrong byte or, at the end of the text, of missing digits, and `index`
- * its index. */
+ * all of these flags and conditions does not have this cause. Either may refuse the text for another one. */
 typedef struct {
     peltzivar_span span;
-    size_t index;
     peltzivar_word mask;
-    peltzivar_error code;
     peltzivar_read_error_kind kind;
     peltzivar_setter number;
     peltzivar_part part;
-    uint8_t reserved;
+    uint8_t reserved[5];
     uint64_t conditions;
 } peltzivar_explanation;
 enum {

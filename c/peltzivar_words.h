@@ -74,8 +74,7 @@ enum {
     /* End */
 };
 
-/* The rules, in the order in which they are checked. FORMAT.md states what each requires, and so does
- * peltzivar_rule_condition. */
+/* The rules, in the order in which they are checked. FORMAT.md states what each requires. */
 enum {
     /* Made by make_python.py: rules */
     PELTZIVAR_RULE_MANTISSA_RADIX_IN_RANGE = 1,
@@ -187,17 +186,10 @@ peltzivar_error peltzivar_check(peltzivar_word format);
  * byte, that the digit separator is 0 if no digit separator flag is set, and that all reserved bits are 0. */
 peltzivar_word peltzivar_normal_form(peltzivar_word format);
 
-/* Returns whether a word is one that peltzivar_pack can return: all its reserved bits are 0, and at least one of its
- * digit separator flags is set unless its digit separator is 0. */
-bool peltzivar_is_built(peltzivar_word format);
-
 /* Returns the number of fields of a word that differ from PELTZIVAR_NEW_FIELDS, at most PELTZIVAR_FIELD_COUNT of the
  * library's version, and writes an edit for each to an array of len edits, as far as they fit. Applying all of these
  * edits to a copy of PELTZIVAR_NEW_FIELDS yields the fields of the word, in which an absent exponent byte is 0. */
 size_t peltzivar_edits_of(peltzivar_word format, peltzivar_edit *edits, size_t len);
-
-/* Returns whether a flag, or at least one flag of a group, is set in a word. For any other setter, returns false. */
-bool peltzivar_flag(peltzivar_word format, peltzivar_setter setter);
 
 /* Parses a string of len bytes, which need not be null-terminated. If the string is `0x` followed by 1 to 32
  * hexadecimal digits of either case, writes the word to *out and returns PELTZIVAR_SUCCESS. Otherwise, leaves *out
@@ -209,10 +201,6 @@ PELTZIVAR_MUST_USE peltzivar_error peltzivar_parse_word(
 
 /* Writes a word as `0x` followed by 32 uppercase hexadecimal digits. */
 size_t peltzivar_word_text(peltzivar_word format, char *text, size_t len);
-
-/* Writes Rust code that builds a word, such as "NumberFormatBuilder::new().mantissa_radix(16).build_or_panic()". The
- * result of the code is the word itself if and only if peltzivar_is_built returns true for the word. */
-size_t peltzivar_source(peltzivar_word format, char *text, size_t len);
 
 /* Returns the description of an error in single quotes, such as "'invalid radix for mantissa digits'". */
 const char *peltzivar_description(peltzivar_error error);
@@ -273,9 +261,6 @@ peltzivar_word peltzivar_reason_mask(peltzivar_word format, size_t index);
  * 0 if there is no such reason. */
 uint32_t peltzivar_reason_rules(peltzivar_word format, size_t index);
 
-/* Returns what the rule with a number requires, such as "flags 6 and 14 are not both set". */
-const char *peltzivar_rule_condition(uint32_t rule);
-
 /* Writes a note on fields that have no effect, such as "no flag allows the digit separator '_'". A note is not an
  * error: the fields of a lawful word may have notes. Their indices are the numbers from 0 on.
  *
@@ -312,27 +297,6 @@ uint32_t peltzivar_mantissa_digit(peltzivar_word format, uint8_t byte);
 
 /* Returns the value of a byte as a digit in the exponent radix, or PELTZIVAR_NO_DIGIT. */
 uint32_t peltzivar_exponent_digit(peltzivar_word format, uint8_t byte);
-
-/* Where a part of a number may have digit separators: between its digits, before them and after them. `consecutive`
- * states whether several separators in a row may stand where one may. */
-typedef struct {
-    bool internal, leading, trailing, consecutive;
-    uint8_t reserved[4];
-} peltzivar_separators;
-
-/* Writes where a part of a number may have digit separators to *out and returns PELTZIVAR_VALUE_OK. If there is no such
- * part, leaves *out unchanged and returns PELTZIVAR_VALUE_REFUSED. */
-PELTZIVAR_MUST_USE peltzivar_value_status peltzivar_separators_of(
-    peltzivar_word format, peltzivar_part part, peltzivar_separators *out);
-
-/* Returns whether a byte is the digit separator of a word in which at least one digit separator flag is set. */
-bool peltzivar_is_separator(peltzivar_word format, uint8_t byte);
-
-/* Returns whether the base prefix matches a byte, as PELTZIVAR_RULE_PUNCTUATION_DIFFERS states. */
-bool peltzivar_is_base_prefix(peltzivar_word format, uint8_t byte);
-
-/* Returns whether the base suffix matches a byte, as PELTZIVAR_RULE_PUNCTUATION_DIFFERS states. */
-bool peltzivar_is_base_suffix(peltzivar_word format, uint8_t byte);
 
 /* The roles of a byte in a number. */
 typedef uint8_t peltzivar_role;

@@ -626,8 +626,8 @@ static PyObject *written_exactly(Reader *by, PyObject *it, const peltzivar_style
     return result;
 }
 
-/* Returns the text of a float that is not NaN, an int of 64 bits, or a Decimal. Returns NULL without an error for another
- * number, and for one that is not written. Without `rounded`, no int or Decimal is rounded. */
+/* Returns the text of a float that is not NaN, an int of 64 bits, or a Decimal. Returns NULL, perhaps without an error,
+ * for another number, and for one that is not written. Without `rounded`, no int or Decimal is rounded. */
 static PyObject *written_at_once(Reader *by, PyObject *it, const peltzivar_style *style, PyObject *rounded) {
     peltzivar_write_status status;
     double real = PyFloat_Check(it) ? PyFloat_AsDouble(it) : Py_NAN;
@@ -674,8 +674,8 @@ static PyObject *reader_format_number(PyObject *self, PyObject *const *given, Py
     return by_python(by->state->slow[1], self, given, count, names);
 }
 
-/* _write(numbers, style, other, rounded): a list of texts of floats, ints and Decimals of 64 bits, and literals. `other`,
- * if it is not None, returns those of NaN, and of numbers that are not written. `rounded` rounds a Decimal, or is None. */
+/* _write(numbers, style, other, rounded): a list of texts of floats, ints of 64 bits, Decimals, and literals. `other`, if
+ * it is not None, returns those of NaN, and of numbers that are not written. `rounded` rounds a Decimal, or is None. */
 static PyObject *reader_write(PyObject *self, PyObject *given) {
     peltzivar_style style = {0};
     peltzivar_write_status status;

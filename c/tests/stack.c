@@ -11,7 +11,6 @@
 static const char *const texts[] = {"1", "-1.5", "0x1Fu;", "12345678901234567890.5e-300", "1e400x", "nan", "16r7fz", "radix=37\npoint=none\nradx=1\nradix=2"};
 static char stack[STACK] __attribute__((aligned(4096))), out[65536], memory[2][65536];
 static const peltzivar_style style = {.group = 3, .min_digits = 255, .has_decimals = true, .decimals = 20};
-static const peltzivar_special special = {.spelling = PELTZIVAR_SPELLING_NAN};
 static const peltzivar_edit edits[] = {{PELTZIVAR_SET_MANTISSA_RADIX, 36}};
 static peltzivar_fields fields;
 static peltzivar_form form[64];

@@ -26,8 +26,8 @@ TYPES |= {"uint64_t": "u64", "double": "f64", "float": "f32"}
 TYPES |= {"peltzivar_edit": "NumberedEdit", "peltzivar_special": "NumberedSpecial", "peltzivar_error": "ErrorNumber"}
 TYPES |= {"peltzivar_part": "u8", "peltzivar_role": "u8", "void": "u8"}
 # What the calls of stack.c pass, by the names of their arguments. Output goes to `out`, and other numbers are 2.
-VALUES = {"forms": "forms", "list": "list", "syntax": "&list->forms->syntax", "style": "&style", "specials": "&list->specials"}
-VALUES |= {"special": "&special", "fields": "&fields", "edits": "edits", "edit": "*edits", "literal": "&literal", "error": "&error"}
+VALUES = {"forms": "forms", "list": "list", "syntax": "&list->forms->syntax", "style": "&style"}
+VALUES |= {"fields": "&fields", "edits": "edits", "edit": "*edits", "literal": "&literal", "error": "&error"}
 VALUES |= {"offsets": "offsets", "valid": "NULL", "count": "1", "value": "INT64_MAX", "format": "list->forms->syntax.format"}
 ERRORS = r"((?!SET_|RULE_|PART_|ROLE_|KIND_|SPELLING_|VALUE_|CONDITION_|WRITE_|STYLE_)\w+)"
 LIBRARY = ctypes.CDLL(str(SHARED))
@@ -202,7 +202,7 @@ class Header(unittest.TestCase):
     def test_each_number_has_the_name_of_the_header_or_a_sentence_of_its_own(self):
         names = {"setter_name": r"SET_(\w+)"}
         sentences = {"value_description": r"VALUE_((?!OK)\w+)", "write_description": r"WRITE_((?!OK)\w+)"}
-        for call, pattern in {**names, **sentences, "description": ERRORS, "rule_condition": r"RULE_(\w+)"}.items():
+        for call, pattern in {**names, **sentences, "description": ERRORS}.items():
             function = getattr(LIBRARY, f"peltzivar_{call}")
             function.restype = ctypes.c_char_p
             texts = {number: text.decode() for number in range(256) if (text := function(number))}
@@ -240,7 +240,7 @@ class Header(unittest.TestCase):
             return f"*{'const' if const else 'mut'} {in_rust(kind)}"
         if name in ("list", "bytes", "offsets", "valid"):
             return f"*const {in_rust(kind)}"
-        if const and (name in ("forms", "syntax", "style", "specials", "special") or re.search(r"_status status|literal, const", others)):
+        if const and (name in ("forms", "syntax", "style") or re.search(r"_status status|literal, const", others)):
             return f"Option<&{in_rust(kind)}>"
         if const or name == "fields":
             return f"&{'' if const else 'mut '}{in_rust(kind)}"

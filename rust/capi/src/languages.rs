@@ -15,25 +15,6 @@ pub struct NumberedSpecial {
 
 const _: () = assert!(size_of::<NumberedSpecial>() == 8, "the size in the header");
 
-impl NumberedSpecial {
-    /// Returns the special value, or `None` if it has another number, or if a later version may have others.
-    pub fn value(&self) -> Option<Special> {
-        let spelling = match self.spelling {
-            1 => Spelling::Nan,
-            2 => Spelling::Inf,
-            3 => Spelling::Infinity,
-            _ => return None,
-        };
-        let sign = match self.sign {
-            0 => None,
-            b'-' => Some(Sign::Minus),
-            b'+' => Some(Sign::Plus),
-            _ => return None,
-        };
-        (self.reserved == [0; 6]).then_some(Special { sign, spelling })
-    }
-}
-
 impl From<Special> for NumberedSpecial {
     fn from(special: Special) -> NumberedSpecial {
         let spelling = match special.spelling {

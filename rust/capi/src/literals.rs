@@ -239,22 +239,19 @@ impl<'a> Literal<'a> {
 #[repr(C)]
 pub struct Explanation {
     span: Span,
-    index: usize,
     mask: Word,
-    code: ErrorNumber,
     kind: u8,
     number: Setter,
     part: u8,
-    reserved: u8,
+    reserved: [u8; 5],
     conditions: u64,
 }
 
 impl Explanation {
     /// Returns what only bytes explain, by the number of a kind.
     fn of_bytes(kind: u8, start: usize, end: usize) -> Explanation {
-        let (span, code) = (Span { start, end }, error_number(Error::InvalidDigit(start)));
-        let (mask, number, part) = (Word::of(0), NO_SETTER, NO_PART);
-        Explanation { span, index: start, mask, code, kind, number, part, reserved: 0, conditions: 0 }
+        let (span, mask) = (Span { start, end }, Word::of(0));
+        Explanation { span, mask, kind, number: NO_SETTER, part: NO_PART, reserved: [0; 5], conditions: 0 }
     }
 }
 
@@ -262,8 +259,7 @@ impl From<&FormError> for Explanation {
     fn from(error: &FormError) -> Explanation {
         let Some(error) = error.error() else {
             let Range { start, end } = error.span();
-            let code = if error.is_incomplete() { Error::EmptyInteger(start) } else { Error::InvalidDigit(start) };
-            return Explanation { code: error_number(code), ..Explanation::of_bytes(9, start, end) };
+            return Explanation::of_bytes(9, start, end);
         };
         let (kind, part) = match error.kind() {
             ReadErrorKind::Requirement => (1, None),
@@ -273,17 +269,15 @@ impl From<&FormError> for Explanation {
             ReadErrorKind::Missing(part) => (5, Some(part)),
             _ => (0, None),
         };
-        let (Range { start, end }, code, mask) = (error.span(), error.code(), error.mask());
+        let (Range { start, end }, mask) = (error.span(), error.mask());
         let unmet = error.conditions();
         Explanation {
             span: Span { start, end },
-            index: code.index().copied().unwrap_or(0),
             mask: mask.into(),
-            code: error_number(code),
             kind,
             number: if mask == 0 { NO_SETTER } else { mask.trailing_zeros() as Setter },
             part: part.map_or(NO_PART, |part| part as u8),
-            reserved: 0,
+            reserved: [0; 5],
             conditions: Condition::ALL.iter().rev().fold(0, |bits, &it| bits << 1 | u64::from(unmet.has(it))),
         }
     }

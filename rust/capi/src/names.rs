@@ -2,7 +2,7 @@
 
 use crate::arguments::item;
 use crate::numbers::{error_of, setter_number, ErrorNumber, Setter};
-use peltzivar::{edits, Rule};
+use peltzivar::edits;
 
 /// Defines texts, by their indices, one after another and with a null byte behind each.
 macro_rules! texts {
@@ -41,7 +41,6 @@ texts! {
         Some(error) => error.description().as_bytes(),
         None => b"",
     };
-    CONDITIONS: [17] = |number| if number == 0 { b"" } else { Rule::ALL[number - 1].condition().as_bytes() };
 }
 
 /// Returns the text with an index, or an empty one.
@@ -55,5 +54,4 @@ calls! {
         at(SETTER_NAMES, edits::Setter::ALL.iter().position(|it| setter_number(*it) == setter).unwrap_or(usize::MAX))
     }
     fn peltzivar_description(error: ErrorNumber) -> *const u8 { at(DESCRIPTIONS, error) }
-    fn peltzivar_rule_condition(rule: u32) -> *const u8 { at(CONDITIONS, rule) }
 }

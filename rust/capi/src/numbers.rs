@@ -2,7 +2,7 @@
 
 use core::num::NonZeroU8;
 use peltzivar::edits::{self, FLAG_COUNT};
-use peltzivar::{Byte, Edit, Error, FormatView, NumberFormatBuilder, Part, Reason, Rule};
+use peltzivar::{Byte, Edit, Error, FormatView, NumberFormatBuilder, Reason, Rule};
 
 /// A format word as two halves, since C has no 128-bit integer type that every compiler supports.
 #[repr(C)]
@@ -110,9 +110,6 @@ impl From<Edit> for NumberedEdit {
         NumberedEdit { setter: setter_number(edit.setter()), value: edit.argument_byte() }
     }
 }
-
-/// The parts of a number, by their numbers.
-pub const PARTS: [Part; 3] = [Part::Integer, Part::Fraction, Part::Exponent];
 
 /// The number of no part.
 pub const NO_PART: u8 = 255;

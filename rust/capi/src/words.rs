@@ -2,24 +2,12 @@
 //! bytes of a number.
 
 use crate::arguments::{input, item, write_list, write_text, Out, ValueStatus, REFUSED};
-use crate::numbers::{blamed_options, broken_rules, error_number, setter_of};
-use crate::numbers::{ErrorNumber, Fields, NumberedEdit, Setter, Word, PARTS};
+use crate::numbers::{blamed_options, broken_rules, error_number, ErrorNumber, Fields, NumberedEdit, Word};
 use core::str::from_utf8;
-use peltzivar::source::BuilderExpression;
 use peltzivar::{edits, Error, FormatView, Note, NumberFormatBuilder, Reason};
 
 /// The result for a byte that is not a digit.
 const NO_DIGIT: u32 = u32::MAX;
-
-/// Where a part of a number may have digit separators.
-#[repr(C)]
-pub struct Separators {
-    internal: bool,
-    leading: bool,
-    trailing: bool,
-    consecutive: bool,
-    reserved: [u8; 4],
-}
 
 /// Applies the edits in order. Returns `None` if an edit has an unknown setter, or if there are too many.
 unsafe fn edited(builder: NumberFormatBuilder, edits: *const NumberedEdit, len: usize) -> Option<NumberFormatBuilder> {
@@ -49,16 +37,11 @@ calls! {
 
     fn peltzivar_check(format: Word) -> ErrorNumber { error_number(format.view().error()) }
     fn peltzivar_normal_form(format: Word) -> Word { edits::normal_form(format.number()).into() }
-    fn peltzivar_is_built(format: Word) -> bool { edits::is_built(format.number()) }
 
     fn peltzivar_edits_of(format: Word, out: *mut NumberedEdit, len: usize) -> usize {
         let (list, count) = edits::edits_of(format.number());
         write_list(out, len, list[..count].iter().map(|it| (*it).into()));
         count
-    }
-
-    fn peltzivar_flag(format: Word, setter: Setter) -> bool {
-        matches!(setter_of(setter), Some(edits::Setter::Flag(it)) if it.is_set(format.number()))
     }
 
     fn peltzivar_fields_of(format: Word) -> Fields { NumberFormatBuilder::rebuild(format.number()).into() }
@@ -84,10 +67,6 @@ calls! {
             index.write(error.index().copied().unwrap_or(0));
         }
         out.write_ok(view.map(|view| view.word()))
-    }
-
-    fn peltzivar_source(format: Word, text: *mut u8, len: usize) -> usize {
-        write_text(text, len, Some(BuilderExpression(format.number())))
     }
 
     fn peltzivar_reason_text(format: Word, index: usize, text: *mut u8, len: usize) -> usize {
@@ -131,17 +110,6 @@ calls! {
     fn peltzivar_exponent_digit(format: Word, byte: u8) -> u32 {
         format.view().exponent_digit(byte).unwrap_or(NO_DIGIT)
     }
-
-    fn peltzivar_separators_of(format: Word, part: u8, out: Out<Separators>) -> ValueStatus {
-        out.write_some(PARTS.get(usize::from(part)).map(|part| {
-            let peltzivar::Separators { internal, leading, trailing, consecutive, .. } = format.view().separators(*part);
-            Separators { internal, leading, trailing, consecutive, reserved: [0; 4] }
-        }))
-    }
-
-    fn peltzivar_is_separator(format: Word, byte: u8) -> bool { format.view().is_separator(byte) }
-    fn peltzivar_is_base_prefix(format: Word, byte: u8) -> bool { format.view().is_base_prefix(byte) }
-    fn peltzivar_is_base_suffix(format: Word, byte: u8) -> bool { format.view().is_base_suffix(byte) }
 
     fn peltzivar_role_of(format: Word, exponent: u8, decimal_point: u8, byte: u8) -> u8 {
         let role = format.view().role_of(exponent, decimal_point, byte);

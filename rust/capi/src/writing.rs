@@ -1,8 +1,7 @@
 //! Calls that write numbers.
 
 use crate::arguments::{write_by, Out, Text};
-use crate::languages::NumberedSpecial;
-use crate::lists::{Forms, Specials};
+use crate::lists::Forms;
 use crate::literals::{Literal, Syntax};
 use crate::names::{at, texts};
 use core::fmt::{self, Write};
@@ -202,15 +201,6 @@ calls! {
     ) -> WriteStatus {
         let Some(literal) = literal.and_then(Literal::value) else { return ARGUMENT };
         write((syntax, style), (text, len, needed), |syntax, style| syntax.format_literal(literal, style))
-    }
-
-    fn peltzivar_format_special(
-        syntax: Option<&Syntax>, specials: Option<&Specials>, special: Option<&NumberedSpecial>, text: *mut u8, len: usize,
-        needed: Out<usize>
-    ) -> WriteStatus {
-        let Some(special) = special.and_then(NumberedSpecial::value) else { return ARGUMENT };
-        let Some(specials) = specials.and_then(|it| it.spellings()) else { return ARGUMENT };
-        write((syntax, None), (text, len, needed), |syntax, _| specials.format(syntax, special))
     }
 
     fn peltzivar_forms_format_i64(
