@@ -4,14 +4,13 @@ ghost use Rattle.std.specs.Prelude.{ℕ, ◌≡◌, ◌+◌, ◌<◌, ◌≤◌,
 ghost use Rattle.lexical_forms.specs.Additions.Forms.{AreFalse, IsNoBetter, IsStranger, LacksZero, NoFrontPast, PlaysNoRole, sign_size};
 ghost use Rattle.lexical_forms.specs.Additions.Token.{IsWithin, has_prefix};
 ghost use Rattle.lexical_literal.specs.Front.{IsValidUpTo, NoFront, NoLiteral};
-ghost use Rattle.lexical_util.specs.Record.{Record};
 ghost use Rattle.lexical_util.specs.Roles.{cased, other_case};
-ghost use Rattle.lexical_literal.specs.Notation.{exponent_character_of, notation_of, point_of};
+ghost use Rattle.lexical_literal.specs.Notation.{notation_of};
 
-use lexical_literal::step::{is_digit, other_case, role_at};
+use lexical_literal::step::{is_digit, is_prefix, other_case, role_at};
 use lexical_literal::stop::byte_at;
-use lexical_literal::syntax::{Condition, Grammar, Options};
-use lexical_util::format::{Part, base_prefix, base_suffix, digit_separator};
+use lexical_literal::syntax::{Condition, Grammar};
+use lexical_util::format::Part;
 
 // Returns whether the first bytes behind the sign, which has this length, exclude that `text` is a literal: there is not the prefix
 // that is required, or the second plays no role. Then no literal begins with both.
@@ -63,9 +62,7 @@ const fn is_silent(grammar: Grammar, byte: u8) -> bool
     ensures own { IsTrue result → PlaysNoRole (notation_of grammar) byte }
     ensures other { IsTrue result → PlaysNoRole (notation_of grammar) (other_case byte) }
 {
-    byte > b'9'
-        && is_stranger(grammar, byte)
-        && is_apart(base_prefix(grammar.word), byte, other_case(byte))
+    byte > b'9' && is_stranger(grammar, byte) && is_apart(grammar.prefix, byte, other_case(byte))
 }
 
 // Returns whether `byte` plays no role behind the base prefix, and its other case neither.
@@ -78,24 +75,10 @@ const fn is_stranger(grammar: Grammar, byte: u8) -> bool
         && !is_digit(grammar, Part::Exponent, byte)
         && byte != b'+'
         && byte != b'-'
-        && is_apart(digit_separator(grammar.word), byte, other)
-        && is_apart(base_suffix(grammar.word), byte, other)
-        && is_no_mark(grammar.options, byte, other)
-}
-
-// Returns whether `byte` is neither the exponent character nor the decimal point, and its other case neither.
-#[inline(always)]
-const fn is_no_mark(options: Option<Options>, byte: u8, other: u8) -> bool
-    requires { other ≡ other_case byte }
-    ensures point { IsTrue result → AreFalse (point_of options) byte }
-    ensures exponent { IsTrue result → (r : Record) → AreFalse (exponent_character_of r options) byte }
-{
-    match options {
-        None => true,
-        Some(options) => {
-            is_apart(options.exponent, byte, other) && is_apart(options.point, byte, other)
-        }
-    }
+        && is_apart(grammar.separator, byte, other)
+        && is_apart(grammar.suffix, byte, other)
+        && is_apart(grammar.exponent, byte, other)
+        && is_apart(grammar.point, byte, other)
 }
 
 // Returns whether `byte` is not `own`, and its other case neither.
@@ -168,7 +151,7 @@ const fn has_prefix(grammar: Grammar, text: &[u8], index: usize) -> bool
     requires { index ≤ length text.now }
     ensures { result ≡ has_prefix (notation_of grammar) text.now index }
 {
-    index + 1 < text.len() && text[index] == b'0' && grammar.view().is_base_prefix(text[index + 1])
+    index + 1 < text.len() && text[index] == b'0' && is_prefix(grammar, text[index + 1])
 }
 
 // Returns whether a zero and a letter are behind the sign.

@@ -486,7 +486,7 @@ const fn are_wide(forms: &[Form]) -> bool {
 // Returns whether a form need not be asked: its first bytes exclude that `text` is a literal, or no error of it goes further than the
 // furthest form, unless its cause is a wrong byte.
 #[inline(always)]
-const fn is_behind(grammar: Grammar, text: &[u8], furthest: Option<Furthest>) -> bool {
+const fn is_behind(grammar: &Grammar, text: &[u8], furthest: Option<Furthest>) -> bool {
     match furthest {
         None => excludes(grammar, text, sign_size(text)),
         Some(best) => is_settled(grammar, text, best.stop.size),

@@ -152,7 +152,7 @@ impl Stopped {
 
     // Returns whether what has been read, with the last group `group`, is a literal.
     #[inline(always)]
-    const fn may_end(self, grammar: Grammar, group: Group) -> bool {
+    const fn may_end(self, grammar: &Grammar, group: Group) -> bool {
         is_complete(grammar, self.read) && group_allows(grammar, group, None)
     }
 
