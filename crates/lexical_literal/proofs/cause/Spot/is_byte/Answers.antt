@@ -39,11 +39,11 @@ module _ (m : Notation) (s : Summary) (g : Group) where
       }) refl (case_is (mask_of (cases m s g byte) == 0)) refl)
 
 pub returns-in-None : goal.returns-in-None
-returns-in-None c = without (notation_of (grammar_at c.args.self)) c.args.self.read (group_at c.args.self) c.args.self.byte c.in-None.is
+returns-in-None c = without (notation_of (grammar_at c.args.self.now)) c.args.self.now.read (group_at c.args.self.now) c.args.self.now.byte c.in-None.is
 
 pub returns-then-separators-eq0 : goal.returns-then-separators-eq0
 returns-then-separators-eq0 c =
-    let all = with_byte (notation_of (grammar_at c.args.self)) c.args.self.read (group_at c.args.self) c.args.self.byte c.in-Some.byte c.in-Some.is in
+    let all = with_byte (notation_of (grammar_at c.args.self.now)) c.args.self.now.read (group_at c.args.self.now) c.args.self.now.byte c.in-Some.byte c.in-Some.is in
     let free = c.goes_on_bare.ensures in
     let none = c.if-separators-eq0.true in
     let cases = c.case_flags.ensures in
@@ -54,7 +54,7 @@ returns-then-separators-eq0 c =
 
 pub returns-else-separators-eq0 : goal.returns-else-separators-eq0
 returns-else-separators-eq0 c =
-    let all = with_byte (notation_of (grammar_at c.args.self)) c.args.self.read (group_at c.args.self) c.args.self.byte c.in-Some.byte c.in-Some.is in
+    let all = with_byte (notation_of (grammar_at c.args.self.now)) c.args.self.now.read (group_at c.args.self.now) c.args.self.now.byte c.in-Some.byte c.in-Some.is in
     let free = c.goes_on_bare.ensures in
     let some = c.if-separators-eq0.false in
     elim c.if-not-goes_on_bare.branch [
