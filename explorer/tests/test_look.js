@@ -19,7 +19,7 @@ function outOfView() {
         return [...(isFirst ? [] : [name]), ...tabs.filter((tab) => {
             page.open(tab);
             const [pane, { text } = {}] = [find(`pane-${page.pane}`), INNER[page.pane]];
-            const shown = text ? [find(text)] : [...pane.querySelectorAll(".control, #readers > *, #texts :is(h3, li)")].slice(0, page.pane === "edit" ? 3 : 8);
+            const shown = text ? [find(text)] : [...pane.querySelectorAll(".control, #readers > *, #texts :is(h3, li)")].slice(0, page.pane === "edit" ? 3 : 10);
             return !shown.length || ![pane.querySelector("h2"), ...shown].every((it) => isSeen(it, tenLines));
         }).map((tab) => [name, tab])];
     });
