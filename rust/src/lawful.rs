@@ -38,7 +38,7 @@ use crate::word::STANDARD;
 /// - No two flags contradict each other, and all reserved bits are 0.
 #[derive(Clone, Copy, PartialEq, Eq, PartialOrd, Ord, Hash)]
 pub struct Format {
-    pub(crate) word: u128,
+    word: u128,
 }
 
 impl Default for Format {
@@ -68,6 +68,13 @@ impl Format {
             Ok(format) => Ok(format),
             Err(code) => Err(FormatError::new(code, Rejected::Word(word))),
         }
+    }
+
+    // Returns a lawful word as a format.
+    #[must_use]
+    #[inline(always)]
+    pub(crate) const fn of_lawful(word: u128) -> Self {
+        Format { word }
     }
 
     /// Returns the format word.

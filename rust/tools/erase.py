@@ -72,15 +72,22 @@ REPLACED = [
     # A constant panics with a text.
     ("short_text.rt", "pub fn as_str(", "pub const fn as_str("),
     # `Syntax::unchecked` is written by hand.
-    ("lawful.rt", "pub struct Format {\n    word:", "pub struct Format {\n    pub(crate) word:"),
-    ("syntax.rt", "pub struct Syntax {\n    format:", "pub struct Syntax {\n    pub(crate) format:"),
-    ("syntax.rt", "    options: Option<Options>,\n    conditions: Conditions,\n}\n\nimpl Model for Syntax", "    pub(crate) options: Option<Options>,\n    pub(crate) conditions: Conditions,\n}\n\nimpl Model for Syntax"),
+    ("syntax.rt", "pub struct Syntax {\n    grammar: &Grammar,", "pub struct Syntax {\n    pub(crate) grammar: Grammar,"),
+    ("syntax.rt", "    usual: bool,\n}", "    pub(crate) usual: bool,\n}"),
+    ("lawful.rt", "#[doc(hidden)]\n    #[must_use]\n    #[inline(always)]\n    pub const fn of_lawful(", "#[must_use]\n    #[inline(always)]\n    pub(crate) const fn of_lawful("),
     # Calls with these names are written by hand: they return a byte, a `Literal` or a range.
     ("syntax.rt", "pub const fn options(&self)", "pub(crate) const fn options(&self)"),
     ("specials.rt", "pub const fn spell(", "pub(crate) const fn spell("),
     ("cause.rt", "pub const fn span(&self)", "#[doc(hidden)] pub const fn bounds(&self)"),
-    ("syntax.rt", "const fn grammar(&self)", "const fn as_grammar(&self)"),
-    ("cause.rt", "const fn grammar(self)", "const fn as_grammar(self)"),
+    # A grammar is given by reference.
+    ("syntax.rt", "const fn grammar(&self) -> Grammar", "const fn as_grammar(&self) -> &Grammar"),
+    ("syntax.rt", "        role_facts();\n        self.grammar\n", "        role_facts();\n        &self.grammar\n"),
+    ("cause.rt", "const fn grammar(&self) -> Grammar", "const fn as_grammar(&self) -> &Grammar"),
+    ("cause.rt", "        self.grammar\n", "        &self.grammar\n"),
+    ("cause.rt", "            ..grammar\n", "            ..*grammar\n"),
+    ("cause.rt", "self.goes_on(other) && self.group_goes_on(other)", "self.goes_on(&other) && self.group_goes_on(&other)"),
+    ("span.rt", "        grammar,\n        read,", "        grammar: *grammar,\n        read,"),
+    ("scan.rt", "scan(self.usual_grammar(),", "scan(&self.usual_grammar(),"),
 ]
 
 # Files in which each function is const in plain Rust. Rattle's `split_at` is not, nor is what calls it.
@@ -282,7 +289,7 @@ class Source:
         """Returns the index after the import or call of laws that begins at an index, or the index itself."""
         if self.words[index] == "use" and "laws" in (self.words[index + 4], self.words[index + 7]):
             end = self.words.index(";", index)
-            self.laws |= {word for word in self.words[index + 4 : end] if word.isidentifier()}
+            self.laws |= {self.words[it] for it in range(index + 4, end) if self.words[it].isidentifier() and self.words[it + 1] != ":"}
             return end + 1
         if self.words[index - 1] in ("{", "}", ";") and self.words[index] in self.laws:
             end = index + 1
@@ -352,6 +359,7 @@ def replaced(path):
     """Returns a source after the replacements. Each keeps the number of lines, so lines keep their numbers."""
     text = path.read_text()
     text = re.sub(r"(?<!const )\bfn (?=\w+[<(])", "const fn ", text) if any(path.match(it) for it in CONST) else text
+    text = re.sub(r"(?<!\) )\b(_?grammar|other): Grammar\b", r"\1: &Grammar", text)
     if path.match("lexical_literal/src/*.rt"):
         text = HIDDEN.sub(lambda it: re.sub(r"\bpub\b(?! ?\()", "pub(crate)", it[2]) + it[1], text)
     for file, old, new in REPLACED:

@@ -1,10 +1,10 @@
 -- Lemmas on packing a record, and on the record of a word.
-use Rattle.lexical_flags.proofs.Common.{ℕ, ◌≡◌, ◌+◌, ◌*◌, ◌^◌, ◌<◌, ◌==◌, ◌⊎◌, ◌↔◌, Bool, ◌-◌, IsTrue, if◌then◌else◌, List, [], ◌∷◌, sum_by, refl, ap, sym, ◌∙◌}
+use Rattle.lexical_flags.proofs.Common.{ℕ, ◌≡◌, ◌+◌, ◌*◌, ◌/◌, ◌%◌, ◌^◌, ◌<◌, ◌==◌, ◌⊎◌, ◌↔◌, Bool, ◌-◌, IsTrue, if◌then◌else◌, List, [], ◌∷◌, sum_by, refl, ap, sym, ◌∙◌}
 use Rattle.lexical_flags.proofs.Common.{subst, arith, mod-eq_of_lt, mod-lt, pow_pos, nat_tests, part, Flag, Byte, bit, flags, shift, IsClean, Record, raw, fill}
 use Rattle.lexical_flags.proofs.Common.{trim, separator_allowed, HasBytes}
 use Rattle.std.proofs.Common.{length, ◌++◌, map}
 use Rattle.lexical_flags.specs.Layout.{bytes, base_flags, digit_separator_flags}
-use Rattle.lexical_flags.specs.Record.{pack, word_of, byte_bits, IsBuilt}
+use Rattle.lexical_flags.specs.Record.{pack, record_of, word_from, word_of, byte_bits, IsBuilt}
 use Rattle.lexical_flags.specs.Layout as layout
 use Rattle.lexical_flags.proofs.RecordLemmas.{record_same}
 use Rattle.lexical_flags.proofs.Segments.{joined, segments, segments-joined, joined-segments, joined-below, Fit}
@@ -177,3 +177,35 @@ raw-injective v w fits fits' clean clean' same = sym (word_of-raw v fits clean) 
 -- Two records have the same packed word if and only if they are equal after trimming.
 pub pack-injective : (r s : Record) → HasBytes r → HasBytes s → (pack s ≡ pack r) ↔ (trim s ≡ trim r)
 pack-injective r s h k = (λ e. sym (raw-pack s k) ∙ ap raw e ∙ raw-pack r h, λ e. ap word_of e)
+
+low_bit : (w : ℕ) → (f : Flag) → w % 2 ^ 64 / 2 ^ bit f % 2 ≡ w / 2 ^ bit f % 2
+low_bit w layout.required_integer_digits = omega arith
+low_bit w _ = omega arith
+
+-- The flags of a word are in its lower 64 bits.
+pub low_flag : (w : ℕ) → (f : Flag) → (raw (w % 2 ^ 64)).flag f ≡ (raw w).flag f
+low_flag w f = ap (λ n. n == 1) (low_bit w f)
+
+-- The lower half of the word with the lower half `flags` is `flags`.
+pub low-half : (flags : ℕ) (byte : Byte → ℕ) → flags < 2 ^ 64 → word_from flags byte % 2 ^ 64 ≡ flags
+low-half flags byte fits = omega (arith, fits)
+
+-- The record of the word with these flags and bytes has them.
+pub raw-fields : (flags : ℕ) (byte : Byte → ℕ) → flags < 2 ^ 64 → ((b : Byte) → byte b < 2 ^ 8)
+    → raw (word_from flags byte) ≡ record_of flags byte
+raw-fields flags byte fits small = record_same _ _
+    (λ f. sym (low_flag (word_from flags byte) f) ∙ ap (λ w. (raw w).flag f) (low-half flags byte fits)) on_byte where
+  on_byte : (b : Byte) → word_from flags byte / 2 ^ shift b % 2 ^ 8 ≡ byte b
+  on_byte layout.digit_separator = omega (arith, fits, small layout.digit_separator)
+  on_byte layout.base_prefix = omega (arith, fits, small layout.digit_separator, small layout.base_prefix)
+  on_byte layout.base_suffix = omega (arith, fits, small layout.digit_separator, small layout.base_prefix, small layout.base_suffix)
+  on_byte layout.mantissa_radix =
+      omega (arith, fits, small layout.digit_separator, small layout.base_prefix, small layout.base_suffix, small layout.mantissa_radix)
+  on_byte layout.exponent_base = omega (arith, fits, small layout.digit_separator, small layout.base_prefix, small layout.base_suffix,
+      small layout.mantissa_radix, small layout.exponent_base)
+  on_byte layout.exponent_radix = omega (arith, fits, small layout.digit_separator, small layout.base_prefix, small layout.base_suffix,
+      small layout.mantissa_radix, small layout.exponent_base, small layout.exponent_radix)
+
+-- The word with the lower half and the bytes of a word is that word, if the reserved bits between its bytes are 0.
+pub word-fields : (w : ℕ) → w < 2 ^ 128 → part w 72 16 ≡ 0 → word_from (w % 2 ^ 64) (raw w).byte ≡ w
+word-fields w fits clean = omega (arith, fits, clean)

@@ -21,6 +21,14 @@ bytes_of word b = word / 2 ^ shift b % 2 ^ 8
 abbrev pub raw : ℕ → Record
 raw word = record { flag = λ f. word / 2 ^ bit f % 2 == 1; byte = bytes_of word }
 
+-- `record_of flags byte` is the record of the flags of the word `flags` and of the bytes `byte`.
+abbrev pub record_of : ℕ → (Byte → ℕ) → Record
+record_of flags byte = record { flag = (raw flags).flag; byte = byte }
+
+-- `word_from flags byte` is the word with the lower half `flags` and the bytes `byte`.
+abbrev pub word_from : ℕ → (Byte → ℕ) → ℕ
+word_from flags byte = flags + sum_by (λ b. byte b * 2 ^ shift b) bytes
+
 -- `effective byte mantissa_radix` is the exponent byte `byte`, or the mantissa radix if `byte` is 0.
 abbrev pub effective : ℕ → ℕ → ℕ
 effective byte mantissa_radix = if byte == 0 then mantissa_radix else byte

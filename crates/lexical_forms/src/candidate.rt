@@ -8,6 +8,7 @@ ghost use Rattle.lexical_forms.specs.Additions.Forms.{GoesTo, IsFrontIn, further
 ghost use Rattle.lexical_forms.specs.Additions.Token.{IsBestOf, IsCounted, IsEnd, IsMade, IsOwn, IsPicked, NoOwn, better, goes_on, has_float, suffixed, whole};
 ghost use Rattle.lexical_literal.specs.Cause.{is_in};
 ghost use Rattle.lexical_literal.specs.Notation.{notation_of};
+ghost use Rattle.lexical_literal.specs.Read.{radixes_of};
 ghost use Rattle.lexical_forms.specs.Forms.{IsGreatest, ReadsIn};
 ghost use Rattle.lexical_forms.specs.Suffix.{is_stopped, kind_with, stop_end};
 ghost use Rattle.lexical_forms.specs.Token.{HasNone, IsAhead, IsReadByTokens, IsRefused, IsTokenError, NoCandidate, is_alone, is_shorter, lets_words};
@@ -175,7 +176,7 @@ impl Form {
         requires order { candidate.size ≤ candidate.end }
         requires within { candidate.end ≤ length text.now }
         ensures form { result.form ≡ form }
-        ensures literal { (result.literal.format ≡ self.now.syntax.word) × ReadsIn self.now result.literal.literal (take candidate.size text.now) }
+        ensures literal { (result.literal.format ≡ radixes_of self.now.syntax.word) × ReadsIn self.now result.literal.literal (take candidate.size text.now) }
         ensures kind { result.literal.kind ≡ kind_with self.now.suffixes result.suffix.now self.now.kind }
         ensures opened { result.literal.opened ≡ self.now.opening.size }
         ensures suffix { result.suffix.now ≡ take (candidate.end - candidate.size) (drop candidate.size text.now) }

@@ -10,12 +10,12 @@ ghost use Rattle.lexical_literal.specs.Additions.Stop.{IsWithin};
 ghost use Rattle.lexical_literal.specs.Front.{NoFront};
 ghost use Rattle.lexical_util.specs.Record.{Record};
 ghost use Rattle.lexical_util.specs.Roles.{cased, other_case};
-ghost use Rattle.lexical_literal.specs.Notation.{exponent_character_of, notation_of, point_of};
+ghost use Rattle.lexical_literal.specs.Notation.{notation_of};
 
-use lexical_literal::step::{is_digit, other_case, role_at};
+use lexical_literal::step::{is_digit, is_prefix, other_case, role_at};
 use lexical_literal::stop::byte_at;
-use lexical_literal::syntax::{Condition, Grammar, Options};
-use lexical_util::format::{Part, base_prefix, base_suffix, digit_separator};
+use lexical_literal::syntax::{Condition, Grammar};
+use lexical_util::format::Part;
 
 // Returns how far the syntax goes in `text` at most if this is known at once, and `text` is not a literal: the zero or the prefix that is
 // required is not there, or a byte plays no role, of the first two behind the sign, or the one at `reach`, which is behind them.
@@ -67,11 +67,7 @@ const fn lacks_letter(grammar: Grammar, text: &[u8], index: usize) -> bool
     ensures { IsTrue result → LacksLetter (notation_of grammar) text.now index }
 {
     index < text.len()
-        && is_apart(
-            base_prefix(grammar.word),
-            text[index],
-            other_case(text[index]),
-        )
+        && is_apart(grammar.prefix, text[index], other_case(text[index]))
 }
 
 // Returns whether a byte is at `index` that plays no role, and its other case neither.
@@ -97,9 +93,7 @@ const fn is_silent(grammar: Grammar, byte: u8) -> bool
     ensures own { IsTrue result → PlaysNoRole (notation_of grammar) byte }
     ensures other { IsTrue result → PlaysNoRole (notation_of grammar) (other_case byte) }
 {
-    byte > b'9'
-        && is_stranger(grammar, byte)
-        && is_apart(base_prefix(grammar.word), byte, other_case(byte))
+    byte > b'9' && is_stranger(grammar, byte) && is_apart(grammar.prefix, byte, other_case(byte))
 }
 
 // Returns whether `byte` plays no role behind the base prefix, and its other case neither.
@@ -112,24 +106,10 @@ const fn is_stranger(grammar: Grammar, byte: u8) -> bool
         && !is_digit(grammar, Part::Exponent, byte)
         && byte != b'+'
         && byte != b'-'
-        && is_apart(digit_separator(grammar.word), byte, other)
-        && is_apart(base_suffix(grammar.word), byte, other)
-        && is_no_mark(grammar.options, byte, other)
-}
-
-// Returns whether `byte` is neither the exponent character nor the decimal point, and its other case neither.
-#[inline(always)]
-const fn is_no_mark(options: Option<Options>, byte: u8, other: u8) -> bool
-    requires { other ≡ other_case byte }
-    ensures point { IsTrue result → AreFalse (point_of options) byte }
-    ensures exponent { IsTrue result → (r : Record) → AreFalse (exponent_character_of r options) byte }
-{
-    match options {
-        None => true,
-        Some(options) => {
-            is_apart(options.exponent, byte, other) && is_apart(options.point, byte, other)
-        }
-    }
+        && is_apart(grammar.separator, byte, other)
+        && is_apart(grammar.suffix, byte, other)
+        && is_apart(grammar.exponent, byte, other)
+        && is_apart(grammar.point, byte, other)
 }
 
 // Returns whether `byte` is not `own`, and its other case neither.
@@ -165,7 +145,7 @@ const fn has_other_prefix(grammar: Grammar, byte: Option<u8>) -> bool
     match byte {
         None => false,
         Some(byte) => {
-            !grammar.view().is_base_prefix(byte) && grammar.view().is_base_prefix(other_case(byte))
+            !is_prefix(grammar, byte) && is_prefix(grammar, other_case(byte))
         }
     }
 }
@@ -230,7 +210,7 @@ const fn has_prefix(grammar: Grammar, text: &[u8], index: usize) -> bool
     requires { index ≤ length text.now }
     ensures { result ≡ has_prefix (notation_of grammar) text.now index }
 {
-    index + 1 < text.len() && text[index] == b'0' && grammar.view().is_base_prefix(text[index + 1])
+    index + 1 < text.len() && text[index] == b'0' && is_prefix(grammar, text[index + 1])
 }
 
 // Returns whether a zero and a letter are behind the sign.

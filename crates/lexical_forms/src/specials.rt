@@ -6,8 +6,8 @@ ghost use Rattle.lexical_forms.specs.Specials.{allows, means_nan, is_negative, i
 ghost use Rattle.lexical_forms.specs.Specials.{special_of, spelling_of, text_of_special, written_sign};
 ghost use Rattle.lexical_forms.specs.Additions.Forms.{special_separator};
 
+use lexical_literal::step;
 use lexical_literal::syntax::{Condition, Grammar, Syntax};
-use lexical_util::format_flags::digit_separator;
 
 /// The spellings of special values. A spelling that is absent or empty matches no text.
 ///
@@ -247,7 +247,7 @@ const fn matches(grammar: Grammar, word: Option<&[u8]>, text: &[u8]) -> bool
 const fn is_spelled(grammar: Grammar, word: &[u8], text: &[u8]) -> bool
     ensures { result ≡ is_spelled (notation_of grammar) word.now text.now }
 {
-    let separator = digit_separator(grammar.word);
+    let separator = grammar.separator;
     let mut letters = 0;
     // The number of separators that were taken for a letter, with no other letter behind them.
     let mut taken = 0_usize;
@@ -276,8 +276,7 @@ const fn is_spelled(grammar: Grammar, word: &[u8], text: &[u8]) -> bool
 const fn is_separator(grammar: Grammar, byte: u8) -> bool
     ensures { result ≡ special_separator (notation_of grammar) byte }
 {
-    let format = grammar.view();
-    format.special_digit_separator() && format.is_separator(byte)
+    grammar.view().special_digit_separator() && step::is_separator(grammar, byte)
 }
 
 // Returns whether `byte` is `letter`, letter case aside unless special values are case-sensitive.

@@ -1,5 +1,6 @@
 -- Lemmas.
 mod Common
+pub mod FieldLemmas
 pub mod RunLemmas
 pub mod WalkLemmas
 mod StepLemmas

@@ -1,3 +1,4 @@
+pub mod Fields
 pub mod Step
 pub mod Scan
 pub mod Literal

@@ -1,3 +1,4 @@
+pub mod Worded
 pub mod Notation
 pub mod Groups
 pub mod Run

@@ -13,10 +13,10 @@ ghost use Rattle.lexical_literal.specs.Notation.{has, kept, notation_of, number_
 
 use crate::group_size::{Group, follows, has_size};
 use crate::step::{
-    Summary, has_digit, is_complete, is_exponent_character, needs_exponent, other_case, part_of,
-    role_at, step_as,
+    CONSECUTIVE, Summary, has_digit, has_place, is_complete, is_exponent_character, is_prefix,
+    is_suffix, needs_exponent, other_case, part_of, role_at, step_as,
 };
-use crate::syntax::{CONDITIONS, Condition, Conditions, Grammar, Options};
+use crate::syntax::{CONDITIONS, Condition, Conditions, Grammar};
 use lexical_util::error::Error;
 use lexical_util::format as masks;
 use lexical_util::format::{Part, Role};
@@ -52,12 +52,10 @@ pub enum ReadErrorKind {
 // Where reading stopped: what has been read, the byte that cannot follow, or `None` if bytes are missing, the bytes that follow it in
 // its character, or 0 for each that does not, and whether a separator is before the last group of digits. What spans and errors are
 // made of: the number of bytes that are right, and the indexes at which the exponent, the integer digits, the last separators and,
-// where groups have sizes, the last group of digits begin. The fields of the grammar are apart, which takes 16 bytes less.
+// where groups have sizes, the last group of digits begin.
 #[derive(Debug, Clone, Copy, PartialEq, Eq, Hash)]
 pub struct Spot {
-    pub(crate) word: u128,
-    pub(crate) options: Option<Options>,
-    pub(crate) conditions: Conditions,
+    pub(crate) grammar: Grammar,
     pub(crate) read: Summary,
     pub(crate) byte: Option<u8>,
     pub(crate) tail: [u8; 3],
@@ -216,19 +214,15 @@ struct Blame {
 
 impl Spot {
     // Returns the grammar.
-    pub(crate) const fn grammar(self) -> Grammar
-        ensures { result ≡ grammar_at self }
+    pub(crate) const fn grammar(&self) -> Grammar
+        ensures { result ≡ grammar_at self.now }
     {
-        Grammar {
-            word: self.word,
-            options: self.options,
-            conditions: self.conditions,
-        }
+        self.grammar
     }
 
     // Returns the last group of digits.
-    const fn last_group(self) -> Group
-        ensures { result ≡ group_at self }
+    const fn last_group(&self) -> Group
+        ensures { result ≡ group_at self.now }
     {
         Group {
             part: part_of(self.read.stage),
@@ -238,16 +232,16 @@ impl Spot {
     }
 
     // Returns the answers of a text with which no literal goes on.
-    const fn refusal(self) -> Refusal
-        requires { self.size < 2 ^ 63 }
-        ensures { result ≡ refusal_of (notation_of (grammar_at self)) self }
+    const fn refusal(&self) -> Refusal
+        requires { self.now.size < 2 ^ 63 }
+        ensures { result ≡ refusal_of (notation_of (grammar_at self.now)) self.now }
     {
         let Spot {
             byte,
             tail,
             size,
             ..
-        } = self;
+        } = *self;
         let Blame { kind, mask } = self.blame();
         let conditions = self.unmet();
         let number = mask.trailing_zeros();
@@ -267,21 +261,23 @@ impl Spot {
     }
 
     // Returns whether the text could go on if the flags of the format were those of `word`, with other conditions.
-    const fn allows(self, word: u128, conditions: Conditions) -> bool
-        ensures { result ≡ goes (with_rules (notation_of (grammar_at self)) (raw word).flag (has conditions)) self.read (group_at self) self.byte }
+    const fn allows(&self, word: u128, conditions: Conditions) -> bool
+        ensures { result ≡ goes (with_rules (notation_of (grammar_at self.now)) (raw word).flag (has conditions)) self.now.read (group_at self.now) self.now.byte }
     {
+        let grammar = self.grammar();
         let other = Grammar {
-            word,
-            options: self.options,
+            flags: word as u64,
+            separator: 0,
             conditions,
+            ..grammar
         };
         self.goes_on(other) && self.group_goes_on(other)
     }
 
     // Returns whether the text could go on by the steps of `other`.
-    const fn goes_on(self, other: Grammar) -> bool
-        requires { other.options ≡ (grammar_at self).options }
-        ensures { result ≡ lets (unsized (with_rules (notation_of (grammar_at self)) (raw other.word).flag (has other.conditions))) self.read self.byte }
+    const fn goes_on(&self, other: Grammar) -> bool
+        requires { other.options ≡ (grammar_at self.now).options }
+        ensures { result ≡ lets (unsized (with_rules (notation_of (grammar_at self.now)) (raw other.word).flag (has other.conditions))) self.now.read self.now.byte }
     {
         match self.byte {
             None => is_complete(other, self.read),
@@ -293,9 +289,9 @@ impl Spot {
     }
 
     // Returns whether the text could go on behind the last group of digits, with the conditions of `other`.
-    const fn group_goes_on(self, other: Grammar) -> bool
-        ensures { result ≡ group_allows (with_rules (notation_of (grammar_at self)) (raw other.word).flag (has other.conditions)) (group_at self)
-            (role_next (notation_of (grammar_at self)) (group_at self).part self.byte) }
+    const fn group_goes_on(&self, other: Grammar) -> bool
+        ensures { result ≡ group_allows (with_rules (notation_of (grammar_at self.now)) (raw other.word).flag (has other.conditions)) (group_at self.now)
+            (role_next (notation_of (grammar_at self.now)) (group_at self.now).part self.now.byte) }
     {
         let group = self.last_group();
         let role = match self.byte {
@@ -307,31 +303,32 @@ impl Spot {
 
     // Returns the word without the flags that require something.
     #[tactic(auto, using(crate::proofs::CauseLemmas::bare_flags))]
-    const fn bare(self) -> u128
-        ensures { (f : Flag) → (raw result).flag f ≡ (bare (notation_of (grammar_at self))).flag f }
+    const fn bare(&self) -> u128
+        ensures { (f : Flag) → (raw result).flag f ≡ (bare (notation_of (grammar_at self.now))).flag f }
     {
-        self.word & !REQUIREMENTS
+        let grammar = self.grammar();
+        grammar.flags as u128 & !REQUIREMENTS
     }
 
     // Returns whether the text could go on without requirements.
-    const fn goes_on_bare(self) -> bool
-        ensures { result ≡ goes (bare (notation_of (grammar_at self))) self.read (group_at self) self.byte }
+    const fn goes_on_bare(&self) -> bool
+        ensures { result ≡ goes (bare (notation_of (grammar_at self.now))) self.now.read (group_at self.now) self.now.byte }
     {
         self.allows(self.bare(), Conditions::NONE)
     }
 
     // Returns whether the text could go on with the flag that has the number `number`, and no other requirement.
-    const fn is_permitted(self, number: u32) -> bool
+    const fn is_permitted(&self, number: u32) -> bool
         requires { number < 45 }
-        ensures { (f : Flag) → bit f ≡ number → result ≡ goes (adding f (bare (notation_of (grammar_at self)))) self.read (group_at self) self.byte }
+        ensures { (f : Flag) → bit f ≡ number → result ≡ goes (adding f (bare (notation_of (grammar_at self.now)))) self.now.read (group_at self.now) self.now.byte }
     {
         self.allows((1 << number) | self.bare(), Conditions::NONE)
     }
 
     // Returns those of `flags` each of which, as the only requirement, refuses what cannot follow.
-    const fn refusing(self, flags: u128) -> u128
+    const fn refusing(&self, flags: u128) -> u128
         ensures { result ≡ mask_of (λ f. (raw flags).flag f
-            && not (goes (adding f (bare (notation_of (grammar_at self)))) self.read (group_at self) self.byte)) }
+            && not (goes (adding f (bare (notation_of (grammar_at self.now)))) self.now.read (group_at self.now) self.now.byte)) }
     {
         let mut mask = flags;
         let mut number = 0;
@@ -345,34 +342,36 @@ impl Spot {
 
     // Returns the flags that are set and require something.
     #[tactic(auto, using(crate::proofs::CauseLemmas::flag_and, crate::proofs::CauseLemmas::float_mask, crate::proofs::CauseLemmas::requirement_mask))]
-    const fn binding(self) -> u128
-        ensures { (f : Flag) → (raw result).flag f ≡ binds (notation_of (grammar_at self)) f }
+    const fn binding(&self) -> u128
+        ensures { (f : Flag) → (raw result).flag f ≡ binds (notation_of (grammar_at self.now)) f }
     {
-        if needs_exponent(self.grammar()) {
-            self.word & FLOAT_REQUIREMENTS
+        let grammar = self.grammar();
+        let flags = grammar.flags as u128;
+        if needs_exponent(grammar) {
+            flags & FLOAT_REQUIREMENTS
         } else {
-            self.word & REQUIREMENTS
+            flags & REQUIREMENTS
         }
     }
 
     // Returns the flags that refuse alone.
-    const fn alone(self) -> u128
-        ensures { result ≡ mask_of (alone (notation_of (grammar_at self)) self.read (group_at self) self.byte) }
+    const fn alone(&self) -> u128
+        ensures { result ≡ mask_of (alone (notation_of (grammar_at self.now)) self.now.read (group_at self.now) self.now.byte) }
     {
         self.refusing(self.binding())
     }
 
     // Returns the flags on leading zeros that require something.
     #[tactic(auto, using(crate::proofs::CauseLemmas::flag_and, crate::proofs::CauseLemmas::masked_by, crate::proofs::CauseLemmas::zeros_mask))]
-    const fn zeros(self) -> u128
-        ensures { result ≡ mask_of (zeros (notation_of (grammar_at self))) }
+    const fn zeros(&self) -> u128
+        ensures { result ≡ mask_of (zeros (notation_of (grammar_at self.now))) }
     {
         self.binding() & ZEROS
     }
 
     // Returns the flags to blame for a requirement: those that refuse alone, or else those on leading zeros.
-    const fn requirements(self) -> u128
-        ensures { result ≡ requirements (notation_of (grammar_at self)) self.read (group_at self) self.byte }
+    const fn requirements(&self) -> u128
+        ensures { result ≡ requirements (notation_of (grammar_at self.now)) self.now.read (group_at self.now) self.now.byte }
     {
         let alone = self.alone();
         if alone == 0 && self.unmet().is_none() {
@@ -383,15 +382,17 @@ impl Spot {
     }
 
     // Returns the conditions to blame for a requirement: those that refuse alone.
-    const fn unmet(self) -> Conditions
-        ensures { result ≡ kept (unmet (notation_of (grammar_at self)) self.read (group_at self) self.byte) (number_of (grammar_at self).conditions) }
+    const fn unmet(&self) -> Conditions
+        ensures { result ≡ kept (unmet (notation_of (grammar_at self.now)) self.now.read (group_at self.now) self.now.byte) (number_of (grammar_at self.now).conditions) }
     {
+        let grammar = self.grammar();
+        let conditions = grammar.conditions;
         let mut unmet = Conditions::NONE;
         let mut index = 0;
         while index < CONDITIONS.len() {
             let condition = CONDITIONS[index];
             if self.is_unmet(condition) {
-                unmet = unmet.with(condition, self.conditions.number(condition));
+                unmet = unmet.with(condition, conditions.number(condition));
             }
             index += 1;
         }
@@ -399,18 +400,20 @@ impl Spot {
     }
 
     // Returns whether the syntax has a condition that alone refuses what cannot follow.
-    const fn is_unmet(self, condition: Condition) -> bool
-        ensures { result ≡ unmet (notation_of (grammar_at self)) self.read (group_at self) self.byte condition }
+    const fn is_unmet(&self, condition: Condition) -> bool
+        ensures { result ≡ unmet (notation_of (grammar_at self.now)) self.now.read (group_at self.now) self.now.byte condition }
     {
-        self.conditions.has(condition)
+        let grammar = self.grammar();
+        let conditions = grammar.conditions;
+        conditions.has(condition)
             && self.goes_on_bare()
-            && !self.allows(self.bare(), self.conditions.only(condition))
+            && !self.allows(self.bare(), conditions.only(condition))
     }
 
     // Returns the flags each of which would allow a separator that is not allowed.
     #[tactic(auto, using(crate::proofs::CauseLemmas::no_mask))]
-    const fn separators(self) -> u128
-        ensures { result ≡ mask_of (separators (notation_of (grammar_at self)) self.read (group_at self) self.byte) }
+    const fn separators(&self) -> u128
+        ensures { result ≡ mask_of (separators (notation_of (grammar_at self.now)) self.now.read (group_at self.now) self.now.byte) }
     {
         if self.is_at_gap() {
             SEPARATORS & !self.refusing(SEPARATORS)
@@ -420,8 +423,8 @@ impl Spot {
     }
 
     // Returns whether what cannot follow is a separator, or follows one.
-    const fn is_at_gap(self) -> bool
-        ensures { result ≡ is_at_gap (notation_of (grammar_at self)) self.read self.byte }
+    const fn is_at_gap(&self) -> bool
+        ensures { result ≡ is_at_gap (notation_of (grammar_at self.now)) self.now.read self.now.byte }
     {
         match self.byte {
             None => self.read.gap,
@@ -433,17 +436,13 @@ impl Spot {
     }
 
     // Returns where a separator is not allowed, before or after `byte`.
-    const fn place(self, byte: u8) -> Place
-        ensures { result ≡ place_of (notation_of (grammar_at self)) (part_of self.read.stage) self.read.stage self.read.gap
-            (role_at (notation_of (grammar_at self)) (part_of self.read.stage) byte) }
+    const fn place(&self, byte: u8) -> Place
+        ensures { result ≡ place_of (notation_of (grammar_at self.now)) (part_of self.now.read.stage) self.now.read.stage self.now.read.gap
+            (role_at (notation_of (grammar_at self.now)) (part_of self.now.read.stage) byte) }
     {
         let role = role_at(self.grammar(), part_of(self.read.stage), byte);
         let is_consecutive = self.read.gap
-            && !self
-                .grammar()
-                .view()
-                .separators(part_of(self.read.stage))
-                .consecutive;
+            && !has_place(self.grammar(), part_of(self.read.stage), CONSECUTIVE);
         if is_consecutive && matches!(role, Some(Role::Separator)) {
             Place::Consecutive
         } else if has_digit(self.read.stage) {
@@ -454,13 +453,13 @@ impl Spot {
     }
 
     // Returns the flags by which the case of `byte` counts, if its other case may be next.
-    const fn case_flags(self, byte: u8) -> u128
-        ensures { result ≡ mask_of (cases (notation_of (grammar_at self)) self.read (group_at self) byte) }
+    const fn case_flags(&self, byte: u8) -> u128
+        ensures { result ≡ mask_of (cases (notation_of (grammar_at self.now)) self.now.read (group_at self.now) byte) }
     {
         let other = other_case(byte);
         let spot = Spot {
             byte: Some(other),
-            ..self
+            ..*self
         };
         if spot.goes_on_bare() {
             case_mask(self.grammar(), other)
@@ -470,8 +469,8 @@ impl Spot {
     }
 
     // Returns the kind, and the flags that are to blame.
-    const fn blame(self) -> Blame
-        ensures { result ≡ blame (notation_of (grammar_at self)) self.read (group_at self) self.byte }
+    const fn blame(&self) -> Blame
+        ensures { result ≡ blame (notation_of (grammar_at self.now)) self.now.read (group_at self.now) self.now.byte }
     {
         if self.goes_on_bare() {
             return Blame {
@@ -516,11 +515,6 @@ const fn case_mask(grammar: Grammar, byte: u8) -> u128
     flag_if(
         is_exponent_character(grammar, byte),
         masks::CASE_SENSITIVE_EXPONENT,
-    ) | flag_if(
-        grammar.view().is_base_prefix(byte),
-        masks::CASE_SENSITIVE_BASE_PREFIX,
-    ) | flag_if(
-        grammar.view().is_base_suffix(byte),
-        masks::CASE_SENSITIVE_BASE_SUFFIX,
-    )
+    ) | flag_if(is_prefix(grammar, byte), masks::CASE_SENSITIVE_BASE_PREFIX)
+        | flag_if(is_suffix(grammar, byte), masks::CASE_SENSITIVE_BASE_SUFFIX)
 }

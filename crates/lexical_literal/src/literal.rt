@@ -3,9 +3,9 @@
 ghost use Rattle.std.specs.Prelude.{◌≡◌, ◌≤◌, ◌++◌, ◌%◌, ◌^◌, [], ℕ, IfSome, IsFalse, IsSome, List, length, take};
 ghost use Rattle.lexical_literal.specs.Additions.Literal.{AreSums, IsCut, IsSum, cut, given, summed_in};
 ghost use Rattle.lexical_literal.specs.Additions.Step.{HasLengths, cuts_of};
-ghost use Rattle.lexical_literal.specs.Read.{exact};
+ghost use Rattle.lexical_literal.specs.Read.{exact, radixes_of};
 ghost use Rattle.lexical_literal.specs.Literal.{Literal as Parted, Reads, is_float, is_minus, text_of};
-ghost use Rattle.lexical_literal.specs.Notation.{Notation, notation_of};
+ghost use Rattle.lexical_literal.specs.Notation.{Notation, notation_of, radix_of};
 ghost use Rattle.lexical_literal.specs.Parts.{literal_of};
 ghost use Rattle.lexical_literal.specs.Read.{exponent, mantissa};
 ghost use Rattle.lexical_literal.specs.Syntax.{IsSyntax};
@@ -13,14 +13,15 @@ ghost use Rattle.lexical_literal.specs.declared.syntax.Grammar.{Grammar};
 ghost use Rattle.lexical_number.specs.Number.{number, places};
 ghost use Rattle.lexical_number.specs.Small.{IsShort, IsSmall};
 ghost use Rattle.lexical_util.specs.Layout as layout;
-ghost use Rattle.lexical_util.specs.Record.{bytes_of, effective, raw};
+ghost use Rattle.lexical_util.specs.Record.{bytes_of, effective, effective_exponent_base, raw};
 ghost use Rattle.lexical_util.specs.Rules.{IsRadix};
 
 use crate::kind::Kind;
-use crate::syntax::Syntax;
+use crate::step::radix_of;
+use crate::syntax::{BASE_SHIFT, EXPONENT_SHIFT, Grammar, RADIX_SHIFT, Syntax};
 use lexical_number::small::{add_all, count, fits, small};
 use lexical_util::format::{NumberFormat, Part};
-use lexical_util::format_flags::{exponent_radix, mantissa_radix};
+use lexical_util::format_flags::DIGIT_SEPARATOR_SHIFT;
 use std::marker::Model;
 
 /// The parts of a literal, in the order of the text. An absent part has no bytes.
@@ -75,12 +76,17 @@ pub(crate) const NOTHING: Sum = Sum {
 pub struct Literal<'a> {
     text: &'a [u8],
     counts: [usize; 9],
-    view: NumberFormat,
-    mantissa: Option<u64>,
-    places: usize,
-    // The number, if there is one. An `Option` would have 8 bytes more.
+    // The radixes and the base, and the separator, or 0.
+    radix: u8,
+    exponent_base: u8,
+    exponent_radix: u8,
+    separator: u8,
+    // The numbers of the mantissa and the exponent, if there are few digits. Two `Option`s would have 14 bytes more.
+    mantissa: u64,
     exponent: u64,
+    has_mantissa: bool,
     has_exponent: bool,
+    places: usize,
     // The number of bytes of the opening before the literal, from which its spans count.
     pub(crate) opened: u8,
     kind: Kind,
@@ -92,21 +98,57 @@ impl<'a> Model for Literal<'a> {
     ghost Value = { Read };
 
     ghost use Rattle.lexical_literal.specs.Additions.Literal.{IsMade, cut, given};
+    ghost use Rattle.lexical_literal.specs.Read.{radixes};
     ghost use Rattle.lexical_literal.specs.Additions.Step.{HasLengths, cuts_of};
 
-    ghost view = { λ it. record { format = it.view; literal = cut it.text.now (cuts_of it.counts); kind = it.kind; opened = it.opened } };
+    ghost view = { λ it. record { format = radixes it.separator it.radix it.exponent_base it.exponent_radix; literal = cut it.text.now (cuts_of it.counts); kind = it.kind; opened = it.opened } };
 
-    ghost invariant = { λ it. IsMade it.view it.text.now (cuts_of it.counts) it.mantissa it.places (given it.has_exponent it.exponent) };
+    ghost invariant = { λ it. IsMade (radixes it.separator it.radix it.exponent_base it.exponent_radix) it.text.now (cuts_of it.counts)
+        (given it.has_mantissa it.mantissa) it.places (given it.has_exponent it.exponent) };
 }
 
 impl<'a> Literal<'a> {
-    /// Returns the format by which the literal was read.
+    /// Returns the radixes, the base and the separator of the format by which the literal was read.
     #[must_use]
     #[inline(always)]
     pub const fn format(&self) -> NumberFormat
         ensures { result ≡ self.now.format }
     {
-        self.view
+        let upper = self.separator as u64
+            + ((self.radix as u64) << RADIX_SHIFT)
+            + ((self.exponent_base as u64) << BASE_SHIFT)
+            + ((self.exponent_radix as u64) << EXPONENT_SHIFT);
+        NumberFormat::new((upper as u128) << DIGIT_SEPARATOR_SHIFT)
+    }
+
+    // Returns the radix of the digits of `part`.
+    #[inline(always)]
+    #[doc(hidden)]
+    pub const fn radix_of(&self, part: Part) -> u32
+        ensures { result ≡ radix_of (raw self.now.format) part }
+    {
+        match part {
+            Part::Exponent => self.exponent_radix as u32,
+            _ => self.radix as u32,
+        }
+    }
+
+    // Returns the base of the exponent.
+    #[inline(always)]
+    #[doc(hidden)]
+    pub const fn exponent_base(&self) -> u32
+        ensures { result ≡ effective_exponent_base (raw self.now.format) }
+    {
+        self.exponent_base as u32
+    }
+
+    // Returns the separator, or 0 if there is none.
+    #[inline(always)]
+    #[doc(hidden)]
+    pub const fn separator(&self) -> u8
+        ensures { result ≡ bytes_of self.now.format layout.digit_separator }
+    {
+        self.separator
     }
 
     /// Returns the kind, which decides what the literal is worth.
@@ -149,7 +191,7 @@ impl<'a> Literal<'a> {
     pub fn cut(&self) -> Parts<'a>
         ensures parts { literal_of result ≡ self.now.literal }
         // They are those of a literal of a syntax with this format.
-        ensures literal { (g : Grammar) × IsSyntax g × (g.word ≡ self.now.format) × (text : List ℕ) × Reads (notation_of g) self.now.literal text }
+        ensures literal { (g : Grammar) × IsSyntax g × (radixes_of g.word ≡ self.now.format) × (text : List ℕ) × Reads (notation_of g) self.now.literal text }
     {
         parts_of(self.text, self.counts)
     }
@@ -209,7 +251,7 @@ impl<'a> Literal<'a> {
             → IsSome result }
         ensures value { IfSome result (λ m. m ≡ mantissa (bytes_of self.now.format) self.now.literal) }
     {
-        self.mantissa
+        given(self.has_mantissa, self.mantissa)
     }
 
     /// Returns the number of digits of the fraction.
@@ -234,63 +276,69 @@ impl<'a> Literal<'a> {
 }
 
 #[doc(hidden)]
+impl Grammar {
+    // Returns the literal `text` of a kind, of which the parts have the lengths `counts`, and the digits these sums.
+    #[inline(always)]
+    pub fn literal<'a>(
+        self,
+        text: &'a [u8],
+        counts: [usize; 9],
+        sums: Sums,
+        kind: Kind,
+    ) -> Literal<'a>
+        requires syntax { IsSyntax self }
+        requires cut { IsCut (notation_of self) text.now (cuts_of counts) }
+        requires sums { AreSums (raw self.word) (cut text.now (cuts_of counts)) sums }
+        ensures { result ≡ record { format = radixes_of self.word; literal = cut text.now (cuts_of counts); kind = kind; opened = 0 } }
+    {
+        let Sums {
+            mantissa,
+            places,
+            exponent,
+        } = sums;
+        Literal {
+            text,
+            counts,
+            radix: self.radix,
+            exponent_base: self.exponent_base,
+            exponent_radix: self.exponent_radix,
+            separator: self.separator,
+            mantissa: mantissa.value,
+            exponent: exponent.value,
+            has_mantissa: are_few(self.radix, text, counts, Part::Integer, mantissa),
+            has_exponent: are_few(self.exponent_radix, text, counts, Part::Exponent, exponent),
+            places,
+            opened: 0,
+            kind,
+        }
+    }
+}
+
+#[doc(hidden)]
 impl Syntax {
     // Returns the literal `text`, of which the parts have the lengths `counts`, and the digits these sums.
     #[inline(always)]
     pub fn literal<'a>(&self, text: &'a [u8], counts: [usize; 9], sums: Sums) -> Literal<'a>
         requires cut { IsCut (notation_of self.now) text.now (cuts_of counts) }
         requires sums { AreSums (raw self.now.word) (cut text.now (cuts_of counts)) sums }
-        ensures { result ≡ record { format = self.now.word; literal = cut text.now (cuts_of counts); kind = exact; opened = 0 } }
+        ensures { result ≡ record { format = radixes_of self.now.word; literal = cut text.now (cuts_of counts); kind = exact; opened = 0 } }
     {
-        let word = self.format().word();
-        let Sums {
-            mantissa,
-            places,
-            exponent: scale,
-        } = sums;
-        let radix = exponent_radix(word);
-        let (has_exponent, exponent) = flagged(number_if_few(
-            radix,
-            text,
-            counts,
-            Part::Exponent,
-            scale.digits,
-            scale.value,
-        ));
-        let radix = mantissa_radix(word);
-        Literal {
-            text,
-            counts,
-            view: NumberFormat::new(word),
-            mantissa: number_if_few(
-                radix,
-                text,
-                counts,
-                Part::Integer,
-                mantissa.digits,
-                mantissa.value,
-            ),
-            places,
-            exponent,
-            has_exponent,
-            opened: 0,
-            kind: Kind::EXACT,
-        }
+        self.grammar().literal(text, counts, sums, Kind::EXACT)
     }
 
     // Returns the literal `text`, of which the parts have the lengths `counts`.
     #[cold]
     pub fn summed<'a>(&self, text: &'a [u8], counts: [usize; 9]) -> Literal<'a>
         requires { IsCut (notation_of self.now) text.now (cuts_of counts) }
-        ensures { result ≡ record { format = self.now.word; literal = cut text.now (cuts_of counts); kind = exact; opened = 0 } }
+        ensures { result ≡ record { format = radixes_of self.now.word; literal = cut text.now (cuts_of counts); kind = exact; opened = 0 } }
     {
-        let view = self.format().view();
+        let grammar = self.grammar();
         let sums = sums_of(
-            view.mantissa_radix(),
-            view.exponent_radix(),
+            radix_of(grammar, Part::Integer),
+            radix_of(grammar, Part::Exponent),
             &parts_of(text, counts),
         );
-        self.literal(text, counts, sums)
+        grammar.literal(text, counts, sums, Kind::EXACT)
     }
 }
 
@@ -300,17 +348,6 @@ const fn given(has: bool, number: u64) -> Option<u64>
     ensures { result ≡ given has number }
 {
     if has { Some(number) } else { None }
-}
-
-// Returns whether there is a number, and the number.
-#[inline(always)]
-const fn flagged(number: Option<u64>) -> (bool, u64)
-    ensures { given result.0 result.1 ≡ number }
-{
-    match number {
-        Some(number) => (true, number),
-        None => (false, 0),
-    }
 }
 
 // Returns whether a sign is a minus sign.
@@ -378,28 +415,23 @@ fn sums_of(radix: u32, exponent_radix: u32, parts: &Parts) -> Sums
     }
 }
 
-// Returns the number that the digits of the exponent, or else of the integer and the fraction together, represent, if they are few.
-// There are `digits` of them, and `sum` is the number modulo `2 ^ 64`.
+// Returns whether the digits of the exponent, or else of the integer and the fraction together, are so few behind their leading zeros that
+// their sum is the number.
 #[inline(always)]
-fn number_if_few(
-    radix: u32,
-    text: &[u8],
-    counts: [usize; 9],
-    part: Part,
-    digits: usize,
-    sum: u64,
-) -> Option<u64>
+fn are_few(radix: u8, text: &[u8], counts: [usize; 9], part: Part, sum: Sum) -> bool
     requires radix { IsRadix radix }
     requires cut { (m : Notation) × IsCut m text.now (cuts_of counts) }
-    requires sum { IsSum radix (summed_in part (cut text.now (cuts_of counts))) (record { digits = digits; value = sum }) }
-    ensures { IsSmall radix (number radix (summed_in part (cut text.now (cuts_of counts)))) result }
+    requires sum { IsSum radix (summed_in part (cut text.now (cuts_of counts))) sum }
+    ensures { IsSmall radix (number radix (summed_in part (cut text.now (cuts_of counts)))) (given result sum.value) }
 {
-    if fits(radix, digits) {
-        return Some(sum);
+    let radix = radix as u32;
+    if fits(radix, sum.digits) {
+        return true;
     }
     let parts = parts_of(text, counts);
-    match part {
-        Part::Exponent => small(radix, parts.exponent, &[], digits, sum),
-        _ => small(radix, parts.integer, parts.fraction, digits, sum),
-    }
+    let number = match part {
+        Part::Exponent => small(radix, parts.exponent, &[], sum.digits, sum.value),
+        _ => small(radix, parts.integer, parts.fraction, sum.digits, sum.value),
+    };
+    matches!(number, Some(_))
 }

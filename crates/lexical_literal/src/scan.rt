@@ -18,15 +18,14 @@ ghost use Rattle.lexical_literal.specs.declared.syntax.Condition.TheVariants as 
 use crate::group_size::{group_after, group_allows};
 use crate::literal::{NOTHING, Sum, Sums};
 use crate::step::{
-    Stage, Summary, after_point, allows_minus, allows_plus, awaits_integer, digits_of, has_digit,
-    is_complete, is_digit, is_exponent_character, is_point, is_run, is_separator, is_signed,
-    may_follow, radix_of, takes,
+    INTERNAL, Stage, Summary, after_point, allows_minus, allows_plus, awaits_integer, digits_of,
+    has_digit, has_place, is_complete, is_digit, is_exponent_character, is_point, is_prefix,
+    is_run, is_separator, is_signed, is_suffix, may_follow, radix_of, takes,
 };
 use crate::stop::{BEGIN, Begun, Stopped};
-use crate::syntax::{Condition, Grammar, Syntax, has_sizes, is_usual};
+use crate::syntax::{Condition, Grammar, Syntax, has_sizes};
 use lexical_base::digit::{char_to_digit, char_to_digit_const};
 use lexical_util::format::{Part, Role};
-use lexical_util::format_flags::base_prefix;
 
 // What the parts are read into: the index behind the digits that have been read, their stage, and their sum, where those of the
 // fraction follow those of the integer; the lengths of the parts up to the fraction, and the number of the digits of the fraction.
@@ -77,16 +76,6 @@ const fn unfinished(_grammar: Grammar, _text: &[u8], at: Stopped, refused: bool)
         complete: false,
         refused,
     }
-}
-
-// Returns whether all digits are decimal, and no base prefix is read.
-#[inline(always)]
-const fn is_decimal(grammar: Grammar) -> bool
-    ensures { IsTrue result → IsDecimal (raw grammar.word) }
-{
-    radix_of(grammar, Part::Integer) == 10
-        && radix_of(grammar, Part::Exponent) == 10
-        && base_prefix(grammar.word) == 0
 }
 
 // Returns the length of the sign of the mantissa, or of the exponent, and the stage behind it, or `None` if one is required that
@@ -195,7 +184,7 @@ const fn more_digits(
         }
         if size == text.len()
             || !is_separator(grammar, text[size])
-            || !grammar.view().separators(part).internal
+            || !has_place(grammar, part, INTERNAL)
         {
             break;
         }
@@ -313,16 +302,6 @@ impl Begun {
 
 #[doc(hidden)]
 impl Syntax {
-    // Returns whether all digits are decimal, no base prefix is read, and the syntax is a usual one.
-    #[inline(always)]
-    pub(crate) const fn is_decimal(&self) -> bool
-        ensures radix { IsTrue result → IsDecimal (raw self.now.word) }
-        ensures usual { IsTrue result → IsUsual self.now }
-    {
-        let grammar = self.grammar();
-        is_usual(grammar) && is_decimal(grammar)
-    }
-
     // Reads a front of `text` with which some literal begins. Unless `fronts` is true, a front that is a literal, but not all of
     // `text`, can have `complete` false, which takes less time.
     #[inline(always)]
@@ -338,7 +317,7 @@ impl Syntax {
         let grammar = self.grammar();
         let begun = scan(grammar, decimal, text, fronts);
         if has_sizes(grammar) {
-            sized(self.grammar(), text, begun)
+            sized(grammar, text, begun)
         } else {
             begun
         }
@@ -408,7 +387,7 @@ const fn open(
     if !decimal
         && sign + 1 < text.len()
         && text[sign] == b'0'
-        && grammar.view().is_base_prefix(text[sign + 1])
+        && is_prefix(grammar, text[sign + 1])
     {
         Some((2, Stage::Prefixed))
     } else if !grammar.conditions.has(Condition::BasePrefix) && has_first(grammar, text, sign) {
@@ -426,7 +405,7 @@ const fn misses_prefix(grammar: Grammar, text: &[u8], size: usize) -> bool
 {
     size < text.len()
         && grammar.conditions.has(Condition::BasePrefix)
-        && !grammar.view().is_base_prefix(text[size])
+        && !is_prefix(grammar, text[size])
 }
 
 // Reads the zero with which a required base prefix begins, if it follows.
@@ -574,9 +553,7 @@ const fn is_passed(grammar: Grammar, stage: Stage, byte: u8) -> bool
         return false;
     }
     match stage {
-        Stage::Bare => {
-            !is_digit(grammar, Part::Integer, byte) && !grammar.view().is_base_prefix(byte)
-        }
+        Stage::Bare => { !is_digit(grammar, Part::Integer, byte) && !is_prefix(grammar, byte) }
         _ => is_run(stage),
     }
 }
@@ -609,7 +586,7 @@ const fn suffix(
     let Stopped { size, read } = at;
     let (mut at, mut suffix) = (at, 0);
     if size < text.len()
-        && grammar.view().is_base_suffix(text[size])
+        && is_suffix(grammar, text[size])
         && takes(grammar, read, false, Role::Suffix)
     {
         at = Stopped {

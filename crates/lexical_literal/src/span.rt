@@ -9,7 +9,7 @@ ghost use Rattle.lexical_literal.specs.Additions.Explained.{grammar_at, marks_at
 ghost use Rattle.lexical_literal.specs.Notation.{notation_of};
 
 use crate::cause::{Place, ReadErrorKind, Spot};
-use crate::step::{Summary, is_digit};
+use crate::step::{Summary, is_digit, is_separator};
 use crate::stop::front_of;
 use crate::syntax::{Condition, Grammar, has_sizes};
 use lexical_util::error::Error;
@@ -31,7 +31,7 @@ enum ByteKind {
 const fn is_kind(grammar: Grammar, kind: ByteKind, byte: u8) -> bool
     ensures { result ≡ kind_set (notation_of grammar) kind byte }
 {
-    let separator = grammar.view().is_separator(byte);
+    let separator = is_separator(grammar, byte);
     match kind {
         ByteKind::Digit => is_digit(grammar, Part::Integer, byte),
         ByteKind::NotDigit => !is_digit(grammar, Part::Integer, byte),
@@ -82,17 +82,10 @@ pub(crate) fn spot(
 ) -> Spot
     ensures { result ≡ spot_of grammar front.now read byte tail separated }
 {
-    let Grammar {
-        word,
-        options,
-        conditions,
-    } = grammar;
     let size = front.len();
     let (exponent, run) = body_ends(grammar, front);
     Spot {
-        word,
-        options,
-        conditions,
+        grammar,
         read,
         byte,
         tail,
@@ -135,9 +128,9 @@ const fn group_start(grammar: Grammar, front: &[u8]) -> usize
 
 impl Spot {
     // Returns the index behind the byte that cannot follow, or the end of the text if bytes are missing.
-    const fn wrong_end(self) -> usize
-        requires { self.size < 2 ^ 63 }
-        ensures { result ≡ wrong_end (marks_at self) self.byte }
+    const fn wrong_end(&self) -> usize
+        requires { self.now.size < 2 ^ 63 }
+        ensures { result ≡ wrong_end (marks_at self.now) self.now.byte }
     {
         match self.byte {
             None => self.size,
@@ -146,8 +139,8 @@ impl Spot {
     }
 
     // Returns whether the byte that cannot follow is of a kind.
-    const fn is_at(self, kind: ByteKind) -> bool
-        ensures { result ≡ is_in (kind_set (notation_of (grammar_at self)) kind) self.byte }
+    const fn is_at(&self, kind: ByteKind) -> bool
+        ensures { result ≡ is_in (kind_set (notation_of (grammar_at self.now)) kind) self.now.byte }
     {
         match self.byte {
             None => false,
@@ -156,9 +149,9 @@ impl Spot {
     }
 
     // Returns the first index and the end of the bytes to show for the flag with the number `number`.
-    const fn requirement_span(self, number: u32) -> (usize, usize)
-        requires { self.size < 2 ^ 63 }
-        ensures { result ≡ requirement_span (flag_at number) (notation_of (grammar_at self)) (marks_at self) self.byte }
+    const fn requirement_span(&self, number: u32) -> (usize, usize)
+        requires { self.now.size < 2 ^ 63 }
+        ensures { result ≡ requirement_span (flag_at number) (notation_of (grammar_at self.now)) (marks_at self.now) self.now.byte }
     {
         let (size, end) = (self.size, self.wrong_end());
         match number {
@@ -175,9 +168,9 @@ impl Spot {
     }
 
     // Returns the first index and the end of the bytes to show for a condition.
-    const fn condition_span(self, condition: Condition) -> (usize, usize)
-        requires { self.size < 2 ^ 63 }
-        ensures { result ≡ condition_span condition (notation_of (grammar_at self)) (marks_at self) self.byte }
+    const fn condition_span(&self, condition: Condition) -> (usize, usize)
+        requires { self.now.size < 2 ^ 63 }
+        ensures { result ≡ condition_span condition (notation_of (grammar_at self.now)) (marks_at self.now) self.now.byte }
     {
         let (size, end) = (self.size, self.wrong_end());
         match condition {
@@ -194,13 +187,13 @@ impl Spot {
     // Returns the first index and the end of the bytes to show for a kind of error and its lowest flag, or its first condition if
     // no flag is to blame.
     pub(crate) const fn span(
-        self,
+        &self,
         kind: ReadErrorKind,
         number: u32,
         unmet: Option<Condition>,
     ) -> (usize, usize)
-        requires { self.size < 2 ^ 63 }
-        ensures { result ≡ span_of (notation_of (grammar_at self)) (marks_at self) self.byte kind (flag_at number) unmet }
+        requires { self.now.size < 2 ^ 63 }
+        ensures { result ≡ span_of (notation_of (grammar_at self.now)) (marks_at self.now) self.now.byte kind (flag_at number) unmet }
     {
         let (size, end) = (self.size, self.wrong_end());
         match kind {
@@ -218,10 +211,10 @@ impl Spot {
     }
 
     // Returns the error for the flag with the number `number`.
-    const fn requirement_error(self, number: u32, start: usize) -> Error
-        ensures { result ≡ requirement_error (flag_at number) (notation_of (grammar_at self)) start self.size }
+    const fn requirement_error(&self, number: u32, start: usize) -> Error
+        ensures { result ≡ requirement_error (flag_at number) (notation_of (grammar_at self.now)) start self.now.size }
     {
-        let integers = matches!(self.options, None);
+        let integers = self.grammar().is_whole();
         match number {
             0 => Error::EmptyInteger(start),
             1 => Error::EmptyFraction(start),
@@ -243,13 +236,13 @@ impl Spot {
     // Returns the error for a kind of error and its lowest flag, or its first condition if no flag is to blame, where the bytes to
     // show begin at `start`.
     pub(crate) const fn error(
-        self,
+        &self,
         kind: ReadErrorKind,
         number: u32,
         unmet: Option<Condition>,
         start: usize,
     ) -> Error
-        ensures { result ≡ error_of (notation_of (grammar_at self)) (marks_at self) kind (flag_at number) unmet start }
+        ensures { result ≡ error_of (notation_of (grammar_at self.now)) (marks_at self.now) kind (flag_at number) unmet start }
     {
         match kind {
             ReadErrorKind::Requirement => match unmet {

@@ -3,7 +3,7 @@
 ghost use Rattle.std.specs.Prelude.{◌≡◌, ◌<◌, ◌==◌, ◌&&◌, IfSome, IsNone, None, Some, false, not, nat_lt};
 ghost use Rattle.lexical_util.specs.Digits.{byte_value};
 ghost use Rattle.lexical_util.specs.Record.{raw};
-ghost use Rattle.lexical_util.specs.Roles.{other_case, signs};
+ghost use Rattle.lexical_util.specs.Roles.{cased, other_case, signs};
 ghost use Rattle.lexical_literal.specs.Notation.{has, radix_of, point_of, exponent_character_of};
 ghost use Rattle.lexical_literal.specs.Run.{is_place};
 ghost use Rattle.lexical_util.specs.Layout.{separators_in};
@@ -17,7 +17,14 @@ use crate::group_size::has_size;
 use crate::syntax::{Condition, Conditions, Grammar};
 use lexical_base::digit::char_to_digit;
 use lexical_util::format::{Part, Role};
-use lexical_util::format_flags::{digit_separator, exponent_radix, mantissa_radix};
+use lexical_util::format_flags::{
+    CASE_SENSITIVE_BASE_PREFIX, CASE_SENSITIVE_BASE_SUFFIX, CASE_SENSITIVE_EXPONENT,
+    NO_EXPONENT_NOTATION, NO_EXPONENT_WITHOUT_FRACTION, NO_FLOAT_LEADING_ZEROS,
+    NO_INTEGER_LEADING_ZEROS, NO_POSITIVE_EXPONENT_SIGN, NO_POSITIVE_MANTISSA_SIGN,
+    REQUIRED_EXPONENT_DIGITS, REQUIRED_EXPONENT_NOTATION, REQUIRED_EXPONENT_SIGN,
+    REQUIRED_FRACTION_DIGITS, REQUIRED_INTEGER_DIGITS, REQUIRED_MANTISSA_DIGITS,
+    REQUIRED_MANTISSA_SIGN,
+};
 
 // A part of a literal.
 #[derive(Clone, Copy)]
@@ -104,18 +111,78 @@ pub(crate) const fn radix_of(grammar: Grammar, part: Part) -> u32
     ensures { result ≡ radix_of (raw grammar.word) part }
 {
     match part {
-        Part::Exponent => exponent_radix(grammar.word),
-        _ => mantissa_radix(grammar.word),
+        Part::Exponent => grammar.exponent_radix as u32,
+        _ => grammar.radix as u32,
     }
 }
 
-// Returns whether `byte` is the separator, and some flag allows one. Most bytes are another one than it.
+// Returns whether `byte` is the separator. Most bytes are another one than it.
 #[tactic(auto, unfolding(lexical_util::specs::Unfoldable::cased))]
 #[inline(always)]
-pub(crate) const fn is_separator(grammar: Grammar, byte: u8) -> bool
+pub const fn is_separator(grammar: Grammar, byte: u8) -> bool
     ensures { result ≡ (steps_of grammar).separator byte }
 {
-    byte == digit_separator(grammar.word) && grammar.view().is_separator(byte)
+    byte == grammar.separator && byte != 0
+}
+
+// Returns whether `byte` is the base prefix.
+#[inline(always)]
+pub const fn is_prefix(grammar: Grammar, byte: u8) -> bool
+    ensures { result ≡ (steps_of grammar).prefix byte }
+{
+    is_own(
+        grammar.prefix,
+        grammar.has(CASE_SENSITIVE_BASE_PREFIX),
+        byte,
+    )
+}
+
+// Returns whether `byte` is the base suffix.
+#[inline(always)]
+pub(crate) const fn is_suffix(grammar: Grammar, byte: u8) -> bool
+    ensures { result ≡ (steps_of grammar).suffix byte }
+{
+    is_own(
+        grammar.suffix,
+        grammar.has(CASE_SENSITIVE_BASE_SUFFIX),
+        byte,
+    )
+}
+
+// Returns whether `byte` is `own` or, if `case_sensitive` is false, the same letter in the other case. `own` is 0 if it is absent.
+#[tactic(auto, unfolding(lexical_util::specs::Unfoldable::cased))]
+#[inline(always)]
+const fn is_own(own: u8, case_sensitive: bool, byte: u8) -> bool
+    ensures { result ≡ cased case_sensitive own byte }
+{
+    own != 0 && (byte == own || !case_sensitive && byte.eq_ignore_ascii_case(&own))
+}
+
+// The flags that allow a separator between digits of the integer, before them, behind them, and several, by their numbers. Those of the
+// fraction and of the exponent follow.
+pub(crate) const INTERNAL: u32 = 32;
+
+const LEADING: u32 = 35;
+
+const TRAILING: u32 = 38;
+
+pub(crate) const CONSECUTIVE: u32 = 41;
+
+// Returns whether a separator may be at a place in `part`.
+#[inline(always)]
+pub(crate) const fn has_place(grammar: Grammar, part: Part, place: u32) -> bool
+    requires { place < 42 }
+    ensures internal { place ≡ 32 → result ≡ (raw grammar.word).flag (separators_in part).internal }
+    ensures leading { place ≡ 35 → result ≡ (raw grammar.word).flag (separators_in part).leading }
+    ensures trailing { place ≡ 38 → result ≡ (raw grammar.word).flag (separators_in part).trailing }
+    ensures consecutive { place ≡ 41 → result ≡ (raw grammar.word).flag (separators_in part).consecutive }
+{
+    let number = match part {
+        Part::Integer => place,
+        Part::Fraction => place + 1,
+        Part::Exponent => place + 2,
+    };
+    (grammar.flags >> number) & 1 != 0
 }
 
 // Returns whether a plus sign may be before the digits of `part`.
@@ -124,8 +191,8 @@ pub(crate) const fn allows_plus(grammar: Grammar, part: Part) -> bool
     ensures { result ≡ not (forbids_plus (steps_of grammar) part) }
 {
     match part {
-        Part::Exponent => !grammar.view().no_positive_exponent_sign(),
-        _ => !grammar.view().no_positive_mantissa_sign(),
+        Part::Exponent => !grammar.has(NO_POSITIVE_EXPONENT_SIGN),
+        _ => !grammar.has(NO_POSITIVE_MANTISSA_SIGN),
     }
 }
 
@@ -143,10 +210,7 @@ pub(crate) const fn allows_minus(grammar: Grammar, part: Part) -> bool
 pub const fn is_point(grammar: Grammar, byte: u8) -> bool
     ensures { result ≡ point_of grammar.options byte }
 {
-    match grammar.options {
-        None => false,
-        Some(options) => options.point != 0 && byte == options.point,
-    }
+    byte == grammar.point && byte != 0
 }
 
 // Returns the other case of a letter, or the byte itself if it is not a letter.
@@ -165,10 +229,7 @@ pub const fn other_case(byte: u8) -> u8
 pub(crate) const fn is_exponent_character(grammar: Grammar, byte: u8) -> bool
     ensures { result ≡ exponent_character_of (raw grammar.word) grammar.options byte }
 {
-    match grammar.options {
-        None => false,
-        Some(options) => grammar.view().is_exponent_character(options.exponent, byte),
-    }
+    is_own(grammar.exponent, grammar.has(CASE_SENSITIVE_EXPONENT), byte)
 }
 
 // Returns the piece that a byte with the role `role` belongs to, after a front that ends in `part`.
@@ -233,11 +294,10 @@ pub(crate) const fn is_run(stage: Stage) -> bool
 const fn is_place(grammar: Grammar, part: Part, before: bool, after: bool) -> bool
     ensures { result ≡ is_place (steps_of grammar) part before after }
 {
-    let allowed = grammar.view().separators(part);
     match (before, after) {
-        (true, true) => allowed.internal,
-        (false, true) => allowed.leading && !has_size(grammar, part),
-        (true, false) => allowed.trailing && !has_size(grammar, part),
+        (true, true) => has_place(grammar, part, INTERNAL),
+        (false, true) => has_place(grammar, part, LEADING) && !has_size(grammar, part),
+        (true, false) => has_place(grammar, part, TRAILING) && !has_size(grammar, part),
         (false, false) => false,
     }
 }
@@ -246,7 +306,7 @@ const fn is_place(grammar: Grammar, part: Part, before: bool, after: bool) -> bo
 const fn allows_consecutive(grammar: Grammar, part: Part) -> bool
     ensures { result ≡ (steps_of grammar).flag (separators_in part).consecutive }
 {
-    grammar.view().separators(part).consecutive && !has_size(grammar, part)
+    has_place(grammar, part, CONSECUTIVE) && !has_size(grammar, part)
 }
 
 // Returns whether an exponent is required.
@@ -254,7 +314,7 @@ const fn allows_consecutive(grammar: Grammar, part: Part) -> bool
 pub(crate) const fn needs_exponent(grammar: Grammar) -> bool
     ensures { result ≡ needs_exponent (steps_of grammar) }
 {
-    grammar.view().required_exponent_notation() && matches!(grammar.options, Some(_))
+    grammar.has(REQUIRED_EXPONENT_NOTATION) && !grammar.is_whole()
 }
 
 // Returns whether another digit may follow: after a zero, only if some literal has a leading zero.
@@ -263,8 +323,8 @@ pub(crate) const fn may_follow(grammar: Grammar, stage: Stage) -> bool
     ensures { result ≡ may_follow (steps_of grammar) stage }
 {
     !matches!(stage, Stage::Bare | Stage::Zero)
-        || (matches!(grammar.options, Some(_)) && !grammar.view().no_float_leading_zeros())
-        || (!grammar.view().no_integer_leading_zeros() && !needs_exponent(grammar))
+        || (!grammar.is_whole() && !grammar.has(NO_FLOAT_LEADING_ZEROS))
+        || (!grammar.has(NO_INTEGER_LEADING_ZEROS) && !needs_exponent(grammar))
 }
 
 // Returns whether `part` has a sign, or needs none.
@@ -273,8 +333,8 @@ pub(crate) const fn is_signed(grammar: Grammar, part: Part, stage: Stage) -> boo
     ensures { result ≡ is_signed (steps_of grammar) part stage }
 {
     let needs_sign = match part {
-        Part::Exponent => grammar.view().required_exponent_sign(),
-        _ => grammar.view().required_mantissa_sign(),
+        Part::Exponent => grammar.has(REQUIRED_EXPONENT_SIGN),
+        _ => grammar.has(REQUIRED_MANTISSA_SIGN),
     };
     !matches!(stage, Stage::Start | Stage::Mark) || !needs_sign
 }
@@ -285,17 +345,16 @@ const fn ends_before(grammar: Grammar, read: Summary, role: Role) -> bool
     ensures { result ≡ (ends (steps_of grammar) (part_of read.stage) read.stage read.gap && continues (steps_of grammar) (part_of read.stage) read.stage role) }
 {
     let Summary { stage, gap, .. } = read;
-    let format = grammar.view();
     let part = part_of(stage);
     let digit = has_digit(stage);
     let led = matches!(stage, Stage::Led);
-    let may_float = !format.no_float_leading_zeros() || !led;
+    let may_float = !grammar.has(NO_FLOAT_LEADING_ZEROS) || !led;
     let needs_digit = match part {
-        Part::Integer => format.required_integer_digits(),
-        Part::Fraction if format.required_mantissa_digits() && matches!(stage, Stage::Lone) =>
+        Part::Integer => grammar.has(REQUIRED_INTEGER_DIGITS),
+        Part::Fraction if grammar.has(REQUIRED_MANTISSA_DIGITS) && matches!(stage, Stage::Lone) =>
             return false,
-        Part::Fraction => format.required_fraction_digits(),
-        Part::Exponent => format.required_exponent_digits(),
+        Part::Fraction => grammar.has(REQUIRED_FRACTION_DIGITS),
+        Part::Exponent => grammar.has(REQUIRED_EXPONENT_DIGITS),
     };
     is_signed(grammar, part, stage)
         && (!gap || is_place(grammar, part, digit, false))
@@ -303,15 +362,17 @@ const fn ends_before(grammar: Grammar, read: Summary, role: Role) -> bool
         && match (part, role) {
             (Part::Integer, Role::Point) => may_float,
             (Part::Integer, Role::Exponent) => {
-                !format.no_exponent_notation()
+                !grammar.has(NO_EXPONENT_NOTATION)
                     && may_float
-                    && (!format.required_mantissa_digits() || digit)
-                    && !format.no_exponent_without_fraction()
+                    && (!grammar.has(REQUIRED_MANTISSA_DIGITS) || digit)
+                    && !grammar.has(NO_EXPONENT_WITHOUT_FRACTION)
             }
             (Part::Integer, Role::Suffix) => {
-                !needs_exponent(grammar) && digit && (!format.no_integer_leading_zeros() || !led)
+                !needs_exponent(grammar)
+                    && digit
+                    && (!grammar.has(NO_INTEGER_LEADING_ZEROS) || !led)
             }
-            (Part::Fraction, Role::Exponent) => !format.no_exponent_notation(),
+            (Part::Fraction, Role::Exponent) => !grammar.has(NO_EXPONENT_NOTATION),
             (Part::Fraction, Role::Suffix) => !needs_exponent(grammar),
             (Part::Exponent, Role::Suffix) => true,
             _ => false,
@@ -479,11 +540,11 @@ pub const fn role_at(grammar: Grammar, part: Part, byte: u8) -> Option<Role>
         Some(Role::Point)
     } else if is_exponent_character(grammar, byte) {
         Some(Role::Exponent)
-    } else if grammar.view().is_base_suffix(byte) {
+    } else if is_suffix(grammar, byte) {
         Some(Role::Suffix)
     } else if matches!(byte, b'+' | b'-') {
         Some(Role::Sign)
-    } else if grammar.view().is_base_prefix(byte) {
+    } else if is_prefix(grammar, byte) {
         Some(Role::Prefix)
     } else {
         None

@@ -1,26 +1,32 @@
 //! A lawful format with the bytes that a format does not define.
 
-ghost use Rattle.std.specs.Prelude.{false, ◌≡◌, IsTrue, if◌then◌else◌, length, not, IfErr, Some, None};
+ghost use Rattle.std.specs.Prelude.{false, ◌≡◌, ◌^◌, IsTrue, if◌then◌else◌, length, not, IfErr, Some, None};
 ghost use Rattle.std.specs.List.{find, list_any};
 ghost use Rattle.lexical_util.specs.Record.{raw};
 ghost use Rattle.std.specs.Result.{OkIff};
-ghost use Rattle.lexical_util.specs.NormalForm.{normal_form_of};
+ghost use Rattle.lexical_util.specs.NormalForm.{IsNormal, normal_form_of};
+ghost use Rattle.lexical_util.specs.Layout.{bit};
+ghost use Rattle.lexical_util.specs.Rules.{Lawful};
 ghost use Rattle.lexical_util.specs.Options.{OptionsFit, IsOptionsError};
 ghost use Rattle.lexical_util.specs.declared.lawful.Rejected.TheVariants as rejected;
-ghost use Rattle.lexical_literal.specs.Additions.Scan.{HasSizes, IsReady, IsUsual};
+ghost use Rattle.lexical_literal.specs.Additions.Fields.{flag_of, options_if};
+ghost use Rattle.lexical_literal.specs.Additions.Scan.{HasSizes, IsDecimal, IsReady, IsUsual, are_usual, is_usual};
 ghost use Rattle.lexical_literal.specs.Additions.GroupSize.{steps_of};
 ghost use Rattle.lexical_literal.specs.Groups.{has_sizes};
 ghost use Rattle.lexical_literal.specs.declared.syntax.Condition.{Condition};
 ghost use Rattle.lexical_literal.specs.declared.syntax.Condition.TheVariants as conditions;
 ghost use Rattle.lexical_literal.specs.declared.syntax.Options.{Options};
-ghost use Rattle.lexical_literal.specs.Notation.{all_conditions, has, is_same, kept, no_conditions, notation_of, number_of, IsOnlyRole};
+ghost use Rattle.lexical_literal.specs.Notation.{all_conditions, has, is_same, kept, lacks_options, no_conditions, notation_of, number_of, IsOnlyRole};
 ghost use Rattle.lexical_literal.specs.Syntax.{IsSyntax, contradiction, fault, limits, missing};
 
 use crate::step::role_at;
 use lexical_util::format::{Format, FormatError, NumberFormat, Part, Role};
 use lexical_util::format_flags::{
-    BASE_PREFIX, EXPONENT_BASE, EXPONENT_RADIX, MANTISSA_RADIX, REQUIRED_EXPONENT_NOTATION,
-    REQUIRED_MANTISSA_SIGN, base_prefix, base_suffix, digit_separator,
+    BASE_PREFIX_SHIFT, BASE_SUFFIX_SHIFT, DIGIT_SEPARATOR_SHIFT, EXPONENT_BASE_SHIFT,
+    EXPONENT_RADIX_SHIFT, FRACTION_INTERNAL_DIGIT_SEPARATOR, INTEGER_INTERNAL_DIGIT_SEPARATOR,
+    MANTISSA_RADIX_SHIFT, NO_FLOAT_LEADING_ZEROS, NO_INTEGER_LEADING_ZEROS,
+    REQUIRED_EXPONENT_NOTATION, REQUIRED_MANTISSA_SIGN, base_prefix, base_suffix, digit_separator,
+    exponent_base, exponent_radix, is_separator_allowed, mantissa_radix,
 };
 use lexical_util::laws::flags::role_facts;
 use std::marker::Model;
@@ -149,7 +155,7 @@ impl Conditions {
     // Returns whether there are no conditions but `NegativeSign`, of which the number is the third.
     #[inline(always)]
     const fn are_usual(self) -> bool
-        ensures { IsTrue result → self ≡ kept (is_same conditions.NegativeSign) (number_of self) }
+        ensures { result ≡ are_usual self }
     {
         matches!(self.numbers, [0, 0, _, 0, 0, 0, 0, 0])
     }
@@ -208,21 +214,146 @@ pub enum ConditionsErrorKind {
     NoLeadingZeros,
 }
 
-// Any format, with any options and conditions. Without options, literals are integers alone.
-#[derive(Debug, Clone, Copy, PartialEq, Eq, Hash)]
+// What reading asks of a format with any options and conditions: its radixes, its bytes and its flags. A byte that is absent is 0, and
+// so is a separator that no flag allows. Without an exponent character and a decimal point, literals are integers alone.
+#[derive(Debug, Clone, Copy, PartialEq, Eq, PartialOrd, Ord, Hash)]
 pub struct Grammar {
-    pub word: u128,
-    pub options: Option<Options>,
+    pub exponent_radix: u8,
+    pub exponent_base: u8,
+    pub radix: u8,
+    pub suffix: u8,
+    pub prefix: u8,
+    pub separator: u8,
+    pub flags: u64,
+    pub exponent: u8,
+    pub point: u8,
     pub conditions: Conditions,
 }
 
+impl Model for Grammar {
+    ghost use Rattle.lexical_literal.specs.Worded.{Worded};
+
+    ghost Value = { Worded };
+
+    ghost use Rattle.lexical_literal.specs.Additions.Fields.{AreFields, fields_of, fields_same, worded};
+
+    ghost view = { worded };
+
+    ghost invariant = { AreFields };
+
+    ghost inverse = { fields_of };
+
+    ghost inverse_ok = { fields_same };
+}
+
+// The lowest bits of bytes in the upper half of a word, in which that of the separator is 0.
+const PREFIX_SHIFT: i32 = BASE_PREFIX_SHIFT - DIGIT_SEPARATOR_SHIFT;
+
+const SUFFIX_SHIFT: i32 = BASE_SUFFIX_SHIFT - DIGIT_SEPARATOR_SHIFT;
+
+pub(crate) const RADIX_SHIFT: i32 = MANTISSA_RADIX_SHIFT - DIGIT_SEPARATOR_SHIFT;
+
+pub(crate) const BASE_SHIFT: i32 = EXPONENT_BASE_SHIFT - DIGIT_SEPARATOR_SHIFT;
+
+pub(crate) const EXPONENT_SHIFT: i32 = EXPONENT_RADIX_SHIFT - DIGIT_SEPARATOR_SHIFT;
+
 #[doc(hidden)]
 impl Grammar {
+    // Returns the grammar of a format, with an exponent character and a decimal point, or 0 for both.
+    pub const fn new(word: u128, exponent: u8, point: u8) -> Grammar
+        requires lawful { Lawful word }
+        requires normal { IsNormal word }
+        requires options { point ≡ 0 → exponent ≡ 0 }
+        ensures { result ≡ record {
+          word = word;
+          options = options_if exponent point;
+          conditions = no_conditions;
+        } }
+    {
+        Grammar {
+            exponent_radix: exponent_radix(word) as u8,
+            exponent_base: exponent_base(word) as u8,
+            radix: mantissa_radix(word) as u8,
+            suffix: base_suffix(word),
+            prefix: base_prefix(word),
+            separator: if is_separator_allowed(word) {
+                digit_separator(word)
+            } else {
+                0
+            },
+            flags: word as u64,
+            exponent,
+            point,
+            conditions: Conditions::NONE,
+        }
+    }
+
+    // Returns the word of the format.
+    #[inline(always)]
+    pub const fn word(self) -> u128
+        ensures { result ≡ self.word }
+    {
+        let affixes = self.separator as u64
+            + ((self.prefix as u64) << PREFIX_SHIFT)
+            + ((self.suffix as u64) << SUFFIX_SHIFT);
+        let radixes = ((self.radix as u64) << RADIX_SHIFT)
+            + ((self.exponent_base as u64) << BASE_SHIFT)
+            + ((self.exponent_radix as u64) << EXPONENT_SHIFT);
+        self.flags as u128 + (((affixes + radixes) as u128) << DIGIT_SEPARATOR_SHIFT)
+    }
+
     // Returns a view of the format.
+    #[inline(always)]
     pub const fn view(self) -> NumberFormat
         ensures { result ≡ self.word }
     {
-        NumberFormat::new(self.word)
+        NumberFormat::new(self.word())
+    }
+
+    // Returns whether the flag `mask` is set.
+    #[inline(always)]
+    pub const fn has(self, mask: u128) -> bool
+        requires { 2 ^ bit (flag_of mask) ≡ mask }
+        ensures { result ≡ (raw self.word).flag (flag_of mask) }
+    {
+        self.flags & mask as u64 != 0
+    }
+
+    // Returns whether literals are integers alone.
+    #[inline(always)]
+    pub const fn is_whole(self) -> bool
+        ensures { result ≡ lacks_options self.options }
+    {
+        self.point == 0
+    }
+
+    // Returns whether all digits and the base are decimal, neither a sign nor an exponent is required, there is no base prefix, and
+    // there are no conditions but `NegativeSign`.
+    const fn is_usual(self) -> bool
+        ensures { result ≡ is_usual self }
+    {
+        matches!(
+            (
+                self.radix,
+                self.exponent_base,
+                self.exponent_radix,
+                self.prefix
+            ),
+            (10, 10, 10, 0)
+        ) && !self.has(REQUIRED_MANTISSA_SIGN)
+            && !self.has(REQUIRED_EXPONENT_NOTATION)
+            && self.conditions.are_usual()
+    }
+
+    // Returns the syntax, if the grammar is that of one.
+    pub const fn syntax(self) -> Syntax
+        requires { IsSyntax self }
+        ensures { result ≡ self }
+    {
+        Syntax {
+            grammar: self,
+            usual: self.is_usual(),
+        }
     }
 }
 
@@ -242,23 +373,28 @@ impl Grammar {
 /// ```
 #[derive(Clone, Copy, PartialEq, Eq, PartialOrd, Ord, Hash)]
 pub struct Syntax {
-    format: Format,
-    options: Option<Options>,
-    conditions: Conditions,
+    grammar: Grammar,
+    // Whether the grammar is a usual one.
+    usual: bool,
 }
 
 impl Model for Syntax {
-    ghost use Rattle.lexical_literal.specs.declared.syntax.Grammar.{Grammar};
+    ghost use Rattle.lexical_literal.specs.Worded.{Worded};
 
-    ghost Value = { Grammar };
+    ghost Value = { Worded };
 
+    ghost use Rattle.std.specs.Prelude.{◌≡◌};
+    ghost use Rattle.std.proofs.Common.{sym};
+    ghost use Rattle.lexical_literal.specs.Additions.Scan.{is_usual};
     ghost use Rattle.lexical_literal.specs.Syntax.{IsSyntax};
 
-    ghost view = { λ syntax. record { word = syntax.format; options = syntax.options; conditions = syntax.conditions } };
+    ghost view = { λ syntax. syntax.grammar };
 
-    ghost invariant = { λ syntax. IsSyntax (record { word = syntax.format; options = syntax.options; conditions = syntax.conditions }) };
+    ghost invariant = { λ syntax. IsSyntax syntax.grammar × (syntax.usual ≡ is_usual syntax.grammar) };
 
-    ghost inverse = { λ grammar. record { format = grammar.word; options = grammar.options; conditions = grammar.conditions } };
+    ghost inverse = { λ g. record { grammar = g; usual = is_usual g } };
+
+    ghost inverse_ok = { λ syntax h i. record { grammar = syntax.grammar; usual = sym h.1 i } };
 }
 
 impl Syntax {
@@ -297,11 +433,7 @@ impl Syntax {
     {
         let normal = format.normal_form();
         match normal.check_options(exponent, point) {
-            Ok(()) => Ok(Syntax {
-                format: normal,
-                options: Some(Options { exponent, point }),
-                conditions: Conditions::NONE,
-            }),
+            Ok(()) => Ok(Grammar::new(normal.word(), exponent, point).syntax()),
             Err(error) => Err(error),
         }
     }
@@ -312,11 +444,7 @@ impl Syntax {
     pub const fn integers(format: Format) -> Syntax
         ensures { result ≡ record { word = normal_form_of format; options = None; conditions = no_conditions } }
     {
-        Syntax {
-            format: format.normal_form(),
-            options: None,
-            conditions: Conditions::NONE,
-        }
+        Grammar::new(format.normal_form().word(), 0, 0).syntax()
     }
 
     /// Returns the same syntax with `conditions`, and no others.
@@ -340,23 +468,26 @@ impl Syntax {
         ensures accepted { OkIff result (contradiction (raw self.word) conditions ≡ None) (record self { conditions = conditions }) }
         ensures error { IfErr result (λ error. contradiction (raw self.word) conditions ≡ Some error) }
     {
+        let grammar = self.grammar;
         match contradiction(self.grammar(), conditions) {
-            None => Ok(Syntax {
-                format: self.format,
-                options: self.options,
+            None => Ok(Grammar {
                 conditions,
-            }),
+                ..grammar
+            }
+            .syntax()),
             Some(error) => Err(error),
         }
     }
 
     /// Returns the format, which is in [normal form][Format::normal_form].
     #[must_use]
+    #[inline(always)]
     pub const fn format(&self) -> Format
         ensures word { result ≡ self.now.word }
         ensures lawful { IsSyntax self.now }
     {
-        self.format
+        let grammar = self.grammar;
+        Format::of_lawful(grammar.word())
     }
 
     /// Returns the exponent character and the decimal point, or `None` if literals are integers.
@@ -364,7 +495,15 @@ impl Syntax {
     pub const fn options(&self) -> Option<Options>
         ensures { result ≡ self.now.options }
     {
-        self.options
+        let grammar = self.grammar;
+        if grammar.is_whole() {
+            None
+        } else {
+            Some(Options {
+                exponent: grammar.exponent,
+                point: grammar.point,
+            })
+        }
     }
 
     /// Returns the conditions.
@@ -372,7 +511,8 @@ impl Syntax {
     pub const fn conditions(&self) -> Conditions
         ensures { result ≡ self.now.conditions }
     {
-        self.conditions
+        let grammar = self.grammar;
+        grammar.conditions
     }
 
     /// Returns the only role of `byte`, or `None` if it plays no role.
@@ -394,7 +534,17 @@ impl Syntax {
         }
     }
 
-    // Returns the format, the options and the conditions.
+    // Returns whether all digits are decimal, no base prefix is read, and the syntax is a usual one.
+    #[inline(always)]
+    pub(crate) const fn is_decimal(&self) -> bool
+        ensures radix { IsTrue result → IsDecimal (raw self.now.word) }
+        ensures usual { IsTrue result → IsUsual self.now }
+    {
+        self.usual
+    }
+
+    // Returns what reading asks of the format, the options and the conditions.
+    #[inline(always)]
     #[doc(hidden)]
     pub const fn grammar(&self) -> Grammar
         ensures value { result ≡ self.now }
@@ -402,11 +552,7 @@ impl Syntax {
         ensures sizes { HasSizes (notation_of self.now) }
     {
         role_facts();
-        Grammar {
-            word: self.format.word(),
-            options: self.options,
-            conditions: self.conditions,
-        }
+        self.grammar
     }
 }
 
@@ -419,28 +565,8 @@ pub(crate) const fn has_sizes(grammar: Grammar) -> bool
         || grammar.conditions.has(Condition::FractionGroupSize)
 }
 
-// The bits of a format that most decimal formats share, and their values: neither a sign nor an exponent is required, there is no
-// base prefix, and the radixes and the base are 10.
-const SHARED: u128 = REQUIRED_MANTISSA_SIGN
-    | REQUIRED_EXPONENT_NOTATION
-    | BASE_PREFIX
-    | MANTISSA_RADIX
-    | EXPONENT_BASE
-    | EXPONENT_RADIX;
-
-const DECIMAL: u128 = 0x0A0A0A00 << 96;
-
-// Returns whether the format has the bits that decimal formats share, and there are no conditions but `NegativeSign`.
-#[inline(always)]
-pub(crate) const fn is_usual(grammar: Grammar) -> bool
-    ensures { IsTrue result → IsUsual grammar }
-{
-    grammar.word & SHARED == DECIMAL && grammar.conditions.are_usual()
-}
-
 impl Syntax {
-    // Returns the format, the options and the conditions of a usual syntax, of which the compiler then knows the bits and the
-    // conditions.
+    // Returns the grammar of a usual syntax, of which the compiler then knows the radixes, the prefix, two flags and the conditions.
     #[inline(always)]
     pub(crate) const fn usual_grammar(&self) -> Grammar
         requires { IsUsual self.now }
@@ -448,15 +574,15 @@ impl Syntax {
         ensures ready { IsReady (steps_of self.now) }
         ensures sizes { HasSizes (notation_of self.now) }
     {
-        let Grammar {
-            word,
-            options,
-            conditions,
-        } = self.grammar();
+        let grammar = self.grammar;
         Grammar {
-            word: word - (word & SHARED) + DECIMAL,
-            options,
-            conditions: conditions.only(Condition::NegativeSign),
+            radix: 10,
+            exponent_base: 10,
+            exponent_radix: 10,
+            prefix: 0,
+            flags: grammar.flags & !(REQUIRED_MANTISSA_SIGN | REQUIRED_EXPONENT_NOTATION) as u64,
+            conditions: grammar.conditions.only(Condition::NegativeSign),
+            ..grammar
         }
     }
 }
@@ -509,26 +635,21 @@ const fn missing(
     ensures { result ≡ missing (raw grammar.word) conditions condition }
 {
     match condition {
-        Condition::BasePrefix if base_prefix(grammar.word) == 0 => Some(
-            ConditionsErrorKind::NoBasePrefix,
-        ),
-        Condition::BaseSuffix if base_suffix(grammar.word) == 0 => Some(
-            ConditionsErrorKind::NoBaseSuffix,
-        ),
-        Condition::IntegerGroupSize if !grammar.view().integer_internal_digit_separator() => {
+        Condition::BasePrefix if grammar.prefix == 0 => Some(ConditionsErrorKind::NoBasePrefix),
+        Condition::BaseSuffix if grammar.suffix == 0 => Some(ConditionsErrorKind::NoBaseSuffix),
+        Condition::IntegerGroupSize if !grammar.has(INTEGER_INTERNAL_DIGIT_SEPARATOR) => {
             Some(ConditionsErrorKind::NoInternalSeparator)
         }
-        Condition::FractionGroupSize if !grammar.view().fraction_internal_digit_separator() => {
+        Condition::FractionGroupSize if !grammar.has(FRACTION_INTERNAL_DIGIT_SEPARATOR) => {
             Some(ConditionsErrorKind::NoFractionSeparator)
         }
-        Condition::IntegerGroupSize | Condition::FractionGroupSize
-            if digit_separator(grammar.word) == 0 => Some(ConditionsErrorKind::NoSeparator),
+        Condition::IntegerGroupSize | Condition::FractionGroupSize if grammar.separator == 0 =>
+            Some(ConditionsErrorKind::NoSeparator),
         Condition::HigherGroupSize if !conditions.has(Condition::IntegerGroupSize) => Some(
             ConditionsErrorKind::NoIntegerGroupSize,
         ),
         Condition::LeadingZero | Condition::DecimalFirstDigit
-            if grammar.view().no_integer_leading_zeros()
-                || grammar.view().no_float_leading_zeros() => Some(
+            if grammar.has(NO_INTEGER_LEADING_ZEROS) || grammar.has(NO_FLOAT_LEADING_ZEROS) => Some(
             ConditionsErrorKind::NoLeadingZeros,
         ),
         _ => None,

@@ -103,6 +103,17 @@ impl Format {
         }
     }
 
+    // Returns a lawful word as a format.
+    #[doc(hidden)]
+    #[must_use]
+    #[inline(always)]
+    pub const fn of_lawful(word: u128) -> Self
+        requires { Lawful word }
+        ensures { result ≡ word }
+    {
+        Format { word }
+    }
+
     /// Returns the format word.
     #[must_use]
     #[inline]

@@ -128,7 +128,7 @@ pub struct Reached {
 }
 
 /// Where reading stopped, and why.
-pub type ReadError = Made<Reached, Refusal<FormError>, 14>;
+pub type ReadError = Made<Reached, Refusal<FormError>, 15>;
 
 impl ReadError {
     /// Returns the error of a form that is valid up to an index.

@@ -5,9 +5,10 @@
 use crate::error::Error;
 use crate::literal::group_size::{follows, has_size, Group};
 use crate::literal::step::{
-    has_digit, is_complete, is_exponent_character, needs_exponent, other_case, part_of, role_at, step_as, Summary,
+    has_digit, has_place, is_complete, is_exponent_character, is_prefix, is_suffix, needs_exponent, other_case,
+    part_of, role_at, step_as, Summary, CONSECUTIVE,
 };
-use crate::literal::syntax::{Condition, Conditions, Grammar, Options, CONDITIONS};
+use crate::literal::syntax::{Condition, Conditions, Grammar, CONDITIONS};
 use crate::word as masks;
 use crate::word::{Part, Role};
 
@@ -43,12 +44,10 @@ pub enum ReadErrorKind {
 // Where reading stopped: what has been read, the byte that cannot follow, or `None` if bytes are missing, the bytes that follow it in
 // its character, or 0 for each that does not, and whether a separator is before the last group of digits. What spans and errors are
 // made of: the number of bytes that are right, and the indexes at which the exponent, the integer digits, the last separators and,
-// where groups have sizes, the last group of digits begin. The fields of the grammar are apart, which takes 16 bytes less.
+// where groups have sizes, the last group of digits begin.
 #[derive(Debug, Clone, Copy, PartialEq, Eq, Hash)]
 pub struct Spot {
-    pub(crate) word: u128,
-    pub(crate) options: Option<Options>,
-    pub(crate) conditions: Conditions,
+    pub(crate) grammar: Grammar,
     pub(crate) read: Summary,
     pub(crate) byte: Option<u8>,
     pub(crate) tail: [u8; 3],
@@ -179,12 +178,12 @@ struct Blame {
 
 impl Spot {
     // Returns the grammar.
-    pub(crate) const fn as_grammar(self) -> Grammar {
-        Grammar { word: self.word, options: self.options, conditions: self.conditions }
+    pub(crate) const fn as_grammar(&self) -> &Grammar {
+        &self.grammar
     }
 
     // Returns the last group of digits.
-    const fn last_group(self) -> Group {
+    const fn last_group(&self) -> Group {
         Group {
             part: part_of(self.read.stage),
             separated: self.separated,
@@ -193,8 +192,8 @@ impl Spot {
     }
 
     // Returns the answers of a text with which no literal goes on.
-    const fn refusal(self) -> Refusal {
-        let Spot { byte, tail, size, .. } = self;
+    const fn refusal(&self) -> Refusal {
+        let Spot { byte, tail, size, .. } = *self;
         let Blame { kind, mask } = self.blame();
         let conditions = self.unmet();
         let number = mask.trailing_zeros();
@@ -214,13 +213,14 @@ impl Spot {
     }
 
     // Returns whether the text could go on if the flags of the format were those of `word`, with other conditions.
-    const fn allows(self, word: u128, conditions: Conditions) -> bool {
-        let other = Grammar { word, options: self.options, conditions };
-        self.goes_on(other) && self.group_goes_on(other)
+    const fn allows(&self, word: u128, conditions: Conditions) -> bool {
+        let grammar = self.as_grammar();
+        let other = Grammar { flags: word as u64, separator: 0, conditions, ..*grammar };
+        self.goes_on(&other) && self.group_goes_on(&other)
     }
 
     // Returns whether the text could go on by the steps of `other`.
-    const fn goes_on(self, other: Grammar) -> bool {
+    const fn goes_on(&self, other: &Grammar) -> bool {
         match self.byte {
             None => is_complete(other, self.read),
             Some(byte) => match role_at(self.as_grammar(), part_of(self.read.stage), byte) {
@@ -231,7 +231,7 @@ impl Spot {
     }
 
     // Returns whether the text could go on behind the last group of digits, with the conditions of `other`.
-    const fn group_goes_on(self, other: Grammar) -> bool {
+    const fn group_goes_on(&self, other: &Grammar) -> bool {
         let group = self.last_group();
         let role = match self.byte {
             None => None,
@@ -241,22 +241,23 @@ impl Spot {
     }
 
     // Returns the word without the flags that require something.
-    const fn bare(self) -> u128 {
-        self.word & !REQUIREMENTS
+    const fn bare(&self) -> u128 {
+        let grammar = self.as_grammar();
+        grammar.flags as u128 & !REQUIREMENTS
     }
 
     // Returns whether the text could go on without requirements.
-    const fn goes_on_bare(self) -> bool {
+    const fn goes_on_bare(&self) -> bool {
         self.allows(self.bare(), Conditions::NONE)
     }
 
     // Returns whether the text could go on with the flag that has the number `number`, and no other requirement.
-    const fn is_permitted(self, number: u32) -> bool {
+    const fn is_permitted(&self, number: u32) -> bool {
         self.allows((1 << number) | self.bare(), Conditions::NONE)
     }
 
     // Returns those of `flags` each of which, as the only requirement, refuses what cannot follow.
-    const fn refusing(self, flags: u128) -> u128 {
+    const fn refusing(&self, flags: u128) -> u128 {
         let mut mask = flags;
         let mut number = 0;
         while number < 45 {
@@ -268,26 +269,28 @@ impl Spot {
     }
 
     // Returns the flags that are set and require something.
-    const fn binding(self) -> u128 {
-        if needs_exponent(self.as_grammar()) {
-            self.word & FLOAT_REQUIREMENTS
+    const fn binding(&self) -> u128 {
+        let grammar = self.as_grammar();
+        let flags = grammar.flags as u128;
+        if needs_exponent(grammar) {
+            flags & FLOAT_REQUIREMENTS
         } else {
-            self.word & REQUIREMENTS
+            flags & REQUIREMENTS
         }
     }
 
     // Returns the flags that refuse alone.
-    const fn alone(self) -> u128 {
+    const fn alone(&self) -> u128 {
         self.refusing(self.binding())
     }
 
     // Returns the flags on leading zeros that require something.
-    const fn zeros(self) -> u128 {
+    const fn zeros(&self) -> u128 {
         self.binding() & ZEROS
     }
 
     // Returns the flags to blame for a requirement: those that refuse alone, or else those on leading zeros.
-    const fn requirements(self) -> u128 {
+    const fn requirements(&self) -> u128 {
         let alone = self.alone();
         if alone == 0 && self.unmet().is_none() {
             self.zeros()
@@ -297,13 +300,15 @@ impl Spot {
     }
 
     // Returns the conditions to blame for a requirement: those that refuse alone.
-    const fn unmet(self) -> Conditions {
+    const fn unmet(&self) -> Conditions {
+        let grammar = self.as_grammar();
+        let conditions = grammar.conditions;
         let mut unmet = Conditions::NONE;
         let mut index = 0;
         while index < CONDITIONS.len() {
             let condition = CONDITIONS[index];
             if self.is_unmet(condition) {
-                unmet = unmet.with(condition, self.conditions.number(condition));
+                unmet = unmet.with(condition, conditions.number(condition));
             }
             index += 1;
         }
@@ -311,14 +316,14 @@ impl Spot {
     }
 
     // Returns whether the syntax has a condition that alone refuses what cannot follow.
-    const fn is_unmet(self, condition: Condition) -> bool {
-        self.conditions.has(condition)
-            && self.goes_on_bare()
-            && !self.allows(self.bare(), self.conditions.only(condition))
+    const fn is_unmet(&self, condition: Condition) -> bool {
+        let grammar = self.as_grammar();
+        let conditions = grammar.conditions;
+        conditions.has(condition) && self.goes_on_bare() && !self.allows(self.bare(), conditions.only(condition))
     }
 
     // Returns the flags each of which would allow a separator that is not allowed.
-    const fn separators(self) -> u128 {
+    const fn separators(&self) -> u128 {
         if self.is_at_gap() {
             SEPARATORS & !self.refusing(SEPARATORS)
         } else {
@@ -327,7 +332,7 @@ impl Spot {
     }
 
     // Returns whether what cannot follow is a separator, or follows one.
-    const fn is_at_gap(self) -> bool {
+    const fn is_at_gap(&self) -> bool {
         match self.byte {
             None => self.read.gap,
             Some(byte) => {
@@ -338,10 +343,9 @@ impl Spot {
     }
 
     // Returns where a separator is not allowed, before or after `byte`.
-    const fn place(self, byte: u8) -> Place {
+    const fn place(&self, byte: u8) -> Place {
         let role = role_at(self.as_grammar(), part_of(self.read.stage), byte);
-        let is_consecutive =
-            self.read.gap && !self.as_grammar().view().separators(part_of(self.read.stage)).consecutive;
+        let is_consecutive = self.read.gap && !has_place(self.as_grammar(), part_of(self.read.stage), CONSECUTIVE);
         if is_consecutive && matches!(role, Some(Role::Separator)) {
             Place::Consecutive
         } else if has_digit(self.read.stage) {
@@ -352,9 +356,9 @@ impl Spot {
     }
 
     // Returns the flags by which the case of `byte` counts, if its other case may be next.
-    const fn case_flags(self, byte: u8) -> u128 {
+    const fn case_flags(&self, byte: u8) -> u128 {
         let other = other_case(byte);
-        let spot = Spot { byte: Some(other), ..self };
+        let spot = Spot { byte: Some(other), ..*self };
         if spot.goes_on_bare() {
             case_mask(self.as_grammar(), other)
         } else {
@@ -363,7 +367,7 @@ impl Spot {
     }
 
     // Returns the kind, and the flags that are to blame.
-    const fn blame(self) -> Blame {
+    const fn blame(&self) -> Blame {
         if self.goes_on_bare() {
             return Blame { kind: ReadErrorKind::Requirement, mask: self.requirements() };
         }
@@ -393,8 +397,8 @@ const fn flag_if(is_set: bool, flag: u128) -> u128 {
 }
 
 // Returns the flags by which the case of `byte` counts.
-const fn case_mask(grammar: Grammar, byte: u8) -> u128 {
+const fn case_mask(grammar: &Grammar, byte: u8) -> u128 {
     flag_if(is_exponent_character(grammar, byte), masks::CASE_SENSITIVE_EXPONENT)
-        | flag_if(grammar.view().is_base_prefix(byte), masks::CASE_SENSITIVE_BASE_PREFIX)
-        | flag_if(grammar.view().is_base_suffix(byte), masks::CASE_SENSITIVE_BASE_SUFFIX)
+        | flag_if(is_prefix(grammar, byte), masks::CASE_SENSITIVE_BASE_PREFIX)
+        | flag_if(is_suffix(grammar, byte), masks::CASE_SENSITIVE_BASE_SUFFIX)
 }

@@ -2,15 +2,15 @@
 
 //! What excludes that a text is a literal of a form: its first bytes, or a byte that plays no role in the form.
 
-use crate::literal::step::{is_digit, other_case, role_at};
+use crate::literal::step::{is_digit, is_prefix, other_case, role_at};
 use crate::literal::stop::byte_at;
-use crate::literal::syntax::{Condition, Grammar, Options};
-use crate::word::{base_prefix, base_suffix, digit_separator, Part};
+use crate::literal::syntax::{Condition, Grammar};
+use crate::word::Part;
 
 // Returns how far the syntax goes in `text` at most if this is known at once, and `text` is not a literal: the zero or the prefix that is
 // required is not there, or a byte plays no role, of the first two behind the sign, or the one at `reach`, which is behind them.
 #[cfg_attr(not(peltzivar_small), inline(always))]
-pub(crate) const fn excludes(grammar: Grammar, text: &[u8], reach: usize) -> Option<usize> {
+pub(crate) const fn excludes(grammar: &Grammar, text: &[u8], reach: usize) -> Option<usize> {
     let sign = sign_size(text);
     if lacks_zero(grammar, text, sign) || is_silent_at(grammar, text, sign) {
         Some(sign)
@@ -25,7 +25,7 @@ pub(crate) const fn excludes(grammar: Grammar, text: &[u8], reach: usize) -> Opt
 
 // Returns whether a zero is required behind the sign, which has this length, and another byte is there.
 #[inline(always)]
-const fn lacks_zero(grammar: Grammar, text: &[u8], sign: usize) -> bool {
+const fn lacks_zero(grammar: &Grammar, text: &[u8], sign: usize) -> bool {
     (grammar.conditions.has(Condition::BasePrefix) || grammar.conditions.has(Condition::LeadingZero))
         && sign < text.len()
         && text[sign] != b'0'
@@ -34,7 +34,7 @@ const fn lacks_zero(grammar: Grammar, text: &[u8], sign: usize) -> bool {
 // Returns whether the second byte behind the sign, which has this length, is not the letter of a required prefix, in either case, or, where
 // none is required, plays no role.
 #[inline(always)]
-const fn lacks_second(grammar: Grammar, text: &[u8], sign: usize) -> bool {
+const fn lacks_second(grammar: &Grammar, text: &[u8], sign: usize) -> bool {
     if grammar.conditions.has(Condition::BasePrefix) {
         lacks_letter(grammar, text, sign + 1)
     } else {
@@ -44,49 +44,41 @@ const fn lacks_second(grammar: Grammar, text: &[u8], sign: usize) -> bool {
 
 // Returns whether a byte is at `index` that is not the letter of a prefix, in either case.
 #[inline(always)]
-const fn lacks_letter(grammar: Grammar, text: &[u8], index: usize) -> bool {
-    index < text.len() && is_apart(base_prefix(grammar.word), text[index], other_case(text[index]))
+const fn lacks_letter(grammar: &Grammar, text: &[u8], index: usize) -> bool {
+    index < text.len() && is_apart(grammar.prefix, text[index], other_case(text[index]))
 }
 
 // Returns whether a byte is at `index` that plays no role, and its other case neither.
 #[inline(always)]
-const fn is_silent_at(grammar: Grammar, text: &[u8], index: usize) -> bool {
+const fn is_silent_at(grammar: &Grammar, text: &[u8], index: usize) -> bool {
     index < text.len() && is_silent(grammar, text[index])
 }
 
 // Returns whether a byte is at `index` that plays no role behind the base prefix, and its other case neither.
 #[inline(always)]
-const fn is_stranger_at(grammar: Grammar, text: &[u8], index: usize) -> bool {
+const fn is_stranger_at(grammar: &Grammar, text: &[u8], index: usize) -> bool {
     index < text.len() && is_stranger(grammar, text[index])
 }
 
 // Returns whether `byte` plays no role, and its other case neither. Bytes up to `9` are said to play one: most are digits, and a prefix
 // begins with a zero.
 #[inline(always)]
-const fn is_silent(grammar: Grammar, byte: u8) -> bool {
-    byte > b'9' && is_stranger(grammar, byte) && is_apart(base_prefix(grammar.word), byte, other_case(byte))
+const fn is_silent(grammar: &Grammar, byte: u8) -> bool {
+    byte > b'9' && is_stranger(grammar, byte) && is_apart(grammar.prefix, byte, other_case(byte))
 }
 
 // Returns whether `byte` plays no role behind the base prefix, and its other case neither.
 #[inline(always)]
-const fn is_stranger(grammar: Grammar, byte: u8) -> bool {
+const fn is_stranger(grammar: &Grammar, byte: u8) -> bool {
     let other = other_case(byte);
     !is_digit(grammar, Part::Integer, byte)
         && !is_digit(grammar, Part::Exponent, byte)
         && byte != b'+'
         && byte != b'-'
-        && is_apart(digit_separator(grammar.word), byte, other)
-        && is_apart(base_suffix(grammar.word), byte, other)
-        && is_no_mark(grammar.options, byte, other)
-}
-
-// Returns whether `byte` is neither the exponent character nor the decimal point, and its other case neither.
-#[inline(always)]
-const fn is_no_mark(options: Option<Options>, byte: u8, other: u8) -> bool {
-    match options {
-        None => true,
-        Some(options) => is_apart(options.exponent, byte, other) && is_apart(options.point, byte, other),
-    }
+        && is_apart(grammar.separator, byte, other)
+        && is_apart(grammar.suffix, byte, other)
+        && is_apart(grammar.exponent, byte, other)
+        && is_apart(grammar.point, byte, other)
 }
 
 // Returns whether `byte` is not `own`, and its other case neither.
@@ -97,7 +89,7 @@ const fn is_apart(own: u8, byte: u8, other: u8) -> bool {
 
 // Returns how far the syntax goes where `size` bytes are right: 1 more if the base prefix in its other case is behind a sign, if any, and a zero.
 #[inline(always)]
-pub(crate) const fn reach(grammar: Grammar, text: &[u8], size: usize) -> usize {
+pub(crate) const fn reach(grammar: &Grammar, text: &[u8], size: usize) -> usize {
     if size == sign_size(text) + 1 && text[size - 1] == b'0' && has_other_prefix(grammar, byte_at(text, size)) {
         size + 1
     } else {
@@ -106,10 +98,10 @@ pub(crate) const fn reach(grammar: Grammar, text: &[u8], size: usize) -> usize {
 }
 
 // Returns whether `byte` is the base prefix in its other case alone.
-const fn has_other_prefix(grammar: Grammar, byte: Option<u8>) -> bool {
+const fn has_other_prefix(grammar: &Grammar, byte: Option<u8>) -> bool {
     match byte {
         None => false,
-        Some(byte) => !grammar.view().is_base_prefix(byte) && grammar.view().is_base_prefix(other_case(byte)),
+        Some(byte) => !is_prefix(grammar, byte) && is_prefix(grammar, other_case(byte)),
     }
 }
 
@@ -125,13 +117,13 @@ pub(crate) const fn sign_size(text: &[u8]) -> usize {
 // Returns whether no front of `text` with more than `size` bytes is a literal: there is not the prefix that is required, or the text ends
 // behind them, or a byte follows that plays no role. If they are more than a sign, no literal begins with more.
 #[cfg_attr(not(peltzivar_small), inline(always))]
-pub(crate) const fn lacks_longer(grammar: Grammar, text: &[u8], size: usize) -> bool {
+pub(crate) const fn lacks_longer(grammar: &Grammar, text: &[u8], size: usize) -> bool {
     lacks_prefix(grammar, text) || is_over(grammar, text, size)
 }
 
 // Returns whether the text ends behind the first `size` bytes, or a byte follows that plays no role.
 #[cfg_attr(not(peltzivar_small), inline(always))]
-pub(crate) const fn is_over(grammar: Grammar, text: &[u8], size: usize) -> bool {
+pub(crate) const fn is_over(grammar: &Grammar, text: &[u8], size: usize) -> bool {
     match byte_at(text, size) {
         None => true,
         Some(byte) => has_no_role(grammar, byte),
@@ -140,20 +132,20 @@ pub(crate) const fn is_over(grammar: Grammar, text: &[u8], size: usize) -> bool 
 
 // Returns whether `byte` plays no role, and is not the zero of a prefix.
 #[inline(always)]
-const fn has_no_role(grammar: Grammar, byte: u8) -> bool {
+const fn has_no_role(grammar: &Grammar, byte: u8) -> bool {
     byte != b'0' && matches!(role_at(grammar, Part::Integer, byte), None) && !is_digit(grammar, Part::Exponent, byte)
 }
 
 // Returns whether there is not the base prefix that is required.
 #[inline(always)]
-const fn lacks_prefix(grammar: Grammar, text: &[u8]) -> bool {
+const fn lacks_prefix(grammar: &Grammar, text: &[u8]) -> bool {
     grammar.conditions.has(Condition::BasePrefix) && !has_prefix(grammar, text, sign_size(text))
 }
 
 // Returns whether a zero and a base prefix are at `index`.
 #[inline(always)]
-const fn has_prefix(grammar: Grammar, text: &[u8], index: usize) -> bool {
-    index + 1 < text.len() && text[index] == b'0' && grammar.view().is_base_prefix(text[index + 1])
+const fn has_prefix(grammar: &Grammar, text: &[u8], index: usize) -> bool {
+    index + 1 < text.len() && text[index] == b'0' && is_prefix(grammar, text[index + 1])
 }
 
 // Returns whether a zero and a letter are behind the sign.

@@ -82,7 +82,7 @@ impl<'a> Forms<'a> {
         }
         let begun = syntax.begin(true, text, false);
         if begun.is_whole(&syntax, text) {
-            return Ok(syntax.literal(text, begun.counts, begun.sums).with_kind(kind));
+            return Ok(syntax.usual_grammar().literal(text, begun.counts, begun.sums, kind));
         }
         let is_refused = begun.refused || begun.at.is_refused(&syntax, text);
         Err(is_refused.then_some(begun.at))

@@ -18,7 +18,7 @@ pub struct Group {
 pub(crate) const FIRST: Group = Group { part: Part::Integer, separated: false, digits: 0 };
 
 // Returns whether a condition is on groups of `part`.
-pub(crate) const fn has_size(grammar: Grammar, part: Part) -> bool {
+pub(crate) const fn has_size(grammar: &Grammar, part: Part) -> bool {
     match part {
         Part::Integer => grammar.conditions.has(Condition::IntegerGroupSize),
         Part::Fraction => grammar.conditions.has(Condition::FractionGroupSize),
@@ -27,12 +27,12 @@ pub(crate) const fn has_size(grammar: Grammar, part: Part) -> bool {
 }
 
 // Returns the number of a condition.
-const fn size(grammar: Grammar, condition: Condition) -> usize {
+const fn size(grammar: &Grammar, condition: Condition) -> usize {
     grammar.conditions.number(condition) as usize
 }
 
 // Returns the number of digits of a group of the integer before the last one.
-const fn higher(grammar: Grammar) -> usize {
+const fn higher(grammar: &Grammar) -> usize {
     match size(grammar, Condition::HigherGroupSize) {
         0 => size(grammar, Condition::IntegerGroupSize),
         higher => higher,
@@ -40,7 +40,7 @@ const fn higher(grammar: Grammar) -> usize {
 }
 
 // Returns whether the first of several groups may have `count` digits.
-const fn first_fits(grammar: Grammar, part: Part, count: usize) -> bool {
+const fn first_fits(grammar: &Grammar, part: Part, count: usize) -> bool {
     match part {
         Part::Integer => 0 < count && count <= higher(grammar),
         _ => count == size(grammar, Condition::FractionGroupSize),
@@ -48,7 +48,7 @@ const fn first_fits(grammar: Grammar, part: Part, count: usize) -> bool {
 }
 
 // Returns whether a group between others may have `count` digits.
-const fn inner_fits(grammar: Grammar, part: Part, count: usize) -> bool {
+const fn inner_fits(grammar: &Grammar, part: Part, count: usize) -> bool {
     match part {
         Part::Integer => count == higher(grammar),
         _ => count == size(grammar, Condition::FractionGroupSize),
@@ -56,7 +56,7 @@ const fn inner_fits(grammar: Grammar, part: Part, count: usize) -> bool {
 }
 
 // Returns whether the last of several groups may have `count` digits.
-const fn last_fits(grammar: Grammar, part: Part, count: usize) -> bool {
+const fn last_fits(grammar: &Grammar, part: Part, count: usize) -> bool {
     match part {
         Part::Integer => count == size(grammar, Condition::IntegerGroupSize),
         _ => 0 < count && count <= size(grammar, Condition::FractionGroupSize),
@@ -64,7 +64,7 @@ const fn last_fits(grammar: Grammar, part: Part, count: usize) -> bool {
 }
 
 // Returns the number of digits that a group behind a separator has at most.
-const fn most(grammar: Grammar, part: Part) -> usize {
+const fn most(grammar: &Grammar, part: Part) -> usize {
     let last = size(grammar, Condition::IntegerGroupSize);
     match part {
         Part::Integer if higher(grammar) < last => last,
@@ -75,7 +75,7 @@ const fn most(grammar: Grammar, part: Part) -> usize {
 
 // Returns whether a byte with the role `role` may follow `group`, of a part whose groups have sizes. If it has no role, or none
 // follows, the part ends.
-pub(crate) const fn follows(grammar: Grammar, group: Group, role: Option<Role>) -> bool {
+pub(crate) const fn follows(grammar: &Grammar, group: Group, role: Option<Role>) -> bool {
     let Group { part, separated, digits } = group;
     match role {
         Some(Role::Digit) => !separated || digits < most(grammar, part),
@@ -86,7 +86,7 @@ pub(crate) const fn follows(grammar: Grammar, group: Group, role: Option<Role>) 
 }
 
 // Returns whether a byte with the role `role` may follow `group`.
-pub(crate) const fn group_allows(grammar: Grammar, group: Group, role: Option<Role>) -> bool {
+pub(crate) const fn group_allows(grammar: &Grammar, group: Group, role: Option<Role>) -> bool {
     !has_size(grammar, group.part) || follows(grammar, group, role)
 }
 
@@ -105,7 +105,7 @@ const fn grown(group: Group, role: Option<Role>) -> Group {
 
 // Returns the group after a byte with the role `role`, or `None` if it may not follow. Without sizes, it stays the same.
 #[inline(always)]
-pub(crate) const fn grow(grammar: Grammar, group: Group, role: Option<Role>) -> Option<Group> {
+pub(crate) const fn grow(grammar: &Grammar, group: Group, role: Option<Role>) -> Option<Group> {
     if !has_sizes(grammar) {
         Some(group)
     } else if group_allows(grammar, group, role) {
@@ -117,7 +117,7 @@ pub(crate) const fn grow(grammar: Grammar, group: Group, role: Option<Role>) -> 
 
 // Returns the group after the first `size` bytes of `text`, or `None` if one of them may not follow.
 #[cold]
-pub(crate) const fn group_after(grammar: Grammar, text: &[u8], size: usize) -> Option<Group> {
+pub(crate) const fn group_after(grammar: &Grammar, text: &[u8], size: usize) -> Option<Group> {
     let mut group = FIRST;
     let mut index = 0;
     while index < size {

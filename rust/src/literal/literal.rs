@@ -2,9 +2,10 @@
 
 //! Literals that were read, their parts, and the numbers that their digits represent.
 
-use crate::format_flags::{exponent_radix, mantissa_radix};
+use crate::format_flags::DIGIT_SEPARATOR_SHIFT;
 use crate::literal::kind::Kind;
-use crate::literal::syntax::Syntax;
+use crate::literal::step::radix_of;
+use crate::literal::syntax::{Grammar, Syntax, BASE_SHIFT, EXPONENT_SHIFT, RADIX_SHIFT};
 use crate::literal::value::number::small::{add_all, count, fits, small};
 use crate::word::{FormatView, Part};
 
@@ -55,23 +56,53 @@ pub(crate) const NOTHING: Sum = Sum { digits: 0, value: 0 };
 pub struct Literal<'a> {
     pub(crate) text: &'a [u8],
     pub(crate) counts: [usize; 9],
-    view: FormatView,
-    mantissa: Option<u64>,
-    places: usize,
-    // The number, if there is one. An `Option` would have 8 bytes more.
+    // The radixes and the base, and the separator, or 0.
+    radix: u8,
+    exponent_base: u8,
+    exponent_radix: u8,
+    separator: u8,
+    // The numbers of the mantissa and the exponent, if there are few digits. Two `Option`s would have 14 bytes more.
+    mantissa: u64,
     exponent: u64,
+    has_mantissa: bool,
     has_exponent: bool,
+    places: usize,
     // The number of bytes of the opening before the literal, from which its spans count.
     pub(crate) opened: u8,
     kind: Kind,
 }
 
 impl<'a> Literal<'a> {
-    /// Returns the format by which the literal was read.
+    /// Returns the radixes, the base and the separator of the format by which the literal was read.
     #[must_use]
     #[inline(always)]
     pub(crate) const fn format(&self) -> FormatView {
-        self.view
+        let upper = self.separator as u64
+            + ((self.radix as u64) << RADIX_SHIFT)
+            + ((self.exponent_base as u64) << BASE_SHIFT)
+            + ((self.exponent_radix as u64) << EXPONENT_SHIFT);
+        FormatView::new((upper as u128) << DIGIT_SEPARATOR_SHIFT)
+    }
+
+    // Returns the radix of the digits of `part`.
+    #[inline(always)]
+    pub(crate) const fn radix_of(&self, part: Part) -> u32 {
+        match part {
+            Part::Exponent => self.exponent_radix as u32,
+            _ => self.radix as u32,
+        }
+    }
+
+    // Returns the base of the exponent.
+    #[inline(always)]
+    pub(crate) const fn exponent_base(&self) -> u32 {
+        self.exponent_base as u32
+    }
+
+    // Returns the separator, or 0 if there is none.
+    #[inline(always)]
+    pub(crate) const fn separator(&self) -> u8 {
+        self.separator
     }
 
     /// Returns the kind, which decides what the literal is worth.
@@ -130,7 +161,7 @@ impl<'a> Literal<'a> {
     #[must_use]
     #[inline(always)]
     pub(crate) const fn mantissa(&self) -> Option<u64> {
-        self.mantissa
+        given(self.has_mantissa, self.mantissa)
     }
 
     /// Returns the number of digits of the fraction.
@@ -148,35 +179,43 @@ impl<'a> Literal<'a> {
     }
 }
 
+impl Grammar {
+    // Returns the literal `text` of a kind, of which the parts have the lengths `counts`, and the digits these sums.
+    #[inline(always)]
+    pub(crate) const fn literal<'a>(self, text: &'a [u8], counts: [usize; 9], sums: Sums, kind: Kind) -> Literal<'a> {
+        let Sums { mantissa, places, exponent } = sums;
+        Literal {
+            text,
+            counts,
+            radix: self.radix,
+            exponent_base: self.exponent_base,
+            exponent_radix: self.exponent_radix,
+            separator: self.separator,
+            mantissa: mantissa.value,
+            exponent: exponent.value,
+            has_mantissa: are_few(self.radix, text, counts, Part::Integer, mantissa),
+            has_exponent: are_few(self.exponent_radix, text, counts, Part::Exponent, exponent),
+            places,
+            opened: 0,
+            kind,
+        }
+    }
+}
+
 impl Syntax {
     // Returns the literal `text`, of which the parts have the lengths `counts`, and the digits these sums.
     #[inline(always)]
     pub(crate) const fn literal<'a>(&self, text: &'a [u8], counts: [usize; 9], sums: Sums) -> Literal<'a> {
-        let word = self.format().word();
-        let Sums { mantissa, places, exponent: scale } = sums;
-        let radix = exponent_radix(word);
-        let (has_exponent, exponent) =
-            flagged(number_if_few(radix, text, counts, Part::Exponent, scale.digits, scale.value));
-        let radix = mantissa_radix(word);
-        Literal {
-            text,
-            counts,
-            view: FormatView::new(word),
-            mantissa: number_if_few(radix, text, counts, Part::Integer, mantissa.digits, mantissa.value),
-            places,
-            exponent,
-            has_exponent,
-            opened: 0,
-            kind: Kind::EXACT,
-        }
+        self.as_grammar().literal(text, counts, sums, Kind::EXACT)
     }
 
     // Returns the literal `text`, of which the parts have the lengths `counts`.
     #[cold]
     pub(crate) const fn summed<'a>(&self, text: &'a [u8], counts: [usize; 9]) -> Literal<'a> {
-        let view = self.format().view();
-        let sums = sums_of(view.mantissa_radix(), view.exponent_radix(), &parts_of(text, counts));
-        self.literal(text, counts, sums)
+        let grammar = self.as_grammar();
+        let sums =
+            sums_of(radix_of(grammar, Part::Integer), radix_of(grammar, Part::Exponent), &parts_of(text, counts));
+        grammar.literal(text, counts, sums, Kind::EXACT)
     }
 }
 
@@ -187,15 +226,6 @@ const fn given(has: bool, number: u64) -> Option<u64> {
         Some(number)
     } else {
         None
-    }
-}
-
-// Returns whether there is a number, and the number.
-#[inline(always)]
-const fn flagged(number: Option<u64>) -> (bool, u64) {
-    match number {
-        Some(number) => (true, number),
-        None => (false, 0),
     }
 }
 
@@ -241,23 +271,18 @@ const fn sums_of(radix: u32, exponent_radix: u32, parts: &Parts) -> Sums {
     }
 }
 
-// Returns the number that the digits of the exponent, or else of the integer and the fraction together, represent, if they are few.
-// There are `digits` of them, and `sum` is the number modulo `2 ^ 64`.
+// Returns whether the digits of the exponent, or else of the integer and the fraction together, are so few behind their leading zeros that
+// their sum is the number.
 #[inline(always)]
-const fn number_if_few(
-    radix: u32,
-    text: &[u8],
-    counts: [usize; 9],
-    part: Part,
-    digits: usize,
-    sum: u64,
-) -> Option<u64> {
-    if fits(radix, digits) {
-        return Some(sum);
+const fn are_few(radix: u8, text: &[u8], counts: [usize; 9], part: Part, sum: Sum) -> bool {
+    let radix = radix as u32;
+    if fits(radix, sum.digits) {
+        return true;
     }
     let parts = parts_of(text, counts);
-    match part {
-        Part::Exponent => small(radix, parts.exponent, &[], digits, sum),
-        _ => small(radix, parts.integer, parts.fraction, digits, sum),
-    }
+    let number = match part {
+        Part::Exponent => small(radix, parts.exponent, &[], sum.digits, sum.value),
+        _ => small(radix, parts.integer, parts.fraction, sum.digits, sum.value),
+    };
+    matches!(number, Some(_))
 }

@@ -7,6 +7,7 @@ use crate::digit::char_to_valid_digit_const;
 use crate::format_flags::Part;
 use crate::literal::forms::rest_of;
 use crate::literal::group_size::Group;
+use crate::literal::kind::Kind;
 use crate::literal::step::{is_complete, step};
 use crate::literal::stop::{Begun, Found, Stopped};
 use crate::literal::{Literal, ReadError, Syntax};
@@ -62,7 +63,7 @@ impl Syntax {
         if self.is_decimal() {
             let begun = self.begin(true, text, false);
             if begun.is_whole(self, text) {
-                return Ok(self.literal(text, begun.counts, begun.sums));
+                return Ok(self.usual_grammar().literal(text, begun.counts, begun.sums, Kind::EXACT));
             }
             if begun.refused || begun.at.is_refused(self, text) {
                 return begun.at.refuse(self, text);
@@ -79,7 +80,7 @@ impl Syntax {
         if self.is_decimal() {
             let begun = self.begin(true, text, false);
             if begun.is_whole(self, text) {
-                return then(Ok(self.literal(text, begun.counts, begun.sums)));
+                return then(Ok(self.usual_grammar().literal(text, begun.counts, begun.sums, Kind::EXACT)));
             }
             refused = begun.refused.then_some(begun.at);
         }
@@ -224,10 +225,7 @@ impl<'a> Literal<'a> {
     /// Returns the radix of the digits of a part, a number from 2 to 36.
     #[must_use]
     pub const fn radix(&self, part: Part) -> u32 {
-        match part {
-            Part::Integer | Part::Fraction => self.format().mantissa_radix(),
-            Part::Exponent => self.format().exponent_radix(),
-        }
+        self.radix_of(part)
     }
 
     /// Returns the values of the digits of a part, without digit separators. Each is below the [`radix`][Self::radix].
@@ -246,9 +244,7 @@ impl<'a> Literal<'a> {
             Part::Fraction => self.fraction(),
             Part::Exponent => self.exponent(),
         };
-        let (bytes, separator) = (bytes.iter(), self.format().digit_separator());
-        let separator = separator.map_or(0, |byte| byte.get());
-        Digits { bytes, separator }
+        Digits { bytes: bytes.iter(), separator: self.separator() }
     }
 }
 

@@ -7,15 +7,15 @@
 //! of a part are absent, so that fewer paths join.
 
 use crate::digit::{char_to_digit, char_to_digit_const};
-use crate::format_flags::base_prefix;
 use crate::literal::group_size::{group_after, group_allows};
 use crate::literal::literal::{Sum, Sums, NOTHING};
 use crate::literal::step::{
-    after_point, allows_minus, allows_plus, awaits_integer, digits_of, has_digit, is_complete, is_digit,
-    is_exponent_character, is_point, is_run, is_separator, is_signed, may_follow, radix_of, takes, Stage, Summary,
+    after_point, allows_minus, allows_plus, awaits_integer, digits_of, has_digit, has_place, is_complete, is_digit,
+    is_exponent_character, is_point, is_prefix, is_run, is_separator, is_signed, is_suffix, may_follow, radix_of,
+    takes, Stage, Summary, INTERNAL,
 };
 use crate::literal::stop::{Begun, Stopped, BEGIN};
-use crate::literal::syntax::{has_sizes, is_usual, Condition, Grammar, Syntax};
+use crate::literal::syntax::{has_sizes, Condition, Grammar, Syntax};
 use crate::word::{Part, Role};
 
 // What the parts are read into: the index behind the digits that have been read, their stage, and their sum, where those of the
@@ -41,7 +41,7 @@ const fn at_stage(size: usize, stage: Stage) -> Stopped {
 
 // Returns that the parts are read up to `at`, which no literal is said to end at.
 #[inline(always)]
-const fn unfinished(_grammar: Grammar, _text: &[u8], at: Stopped, refused: bool) -> Begun {
+const fn unfinished(_grammar: &Grammar, _text: &[u8], at: Stopped, refused: bool) -> Begun {
     Begun {
         at,
         counts: [0; 9],
@@ -51,16 +51,10 @@ const fn unfinished(_grammar: Grammar, _text: &[u8], at: Stopped, refused: bool)
     }
 }
 
-// Returns whether all digits are decimal, and no base prefix is read.
-#[inline(always)]
-const fn is_decimal(grammar: Grammar) -> bool {
-    radix_of(grammar, Part::Integer) == 10 && radix_of(grammar, Part::Exponent) == 10 && base_prefix(grammar.word) == 0
-}
-
 // Returns the length of the sign of the mantissa, or of the exponent, and the stage behind it, or `None` if one is required that
 // does not follow.
 #[inline(always)]
-const fn sign(grammar: Grammar, text: &[u8], part: Part, size: usize) -> Option<(usize, Stage)> {
+const fn sign(grammar: &Grammar, text: &[u8], part: Part, size: usize) -> Option<(usize, Stage)> {
     let (before, behind) = match part {
         Part::Exponent => (Stage::Mark, Stage::Signed),
         _ => (Stage::Start, Stage::Empty),
@@ -82,7 +76,7 @@ const fn sign(grammar: Grammar, text: &[u8], part: Part, size: usize) -> Option<
 
 // Returns the value of the digit of `part` at `index`, if there is one.
 #[inline(always)]
-const fn value_at(grammar: Grammar, decimal: bool, text: &[u8], part: Part, index: usize) -> Option<u32> {
+const fn value_at(grammar: &Grammar, decimal: bool, text: &[u8], part: Part, index: usize) -> Option<u32> {
     if index >= text.len() {
         None
     } else if decimal {
@@ -94,7 +88,7 @@ const fn value_at(grammar: Grammar, decimal: bool, text: &[u8], part: Part, inde
 
 // Returns the run with one more digit.
 #[inline(always)]
-const fn with_digit(grammar: Grammar, part: Part, run: Reading, value: u32) -> Reading {
+const fn with_digit(grammar: &Grammar, part: Part, run: Reading, value: u32) -> Reading {
     let radix = radix_of(grammar, part) as u64;
     Reading {
         size: run.size + 1,
@@ -105,7 +99,7 @@ const fn with_digit(grammar: Grammar, part: Part, run: Reading, value: u32) -> R
 
 // Reads the digits that follow others, and separators between them. They do not change the stage.
 #[inline(always)]
-const fn more_digits(grammar: Grammar, decimal: bool, text: &[u8], part: Part, begun: Reading) -> Reading {
+const fn more_digits(grammar: &Grammar, decimal: bool, text: &[u8], part: Part, begun: Reading) -> Reading {
     let radix = radix_of(grammar, part) as u64;
     let mut size = begun.size;
     let mut separators = 0;
@@ -116,7 +110,7 @@ const fn more_digits(grammar: Grammar, decimal: bool, text: &[u8], part: Part, b
             size += 1;
             continue;
         }
-        if size == text.len() || !is_separator(grammar, text[size]) || !grammar.view().separators(part).internal {
+        if size == text.len() || !is_separator(grammar, text[size]) || !has_place(grammar, part, INTERNAL) {
             break;
         }
         let Some(digit) = value_at(grammar, decimal, text, part, size + 1) else {
@@ -133,7 +127,7 @@ const fn more_digits(grammar: Grammar, decimal: bool, text: &[u8], part: Part, b
 
 // Reads the digits of `part` that follow, and separators between them.
 #[inline(always)]
-const fn digits(grammar: Grammar, decimal: bool, text: &[u8], part: Part, begun: Reading) -> Reading {
+const fn digits(grammar: &Grammar, decimal: bool, text: &[u8], part: Part, begun: Reading) -> Reading {
     let Some(value) = value_at(grammar, decimal, text, part, begun.size) else {
         return begun;
     };
@@ -156,7 +150,7 @@ const fn digits(grammar: Grammar, decimal: bool, text: &[u8], part: Part, begun:
 // Reads a front of `text` with which some literal begins. Unless `fronts` is true, a front that is a literal, but not all of
 // `text`, can have `complete` false, which takes less time.
 #[inline(always)]
-const fn scan(grammar: Grammar, decimal: bool, text: &[u8], fronts: bool) -> Begun {
+const fn scan(grammar: &Grammar, decimal: bool, text: &[u8], fronts: bool) -> Begun {
     let Some((sign, before)) = sign(grammar, text, Part::Integer, 0) else {
         return unfinished(grammar, text, BEGIN, false);
     };
@@ -186,24 +180,17 @@ impl Begun {
 }
 
 impl Syntax {
-    // Returns whether all digits are decimal, no base prefix is read, and the syntax is a usual one.
-    #[inline(always)]
-    pub(crate) const fn is_decimal(&self) -> bool {
-        let grammar = self.as_grammar();
-        is_usual(grammar) && is_decimal(grammar)
-    }
-
     // Reads a front of `text` with which some literal begins. Unless `fronts` is true, a front that is a literal, but not all of
     // `text`, can have `complete` false, which takes less time.
     #[inline(always)]
     pub(crate) const fn begin(&self, decimal: bool, text: &[u8], fronts: bool) -> Begun {
         if decimal {
-            return scan(self.usual_grammar(), decimal, text, fronts);
+            return scan(&self.usual_grammar(), decimal, text, fronts);
         }
         let grammar = self.as_grammar();
         let begun = scan(grammar, decimal, text, fronts);
         if has_sizes(grammar) {
-            sized(self.as_grammar(), text, begun)
+            sized(grammar, text, begun)
         } else {
             begun
         }
@@ -212,7 +199,7 @@ impl Syntax {
 
 // Returns what has been read without regard to sizes of groups, or that nothing has if a group has not the right size.
 #[inline(always)]
-const fn sized(grammar: Grammar, text: &[u8], begun: Begun) -> Begun {
+const fn sized(grammar: &Grammar, text: &[u8], begun: Begun) -> Begun {
     match group_after(grammar, text, begun.at.size) {
         Some(group) if !begun.complete || group_allows(grammar, group, None) => begun,
         _ => Begun { at: BEGIN, complete: false, refused: false, ..begun },
@@ -221,7 +208,7 @@ const fn sized(grammar: Grammar, text: &[u8], begun: Begun) -> Begun {
 
 // Returns whether no condition is on the first digit, or one follows that they allow.
 #[inline(always)]
-const fn has_first(grammar: Grammar, text: &[u8], size: usize) -> bool {
+const fn has_first(grammar: &Grammar, text: &[u8], size: usize) -> bool {
     let needs_zero = grammar.conditions.has(Condition::LeadingZero);
     let needs_decimal = grammar.conditions.has(Condition::DecimalFirstDigit);
     (!needs_zero && !needs_decimal) || is_first(grammar, text, size)
@@ -230,7 +217,7 @@ const fn has_first(grammar: Grammar, text: &[u8], size: usize) -> bool {
 // Returns whether a digit follows that the conditions on the first digit allow. It is not inlined, so that reading without them
 // takes no longer.
 #[cold]
-const fn is_first(grammar: Grammar, text: &[u8], size: usize) -> bool {
+const fn is_first(grammar: &Grammar, text: &[u8], size: usize) -> bool {
     size < text.len()
         && is_digit(grammar, Part::Integer, text[size])
         && (!grammar.conditions.has(Condition::LeadingZero) || text[size] == b'0')
@@ -240,8 +227,8 @@ const fn is_first(grammar: Grammar, text: &[u8], size: usize) -> bool {
 // Returns the length of the base prefix, with its zero, and the stage behind it, or `None` if a base prefix or a first digit is
 // required that does not follow. None is read if `decimal` is true.
 #[inline(always)]
-const fn open(grammar: Grammar, decimal: bool, text: &[u8], sign: usize, stage: Stage) -> Option<(usize, Stage)> {
-    if !decimal && sign + 1 < text.len() && text[sign] == b'0' && grammar.view().is_base_prefix(text[sign + 1]) {
+const fn open(grammar: &Grammar, decimal: bool, text: &[u8], sign: usize, stage: Stage) -> Option<(usize, Stage)> {
+    if !decimal && sign + 1 < text.len() && text[sign] == b'0' && is_prefix(grammar, text[sign + 1]) {
         Some((2, Stage::Prefixed))
     } else if !grammar.conditions.has(Condition::BasePrefix) && has_first(grammar, text, sign) {
         Some((0, stage))
@@ -252,13 +239,13 @@ const fn open(grammar: Grammar, decimal: bool, text: &[u8], sign: usize, stage: 
 
 // Returns whether a byte follows that is no base prefix, and one is required.
 #[inline(always)]
-const fn misses_prefix(grammar: Grammar, text: &[u8], size: usize) -> bool {
-    size < text.len() && grammar.conditions.has(Condition::BasePrefix) && !grammar.view().is_base_prefix(text[size])
+const fn misses_prefix(grammar: &Grammar, text: &[u8], size: usize) -> bool {
+    size < text.len() && grammar.conditions.has(Condition::BasePrefix) && !is_prefix(grammar, text[size])
 }
 
 // Reads the zero with which a required base prefix begins, if it follows.
 #[inline(always)]
-const fn without_prefix(grammar: Grammar, text: &[u8], sign: usize, stage: Stage) -> Begun {
+const fn without_prefix(grammar: &Grammar, text: &[u8], sign: usize, stage: Stage) -> Begun {
     if sign < text.len() && text[sign] == b'0' {
         unfinished(grammar, text, at_stage(sign + 1, Stage::Bare), misses_prefix(grammar, text, sign + 1))
     } else {
@@ -268,7 +255,7 @@ const fn without_prefix(grammar: Grammar, text: &[u8], sign: usize, stage: Stage
 
 // Reads the fraction behind its decimal point, and what follows it.
 #[inline(always)]
-const fn fraction(grammar: Grammar, decimal: bool, text: &[u8], fronts: bool, integer: Reading) -> Begun {
+const fn fraction(grammar: &Grammar, decimal: bool, text: &[u8], fronts: bool, integer: Reading) -> Begun {
     let from = integer.size + 1;
     let stage = after_point(integer.stage);
     let begun = Reading { size: from, stage, ..integer };
@@ -290,7 +277,7 @@ const fn fraction(grammar: Grammar, decimal: bool, text: &[u8], fronts: bool, in
 
 // Reads what follows the digits of the mantissa, an exponent or the suffix.
 #[inline(always)]
-const fn behind_mantissa(grammar: Grammar, decimal: bool, text: &[u8], fronts: bool, mantissa: Reading) -> Begun {
+const fn behind_mantissa(grammar: &Grammar, decimal: bool, text: &[u8], fronts: bool, mantissa: Reading) -> Begun {
     let at = at_stage(mantissa.size, mantissa.stage);
     if mantissa.size < text.len()
         && is_exponent_character(grammar, text[mantissa.size])
@@ -304,7 +291,7 @@ const fn behind_mantissa(grammar: Grammar, decimal: bool, text: &[u8], fronts: b
 
 // Reads the exponent behind its character, and what follows it.
 #[inline(always)]
-const fn exponent(grammar: Grammar, decimal: bool, text: &[u8], fronts: bool, mantissa: Reading) -> Begun {
+const fn exponent(grammar: &Grammar, decimal: bool, text: &[u8], fronts: bool, mantissa: Reading) -> Begun {
     let size = mantissa.size + 1;
     let Some((sign, stage)) = sign(grammar, text, Part::Exponent, size) else {
         return unfinished(grammar, text, at_stage(size, Stage::Mark), false);
@@ -322,12 +309,12 @@ const fn exponent(grammar: Grammar, decimal: bool, text: &[u8], fronts: bool, ma
 
 // Returns whether `byte` is neither a digit nor a separator, and no base prefix, and follows digits.
 #[inline(always)]
-const fn is_passed(grammar: Grammar, stage: Stage, byte: u8) -> bool {
+const fn is_passed(grammar: &Grammar, stage: Stage, byte: u8) -> bool {
     if is_separator(grammar, byte) {
         return false;
     }
     match stage {
-        Stage::Bare => !is_digit(grammar, Part::Integer, byte) && !grammar.view().is_base_prefix(byte),
+        Stage::Bare => !is_digit(grammar, Part::Integer, byte) && !is_prefix(grammar, byte),
         _ => is_run(stage),
     }
 }
@@ -335,7 +322,7 @@ const fn is_passed(grammar: Grammar, stage: Stage, byte: u8) -> bool {
 // Reads the suffix, if it follows.
 #[inline(always)]
 const fn suffix(
-    grammar: Grammar,
+    grammar: &Grammar,
     text: &[u8],
     fronts: bool,
     at: Stopped,
@@ -345,7 +332,7 @@ const fn suffix(
 ) -> Begun {
     let Stopped { size, read } = at;
     let (mut at, mut suffix) = (at, 0);
-    if size < text.len() && grammar.view().is_base_suffix(text[size]) && takes(grammar, read, false, Role::Suffix) {
+    if size < text.len() && is_suffix(grammar, text[size]) && takes(grammar, read, false, Role::Suffix) {
         at = Stopped { size: size + 1, read: Summary { ended: true, ..read } };
         suffix = 1;
     } else if !fronts && size < text.len() {

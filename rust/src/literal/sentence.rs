@@ -3,7 +3,7 @@
 use core::{fmt, ops::Range, str};
 
 use crate::edits::{Edit, FlagSetter};
-use crate::format_flags::{base_prefix, base_suffix, NO_FLOAT_LEADING_ZEROS};
+use crate::format_flags::NO_FLOAT_LEADING_ZEROS;
 use crate::literal::cause::{first_unmet, Refusal};
 use crate::literal::syntax::{Condition, Grammar};
 use crate::literal::{Place, ReadError, ReadErrorKind};
@@ -166,11 +166,11 @@ impl Refusal {
 impl ReadError {
     /// Returns the sentence for a condition.
     const fn unmet(&self, condition: Condition) -> ShortText {
-        let Grammar { word, conditions, .. } = self.spot.as_grammar();
+        let Grammar { prefix, suffix, conditions, .. } = *self.spot.as_grammar();
         let groups = ShortText::of("expected groups of ");
         match condition {
-            Condition::BasePrefix => shown(ShortText::of("expected the prefix 0"), base_prefix(word)),
-            Condition::BaseSuffix => shown(ShortText::of("expected the suffix "), base_suffix(word)),
+            Condition::BasePrefix => shown(ShortText::of("expected the prefix 0"), prefix),
+            Condition::BaseSuffix => shown(ShortText::of("expected the suffix "), suffix),
             Condition::NegativeSign => ShortText::of("unexpected minus sign"),
             Condition::IntegerGroupSize | Condition::HigherGroupSize => {
                 let last = conditions.number(Condition::IntegerGroupSize) as usize;

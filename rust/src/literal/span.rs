@@ -4,7 +4,7 @@
 
 use crate::error::Error;
 use crate::literal::cause::{Place, ReadErrorKind, Spot};
-use crate::literal::step::{is_digit, Summary};
+use crate::literal::step::{is_digit, is_separator, Summary};
 use crate::literal::stop::front_of;
 use crate::literal::syntax::{has_sizes, Condition, Grammar};
 use crate::word::Part;
@@ -22,8 +22,8 @@ enum ByteKind {
 
 // Returns whether `byte` is of a kind.
 #[inline(always)]
-const fn is_kind(grammar: Grammar, kind: ByteKind, byte: u8) -> bool {
-    let separator = grammar.view().is_separator(byte);
+const fn is_kind(grammar: &Grammar, kind: ByteKind, byte: u8) -> bool {
+    let separator = is_separator(grammar, byte);
     match kind {
         ByteKind::Digit => is_digit(grammar, Part::Integer, byte),
         ByteKind::NotDigit => !is_digit(grammar, Part::Integer, byte),
@@ -34,7 +34,7 @@ const fn is_kind(grammar: Grammar, kind: ByteKind, byte: u8) -> bool {
 }
 
 // Returns the index behind the last byte of a kind, or 0 if there is none.
-const fn index_behind(grammar: Grammar, kind: ByteKind, text: &[u8]) -> usize {
+const fn index_behind(grammar: &Grammar, kind: ByteKind, text: &[u8]) -> usize {
     let mut front = text;
     while let [rest @ .., byte] = front {
         if is_kind(grammar, kind, *byte) {
@@ -47,7 +47,7 @@ const fn index_behind(grammar: Grammar, kind: ByteKind, text: &[u8]) -> usize {
 
 // Returns the index of the first byte of a kind, or the length of `text` if there is none.
 #[inline(always)]
-const fn first(grammar: Grammar, kind: ByteKind, text: &[u8]) -> usize {
+const fn first(grammar: &Grammar, kind: ByteKind, text: &[u8]) -> usize {
     let mut rest = text;
     while let [byte, more @ ..] = rest {
         if is_kind(grammar, kind, *byte) {
@@ -61,20 +61,17 @@ const fn first(grammar: Grammar, kind: ByteKind, text: &[u8]) -> usize {
 // Returns where reading stopped, behind the right bytes `front`.
 #[cfg_attr(not(peltzivar_small), inline(always))]
 pub(crate) const fn spot(
-    grammar: Grammar,
+    grammar: &Grammar,
     front: &[u8],
     read: Summary,
     byte: Option<u8>,
     tail: [u8; 3],
     separated: bool,
 ) -> Spot {
-    let Grammar { word, options, conditions } = grammar;
     let size = front.len();
     let (exponent, run) = body_ends(grammar, front);
     Spot {
-        word,
-        options,
-        conditions,
+        grammar: *grammar,
         read,
         byte,
         tail,
@@ -90,7 +87,7 @@ pub(crate) const fn spot(
 // Returns the indexes behind the last byte that is neither a separator nor a sign, and behind the last that is not a separator. Most
 // fronts end in neither.
 #[inline(always)]
-const fn body_ends(grammar: Grammar, front: &[u8]) -> (usize, usize) {
+const fn body_ends(grammar: &Grammar, front: &[u8]) -> (usize, usize) {
     match front {
         [.., last] if is_kind(grammar, ByteKind::Body, *last) => (front.len(), front.len()),
         _ => (index_behind(grammar, ByteKind::Body, front), index_behind(grammar, ByteKind::NotSeparator, front)),
@@ -99,7 +96,7 @@ const fn body_ends(grammar: Grammar, front: &[u8]) -> (usize, usize) {
 
 // Returns the index at which the last group of digits begins, or 0 if groups have no sizes.
 #[inline(always)]
-const fn group_start(grammar: Grammar, front: &[u8]) -> usize {
+const fn group_start(grammar: &Grammar, front: &[u8]) -> usize {
     if has_sizes(grammar) {
         index_behind(grammar, ByteKind::NotDigit, front)
     } else {
@@ -109,7 +106,7 @@ const fn group_start(grammar: Grammar, front: &[u8]) -> usize {
 
 impl Spot {
     // Returns the index behind the byte that cannot follow, or the end of the text if bytes are missing.
-    const fn wrong_end(self) -> usize {
+    const fn wrong_end(&self) -> usize {
         match self.byte {
             None => self.size,
             Some(_) => self.size + 1,
@@ -117,7 +114,7 @@ impl Spot {
     }
 
     // Returns whether the byte that cannot follow is of a kind.
-    const fn is_at(self, kind: ByteKind) -> bool {
+    const fn is_at(&self, kind: ByteKind) -> bool {
         match self.byte {
             None => false,
             Some(byte) => is_kind(self.as_grammar(), kind, byte),
@@ -125,7 +122,7 @@ impl Spot {
     }
 
     // Returns the first index and the end of the bytes to show for the flag with the number `number`.
-    const fn requirement_span(self, number: u32) -> (usize, usize) {
+    const fn requirement_span(&self, number: u32) -> (usize, usize) {
         let (size, end) = (self.size, self.wrong_end());
         match number {
             // `required_exponent_digits`.
@@ -141,7 +138,7 @@ impl Spot {
     }
 
     // Returns the first index and the end of the bytes to show for a condition.
-    const fn condition_span(self, condition: Condition) -> (usize, usize) {
+    const fn condition_span(&self, condition: Condition) -> (usize, usize) {
         let (size, end) = (self.size, self.wrong_end());
         match condition {
             Condition::BasePrefix => (self.first, self.first),
@@ -154,7 +151,7 @@ impl Spot {
 
     // Returns the first index and the end of the bytes to show for a kind of error and its lowest flag, or its first condition if
     // no flag is to blame.
-    pub(crate) const fn span(self, kind: ReadErrorKind, number: u32, unmet: Option<Condition>) -> (usize, usize) {
+    pub(crate) const fn span(&self, kind: ReadErrorKind, number: u32, unmet: Option<Condition>) -> (usize, usize) {
         let (size, end) = (self.size, self.wrong_end());
         match kind {
             ReadErrorKind::Requirement => match unmet {
@@ -169,8 +166,8 @@ impl Spot {
     }
 
     // Returns the error for the flag with the number `number`.
-    const fn requirement_error(self, number: u32, start: usize) -> Error {
-        let integers = matches!(self.options, None);
+    const fn requirement_error(&self, number: u32, start: usize) -> Error {
+        let integers = self.as_grammar().is_whole();
         match number {
             0 => Error::EmptyInteger(start),
             1 => Error::EmptyFraction(start),
@@ -191,7 +188,13 @@ impl Spot {
 
     // Returns the error for a kind of error and its lowest flag, or its first condition if no flag is to blame, where the bytes to
     // show begin at `start`.
-    pub(crate) const fn error(self, kind: ReadErrorKind, number: u32, unmet: Option<Condition>, start: usize) -> Error {
+    pub(crate) const fn error(
+        &self,
+        kind: ReadErrorKind,
+        number: u32,
+        unmet: Option<Condition>,
+        start: usize,
+    ) -> Error {
         match kind {
             ReadErrorKind::Requirement => match unmet {
                 None => self.requirement_error(number, start),

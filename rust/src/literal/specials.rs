@@ -2,7 +2,7 @@
 
 //! Special values: the texts that are NaN or infinity.
 
-use crate::format_flags::digit_separator;
+use crate::literal::step;
 use crate::literal::syntax::{Condition, Grammar, Syntax};
 
 /// The spellings of special values. A spelling that is absent or empty matches no text.
@@ -125,7 +125,7 @@ impl<'a> Specials<'a> {
     }
 
     // Returns the special value that a word is behind a sign, if there is one.
-    const fn behind(&self, grammar: Grammar, sign: Option<Sign>, word: &[u8]) -> Option<Special> {
+    const fn behind(&self, grammar: &Grammar, sign: Option<Sign>, word: &[u8]) -> Option<Special> {
         if !allows(grammar, sign) {
             return None;
         }
@@ -136,7 +136,7 @@ impl<'a> Specials<'a> {
     }
 
     // Returns the first spelling that `text` matches.
-    const fn spelling(&self, grammar: Grammar, text: &[u8]) -> Option<Spelling> {
+    const fn spelling(&self, grammar: &Grammar, text: &[u8]) -> Option<Spelling> {
         if matches(grammar, self.nan, text) {
             Some(Spelling::Nan)
         } else if matches(grammar, self.inf, text) {
@@ -150,7 +150,7 @@ impl<'a> Specials<'a> {
 }
 
 // Returns the sign with which a special value is written.
-const fn written_sign(grammar: Grammar, special: Special) -> Option<Sign> {
+const fn written_sign(grammar: &Grammar, special: Special) -> Option<Sign> {
     if is_negative(special.sign) {
         Some(Sign::Minus)
     } else if grammar.view().required_mantissa_sign() {
@@ -191,7 +191,7 @@ const fn split_sign(text: &[u8]) -> (Option<Sign>, &[u8]) {
 }
 
 // Returns whether the format and the conditions allow special values with this sign.
-const fn allows(grammar: Grammar, sign: Option<Sign>) -> bool {
+const fn allows(grammar: &Grammar, sign: Option<Sign>) -> bool {
     let format = grammar.view();
     !format.no_special()
         && match sign {
@@ -202,7 +202,7 @@ const fn allows(grammar: Grammar, sign: Option<Sign>) -> bool {
 }
 
 // Returns whether there is a spelling `word` that is not empty, and `text` is spelled as it.
-const fn matches(grammar: Grammar, word: Option<&[u8]>, text: &[u8]) -> bool {
+const fn matches(grammar: &Grammar, word: Option<&[u8]>, text: &[u8]) -> bool {
     match word {
         Some(word) => !matches!(word, []) && is_spelled(grammar, word, text),
         None => false,
@@ -213,8 +213,8 @@ const fn matches(grammar: Grammar, word: Option<&[u8]>, text: &[u8]) -> bool {
 //
 // A separator that can be the next letter of `word` is taken for it at first. If a later byte does not fit then, but is
 // this letter in its other case, it takes the place of the separator, which is left out.
-const fn is_spelled(grammar: Grammar, word: &[u8], text: &[u8]) -> bool {
-    let separator = digit_separator(grammar.word);
+const fn is_spelled(grammar: &Grammar, word: &[u8], text: &[u8]) -> bool {
+    let separator = grammar.separator;
     let mut letters = 0;
     // The number of separators that were taken for a letter, with no other letter behind them.
     let mut taken = 0_usize;
@@ -240,13 +240,12 @@ const fn is_spelled(grammar: Grammar, word: &[u8], text: &[u8]) -> bool {
 }
 
 // Returns whether `byte` is a digit separator that a special value may have.
-const fn is_separator(grammar: Grammar, byte: u8) -> bool {
-    let format = grammar.view();
-    format.special_digit_separator() && format.is_separator(byte)
+const fn is_separator(grammar: &Grammar, byte: u8) -> bool {
+    grammar.view().special_digit_separator() && step::is_separator(grammar, byte)
 }
 
 // Returns whether `byte` is `letter`, letter case aside unless special values are case-sensitive.
-const fn is_letter(grammar: Grammar, letter: u8, byte: u8) -> bool {
+const fn is_letter(grammar: &Grammar, letter: u8, byte: u8) -> bool {
     if grammar.view().case_sensitive_special() {
         letter == byte
     } else {

@@ -3,7 +3,12 @@
 //! A step of reading: what has been read of a number, changed by one byte.
 
 use crate::digit::char_to_digit;
-use crate::format_flags::{digit_separator, exponent_radix, mantissa_radix};
+use crate::format_flags::{
+    CASE_SENSITIVE_BASE_PREFIX, CASE_SENSITIVE_BASE_SUFFIX, CASE_SENSITIVE_EXPONENT, NO_EXPONENT_NOTATION,
+    NO_EXPONENT_WITHOUT_FRACTION, NO_FLOAT_LEADING_ZEROS, NO_INTEGER_LEADING_ZEROS, NO_POSITIVE_EXPONENT_SIGN,
+    NO_POSITIVE_MANTISSA_SIGN, REQUIRED_EXPONENT_DIGITS, REQUIRED_EXPONENT_NOTATION, REQUIRED_EXPONENT_SIGN,
+    REQUIRED_FRACTION_DIGITS, REQUIRED_INTEGER_DIGITS, REQUIRED_MANTISSA_DIGITS, REQUIRED_MANTISSA_SIGN,
+};
 use crate::literal::group_size::has_size;
 use crate::literal::syntax::{Condition, Conditions, Grammar};
 use crate::word::{Part, Role};
@@ -73,47 +78,83 @@ pub(crate) const fn digits_of(part: Part) -> Stage {
 
 // Returns whether `byte` is a digit of `part`.
 #[inline(always)]
-pub const fn is_digit(grammar: Grammar, part: Part, byte: u8) -> bool {
+pub const fn is_digit(grammar: &Grammar, part: Part, byte: u8) -> bool {
     matches!(char_to_digit(byte, radix_of(grammar, part)), Some(_))
 }
 
 // Returns the radix of the digits of `part`.
 #[inline(always)]
-pub(crate) const fn radix_of(grammar: Grammar, part: Part) -> u32 {
+pub(crate) const fn radix_of(grammar: &Grammar, part: Part) -> u32 {
     match part {
-        Part::Exponent => exponent_radix(grammar.word),
-        _ => mantissa_radix(grammar.word),
+        Part::Exponent => grammar.exponent_radix as u32,
+        _ => grammar.radix as u32,
     }
 }
 
-// Returns whether `byte` is the separator, and some flag allows one. Most bytes are another one than it.
+// Returns whether `byte` is the separator. Most bytes are another one than it.
 #[inline(always)]
-pub(crate) const fn is_separator(grammar: Grammar, byte: u8) -> bool {
-    byte == digit_separator(grammar.word) && grammar.view().is_separator(byte)
+pub const fn is_separator(grammar: &Grammar, byte: u8) -> bool {
+    byte == grammar.separator && byte != 0
+}
+
+// Returns whether `byte` is the base prefix.
+#[inline(always)]
+pub const fn is_prefix(grammar: &Grammar, byte: u8) -> bool {
+    is_own(grammar.prefix, grammar.has(CASE_SENSITIVE_BASE_PREFIX), byte)
+}
+
+// Returns whether `byte` is the base suffix.
+#[inline(always)]
+pub(crate) const fn is_suffix(grammar: &Grammar, byte: u8) -> bool {
+    is_own(grammar.suffix, grammar.has(CASE_SENSITIVE_BASE_SUFFIX), byte)
+}
+
+// Returns whether `byte` is `own` or, if `case_sensitive` is false, the same letter in the other case. `own` is 0 if it is absent.
+#[inline(always)]
+const fn is_own(own: u8, case_sensitive: bool, byte: u8) -> bool {
+    own != 0 && (byte == own || !case_sensitive && byte.eq_ignore_ascii_case(&own))
+}
+
+// The flags that allow a separator between digits of the integer, before them, behind them, and several, by their numbers. Those of the
+// fraction and of the exponent follow.
+pub(crate) const INTERNAL: u32 = 32;
+
+const LEADING: u32 = 35;
+
+const TRAILING: u32 = 38;
+
+pub(crate) const CONSECUTIVE: u32 = 41;
+
+// Returns whether a separator may be at a place in `part`.
+#[inline(always)]
+pub(crate) const fn has_place(grammar: &Grammar, part: Part, place: u32) -> bool {
+    let number = match part {
+        Part::Integer => place,
+        Part::Fraction => place + 1,
+        Part::Exponent => place + 2,
+    };
+    (grammar.flags >> number) & 1 != 0
 }
 
 // Returns whether a plus sign may be before the digits of `part`.
 #[inline(always)]
-pub(crate) const fn allows_plus(grammar: Grammar, part: Part) -> bool {
+pub(crate) const fn allows_plus(grammar: &Grammar, part: Part) -> bool {
     match part {
-        Part::Exponent => !grammar.view().no_positive_exponent_sign(),
-        _ => !grammar.view().no_positive_mantissa_sign(),
+        Part::Exponent => !grammar.has(NO_POSITIVE_EXPONENT_SIGN),
+        _ => !grammar.has(NO_POSITIVE_MANTISSA_SIGN),
     }
 }
 
 // Returns whether a minus sign may be before the digits of `part`.
 #[inline(always)]
-pub(crate) const fn allows_minus(grammar: Grammar, part: Part) -> bool {
+pub(crate) const fn allows_minus(grammar: &Grammar, part: Part) -> bool {
     matches!(part, Part::Exponent) || !grammar.conditions.has(Condition::NegativeSign)
 }
 
 // Returns whether `byte` is the decimal point.
 #[inline(always)]
-pub const fn is_point(grammar: Grammar, byte: u8) -> bool {
-    match grammar.options {
-        None => false,
-        Some(options) => options.point != 0 && byte == options.point,
-    }
+pub const fn is_point(grammar: &Grammar, byte: u8) -> bool {
+    byte == grammar.point && byte != 0
 }
 
 // Returns the other case of a letter, or the byte itself if it is not a letter.
@@ -127,11 +168,8 @@ pub const fn other_case(byte: u8) -> u8 {
 
 // Returns whether `byte` is the exponent character.
 #[inline(always)]
-pub(crate) const fn is_exponent_character(grammar: Grammar, byte: u8) -> bool {
-    match grammar.options {
-        None => false,
-        Some(options) => grammar.view().is_exponent_character(options.exponent, byte),
-    }
+pub(crate) const fn is_exponent_character(grammar: &Grammar, byte: u8) -> bool {
+    is_own(grammar.exponent, grammar.has(CASE_SENSITIVE_EXPONENT), byte)
 }
 
 // Returns the piece that a byte with the role `role` belongs to, after a front that ends in `part`.
@@ -176,59 +214,57 @@ pub(crate) const fn is_run(stage: Stage) -> bool {
 
 // Returns whether a separator may be at a place in `part` with digits before it, or not, and after it, or not.
 #[inline(always)]
-const fn is_place(grammar: Grammar, part: Part, before: bool, after: bool) -> bool {
-    let allowed = grammar.view().separators(part);
+const fn is_place(grammar: &Grammar, part: Part, before: bool, after: bool) -> bool {
     match (before, after) {
-        (true, true) => allowed.internal,
-        (false, true) => allowed.leading && !has_size(grammar, part),
-        (true, false) => allowed.trailing && !has_size(grammar, part),
+        (true, true) => has_place(grammar, part, INTERNAL),
+        (false, true) => has_place(grammar, part, LEADING) && !has_size(grammar, part),
+        (true, false) => has_place(grammar, part, TRAILING) && !has_size(grammar, part),
         (false, false) => false,
     }
 }
 
 // Returns whether several separators may follow one another in `part`.
-const fn allows_consecutive(grammar: Grammar, part: Part) -> bool {
-    grammar.view().separators(part).consecutive && !has_size(grammar, part)
+const fn allows_consecutive(grammar: &Grammar, part: Part) -> bool {
+    has_place(grammar, part, CONSECUTIVE) && !has_size(grammar, part)
 }
 
 // Returns whether an exponent is required.
 #[inline(always)]
-pub(crate) const fn needs_exponent(grammar: Grammar) -> bool {
-    grammar.view().required_exponent_notation() && matches!(grammar.options, Some(_))
+pub(crate) const fn needs_exponent(grammar: &Grammar) -> bool {
+    grammar.has(REQUIRED_EXPONENT_NOTATION) && !grammar.is_whole()
 }
 
 // Returns whether another digit may follow: after a zero, only if some literal has a leading zero.
 #[inline(always)]
-pub(crate) const fn may_follow(grammar: Grammar, stage: Stage) -> bool {
+pub(crate) const fn may_follow(grammar: &Grammar, stage: Stage) -> bool {
     !matches!(stage, Stage::Bare | Stage::Zero)
-        || (matches!(grammar.options, Some(_)) && !grammar.view().no_float_leading_zeros())
-        || (!grammar.view().no_integer_leading_zeros() && !needs_exponent(grammar))
+        || (!grammar.is_whole() && !grammar.has(NO_FLOAT_LEADING_ZEROS))
+        || (!grammar.has(NO_INTEGER_LEADING_ZEROS) && !needs_exponent(grammar))
 }
 
 // Returns whether `part` has a sign, or needs none.
 #[inline(always)]
-pub(crate) const fn is_signed(grammar: Grammar, part: Part, stage: Stage) -> bool {
+pub(crate) const fn is_signed(grammar: &Grammar, part: Part, stage: Stage) -> bool {
     let needs_sign = match part {
-        Part::Exponent => grammar.view().required_exponent_sign(),
-        _ => grammar.view().required_mantissa_sign(),
+        Part::Exponent => grammar.has(REQUIRED_EXPONENT_SIGN),
+        _ => grammar.has(REQUIRED_MANTISSA_SIGN),
     };
     !matches!(stage, Stage::Start | Stage::Mark) || !needs_sign
 }
 
 // Returns whether the part that is read may end before a byte with the role `role`.
 #[inline(always)]
-const fn ends_before(grammar: Grammar, read: Summary, role: Role) -> bool {
+const fn ends_before(grammar: &Grammar, read: Summary, role: Role) -> bool {
     let Summary { stage, gap, .. } = read;
-    let format = grammar.view();
     let part = part_of(stage);
     let digit = has_digit(stage);
     let led = matches!(stage, Stage::Led);
-    let may_float = !format.no_float_leading_zeros() || !led;
+    let may_float = !grammar.has(NO_FLOAT_LEADING_ZEROS) || !led;
     let needs_digit = match part {
-        Part::Integer => format.required_integer_digits(),
-        Part::Fraction if format.required_mantissa_digits() && matches!(stage, Stage::Lone) => return false,
-        Part::Fraction => format.required_fraction_digits(),
-        Part::Exponent => format.required_exponent_digits(),
+        Part::Integer => grammar.has(REQUIRED_INTEGER_DIGITS),
+        Part::Fraction if grammar.has(REQUIRED_MANTISSA_DIGITS) && matches!(stage, Stage::Lone) => return false,
+        Part::Fraction => grammar.has(REQUIRED_FRACTION_DIGITS),
+        Part::Exponent => grammar.has(REQUIRED_EXPONENT_DIGITS),
     };
     is_signed(grammar, part, stage)
         && (!gap || is_place(grammar, part, digit, false))
@@ -236,15 +272,15 @@ const fn ends_before(grammar: Grammar, read: Summary, role: Role) -> bool {
         && match (part, role) {
             (Part::Integer, Role::Point) => may_float,
             (Part::Integer, Role::Exponent) => {
-                !format.no_exponent_notation()
+                !grammar.has(NO_EXPONENT_NOTATION)
                     && may_float
-                    && (!format.required_mantissa_digits() || digit)
-                    && !format.no_exponent_without_fraction()
+                    && (!grammar.has(REQUIRED_MANTISSA_DIGITS) || digit)
+                    && !grammar.has(NO_EXPONENT_WITHOUT_FRACTION)
             }
             (Part::Integer, Role::Suffix) => {
-                !needs_exponent(grammar) && digit && (!format.no_integer_leading_zeros() || !led)
+                !needs_exponent(grammar) && digit && (!grammar.has(NO_INTEGER_LEADING_ZEROS) || !led)
             }
-            (Part::Fraction, Role::Exponent) => !format.no_exponent_notation(),
+            (Part::Fraction, Role::Exponent) => !grammar.has(NO_EXPONENT_NOTATION),
             (Part::Fraction, Role::Suffix) => !needs_exponent(grammar),
             (Part::Exponent, Role::Suffix) => true,
             _ => false,
@@ -253,7 +289,7 @@ const fn ends_before(grammar: Grammar, read: Summary, role: Role) -> bool {
 
 // Returns whether what has been read is a literal.
 #[inline(always)]
-pub(crate) const fn is_complete(grammar: Grammar, read: Summary) -> bool {
+pub(crate) const fn is_complete(grammar: &Grammar, read: Summary) -> bool {
     (read.ended || ends_before(grammar, read, Role::Suffix))
         && !(grammar.conditions.has(Condition::BasePrefix) && lacks_prefix(read.stage))
         && (!grammar.conditions.has(Condition::BaseSuffix) || read.ended)
@@ -316,7 +352,7 @@ const fn some_admit(conditions: Conditions, read: Summary, byte: u8, role: Role)
 
 // Returns whether some literal goes on with a byte that has the role `role`, and is a plus sign if `plus` is true.
 #[inline(always)]
-pub(crate) const fn takes(grammar: Grammar, read: Summary, plus: bool, role: Role) -> bool {
+pub(crate) const fn takes(grammar: &Grammar, read: Summary, plus: bool, role: Role) -> bool {
     let Summary { stage, .. } = read;
     let part = part_of(stage);
     let digit = has_digit(stage);
@@ -374,7 +410,7 @@ pub(crate) const fn after(read: Summary, zero: bool, role: Role) -> Summary {
 
 // Returns the role of `byte` after a front that ends in `part`, where digits are those of the radix of `part`.
 #[inline(always)]
-pub const fn role_at(grammar: Grammar, part: Part, byte: u8) -> Option<Role> {
+pub const fn role_at(grammar: &Grammar, part: Part, byte: u8) -> Option<Role> {
     if is_digit(grammar, part, byte) {
         Some(Role::Digit)
     } else if is_separator(grammar, byte) {
@@ -383,11 +419,11 @@ pub const fn role_at(grammar: Grammar, part: Part, byte: u8) -> Option<Role> {
         Some(Role::Point)
     } else if is_exponent_character(grammar, byte) {
         Some(Role::Exponent)
-    } else if grammar.view().is_base_suffix(byte) {
+    } else if is_suffix(grammar, byte) {
         Some(Role::Suffix)
     } else if matches!(byte, b'+' | b'-') {
         Some(Role::Sign)
-    } else if grammar.view().is_base_prefix(byte) {
+    } else if is_prefix(grammar, byte) {
         Some(Role::Prefix)
     } else {
         None
@@ -396,7 +432,7 @@ pub const fn role_at(grammar: Grammar, part: Part, byte: u8) -> Option<Role> {
 
 // Returns the role of `byte`, and what it makes of what has been read, or `None` if no literal begins so.
 #[inline(always)]
-pub(crate) const fn step(grammar: Grammar, read: Summary, byte: u8) -> Option<(Role, Summary)> {
+pub(crate) const fn step(grammar: &Grammar, read: Summary, byte: u8) -> Option<(Role, Summary)> {
     let Some(role) = role_at(grammar, part_of(read.stage), byte) else {
         return None;
     };
@@ -408,7 +444,7 @@ pub(crate) const fn step(grammar: Grammar, read: Summary, byte: u8) -> Option<(R
 
 // Returns what `byte` makes of what has been read if it has the role `role`, or `None` if no literal begins so.
 #[cfg_attr(not(peltzivar_small), inline(always))]
-pub(crate) const fn step_as(grammar: Grammar, read: Summary, byte: u8, role: Role) -> Option<Summary> {
+pub(crate) const fn step_as(grammar: &Grammar, read: Summary, byte: u8, role: Role) -> Option<Summary> {
     if !read.ended && takes(grammar, read, byte == b'+', role) && admits(grammar.conditions, read, byte, role) {
         Some(after(read, byte == b'0', role))
     } else {

@@ -154,7 +154,7 @@ impl Stopped {
 
     // Returns whether what has been read, with the last group `group`, is a literal.
     #[inline(always)]
-    const fn may_end(self, grammar: Grammar, group: Group) -> bool {
+    const fn may_end(self, grammar: &Grammar, group: Group) -> bool {
         is_complete(grammar, self.read) && group_allows(grammar, group, None)
     }
 
@@ -246,7 +246,7 @@ impl Syntax {
 
 // Returns whether `byte` is a sign with which no literal begins.
 #[inline(always)]
-const fn refuses_sign(grammar: Grammar, byte: u8) -> bool {
+const fn refuses_sign(grammar: &Grammar, byte: u8) -> bool {
     if byte == b'+' {
         !allows_plus(grammar, Part::Integer)
     } else if byte == b'-' {

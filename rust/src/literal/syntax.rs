@@ -3,8 +3,10 @@
 //! A lawful format with the bytes that a format does not define.
 
 use crate::format_flags::{
-    base_prefix, base_suffix, digit_separator, BASE_PREFIX, EXPONENT_BASE, EXPONENT_RADIX, MANTISSA_RADIX,
-    REQUIRED_EXPONENT_NOTATION, REQUIRED_MANTISSA_SIGN,
+    base_prefix, base_suffix, digit_separator, exponent_base, exponent_radix, is_separator_allowed, mantissa_radix,
+    BASE_PREFIX_SHIFT, BASE_SUFFIX_SHIFT, DIGIT_SEPARATOR_SHIFT, EXPONENT_BASE_SHIFT, EXPONENT_RADIX_SHIFT,
+    FRACTION_INTERNAL_DIGIT_SEPARATOR, INTEGER_INTERNAL_DIGIT_SEPARATOR, MANTISSA_RADIX_SHIFT, NO_FLOAT_LEADING_ZEROS,
+    NO_INTEGER_LEADING_ZEROS, REQUIRED_EXPONENT_NOTATION, REQUIRED_MANTISSA_SIGN,
 };
 use crate::literal::step::role_at;
 use crate::word::{Format, FormatError, FormatView, Part, Role};
@@ -173,18 +175,91 @@ pub enum ConditionsErrorKind {
     NoLeadingZeros,
 }
 
-// Any format, with any options and conditions. Without options, literals are integers alone.
-#[derive(Debug, Clone, Copy, PartialEq, Eq, Hash)]
+// What reading asks of a format with any options and conditions: its radixes, its bytes and its flags. A byte that is absent is 0, and
+// so is a separator that no flag allows. Without an exponent character and a decimal point, literals are integers alone.
+#[derive(Debug, Clone, Copy, PartialEq, Eq, PartialOrd, Ord, Hash)]
 pub struct Grammar {
-    pub word: u128,
-    pub options: Option<Options>,
+    pub exponent_radix: u8,
+    pub exponent_base: u8,
+    pub radix: u8,
+    pub suffix: u8,
+    pub prefix: u8,
+    pub separator: u8,
+    pub flags: u64,
+    pub exponent: u8,
+    pub point: u8,
     pub conditions: Conditions,
 }
 
+// The lowest bits of bytes in the upper half of a word, in which that of the separator is 0.
+const PREFIX_SHIFT: i32 = BASE_PREFIX_SHIFT - DIGIT_SEPARATOR_SHIFT;
+
+const SUFFIX_SHIFT: i32 = BASE_SUFFIX_SHIFT - DIGIT_SEPARATOR_SHIFT;
+
+pub(crate) const RADIX_SHIFT: i32 = MANTISSA_RADIX_SHIFT - DIGIT_SEPARATOR_SHIFT;
+
+pub(crate) const BASE_SHIFT: i32 = EXPONENT_BASE_SHIFT - DIGIT_SEPARATOR_SHIFT;
+
+pub(crate) const EXPONENT_SHIFT: i32 = EXPONENT_RADIX_SHIFT - DIGIT_SEPARATOR_SHIFT;
+
 impl Grammar {
+    // Returns the grammar of a format, with an exponent character and a decimal point, or 0 for both.
+    pub(crate) const fn new(word: u128, exponent: u8, point: u8) -> Grammar {
+        Grammar {
+            exponent_radix: exponent_radix(word) as u8,
+            exponent_base: exponent_base(word) as u8,
+            radix: mantissa_radix(word) as u8,
+            suffix: base_suffix(word),
+            prefix: base_prefix(word),
+            separator: if is_separator_allowed(word) { digit_separator(word) } else { 0 },
+            flags: word as u64,
+            exponent,
+            point,
+            conditions: Conditions::NONE,
+        }
+    }
+
+    // Returns the word of the format.
+    #[inline(always)]
+    pub(crate) const fn word(self) -> u128 {
+        let affixes =
+            self.separator as u64 + ((self.prefix as u64) << PREFIX_SHIFT) + ((self.suffix as u64) << SUFFIX_SHIFT);
+        let radixes = ((self.radix as u64) << RADIX_SHIFT)
+            + ((self.exponent_base as u64) << BASE_SHIFT)
+            + ((self.exponent_radix as u64) << EXPONENT_SHIFT);
+        self.flags as u128 + (((affixes + radixes) as u128) << DIGIT_SEPARATOR_SHIFT)
+    }
+
     // Returns a view of the format.
+    #[inline(always)]
     pub(crate) const fn view(self) -> FormatView {
-        FormatView::new(self.word)
+        FormatView::new(self.word())
+    }
+
+    // Returns whether the flag `mask` is set.
+    #[inline(always)]
+    pub(crate) const fn has(self, mask: u128) -> bool {
+        self.flags & mask as u64 != 0
+    }
+
+    // Returns whether literals are integers alone.
+    #[inline(always)]
+    pub(crate) const fn is_whole(self) -> bool {
+        self.point == 0
+    }
+
+    // Returns whether all digits and the base are decimal, neither a sign nor an exponent is required, there is no base prefix, and
+    // there are no conditions but `NegativeSign`.
+    const fn is_usual(self) -> bool {
+        matches!((self.radix, self.exponent_base, self.exponent_radix, self.prefix), (10, 10, 10, 0))
+            && !self.has(REQUIRED_MANTISSA_SIGN)
+            && !self.has(REQUIRED_EXPONENT_NOTATION)
+            && self.conditions.are_usual()
+    }
+
+    // Returns the syntax, if the grammar is that of one.
+    pub(crate) const fn syntax(self) -> Syntax {
+        Syntax { grammar: self, usual: self.is_usual() }
     }
 }
 
@@ -204,9 +279,9 @@ impl Grammar {
 /// ```
 #[derive(Clone, Copy, PartialEq, Eq, PartialOrd, Ord, Hash)]
 pub struct Syntax {
-    pub(crate) format: Format,
-    pub(crate) options: Option<Options>,
-    pub(crate) conditions: Conditions,
+    pub(crate) grammar: Grammar,
+    // Whether the grammar is a usual one.
+    pub(crate) usual: bool,
 }
 
 impl Syntax {
@@ -235,9 +310,7 @@ impl Syntax {
     pub const fn new(format: Format, exponent: u8, point: u8) -> Result<Syntax, FormatError> {
         let normal = format.normal_form();
         match normal.check_options(exponent, point) {
-            Ok(()) => {
-                Ok(Syntax { format: normal, options: Some(Options { exponent, point }), conditions: Conditions::NONE })
-            }
+            Ok(()) => Ok(Grammar::new(normal.word(), exponent, point).syntax()),
             Err(error) => Err(error),
         }
     }
@@ -245,7 +318,7 @@ impl Syntax {
     /// Returns the syntax of the integers of a format. Equivalent formats have the same syntax.
     #[must_use]
     pub const fn integers(format: Format) -> Syntax {
-        Syntax { format: format.normal_form(), options: None, conditions: Conditions::NONE }
+        Grammar::new(format.normal_form().word(), 0, 0).syntax()
     }
 
     /// Returns the same syntax with `conditions`, and no others.
@@ -266,28 +339,37 @@ impl Syntax {
     ///
     /// If the format contradicts the conditions, returns the error of the first that it contradicts.
     pub const fn with_conditions(self, conditions: Conditions) -> Result<Syntax, ConditionsError> {
+        let grammar = self.grammar;
         match contradiction(self.as_grammar(), conditions) {
-            None => Ok(Syntax { format: self.format, options: self.options, conditions }),
+            None => Ok(Grammar { conditions, ..grammar }.syntax()),
             Some(error) => Err(error),
         }
     }
 
     /// Returns the format, which is in [normal form][Format::normal_form].
     #[must_use]
+    #[inline(always)]
     pub const fn format(&self) -> Format {
-        self.format
+        let grammar = self.grammar;
+        Format::of_lawful(grammar.word())
     }
 
     /// Returns the exponent character and the decimal point, or `None` if literals are integers.
     #[must_use]
     pub(crate) const fn options(&self) -> Option<Options> {
-        self.options
+        let grammar = self.grammar;
+        if grammar.is_whole() {
+            None
+        } else {
+            Some(Options { exponent: grammar.exponent, point: grammar.point })
+        }
     }
 
     /// Returns the conditions.
     #[must_use]
     pub const fn conditions(&self) -> Conditions {
-        self.conditions
+        let grammar = self.grammar;
+        grammar.conditions
     }
 
     /// Returns the only role of `byte`, or `None` if it plays no role.
@@ -307,47 +389,44 @@ impl Syntax {
         }
     }
 
-    // Returns the format, the options and the conditions.
-    pub(crate) const fn as_grammar(&self) -> Grammar {
-        Grammar { word: self.format.word(), options: self.options, conditions: self.conditions }
+    // Returns whether all digits are decimal, no base prefix is read, and the syntax is a usual one.
+    #[inline(always)]
+    pub(crate) const fn is_decimal(&self) -> bool {
+        self.usual
+    }
+
+    // Returns what reading asks of the format, the options and the conditions.
+    #[inline(always)]
+    pub(crate) const fn as_grammar(&self) -> &Grammar {
+        &self.grammar
     }
 }
 
 // Returns whether a condition is on groups of some part.
 #[inline(always)]
-pub(crate) const fn has_sizes(grammar: Grammar) -> bool {
+pub(crate) const fn has_sizes(grammar: &Grammar) -> bool {
     grammar.conditions.has(Condition::IntegerGroupSize) || grammar.conditions.has(Condition::FractionGroupSize)
 }
 
-// The bits of a format that most decimal formats share, and their values: neither a sign nor an exponent is required, there is no
-// base prefix, and the radixes and the base are 10.
-const SHARED: u128 =
-    REQUIRED_MANTISSA_SIGN | REQUIRED_EXPONENT_NOTATION | BASE_PREFIX | MANTISSA_RADIX | EXPONENT_BASE | EXPONENT_RADIX;
-
-const DECIMAL: u128 = 0x0A0A0A00 << 96;
-
-// Returns whether the format has the bits that decimal formats share, and there are no conditions but `NegativeSign`.
-#[inline(always)]
-pub(crate) const fn is_usual(grammar: Grammar) -> bool {
-    grammar.word & SHARED == DECIMAL && grammar.conditions.are_usual()
-}
-
 impl Syntax {
-    // Returns the format, the options and the conditions of a usual syntax, of which the compiler then knows the bits and the
-    // conditions.
+    // Returns the grammar of a usual syntax, of which the compiler then knows the radixes, the prefix, two flags and the conditions.
     #[inline(always)]
     pub(crate) const fn usual_grammar(&self) -> Grammar {
-        let Grammar { word, options, conditions } = self.as_grammar();
+        let grammar = self.grammar;
         Grammar {
-            word: word - (word & SHARED) + DECIMAL,
-            options,
-            conditions: conditions.only(Condition::NegativeSign),
+            radix: 10,
+            exponent_base: 10,
+            exponent_radix: 10,
+            prefix: 0,
+            flags: grammar.flags & !(REQUIRED_MANTISSA_SIGN | REQUIRED_EXPONENT_NOTATION) as u64,
+            conditions: grammar.conditions.only(Condition::NegativeSign),
+            ..grammar
         }
     }
 }
 
 // Returns the error of the first of `conditions` that the format of `grammar` contradicts.
-const fn contradiction(grammar: Grammar, conditions: Conditions) -> Option<ConditionsError> {
+const fn contradiction(grammar: &Grammar, conditions: Conditions) -> Option<ConditionsError> {
     let mut index = 0;
     while index < CONDITIONS.len() {
         let error = fault(grammar, conditions, CONDITIONS[index]);
@@ -360,7 +439,7 @@ const fn contradiction(grammar: Grammar, conditions: Conditions) -> Option<Condi
 }
 
 // Returns what is wrong with `condition` as one of `conditions`, in the format of `grammar`.
-pub(crate) const fn fault(grammar: Grammar, conditions: Conditions, condition: Condition) -> Option<ConditionsError> {
+pub(crate) const fn fault(grammar: &Grammar, conditions: Conditions, condition: Condition) -> Option<ConditionsError> {
     let number = conditions.number(condition);
     let (least, most) = condition.limits();
     let kind = if number == 0 {
@@ -377,24 +456,24 @@ pub(crate) const fn fault(grammar: Grammar, conditions: Conditions, condition: C
 }
 
 // Returns what a condition needs and neither the format of `grammar` nor `conditions` have.
-const fn missing(grammar: Grammar, conditions: Conditions, condition: Condition) -> Option<ConditionsErrorKind> {
+const fn missing(grammar: &Grammar, conditions: Conditions, condition: Condition) -> Option<ConditionsErrorKind> {
     match condition {
-        Condition::BasePrefix if base_prefix(grammar.word) == 0 => Some(ConditionsErrorKind::NoBasePrefix),
-        Condition::BaseSuffix if base_suffix(grammar.word) == 0 => Some(ConditionsErrorKind::NoBaseSuffix),
-        Condition::IntegerGroupSize if !grammar.view().integer_internal_digit_separator() => {
+        Condition::BasePrefix if grammar.prefix == 0 => Some(ConditionsErrorKind::NoBasePrefix),
+        Condition::BaseSuffix if grammar.suffix == 0 => Some(ConditionsErrorKind::NoBaseSuffix),
+        Condition::IntegerGroupSize if !grammar.has(INTEGER_INTERNAL_DIGIT_SEPARATOR) => {
             Some(ConditionsErrorKind::NoInternalSeparator)
         }
-        Condition::FractionGroupSize if !grammar.view().fraction_internal_digit_separator() => {
+        Condition::FractionGroupSize if !grammar.has(FRACTION_INTERNAL_DIGIT_SEPARATOR) => {
             Some(ConditionsErrorKind::NoFractionSeparator)
         }
-        Condition::IntegerGroupSize | Condition::FractionGroupSize if digit_separator(grammar.word) == 0 => {
+        Condition::IntegerGroupSize | Condition::FractionGroupSize if grammar.separator == 0 => {
             Some(ConditionsErrorKind::NoSeparator)
         }
         Condition::HigherGroupSize if !conditions.has(Condition::IntegerGroupSize) => {
             Some(ConditionsErrorKind::NoIntegerGroupSize)
         }
         Condition::LeadingZero | Condition::DecimalFirstDigit
-            if grammar.view().no_integer_leading_zeros() || grammar.view().no_float_leading_zeros() =>
+            if grammar.has(NO_INTEGER_LEADING_ZEROS) || grammar.has(NO_FLOAT_LEADING_ZEROS) =>
         {
             Some(ConditionsErrorKind::NoLeadingZeros)
         }

@@ -1,6 +1,6 @@
 //! Syntaxes as constants, and their text.
 
-use crate::literal::syntax::Options;
+use crate::literal::syntax::Grammar;
 use crate::literal::{Condition, Conditions, Syntax};
 use crate::{edits::ArgumentKind, lawful::Rejected, short_text::ShortText, word_text::word_text};
 use crate::{Error, Format, FormatError, Note, NumberFormatBuilder};
@@ -52,8 +52,10 @@ impl Syntax {
     #[must_use]
     #[inline]
     pub fn unchecked(word: u128, options: Option<(u8, u8)>, conditions: Conditions) -> Syntax {
-        let options = options.map(|(exponent, point)| Options { exponent, point });
-        Syntax { format: Format { word }, options, conditions }
+        let (exponent, point) = options.unwrap_or_default();
+        let syntax = Grammar { conditions, ..Grammar::new(word, exponent, point) }.syntax();
+        // The bytes of the exponent may be absent.
+        Syntax { usual: syntax.usual && word >> 112 == 0x0A0A, ..syntax }
     }
 
     /// Returns the syntax that [`new`][Self::new] returns, for constants. [`of`][Self::of] also returns notes.

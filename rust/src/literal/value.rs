@@ -148,7 +148,7 @@ impl<'a> Literal<'a> {
     /// ```
     #[must_use]
     pub fn plain(&self) -> Option<Plain<'a>> {
-        let radixes = [self.format().mantissa_radix(), self.format().exponent_base(), self.format().exponent_radix()];
+        let radixes = [self.radix_of(Part::Integer), self.exponent_base(), self.radix_of(Part::Exponent)];
         (radixes == [10; 3] || !self.is_float()).then_some(Plain(*self))
     }
 }
@@ -327,7 +327,7 @@ impl Literal<'_> {
 
 /// Returns the bits of the float nearest to a literal, without its sign, or `None` if the radix and the base are not both 10.
 const fn decimal_size(double: bool, literal: &Literal) -> Option<u64> {
-    if literal.format().mantissa_radix() != 10 || literal.format().exponent_base() != 10 {
+    if !float::has_decimal_floats(literal) {
         return None;
     }
     let negative = literal.has_negative_exponent();
@@ -441,7 +441,7 @@ impl Syntax {
         let begun = self.begin(true, text, false);
         if begun.is_whole(self, text) {
             if begun.sums.mantissa.digits <= 19 && begun.sums.exponent.digits <= 19 {
-                let literal = self.literal(text, begun.counts, begun.sums).with_kind(kind);
+                let literal = self.usual_grammar().literal(text, begun.counts, begun.sums, kind);
                 if let Ok(value) = T::from_literal(literal) {
                     return Decimal::Value(value);
                 }
@@ -465,7 +465,7 @@ impl Syntax {
         counts: [usize; 9],
         sums: Sums,
     ) -> Result<T, ValueErrorKind> {
-        T::from_literal(self.literal(text, counts, sums).with_kind(kind))
+        T::from_literal(self.usual_grammar().literal(text, counts, sums, kind))
     }
 
     // Returns what `parse` returns for any text.

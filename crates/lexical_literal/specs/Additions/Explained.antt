@@ -74,7 +74,7 @@ blame m s g next = if goes (bare m) s g next then record { kind = causes.Require
 
 -- `grammar_at spot` is the grammar by which the text was read.
 abbrev pub grammar_at : Spot → Grammar
-grammar_at spot = record { word = spot.word; options = spot.options; conditions = spot.conditions }
+grammar_at spot = spot.grammar
 
 -- `group_at spot` is the last group of digits before `spot`.
 abbrev pub group_at : Spot → Group
@@ -87,9 +87,7 @@ marks_at spot = record { size = spot.size; exponent = spot.exponent; first = spo
 -- `spot_of g front s byte tail separated` is where reading stopped behind `front` with the summary `s`.
 abbrev pub spot_of : Grammar → List ℕ → Summary → Option ℕ → List ℕ → Bool → Spot
 spot_of g front s byte tail separated = let k = marks_of (notation_of g) front in record {
-  word = g.word;
-  options = g.options;
-  conditions = g.conditions;
+  grammar = g;
   read = s;
   byte = byte;
   tail = tail;

@@ -1,6 +1,6 @@
 -- What is read of a text part after part.
 use Rattle.std.specs.Prelude.{ℕ, ◌≡◌, ◌<◌, ◌≤◌, ◌+◌, ◌-◌, ◌%◌, ◌^◌, ◌==◌, ◌&&◌, ◌||◌, nat_le, nat_lt, if◌then◌else◌, Bool, not, IsTrue, List, [], ◌∷◌, None}
-use Rattle.std.specs.Prelude.{Some, true, false, drop, bit_and}
+use Rattle.std.specs.Prelude.{Some, true, false, drop}
 use Rattle.std.specs.Prelude.{get_or, length, take}
 use Rattle.std.specs.Int.Digits.{number_from_digits_after}
 use Rattle.lexical_util.specs.Digits.{digit_of}
@@ -12,8 +12,8 @@ use Rattle.lexical_util.specs.declared.feature_format.roles.Role.TheVariants as 
 use Rattle.lexical_util.specs.declared.format_flags.Part.{Part}
 use Rattle.lexical_util.specs.declared.format_flags.Part.TheVariants as parts
 use Rattle.lexical_literal.specs.Groups.{has_size, has_sizes}
-use Rattle.lexical_util.specs.Record.{Record}
-use Rattle.lexical_literal.specs.Notation.{Notation, is_same, kept, number_of, radix_of, set_of_role}
+use Rattle.lexical_util.specs.Record.{Record, bytes_of, raw}
+use Rattle.lexical_literal.specs.Notation.{Notation, all_conditions, has, is_same, radix_of, set_of_role}
 use Rattle.lexical_literal.specs.Additions.Step.{Cuts, add_more, after_mark, awaits_integer, cuts_of, digits_piece, has_digit, implies, is_run, is_signed}
 use Rattle.lexical_literal.specs.Additions.Step.{lacks_prefix, no_cuts, part_of, piece_of, walk, start, step, takes, tally}
 use Rattle.lexical_literal.specs.declared.stop.Stopped.{Stopped}
@@ -23,7 +23,8 @@ use Rattle.lexical_literal.specs.declared.step.Stage.{Stage}
 use Rattle.lexical_literal.specs.declared.step.Stage.TheVariants as stages
 use Rattle.lexical_literal.specs.declared.syntax.Condition.TheVariants as conditions
 use Rattle.lexical_literal.specs.declared.syntax.Grammar.{Grammar}
-use Rattle.lexical_literal.specs.declared.syntax.TheConstants as constants
+use Rattle.lexical_literal.specs.declared.syntax.Conditions.{Conditions}
+use Rattle.std.specs.List.{list_any}
 
 -- `HasRoles m` holds if no byte plays two roles, 0 is a digit, the mantissa has one radix, and integers have neither a
 -- decimal point nor an exponent.
@@ -123,9 +124,21 @@ between text from end = take (end - from) (drop from text)
 abbrev pub IsDecimal : Record → Type 0
 IsDecimal r = (part : Part) → radix_of r part ≡ 10
 
--- `IsUsual g` holds if the format of `g` has the bits that most decimal formats share, and if it has no conditions but `NegativeSign`.
+-- `are_usual c` is true if there are no conditions but `NegativeSign`.
+abbrev pub are_usual : Conditions → Bool
+are_usual c = not (list_any (λ d. has c d && not (is_same conditions.NegativeSign d)) all_conditions)
+
+-- `is_usual g` is true if the radixes and the base of `g` are 10, if there is no base prefix, if neither a sign nor an exponent is
+-- required, and if there are no conditions but `NegativeSign`, and `IsUsual g` holds if it is.
+abbrev pub is_usual : Grammar → Bool
+is_usual g =
+    (bytes_of g.word layout.mantissa_radix == 10) && ((bytes_of g.word layout.exponent_base == 10)
+    && ((bytes_of g.word layout.exponent_radix == 10) && ((bytes_of g.word layout.base_prefix == 0)
+    && (not ((raw g.word).flag layout.required_mantissa_sign) && (not ((raw g.word).flag layout.required_exponent_notation)
+    && are_usual g.conditions)))))
+
 abbrev pub IsUsual : Grammar → Type 0
-IsUsual g = (bit_and g.word constants.SHARED ≡ constants.DECIMAL) × (g.conditions ≡ kept (is_same conditions.NegativeSign) (number_of g.conditions))
+IsUsual g = IsTrue (is_usual g)
 
 -- `IsDigitAt radix text index value` holds if the byte at `index` is the digit of `radix` with this value.
 abbrev pub IsDigitAt : ℕ → List ℕ → ℕ → ℕ → Type 0

@@ -1,11 +1,12 @@
 //! The forms of each language. The comment of a setter has a text that is accepted or rejected because of the setter.
 
 use super::{Definition, Language};
+use crate::literal::syntax::Grammar;
 use crate::literal::{
     Conditions, FloatKind, FloatLimits, Form, Forms, IntegerKind, Kind, Opening, Specials, Stop, Suffixes, Syntax,
     Tokens,
 };
-use crate::{Format, NumberFormatBuilder};
+use crate::NumberFormatBuilder;
 use core::num::NonZeroU8;
 
 /// Names of languages that people type, beside the languages' own. A part of a name, such as `lisp`, needs no row.
@@ -145,8 +146,7 @@ const fn with_radixes<const N: usize>(forms: &[Form], before: &str, behind: &str
 /// Returns the form of binary integers in another radix, of which the opening has the decimal digits between a byte, if there is one, and
 /// another.
 const fn in_radix(binary: Form, before: &str, radix: u8, behind: &str) -> Form {
-    let word = binary.syntax.format.word - NumberFormatBuilder::from_radix(2) + NumberFormatBuilder::from_radix(radix);
-    let syntax = Syntax { format: Format { word }, ..binary.syntax };
+    let syntax = Grammar { radix, exponent_base: radix, exponent_radix: radix, ..binary.syntax.grammar }.syntax();
     let (ten, one, behind) = (b'0' + radix / 10, b'0' + radix % 10, behind.as_bytes()[0]);
     let bytes: &[u8] = match (before.as_bytes(), radix < 10) {
         ([], true) => &[one, behind],

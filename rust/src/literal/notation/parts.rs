@@ -14,19 +14,19 @@ pub(super) fn group_sizes(conditions: Conditions) -> [u8; 3] {
 
 /// Returns whether leading zeros are forbidden in integers, and whether in floats. Both are the same if no literal is
 /// an integer, or none a float.
-pub(super) fn leading_zeros(grammar: Grammar) -> [bool; 2] {
+pub(super) fn leading_zeros(grammar: &Grammar) -> [bool; 2] {
     let flags = [grammar.view().no_integer_leading_zeros(), grammar.view().no_float_leading_zeros()];
     let [integers, floats] = flags.map(|is_set| is_set && !grammar.conditions.has(Condition::BasePrefix));
-    match grammar.options {
-        None => [integers, integers],
-        Some(_) if needs_exponent(grammar) => [floats, floats],
-        Some(_) => [integers, floats],
+    match grammar.is_whole() {
+        true => [integers, integers],
+        false if needs_exponent(grammar) => [floats, floats],
+        false => [integers, floats],
     }
 }
 
 /// Returns the literals.
-pub(super) fn literal(pool: &Pool, grammar: Grammar) -> Expression<'_> {
-    let (view, conditions, is_float) = (grammar.view(), grammar.conditions, grammar.options.is_some());
+pub(super) fn literal<'a>(pool: &'a Pool, grammar: &Grammar) -> Expression<'a> {
+    let (view, conditions, is_float) = (grammar.view(), grammar.conditions, !grammar.is_whole());
     let has_exponent = is_float && !view.no_exponent_notation();
     let sign =
         |part| pool.byte(|it| it == b'+' && allows_plus(grammar, part) || it == b'-' && allows_minus(grammar, part));
@@ -61,7 +61,12 @@ pub(super) fn literal(pool: &Pool, grammar: Grammar) -> Expression<'_> {
 
 /// Returns the digits of a part with its separators, those without a leading zero or behind the prefix, those with a
 /// leading zero, and those that begin with a digit that the conditions allow or behind the prefix.
-fn runs<'a>(pool: &'a Pool, grammar: Grammar, part: Part, [prefix, digit]: [Expression<'a>; 2]) -> [Expression<'a>; 4] {
+fn runs<'a>(
+    pool: &'a Pool,
+    grammar: &Grammar,
+    part: Part,
+    [prefix, digit]: [Expression<'a>; 2],
+) -> [Expression<'a>; 4] {
     let separator = pool.byte(|it| is_separator(grammar, it));
     let exactly = |size| digit.times(size, Some(size));
     // What is in groups, and what is behind its first digit.
@@ -100,7 +105,7 @@ fn runs<'a>(pool: &'a Pool, grammar: Grammar, part: Part, [prefix, digit]: [Expr
 }
 
 /// Returns the numbers whose integer is `integer`, and the floats that have none behind `front`.
-fn numbers<'a>(grammar: Grammar, [front, integer, point, fraction, exponent]: [Expression<'a>; 5]) -> Expression<'a> {
+fn numbers<'a>(grammar: &Grammar, [front, integer, point, fraction, exponent]: [Expression<'a>; 5]) -> Expression<'a> {
     let (view, needs_exponent) = (grammar.view(), needs_exponent(grammar));
     let (needs_point, needs_digits) = (view.no_exponent_without_fraction(), view.required_mantissa_digits());
     let exponents = exponent.required(needs_exponent);
@@ -115,7 +120,7 @@ fn numbers<'a>(grammar: Grammar, [front, integer, point, fraction, exponent]: [E
 }
 
 /// Returns the floats without the prefix, if they may have leading zeros.
-fn floats<'a>(grammar: Grammar, [integer, point, fraction, exponent]: [Expression<'a>; 4]) -> Expression<'a> {
+fn floats<'a>(grammar: &Grammar, [integer, point, fraction, exponent]: [Expression<'a>; 4]) -> Expression<'a> {
     let (view, integer) = (grammar.view(), integer.named("Integer"));
     let no_digit = point.when(!view.required_fraction_digits());
     let no_fraction = match view.no_exponent_without_fraction() {

@@ -44,12 +44,12 @@ struct Terms {
 
 impl Terms {
     fn new(syntax: Syntax) -> Self {
-        let view = syntax.format.view();
-        let floats = syntax.options.is_some();
+        let view = syntax.format().view();
+        let floats = syntax.options().is_some();
         let byte = |byte: Option<NonZeroU8>| byte.map_or(0, NonZeroU8::get);
         Terms {
             view,
-            conditions: syntax.conditions,
+            conditions: syntax.conditions(),
             floats,
             has_exponent: floats && !view.no_exponent_notation(),
             point: syntax.point().unwrap_or_default(),
@@ -57,7 +57,7 @@ impl Terms {
             separator: byte(view.digit_separator()),
             prefix: byte(view.base_prefix()),
             suffix: byte(view.base_suffix()),
-            groups: group_sizes(syntax.conditions),
+            groups: group_sizes(syntax.conditions()),
             no_zeros: leading_zeros(syntax.as_grammar()),
         }
     }

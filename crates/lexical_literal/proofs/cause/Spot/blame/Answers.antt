@@ -24,27 +24,27 @@ module _ (m : Notation) (s : Summary) (g : Group) (byte : ℕ) where
 
 pub returns-then-separators-ne0 : goal.returns-then-separators-ne0
 returns-then-separators-ne0 c =
-    let s = c.args.self.read in
-    let m = notation_of (grammar_at c.args.self) in
-    let mask = c.separators-separators.ensures ∙ ap (λ next. mask_of (separators m s (group_at c.args.self) next)) c.in-Some.is in
+    let s = c.args.self.now.read in
+    let m = notation_of (grammar_at c.args.self.now) in
+    let mask = c.separators-separators.ensures ∙ ap (λ next. mask_of (separators m s (group_at c.args.self.now) next)) c.in-Some.is in
     (λ j. record { kind = causes.Separator (c.part_of-then-separators-ne0.ensures j) (c.place.ensures j); mask = mask j })
-    ∙ is_blame m s (group_at c.args.self) c.in-Some.byte c.args.self.byte false _ (sym c.goes_on_bare.ensures ∙ c.if-goes_on_bare.false) c.in-Some.is
+    ∙ is_blame m s (group_at c.args.self.now) c.in-Some.byte c.args.self.now.byte false _ (sym c.goes_on_bare.ensures ∙ c.if-goes_on_bare.false) c.in-Some.is
     (nonzero _ (λ zero. c.if-separators-ne0.true (mask ∙ zero))) refl
 
 pub returns-then-mask-eq0 : goal.returns-then-mask-eq0
 returns-then-mask-eq0 c =
-    let s = c.args.self.read in
-    let m = notation_of (grammar_at c.args.self) in
-    let mask = c.separators-separators.ensures ∙ ap (λ next. mask_of (separators m s (group_at c.args.self) next)) c.in-Some.is in
+    let s = c.args.self.now.read in
+    let m = notation_of (grammar_at c.args.self.now) in
+    let mask = c.separators-separators.ensures ∙ ap (λ next. mask_of (separators m s (group_at c.args.self.now) next)) c.in-Some.is in
     (λ j. record { kind = causes.Byte; mask = c.case_flags-mask.ensures j })
-    ∙ is_blame m s (group_at c.args.self) c.in-Some.byte c.args.self.byte true true (sym c.goes_on_bare.ensures ∙ c.if-goes_on_bare.false) c.in-Some.is
+    ∙ is_blame m s (group_at c.args.self.now) c.in-Some.byte c.args.self.now.byte true true (sym c.goes_on_bare.ensures ∙ c.if-goes_on_bare.false) c.in-Some.is
     (ap (λ n. n == 0) (sym mask ∙ c.if-separators-ne0.false)) (ap (λ n. n == 0) (sym c.case_flags-mask.ensures ∙ c.if-mask-eq0.true))
 
 pub returns-else-mask-eq0 : goal.returns-else-mask-eq0
 returns-else-mask-eq0 c =
-    let s = c.args.self.read in
-    let m = notation_of (grammar_at c.args.self) in
-    let mask = c.separators-separators.ensures ∙ ap (λ next. mask_of (separators m s (group_at c.args.self) next)) c.in-Some.is in
+    let s = c.args.self.now.read in
+    let m = notation_of (grammar_at c.args.self.now) in
+    let mask = c.separators-separators.ensures ∙ ap (λ next. mask_of (separators m s (group_at c.args.self.now) next)) c.in-Some.is in
     (λ j. record { kind = causes.Case; mask = c.case_flags-mask.ensures j })
-    ∙ is_blame m s (group_at c.args.self) c.in-Some.byte c.args.self.byte true false (sym c.goes_on_bare.ensures ∙ c.if-goes_on_bare.false) c.in-Some.is
+    ∙ is_blame m s (group_at c.args.self.now) c.in-Some.byte c.args.self.now.byte true false (sym c.goes_on_bare.ensures ∙ c.if-goes_on_bare.false) c.in-Some.is
     (ap (λ n. n == 0) (sym mask ∙ c.if-separators-ne0.false)) (nonzero _ (λ zero. c.if-mask-eq0.false (c.case_flags-mask.ensures ∙ zero)))

@@ -12,16 +12,16 @@ both h f x is free = grind arith
 
 pub returns-then-goes_on_bare : goal.returns-then-goes_on_bare
 returns-then-goes_on_bare c =
-    let conditions = (grammar_at c.args.self).conditions in
-    let m = notation_of (grammar_at c.args.self) in
+    let conditions = (grammar_at c.args.self.now).conditions in
+    let m = notation_of (grammar_at c.args.self.now) in
     elim c.if-has.branch [
       | then-has w ↦
           let set = sym c.has.ensures ∙ w.if-has.true in
           let only : (d : Condition) → has c.only.result d ≡ (is_same c.args.condition d || false) =
           λ d. ap (λ (c : Conditions). has c d) c.only.ensures ∙ has_only conditions c.args.condition d set ∙ or_false _ in
           ap not (c.allows.ensures ∙ (λ j. goes (with_rules m (λ f. c.bare.ensures f j) (λ d. only d j))
-          c.args.self.read (group_at c.args.self) c.args.self.byte))
-          ∙ both (m.condition c.args.condition) (goes (bare m) c.args.self.read (group_at c.args.self) c.args.self.byte) _
+          c.args.self.now.read (group_at c.args.self.now) c.args.self.now.byte))
+          ∙ both (m.condition c.args.condition) (goes (bare m) c.args.self.now.read (group_at c.args.self.now) c.args.self.now.byte) _
           set (sym w.goes_on_bare.ensures ∙ sym w.value-is ∙ c.if-goes_on_bare.true)
       | else-has w ↦ absurd (false≢true (sym w.if-has.false ∙ sym w.value-is ∙ c.if-goes_on_bare.true))
     ]

@@ -11,16 +11,16 @@ last d i n u end = grind (arith, nat_tests)
 
 pub returns : goal.returns
 returns c =
-    is_kept (unmet (notation_of (grammar_at c.args.self)) c.args.self.read (group_at c.args.self) c.args.self.byte)
-    (number_of (grammar_at c.args.self).conditions)
+    is_kept (unmet (notation_of (grammar_at c.args.self.now)) c.args.self.now.read (group_at c.args.self.now) c.args.self.now.byte)
+    (number_of (grammar_at c.args.self.now).conditions)
     c.loop-index.unmet
     c.loop-index.invariant.all (λ d. c.loop-index.invariant.each d ∙ last d c.loop-index.index _ _ c.loop-index-test.false)
 
 pub loop-index-preserved : goal.loop-index-preserved
 loop-index-preserved c =
-    let m = notation_of (grammar_at c.args.self) in
-    let X = unmet m c.args.self.read (group_at c.args.self) c.args.self.byte in
-    let N = number_of (grammar_at c.args.self).conditions in
+    let m = notation_of (grammar_at c.args.self.now) in
+    let X = unmet m c.args.self.now.read (group_at c.args.self.now) c.args.self.now.byte in
+    let N = number_of (grammar_at c.args.self.now).conditions in
     let i = c.loop-index.index in
     let at = get_or all_conditions i conditions.BasePrefix in
     let next = λ (d : Condition). number_next X N i (number_of c.loop-index.unmet d) d c.loop-index-test.true (c.loop-index.invariant.each d) in

@@ -2,7 +2,7 @@
 use Rattle.lexical_literal.proofs.Common.{IsSmall, List, Literal, Part, [], ap, append-nil, arith, cut, cuts_of, fitting_word, number, places, subst, summed_in}
 use Rattle.lexical_literal.proofs.Common.{sym, ℕ, ◌%◌, ◌++◌, ◌^◌, ◌∙◌, ◌≡◌}
 use Rattle.lexical_util.specs.declared.format_flags.Part.TheVariants as parts
-use Rattle.lexical_literal.proofs.literal.number_if_few.Goals as goal
+use Rattle.lexical_literal.proofs.literal.are_few.Goals as goal
 
 alone : (l k : Literal) (part : Part) → l ≡ k → part ≡ parts.Exponent → l.exponent ++ [] ≡ summed_in part k
 alone l k part same is = append-nil l.exponent ∙ ap (λ (l : Literal). l.exponent) same ∙ ap (λ part. summed_in part k) (sym is)
