@@ -1,19 +1,50 @@
 -- What the fields of a grammar tell of the word of its format.
-use Rattle.lexical_literal.proofs.Common.{Bool, Flag, Part, Record, ap, arith, bit, bit_and, effective_exponent_radix, if◌then◌else◌, not, radix_of, raw, subst, sym, ℕ, ◌&&◌}
-use Rattle.lexical_literal.proofs.Common.{◌+◌, ◌*◌, ◌<◌, ◌==◌, ◌^◌, ◌∙◌, ◌≡◌}
+use Rattle.lexical_literal.proofs.Common.{Bool, Flag, Part, Record, ap, arith, bit, bit_and, effective_exponent_radix, exponent_character_of, false}
+use Rattle.lexical_literal.proofs.Common.{false≢true, if◌then◌else◌, inl, inr, lacks_options, length, mod-lt, nat_tests, not, notation_of, point_of, radix_of}
+use Rattle.lexical_literal.proofs.Common.{raw, refl, subst, sym, true, used_separator, ℕ, ◌%◌, ◌&&◌, ◌+◌, ◌*◌, ◌<◌, ◌==◌, ◌^◌, ◌∙◌, ◌≡◌, ◌⊎◌}
 use Rattle.lexical_flags.proofs.FlagBits.{flag_test}
-use Rattle.lexical_flags.proofs.Packing.{raw-fields}
+use Rattle.lexical_flags.proofs.Packing.{low_flag, raw-fields, word-fields}
+use Rattle.lexical_flags.proofs.RecordLemmas.{record_same}
 use Rattle.lexical_util.specs.Layout.{Byte}
 use Rattle.lexical_util.specs.Layout as layout
 use Rattle.lexical_util.specs.declared.format_flags.Part.TheVariants as parts
-use Rattle.lexical_util.specs.Record.{bytes_of, record_of, word_from}
-use Rattle.lexical_literal.specs.Additions.Fields.{AreFields, byte_of, worded}
+use Rattle.lexical_util.specs.NormalForm.{IsNormal}
+use Rattle.lexical_util.specs.Record.{SeparatorAllowedOrAbsent, bytes_of, effective, effective_exponent_base, record_of, separator_allowed, word_from}
+use Rattle.lexical_util.specs.Unfoldable.{cased}
+use Rattle.lexical_literal.specs.Additions.Fields.{AreFields, byte_of, options_if, worded}
 use Rattle.lexical_literal.specs.Worded.{Worded}
 use Rattle.lexical_literal.specs.declared.syntax.Grammar.TheInside.{Inside}
+use Rattle.std.proofs.Common.{◌/◌}
+use Rattle.std.proofs.lemmas.Nat.{and_mask, pow_pos}
 
 -- The radix of a part that is not the exponent.
 pub other_radix : (r : Record) (part : Part) → (part ≡ parts.Exponent → ⊥) → r.byte layout.mantissa_radix ≡ radix_of r part
 other_radix r part other = grind arith
+
+place_bit : (n : ℕ) → not (bit_and n 1 == 0) ≡ (n % 2 == 1)
+place_bit n = ap (λ m. not (m == 0)) (and_mask n 1) ∙ odd (n % 2) (mod-lt n (pow_pos 1)) where
+  odd : (m : ℕ) → m < 2 → not (m == 0) ≡ (m == 1)
+  odd m small = grind (arith, nat_tests)
+
+-- A separator that no flag allows is absent.
+separator_by : (r : Record) (own : ℕ) → r.byte layout.digit_separator ≡ own → SeparatorAllowedOrAbsent r → (b : ℕ)
+    → ((b == own) && not (b == 0)) ≡ used_separator r b
+unfolding cased
+separator_by r own is (inl allowed) b = grind (arith, nat_tests)
+separator_by r own is (inr absent) b = grind (arith, nat_tests)
+
+-- Without a decimal point, there are no options.
+whole_by : (exponent point : ℕ) → (point == 0) ≡ lacks_options (options_if exponent point)
+whole_by exponent point = grind (arith, nat_tests)
+
+point_by : (exponent point b : ℕ) → ((b == point) && not (b == 0)) ≡ point_of (options_if exponent point) b
+unfolding cased
+point_by exponent point b = grind (arith, nat_tests)
+
+exponent_by : (r : Record) (exponent point b : ℕ) → (point ≡ 0 → exponent ≡ 0)
+    → cased (r.flag layout.case_sensitive_exponent) exponent b ≡ exponent_character_of r (options_if exponent point) b
+unfolding cased
+exponent_by r exponent point b none = grind (arith, nat_tests)
 
 module _ (a : Inside) (g : Worded) (h : AreFields a) (same : worded a ≡ g) where
   -- The record of the word has the flags and the bytes of the fields.
@@ -30,6 +61,76 @@ module _ (a : Inside) (g : Worded) (h : AreFields a) (same : worded a ≡ g) whe
   pub has_is : (f : Flag) (mask : ℕ) → 2 ^ bit f ≡ mask → not (bit_and a.flags mask == 0) ≡ (raw g.word).flag f
   has_is f mask is = subst (λ m. not (bit_and a.flags m == 0) ≡ (raw g.word).flag f) is (flag_test a.flags (bit f) ∙ flag_is f)
 
+  -- The test of a flag by its number.
+  pub place_is : (n : ℕ) (f : Flag) → n ≡ bit f → not (bit_and (a.flags / 2 ^ n) 1 == 0) ≡ (raw g.word).flag f
+  place_is n f is = place_bit (a.flags / 2 ^ n) ∙ ap (λ k. a.flags / 2 ^ k % 2 == 1) is ∙ flag_is f
+
   -- The exponent radix is filled.
   pub radix_is : a.exponent_radix ≡ effective_exponent_radix (raw g.word)
   radix_is = sym h.radix ∙ ap effective_exponent_radix record_is
+
+  -- The base is filled.
+  pub base_is : a.exponent_base ≡ effective_exponent_base (raw g.word)
+  base_is = sym h.base ∙ ap effective_exponent_base record_is
+
+  -- The separator is absent if no flag allows one.
+  pub separator_is : (b : ℕ) → ((b == a.separator) && not (b == 0)) ≡ (notation_of g).separator b
+  separator_is b = separator_by (record_of a.flags (byte_of a)) a.separator refl h.separator b ∙ ap (λ r. used_separator r b) record_is
+
+  pub prefix_is : (b : ℕ) → cased ((raw g.word).flag layout.case_sensitive_base_prefix) a.prefix b ≡ (notation_of g).prefix b
+  prefix_is b = ap (λ n. cased ((raw g.word).flag layout.case_sensitive_base_prefix) n b) (byte_is layout.base_prefix)
+
+  pub suffix_is : (b : ℕ) → cased ((raw g.word).flag layout.case_sensitive_base_suffix) a.suffix b ≡ (notation_of g).suffix b
+  suffix_is b = ap (λ n. cased ((raw g.word).flag layout.case_sensitive_base_suffix) n b) (byte_is layout.base_suffix)
+
+  pub whole_is : (a.point == 0) ≡ lacks_options g.options
+  whole_is = whole_by a.exponent a.point ∙ ap (λ (g : Worded). lacks_options g.options) same
+
+  pub point_is : (b : ℕ) → ((b == a.point) && not (b == 0)) ≡ point_of g.options b
+  point_is b = point_by a.exponent a.point b ∙ ap (λ (g : Worded). point_of g.options b) same
+
+  pub exponent_is : (b : ℕ)
+      → cased ((raw g.word).flag layout.case_sensitive_exponent) a.exponent b ≡ exponent_character_of (raw g.word) g.options b
+  exponent_is b = exponent_by (raw g.word) a.exponent a.point b h.exponent ∙ ap (λ (i : Worded). exponent_character_of (raw g.word) i.options b) same
+
+-- The fields of a word in normal form are fields, and the word is made of them.
+module _ (w : ℕ) (fits : w < 2 ^ 128) (normal : IsNormal w) where
+  filled : (byte radix : ℕ) → (byte ≡ 0 → radix ≡ 0) → effective byte radix ≡ byte
+  filled byte radix none = grind (arith, nat_tests)
+
+  pub base_normal : effective_exponent_base (raw w) ≡ bytes_of w layout.exponent_base
+  base_normal = filled _ _ normal.exponent_base
+
+  pub radix_normal : effective_exponent_radix (raw w) ≡ bytes_of w layout.exponent_radix
+  radix_normal = filled _ _ normal.exponent_radix
+
+  pub bytes_are : (a : Inside) → a.exponent_radix ≡ effective_exponent_radix (raw w) → a.exponent_base ≡ effective_exponent_base (raw w)
+      → a.radix ≡ bytes_of w layout.mantissa_radix → a.suffix ≡ bytes_of w layout.base_suffix → a.prefix ≡ bytes_of w layout.base_prefix
+      → a.separator ≡ bytes_of w layout.digit_separator → (b : Byte) → byte_of a b ≡ bytes_of w b
+  bytes_are a radix base mantissa suffix prefix separator layout.digit_separator = separator
+  bytes_are a radix base mantissa suffix prefix separator layout.base_prefix = prefix
+  bytes_are a radix base mantissa suffix prefix separator layout.base_suffix = suffix
+  bytes_are a radix base mantissa suffix prefix separator layout.mantissa_radix = mantissa
+  bytes_are a radix base mantissa suffix prefix separator layout.exponent_base = base ∙ base_normal
+  bytes_are a radix base mantissa suffix prefix separator layout.exponent_radix = radix ∙ radix_normal
+
+  module _ (a : Inside) (flags : a.flags ≡ w % 2 ^ 64) (bytes : (b : Byte) → byte_of a b ≡ bytes_of w b) where
+    pub word_is : word_from a.flags (byte_of a) ≡ w
+    word_is = (λ i. word_from (flags i) (λ b. bytes b i)) ∙ word-fields w fits normal.clean.below_prefix
+
+    pub worded_is : worded a ≡ record { word = w; options = options_if a.exponent a.point; conditions = a.conditions }
+    worded_is = λ i. record { word = word_is i; options = options_if a.exponent a.point; conditions = a.conditions }
+
+    fields_are : record_of a.flags (byte_of a) ≡ raw w
+    fields_are = record_same _ _ (λ f. ap (λ n. (raw n).flag f) flags ∙ low_flag w f) bytes
+
+    pub are_fields : (a.point ≡ 0 → a.exponent ≡ 0) → length a.conditions.numbers ≡ 8 → AreFields a
+    are_fields none eight = record {
+      flags = subst (λ n. n < 2 ^ 64) (sym flags) (mod-lt w (pow_pos 64));
+      bytes = λ b. subst (λ n. n < 2 ^ 8) (sym (bytes b)) (mod-lt _ (pow_pos 8));
+      base = ap effective_exponent_base fields_are ∙ base_normal ∙ sym (bytes layout.exponent_base);
+      radix = ap effective_exponent_radix fields_are ∙ radix_normal ∙ sym (bytes layout.exponent_radix);
+      separator = subst SeparatorAllowedOrAbsent (sym fields_are) normal.separator_used;
+      exponent = none;
+      conditions = eight;
+    }

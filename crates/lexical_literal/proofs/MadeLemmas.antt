@@ -1,6 +1,8 @@
 -- What the lengths of its parts tell of a literal, and what a syntax without conditions is.
-use Rattle.lexical_literal.proofs.Common.{Grammar, IsUsual, List, ap, arith, false, has_sizes, is_absent, is_minus, is_present, length, not, notation_of, take}
-use Rattle.lexical_literal.proofs.Common.{true, ℕ, ◌==◌, ◌||◌, ◌≡◌, ◌≢◌}
+use Rattle.lexical_literal.proofs.Common.{Bool, Conditions, Grammar, IsUsual, List, arith, false, has, has_sizes, is_absent, is_minus, is_present, length, nat_tests}
+use Rattle.lexical_literal.proofs.Common.{not, notation_of, take, true, ℕ, ◌&&◌, ◌==◌, ◌||◌, ◌≡◌, ◌≢◌}
+use Rattle.lexical_literal.specs.Additions.Scan.{are_usual}
+use Rattle.lexical_literal.specs.declared.syntax.Condition.TheVariants as conditions
 
 -- The sign is what the text begins with, if it is there.
 pub minus : (n : ℕ) (text : List ℕ) → n ≢ 0 → is_minus text ≡ is_minus (take n text)
@@ -20,5 +22,11 @@ pub second : (n k : ℕ) → n ≡ 0 → not (k == 0) ≡ (not (n == 0) || not (
 second n k none = grind arith
 
 -- Without conditions but `NegativeSign`, groups have no sizes.
+no_sizes : (c : Conditions) → are_usual c ≡ true → (has c conditions.IntegerGroupSize || has c conditions.FractionGroupSize) ≡ false
+no_sizes c usual = grind (arith, nat_tests)
+
+last : (a b c d e f g : Bool) → (a && (b && (c && (d && (e && (f && g)))))) ≡ true → g ≡ true
+last a b c d e f g all = grind arith
+
 pub usual_sizes : (g : Grammar) → IsUsual g → has_sizes (notation_of g) ≡ false
-usual_sizes g usual = ap (λ k. has_sizes (notation_of (record g { conditions = k }))) usual.1
+usual_sizes g usual = no_sizes g.conditions (last _ _ _ _ _ _ _ usual)

@@ -266,7 +266,7 @@ impl Spot {
     {
         let grammar = self.grammar();
         let other = Grammar {
-            flags: word as u64,
+            flags: (word % (1 << 64)) as u64,
             separator: 0,
             conditions,
             ..grammar

@@ -2,9 +2,10 @@
 
 ghost use Rattle.std.specs.Prelude.{false, ◌≡◌, ◌^◌, IsTrue, if◌then◌else◌, length, not, IfErr, Some, None};
 ghost use Rattle.std.specs.List.{find, list_any};
-ghost use Rattle.lexical_util.specs.Record.{raw};
+ghost use Rattle.lexical_util.specs.Record.{SeparatorAllowedOrAbsent, raw};
 ghost use Rattle.std.specs.Result.{OkIff};
 ghost use Rattle.lexical_util.specs.NormalForm.{IsNormal, normal_form_of};
+ghost use Rattle.lexical_util.specs.Layout as layout;
 ghost use Rattle.lexical_util.specs.Layout.{bit};
 ghost use Rattle.lexical_util.specs.Rules.{Lawful};
 ghost use Rattle.lexical_util.specs.Options.{OptionsFit, IsOptionsError};
@@ -246,6 +247,18 @@ impl Model for Grammar {
     ghost inverse_ok = { fields_same };
 }
 
+// Returns the separator of a format, or 0 if no flag allows one.
+#[inline(always)]
+const fn used_separator(word: u128) -> u8
+    ensures { SeparatorAllowedOrAbsent (raw word) → result ≡ (raw word).byte layout.digit_separator }
+{
+    if is_separator_allowed(word) {
+        digit_separator(word)
+    } else {
+        0
+    }
+}
+
 // The lowest bits of bytes in the upper half of a word, in which that of the separator is 0.
 const PREFIX_SHIFT: i32 = BASE_PREFIX_SHIFT - DIGIT_SEPARATOR_SHIFT;
 
@@ -276,12 +289,8 @@ impl Grammar {
             radix: mantissa_radix(word) as u8,
             suffix: base_suffix(word),
             prefix: base_prefix(word),
-            separator: if is_separator_allowed(word) {
-                digit_separator(word)
-            } else {
-                0
-            },
-            flags: word as u64,
+            separator: used_separator(word),
+            flags: (word % (1 << 64)) as u64,
             exponent,
             point,
             conditions: Conditions::NONE,
@@ -580,7 +589,7 @@ impl Syntax {
             exponent_base: 10,
             exponent_radix: 10,
             prefix: 0,
-            flags: grammar.flags & !(REQUIRED_MANTISSA_SIGN | REQUIRED_EXPONENT_NOTATION) as u64,
+            flags: grammar.flags & !((REQUIRED_MANTISSA_SIGN | REQUIRED_EXPONENT_NOTATION) as u64),
             conditions: grammar.conditions.only(Condition::NegativeSign),
             ..grammar
         }

@@ -5,7 +5,7 @@ use Rattle.lexical_literal.proofs.syntax.Syntax.grammar.Goals as goal
 
 pub returns-clause-ready : goal.returns-clause-ready
 returns-clause-ready c = subst (λ (g : Grammar). IsReady (steps_of g)) c.self.view_is
-    (ready c.role_facts.ensures.disjoint c.role_facts.ensures.five c.role_facts.ensures.lawful _ c.self.invariant)
+    (ready c.role_facts.ensures.disjoint c.role_facts.ensures.five c.role_facts.ensures.lawful _ c.self.invariant.0)
 
 pub returns-clause-sizes : goal.returns-clause-sizes
-returns-clause-sizes c = subst (λ (g : Grammar). HasSizes (notation_of g)) c.self.view_is (has_sizes_of _ c.self.invariant)
+returns-clause-sizes c = subst (λ (g : Grammar). HasSizes (notation_of g)) c.self.view_is (has_sizes_of _ c.self.invariant.0)
