@@ -1,8 +1,9 @@
 -- What the fields of a grammar tell of the word of its format.
+use Rattle.lexical_literal.proofs.Common.{IsUsual, None, Some, Condition, Conditions, [], ◌∷◌, ◌-◌, ◌||◌, and_parts, eqb-true, has, is_same, kept, number_of}
 use Rattle.lexical_literal.proofs.Common.{Bool, Flag, Part, Record, ap, arith, bit, bit_and, effective_exponent_radix, exponent_character_of, false}
 use Rattle.lexical_literal.proofs.Common.{false≢true, if◌then◌else◌, inl, inr, lacks_options, length, mod-lt, nat_tests, not, notation_of, point_of, radix_of}
 use Rattle.lexical_literal.proofs.Common.{raw, refl, subst, sym, true, used_separator, ℕ, ◌%◌, ◌&&◌, ◌+◌, ◌*◌, ◌<◌, ◌==◌, ◌^◌, ◌∙◌, ◌≡◌, ◌⊎◌}
-use Rattle.lexical_flags.proofs.FlagBits.{flag_test}
+use Rattle.lexical_flags.proofs.FlagBits.{flag_test, mask_test}
 use Rattle.lexical_flags.proofs.Packing.{low_flag, raw-fields, word-fields}
 use Rattle.lexical_flags.proofs.RecordLemmas.{record_same}
 use Rattle.lexical_util.specs.Layout.{Byte}
@@ -12,7 +13,10 @@ use Rattle.lexical_util.specs.NormalForm.{IsNormal}
 use Rattle.lexical_util.specs.Record.{SeparatorAllowedOrAbsent, bytes_of, effective, effective_exponent_base, record_of, separator_allowed, word_from}
 use Rattle.lexical_util.specs.Unfoldable.{cased}
 use Rattle.lexical_literal.specs.Additions.Fields.{AreFields, byte_of, options_if, worded}
+use Rattle.lexical_literal.specs.Additions.Scan.{IsDecimal, are_usual}
 use Rattle.lexical_literal.specs.Worded.{Worded}
+use Rattle.lexical_literal.specs.declared.syntax.Condition.TheVariants as conditions
+use Rattle.lexical_literal.proofs.NumberLemmas.{is_kept, none_of_all}
 use Rattle.lexical_literal.specs.declared.syntax.Grammar.TheInside.{Inside}
 use Rattle.std.proofs.Common.{◌/◌}
 use Rattle.std.proofs.lemmas.Nat.{and_mask, pow_pos}
@@ -25,6 +29,17 @@ place_bit : (n : ℕ) → not (bit_and n 1 == 0) ≡ (n % 2 == 1)
 place_bit n = ap (λ m. not (m == 0)) (and_mask n 1) ∙ odd (n % 2) (mod-lt n (pow_pos 1)) where
   odd : (m : ℕ) → m < 2 → not (m == 0) ≡ (m == 1)
   odd m small = grind (arith, nat_tests)
+
+-- The tests of bytes that are equal, and of others.
+pub tested : (m n : ℕ) → m ≡ n → (m == n) ≡ true
+tested m n is = grind (arith, nat_tests)
+
+pub untested : (m n : ℕ) → (m ≡ n → ⊥) → (m == n) ≡ false
+untested m n other = grind (arith, nat_tests)
+
+-- A byte that is not absent.
+pub none_if : {X : Type 0} (n m : ℕ) (x : X) → n ≡ m → (n ≡ 0 → ⊥) → None ≡ (if m == 0 then Some x else None)
+none_if n m x same some = ap (λ (t : Bool). if t then Some x else None) (sym (untested m 0 (λ is. some (same ∙ is))))
 
 -- A separator that no flag allows is absent.
 separator_by : (r : Record) (own : ℕ) → r.byte layout.digit_separator ≡ own → SeparatorAllowedOrAbsent r → (b : ℕ)
@@ -134,3 +149,43 @@ module _ (w : ℕ) (fits : w < 2 ^ 128) (normal : IsNormal w) where
       exponent = none;
       conditions = eight;
     }
+
+-- The numbers of a usual syntax are those of `NegativeSign`.
+off : (b : Bool) → not b ≡ true → b ≡ false
+off b is = grind arith
+
+pub usual_kept : (c : Conditions) → length c.numbers ≡ 8 → are_usual c ≡ true → c ≡ kept (is_same conditions.NegativeSign) (number_of c)
+usual_kept c eight usual = is_kept (is_same conditions.NegativeSign) (number_of c) c eight each where
+  each : (d : Condition) → number_of c d ≡ (if is_same conditions.NegativeSign d then number_of c d else 0)
+  each d = let none = none_of_all (λ d. has c d && not (is_same conditions.NegativeSign d)) (off _ usual) d in grind (arith, nat_tests)
+
+zero_by : (m : ℕ) → not (m == 0) ≡ false → m ≡ 0
+zero_by m none = grind (arith, nat_tests)
+
+unset : (n : ℕ) → (raw n).flag layout.required_mantissa_sign ≡ false → (raw n).flag layout.required_exponent_notation ≡ false
+    → n - bit_and n 0x4020 ≡ n
+unset n sign notation =
+    let fs = layout.required_mantissa_sign ∷ layout.required_exponent_notation ∷ [] in
+    ap (λ m. n - m) (zero_by _ (mask_test fs n refl ∙ (λ i. sign i || (notation i || false))))
+
+pub decimal_of : (g : Worded) → IsUsual g → IsDecimal (raw g.word)
+decimal_of g usual parts.Exponent =
+    let radix = (and_parts _ _ (and_parts _ _ (and_parts _ _ usual).1).1).0 in
+    ap (λ n. effective n (bytes_of g.word layout.mantissa_radix)) (eqb-true (bytes_of g.word layout.exponent_radix) 10 radix)
+decimal_of g usual _ = eqb-true _ 10 (and_parts _ _ usual).0
+
+-- A usual grammar has the fields that are given to it.
+module _ (a : Inside) (g : Worded) (h : AreFields a) (same : worded a ≡ g) (usual : IsUsual g) where
+  pub usual_fields : (k : Conditions) → k ≡ kept (is_same conditions.NegativeSign) (number_of a.conditions)
+      → record a { radix = 10; exponent_base = 10; exponent_radix = 10; prefix = 0; flags = a.flags - bit_and a.flags 0x4020; conditions = k } ≡ a
+  usual_fields k only =
+      let from-radix = and_parts _ _ usual in let from-base = and_parts _ _ from-radix.1 in let from-exponent = and_parts _ _ from-base.1 in
+      let from-prefix = and_parts _ _ from-exponent.1 in let from-sign = and_parts _ _ from-prefix.1 in let from-notation = and_parts _ _ from-sign.1 in
+      let byte : (b : Byte) (n : ℕ) → (bytes_of g.word b == n) ≡ true → n ≡ byte_of a b = λ b n is. sym (byte_is a g h same b ∙ eqb-true _ n is) in
+      let radix = byte layout.mantissa_radix 10 from-radix.0 in let base = byte layout.exponent_base 10 from-base.0 in
+      let exponent = byte layout.exponent_radix 10 from-exponent.0 in let prefix = byte layout.base_prefix 0 from-prefix.0 in
+      let flags = unset a.flags (flag_is a g h same layout.required_mantissa_sign ∙ off _ from-sign.0)
+          (flag_is a g h same layout.required_exponent_notation ∙ off _ from-notation.0) in
+      let conditions = only ∙ sym (usual_kept a.conditions h.conditions
+          (ap (λ (g : Worded). are_usual g.conditions) same ∙ from-notation.1)) in
+      λ i. record a { radix = radix i; exponent_base = base i; exponent_radix = exponent i; prefix = prefix i; flags = flags i; conditions = conditions i }

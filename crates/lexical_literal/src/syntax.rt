@@ -574,6 +574,9 @@ pub(crate) const fn has_sizes(grammar: Grammar) -> bool
         || grammar.conditions.has(Condition::FractionGroupSize)
 }
 
+// The flags that a usual syntax does not have.
+const REQUIRED: u64 = (REQUIRED_MANTISSA_SIGN | REQUIRED_EXPONENT_NOTATION) as u64;
+
 impl Syntax {
     // Returns the grammar of a usual syntax, of which the compiler then knows the radixes, the prefix, two flags and the conditions.
     #[inline(always)]
@@ -583,13 +586,14 @@ impl Syntax {
         ensures ready { IsReady (steps_of self.now) }
         ensures sizes { HasSizes (notation_of self.now) }
     {
+        role_facts();
         let grammar = self.grammar;
         Grammar {
             radix: 10,
             exponent_base: 10,
             exponent_radix: 10,
             prefix: 0,
-            flags: grammar.flags & !((REQUIRED_MANTISSA_SIGN | REQUIRED_EXPONENT_NOTATION) as u64),
+            flags: grammar.flags - (grammar.flags & REQUIRED),
             conditions: grammar.conditions.only(Condition::NegativeSign),
             ..grammar
         }

@@ -215,7 +215,7 @@ impl Spot {
     // Returns whether the text could go on if the flags of the format were those of `word`, with other conditions.
     const fn allows(&self, word: u128, conditions: Conditions) -> bool {
         let grammar = self.as_grammar();
-        let other = Grammar { flags: word as u64, separator: 0, conditions, ..*grammar };
+        let other = Grammar { flags: (word % (1 << 64)) as u64, separator: 0, conditions, ..*grammar };
         self.goes_on(&other) && self.group_goes_on(&other)
     }
 

@@ -191,6 +191,16 @@ pub struct Grammar {
     pub conditions: Conditions,
 }
 
+// Returns the separator of a format, or 0 if no flag allows one.
+#[inline(always)]
+const fn used_separator(word: u128) -> u8 {
+    if is_separator_allowed(word) {
+        digit_separator(word)
+    } else {
+        0
+    }
+}
+
 // The lowest bits of bytes in the upper half of a word, in which that of the separator is 0.
 const PREFIX_SHIFT: i32 = BASE_PREFIX_SHIFT - DIGIT_SEPARATOR_SHIFT;
 
@@ -211,8 +221,8 @@ impl Grammar {
             radix: mantissa_radix(word) as u8,
             suffix: base_suffix(word),
             prefix: base_prefix(word),
-            separator: if is_separator_allowed(word) { digit_separator(word) } else { 0 },
-            flags: word as u64,
+            separator: used_separator(word),
+            flags: (word % (1 << 64)) as u64,
             exponent,
             point,
             conditions: Conditions::NONE,
@@ -408,6 +418,9 @@ pub(crate) const fn has_sizes(grammar: &Grammar) -> bool {
     grammar.conditions.has(Condition::IntegerGroupSize) || grammar.conditions.has(Condition::FractionGroupSize)
 }
 
+// The flags that a usual syntax does not have.
+const REQUIRED: u64 = (REQUIRED_MANTISSA_SIGN | REQUIRED_EXPONENT_NOTATION) as u64;
+
 impl Syntax {
     // Returns the grammar of a usual syntax, of which the compiler then knows the radixes, the prefix, two flags and the conditions.
     #[inline(always)]
@@ -418,7 +431,7 @@ impl Syntax {
             exponent_base: 10,
             exponent_radix: 10,
             prefix: 0,
-            flags: grammar.flags & !(REQUIRED_MANTISSA_SIGN | REQUIRED_EXPONENT_NOTATION) as u64,
+            flags: grammar.flags - (grammar.flags & REQUIRED),
             conditions: grammar.conditions.only(Condition::NegativeSign),
             ..grammar
         }
