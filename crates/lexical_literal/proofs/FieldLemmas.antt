@@ -162,11 +162,14 @@ usual_kept c eight usual = is_kept (is_same conditions.NegativeSign) (number_of 
 zero_by : (m : ℕ) → not (m == 0) ≡ false → m ≡ 0
 zero_by m none = grind (arith, nat_tests)
 
+no_less : (n : ℕ) → n - 0 ≡ n
+no_less n = omega arith
+
 unset : (n : ℕ) → (raw n).flag layout.required_mantissa_sign ≡ false → (raw n).flag layout.required_exponent_notation ≡ false
     → n - bit_and n 0x4020 ≡ n
 unset n sign notation =
     let fs = layout.required_mantissa_sign ∷ layout.required_exponent_notation ∷ [] in
-    ap (λ m. n - m) (zero_by _ (mask_test fs n refl ∙ (λ i. sign i || (notation i || false))))
+    ap (λ m. n - m) (zero_by _ (mask_test fs n refl ∙ (λ i. sign i || (notation i || false)))) ∙ no_less n
 
 pub decimal_of : (g : Worded) → IsUsual g → IsDecimal (raw g.word)
 decimal_of g usual parts.Exponent =

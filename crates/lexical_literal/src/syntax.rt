@@ -647,16 +647,17 @@ const fn missing(
 ) -> Option<ConditionsErrorKind>
     ensures { result ≡ missing (raw grammar.word) conditions condition }
 {
+    let (prefix, suffix, separator) = (grammar.prefix, grammar.suffix, grammar.separator);
     match condition {
-        Condition::BasePrefix if grammar.prefix == 0 => Some(ConditionsErrorKind::NoBasePrefix),
-        Condition::BaseSuffix if grammar.suffix == 0 => Some(ConditionsErrorKind::NoBaseSuffix),
+        Condition::BasePrefix if prefix == 0 => Some(ConditionsErrorKind::NoBasePrefix),
+        Condition::BaseSuffix if suffix == 0 => Some(ConditionsErrorKind::NoBaseSuffix),
         Condition::IntegerGroupSize if !grammar.has(INTEGER_INTERNAL_DIGIT_SEPARATOR) => {
             Some(ConditionsErrorKind::NoInternalSeparator)
         }
         Condition::FractionGroupSize if !grammar.has(FRACTION_INTERNAL_DIGIT_SEPARATOR) => {
             Some(ConditionsErrorKind::NoFractionSeparator)
         }
-        Condition::IntegerGroupSize | Condition::FractionGroupSize if grammar.separator == 0 =>
+        Condition::IntegerGroupSize | Condition::FractionGroupSize if separator == 0 =>
             Some(ConditionsErrorKind::NoSeparator),
         Condition::HigherGroupSize if !conditions.has(Condition::IntegerGroupSize) => Some(
             ConditionsErrorKind::NoIntegerGroupSize,

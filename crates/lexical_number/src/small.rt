@@ -1,6 +1,6 @@
 //! Numbers of 64 bits, by the digits that represent them.
 
-ghost use Rattle.std.specs.Prelude.{◌≡◌, ◌↔◌, ◌%◌, ◌^◌, ◌≤◌, ◌++◌, ◌==◌, IsTrue, length};
+ghost use Rattle.std.specs.Prelude.{IfSome, ◌≡◌, ◌↔◌, ◌%◌, ◌^◌, ◌≤◌, ◌++◌, ◌==◌, IsTrue, length};
 ghost use Rattle.lexical_number.specs.Number.{number_after, digits_in, number, places};
 ghost use Rattle.lexical_number.specs.Small.{IsSmall, leading_zeros};
 
@@ -106,7 +106,8 @@ pub const fn small(
     requires radix { (2 ≤ radix) × (radix ≤ 36) }
     requires digits { digits ≡ places radix (integer.now ++ fraction.now) }
     requires sum { sum ≡ number radix (integer.now ++ fraction.now) % 2 ^ 64 }
-    ensures { IsSmall radix (number radix (integer.now ++ fraction.now)) result }
+    ensures small { IsSmall radix (number radix (integer.now ++ fraction.now)) result }
+    ensures sum { IfSome result (λ m. m ≡ sum) }
 {
     if fits(radix, digits - all_zeros(integer, fraction, radix)) {
         Some(sum)

@@ -470,16 +470,17 @@ pub(crate) const fn fault(grammar: &Grammar, conditions: Conditions, condition: 
 
 // Returns what a condition needs and neither the format of `grammar` nor `conditions` have.
 const fn missing(grammar: &Grammar, conditions: Conditions, condition: Condition) -> Option<ConditionsErrorKind> {
+    let (prefix, suffix, separator) = (grammar.prefix, grammar.suffix, grammar.separator);
     match condition {
-        Condition::BasePrefix if grammar.prefix == 0 => Some(ConditionsErrorKind::NoBasePrefix),
-        Condition::BaseSuffix if grammar.suffix == 0 => Some(ConditionsErrorKind::NoBaseSuffix),
+        Condition::BasePrefix if prefix == 0 => Some(ConditionsErrorKind::NoBasePrefix),
+        Condition::BaseSuffix if suffix == 0 => Some(ConditionsErrorKind::NoBaseSuffix),
         Condition::IntegerGroupSize if !grammar.has(INTEGER_INTERNAL_DIGIT_SEPARATOR) => {
             Some(ConditionsErrorKind::NoInternalSeparator)
         }
         Condition::FractionGroupSize if !grammar.has(FRACTION_INTERNAL_DIGIT_SEPARATOR) => {
             Some(ConditionsErrorKind::NoFractionSeparator)
         }
-        Condition::IntegerGroupSize | Condition::FractionGroupSize if grammar.separator == 0 => {
+        Condition::IntegerGroupSize | Condition::FractionGroupSize if separator == 0 => {
             Some(ConditionsErrorKind::NoSeparator)
         }
         Condition::HigherGroupSize if !conditions.has(Condition::IntegerGroupSize) => {

@@ -18,34 +18,25 @@ module _ (radix digits sum : ℕ) (bytes all : List ℕ) (same : bytes ≡ all) 
   summed is low = low ∙ is ∙ sym (ap (λ bytes. number radix bytes % 2 ^ 64) same)
 
 pub returns-then-fits : goal.returns-then-fits
-returns-then-fits c = fitting_word c.args.radix c.args.digits c.args.sum (summed_in c.args.part (cut c.args.text.now (cuts_of c.args.counts)))
-    (c.fits.ensures.0 c.if-fits.true) c.requires.sum.digits (omega (arith, c.requires.sum.value, c.ranges.sum.fits))
+returns-then-fits c = fitting_word c.args.radix c.args.sum.digits c.args.sum.value (summed_in c.args.part (cut c.args.text.now (cuts_of c.args.counts)))
+    (c.fits.ensures.0 c.if-fits.true) c.requires.sum.digits (omega (arith, c.requires.sum.value, c.ranges.sum.value.fits))
 
-pub small-requires-clause-digits : goal.small-requires-clause-digits
-small-requires-clause-digits c = let is = c.requires.cut.1 in let k = cut c.args.text.now (cuts_of c.args.counts) in
-    counted c.args.radix c.args.digits c.args.sum _ _
+pub small-number-requires-clause-digits : goal.small-number-requires-clause-digits
+small-number-requires-clause-digits c = let is = c.requires.cut.1 in let k = cut c.args.text.now (cuts_of c.args.counts) in
+    counted c.args.radix c.args.sum.digits c.args.sum.value _ _
     (alone _ k c.args.part (c.parts_of-parts.ensures k is.reads.whole is.lengths) c.in-Exponent.is) c.requires.sum.digits
 
-pub small-requires-clause-sum : goal.small-requires-clause-sum
-small-requires-clause-sum c = let is = c.requires.cut.1 in let k = cut c.args.text.now (cuts_of c.args.counts) in
-    summed c.args.radix c.args.digits c.args.sum _ _
+pub small-number-requires-clause-sum : goal.small-number-requires-clause-sum
+small-number-requires-clause-sum c = let is = c.requires.cut.1 in let k = cut c.args.text.now (cuts_of c.args.counts) in
+    summed c.args.radix c.args.sum.digits c.args.sum.value _ _
     (alone _ k c.args.part (c.parts_of-parts.ensures k is.reads.whole is.lengths) c.in-Exponent.is) c.requires.sum.value
-    (omega (arith, c.ranges.sum.fits))
+    (omega (arith, c.ranges.sum.value.fits))
 
-pub small-requires-in_default : goal.small-requires-in_default
-small-requires-in_default c = let is = c.requires.cut.1 in let k = cut c.args.text.now (cuts_of c.args.counts) in
+pub small-number-requires-in_default : goal.small-number-requires-in_default
+small-number-requires-in_default c = let is = c.requires.cut.1 in let k = cut c.args.text.now (cuts_of c.args.counts) in
     let same = joined _ k c.args.part (c.parts_of-parts.ensures k is.reads.whole is.lengths) c.in_default.not-Exponent in record {
       radix = c.requires.radix;
-      digits = counted c.args.radix c.args.digits c.args.sum _ _ same c.requires.sum.digits;
-      sum = summed c.args.radix c.args.digits c.args.sum _ _ same c.requires.sum.value (omega (arith, c.ranges.sum.fits));
+      digits = counted c.args.radix c.args.sum.digits c.args.sum.value _ _ same c.requires.sum.digits;
+      sum = summed c.args.radix c.args.sum.digits c.args.sum.value _ _ same c.requires.sum.value (omega (arith, c.ranges.sum.value.fits));
     }
 
-pub returns-in-Exponent : goal.returns-in-Exponent
-returns-in-Exponent c = let is = c.requires.cut.1 in let k = cut c.args.text.now (cuts_of c.args.counts) in
-    subst (λ bytes. IsSmall c.args.radix (number c.args.radix bytes) c.small.result)
-    (alone _ k c.args.part (c.parts_of-parts.ensures k is.reads.whole is.lengths) c.in-Exponent.is) c.small.ensures
-
-pub returns-in_default : goal.returns-in_default
-returns-in_default c = let is = c.requires.cut.1 in let k = cut c.args.text.now (cuts_of c.args.counts) in
-    subst (λ bytes. IsSmall c.args.radix (number c.args.radix bytes) c.small-in_default.result)
-    (joined _ k c.args.part (c.parts_of-parts.ensures k is.reads.whole is.lengths) c.in_default.not-Exponent) c.small-in_default.ensures

@@ -8,5 +8,7 @@ returns-then-byte-grammar c = ap (λ (same : Bool). same && not (c.args.byte == 
     ∙ point_is c.grammar.inside c.args.grammar c.grammar.invariant c.grammar.view_is c.args.byte
 
 pub returns-else-byte-grammar : goal.returns-else-byte-grammar
-returns-else-byte-grammar c = ap (λ (same : Bool). same && not (c.args.byte == 0)) (sym (untested c.args.byte c.grammar.inside.point c.if-byte-grammar.false))
+returns-else-byte-grammar c =
+    let other = untested c.args.byte c.grammar.inside.point c.if-byte-grammar.false in
+    other ∙ ap (λ (same : Bool). same && not (c.args.byte == 0)) (sym other)
     ∙ point_is c.grammar.inside c.args.grammar c.grammar.invariant c.grammar.view_is c.args.byte
