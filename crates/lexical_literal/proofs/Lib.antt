@@ -1,6 +1,7 @@
 -- Lemmas.
 mod Common
 pub mod FieldLemmas
+mod CompareLemmas
 pub mod RunLemmas
 pub mod WalkLemmas
 mod StepLemmas

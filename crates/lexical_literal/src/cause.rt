@@ -306,8 +306,7 @@ impl Spot {
     const fn bare(&self) -> u128
         ensures { (f : Flag) → (raw result).flag f ≡ (bare (notation_of (grammar_at self.now))).flag f }
     {
-        let grammar = self.grammar();
-        grammar.flags as u128 & !REQUIREMENTS
+        self.grammar().all_flags() & !REQUIREMENTS
     }
 
     // Returns whether the text could go on without requirements.
@@ -346,7 +345,7 @@ impl Spot {
         ensures { (f : Flag) → (raw result).flag f ≡ binds (notation_of (grammar_at self.now)) f }
     {
         let grammar = self.grammar();
-        let flags = grammar.flags as u128;
+        let flags = grammar.all_flags();
         if needs_exponent(grammar) {
             flags & FLOAT_REQUIREMENTS
         } else {

@@ -305,8 +305,22 @@ impl Grammar {
             separator: self.separator,
             mantissa: mantissa.value,
             exponent: exponent.value,
-            has_mantissa: are_few(self.radix, text, counts, Part::Integer, mantissa),
-            has_exponent: are_few(self.exponent_radix, text, counts, Part::Exponent, exponent),
+            has_mantissa: are_few(
+                self.radix,
+                text,
+                counts,
+                Part::Integer,
+                mantissa.digits,
+                mantissa.value,
+            ),
+            has_exponent: are_few(
+                self.exponent_radix,
+                text,
+                counts,
+                Part::Exponent,
+                exponent.digits,
+                exponent.value,
+            ),
             places,
             opened: 0,
             kind,
@@ -416,22 +430,29 @@ fn sums_of(radix: u32, exponent_radix: u32, parts: &Parts) -> Sums
 }
 
 // Returns whether the digits of the exponent, or else of the integer and the fraction together, are so few behind their leading zeros that
-// their sum is the number.
+// `sum` is the number. There are `digits` of them, and `sum` is the number modulo `2 ^ 64`.
 #[inline(always)]
-fn are_few(radix: u8, text: &[u8], counts: [usize; 9], part: Part, sum: Sum) -> bool
+fn are_few(
+    radix: u8,
+    text: &[u8],
+    counts: [usize; 9],
+    part: Part,
+    digits: usize,
+    sum: u64,
+) -> bool
     requires radix { IsRadix radix }
     requires cut { (m : Notation) × IsCut m text.now (cuts_of counts) }
-    requires sum { IsSum radix (summed_in part (cut text.now (cuts_of counts))) sum }
-    ensures { IsSmall radix (number radix (summed_in part (cut text.now (cuts_of counts)))) (given result sum.value) }
+    requires sum { IsSum radix (summed_in part (cut text.now (cuts_of counts))) (record { digits = digits; value = sum }) }
+    ensures { IsSmall radix (number radix (summed_in part (cut text.now (cuts_of counts)))) (given result sum) }
 {
     let radix = radix as u32;
-    if fits(radix, sum.digits) {
+    if fits(radix, digits) {
         return true;
     }
     let parts = parts_of(text, counts);
     let number = match part {
-        Part::Exponent => small(radix, parts.exponent, &[], sum.digits, sum.value),
-        _ => small(radix, parts.integer, parts.fraction, sum.digits, sum.value),
+        Part::Exponent => small(radix, parts.exponent, &[], digits, sum),
+        _ => small(radix, parts.integer, parts.fraction, digits, sum),
     };
     matches!(number, Some(_))
 }

@@ -6,7 +6,7 @@ ghost use Rattle.lexical_util.specs.Record.{SeparatorAllowedOrAbsent, raw};
 ghost use Rattle.std.specs.Result.{OkIff};
 ghost use Rattle.lexical_util.specs.NormalForm.{IsNormal, normal_form_of};
 ghost use Rattle.lexical_util.specs.Layout as layout;
-ghost use Rattle.lexical_util.specs.Layout.{bit};
+ghost use Rattle.lexical_util.specs.Layout.{Flag, bit};
 ghost use Rattle.lexical_util.specs.Rules.{Lawful};
 ghost use Rattle.lexical_util.specs.Options.{OptionsFit, IsOptionsError};
 ghost use Rattle.lexical_util.specs.declared.lawful.Rejected.TheVariants as rejected;
@@ -328,6 +328,14 @@ impl Grammar {
         self.flags & mask as u64 != 0
     }
 
+    // Returns the flags.
+    #[inline(always)]
+    pub(crate) const fn all_flags(self) -> u128
+        ensures { (f : Flag) → (raw result).flag f ≡ (raw self.word).flag f }
+    {
+        self.flags as u128
+    }
+
     // Returns whether literals are integers alone.
     #[inline(always)]
     pub const fn is_whole(self) -> bool
@@ -341,17 +349,10 @@ impl Grammar {
     const fn is_usual(self) -> bool
         ensures { result ≡ is_usual self }
     {
-        matches!(
-            (
-                self.radix,
-                self.exponent_base,
-                self.exponent_radix,
-                self.prefix
-            ),
-            (10, 10, 10, 0)
-        ) && !self.has(REQUIRED_MANTISSA_SIGN)
-            && !self.has(REQUIRED_EXPONENT_NOTATION)
-            && self.conditions.are_usual()
+        let radixes =
+            (self.radix == 10) & ((self.exponent_base == 10) & (self.exponent_radix == 10));
+        let required = self.has(REQUIRED_MANTISSA_SIGN) | self.has(REQUIRED_EXPONENT_NOTATION);
+        radixes & (self.prefix == 0) & !required & self.conditions.are_usual()
     }
 
     // Returns the syntax, if the grammar is that of one.

@@ -242,8 +242,7 @@ impl Spot {
 
     // Returns the word without the flags that require something.
     const fn bare(&self) -> u128 {
-        let grammar = self.as_grammar();
-        grammar.flags as u128 & !REQUIREMENTS
+        self.as_grammar().all_flags() & !REQUIREMENTS
     }
 
     // Returns whether the text could go on without requirements.
@@ -271,7 +270,7 @@ impl Spot {
     // Returns the flags that are set and require something.
     const fn binding(&self) -> u128 {
         let grammar = self.as_grammar();
-        let flags = grammar.flags as u128;
+        let flags = grammar.all_flags();
         if needs_exponent(grammar) {
             flags & FLOAT_REQUIREMENTS
         } else {

@@ -252,6 +252,12 @@ impl Grammar {
         self.flags & mask as u64 != 0
     }
 
+    // Returns the flags.
+    #[inline(always)]
+    pub(crate) const fn all_flags(self) -> u128 {
+        self.flags as u128
+    }
+
     // Returns whether literals are integers alone.
     #[inline(always)]
     pub(crate) const fn is_whole(self) -> bool {
@@ -261,10 +267,9 @@ impl Grammar {
     // Returns whether all digits and the base are decimal, neither a sign nor an exponent is required, there is no base prefix, and
     // there are no conditions but `NegativeSign`.
     const fn is_usual(self) -> bool {
-        matches!((self.radix, self.exponent_base, self.exponent_radix, self.prefix), (10, 10, 10, 0))
-            && !self.has(REQUIRED_MANTISSA_SIGN)
-            && !self.has(REQUIRED_EXPONENT_NOTATION)
-            && self.conditions.are_usual()
+        let radixes = (self.radix == 10) & ((self.exponent_base == 10) & (self.exponent_radix == 10));
+        let required = self.has(REQUIRED_MANTISSA_SIGN) | self.has(REQUIRED_EXPONENT_NOTATION);
+        radixes & (self.prefix == 0) & !required & self.conditions.are_usual()
     }
 
     // Returns the syntax, if the grammar is that of one.

@@ -31,5 +31,5 @@ returns-in_default-6 c =
       | in-IntegerGroupSize+else-not-has w ↦ found ∙ has_both r layout.integer_internal_digit_separator faults.NoInternalSeparator
           (sym w.has.ensures ∙ w.if-not-has.false) ∙ ap (missing r c.args.conditions) (sym w.in-IntegerGroupSize.is)
       | in-FractionGroupSize+else-not-has-2 w ↦ found ∙ has_both r layout.fraction_internal_digit_separator faults.NoFractionSeparator
-          (sym w.has.ensures ∙ w.if-not-has-2.false) ∙ ap (missing r c.args.conditions) (sym w.in-FractionGroupSize.is)
+          (sym w.has-in-FractionGroupSize-1.ensures ∙ w.if-not-has-2.false) ∙ ap (missing r c.args.conditions) (sym w.in-FractionGroupSize.is)
     ]

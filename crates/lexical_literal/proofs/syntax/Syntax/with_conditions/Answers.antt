@@ -1,11 +1,15 @@
-use Rattle.lexical_literal.proofs.Common.{Grammar, None, ap, contradiction, raw, subst, sym, ◌∙◌, ◌≡◌}
+-- The conditions do not contradict the format.
+use Rattle.lexical_literal.proofs.Common.{Grammar, None, contradiction, raw, subst, sym, ◌∙◌, ◌≡◌}
+use Rattle.lexical_literal.specs.Syntax.{IsSyntax}
 use Rattle.lexical_literal.proofs.syntax.Syntax.with_conditions.Goals as goal
 
-pub invariant_of-result : goal.invariant_of-result
-invariant_of-result c = record {
-  lawful = c.self.invariant.lawful;
-  normal = c.self.invariant.normal;
-  fit = c.self.invariant.fit;
-  conditions = subst (λ w. contradiction (raw w) c.args.conditions ≡ None) (ap (λ (g : Grammar). g.word) (c.grammar.ensures.value ∙ sym c.self.view_is))
-      (sym c.contradiction.ensures ∙ c.in-None.is);
-}
+pub syntax-requires : goal.syntax-requires
+syntax-requires c =
+    let view = c.grammar-2.view_is in
+    let is = subst IsSyntax (sym view) c.self.invariant.0 in record {
+      lawful = is.lawful;
+      normal = is.normal;
+      fit = is.fit;
+      conditions = subst (λ (g : Grammar). contradiction (raw g.word) c.args.conditions ≡ None)
+          (c.grammar.ensures.value ∙ sym c.self.view_is ∙ sym view) (sym c.contradiction.ensures ∙ c.in-None.is);
+    }
