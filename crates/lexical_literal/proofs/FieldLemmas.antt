@@ -20,7 +20,7 @@ use Rattle.lexical_util.specs.Options.{OptionsFit}
 use Rattle.lexical_util.specs.Unfoldable.{IsPunctuation, Lawful}
 use Rattle.lexical_literal.specs.Read.{radixes, radixes_of}
 use Rattle.lexical_literal.specs.Syntax.{IsSyntax, contradiction, fault}
-use Rattle.lexical_literal.specs.Additions.Literal.{IsMade}
+use Rattle.lexical_literal.specs.Additions.Literal.{AreBytes, IsMade}
 use Rattle.lexical_literal.specs.Notation.{no_conditions}
 use Rattle.lexical_literal.specs.declared.literal.Sums.{Sums}
 use Rattle.lexical_literal.specs.Worded.{Worded}
@@ -145,12 +145,12 @@ four separator radix base exponent layout.base_prefix = 0
 four separator radix base exponent layout.base_suffix = 0
 
 -- The bytes of the word with four bytes.
-module _ (separator radix base exponent : ℕ) (S : separator < 2 ^ 8) (R : radix < 2 ^ 8) (B : base < 2 ^ 8) (E : exponent < 2 ^ 8) where
+module _ (separator radix base exponent : ℕ) (are : AreBytes separator radix base exponent) where
   four_fit : (b : Byte) → four separator radix base exponent b < 2 ^ 8
-  four_fit layout.digit_separator = S
-  four_fit layout.mantissa_radix = R
-  four_fit layout.exponent_base = B
-  four_fit layout.exponent_radix = E
+  four_fit layout.digit_separator = are.0
+  four_fit layout.mantissa_radix = are.1.0
+  four_fit layout.exponent_base = are.1.1.0
+  four_fit layout.exponent_radix = are.1.1.1
   four_fit layout.base_prefix = pow_pos 8
   four_fit layout.base_suffix = pow_pos 8
 
@@ -164,8 +164,7 @@ module _ (separator radix base exponent : ℕ) (S : separator < 2 ^ 8) (R : radi
 module _ (w v : ℕ) (same : radixes_of w ≡ v) where
   four_of : (b : Byte) → bytes_of v b ≡ four (bytes_of w layout.digit_separator) (bytes_of w layout.mantissa_radix)
       (bytes_of w layout.exponent_base) (bytes_of w layout.exponent_radix) b
-  four_of b = ap (λ n. bytes_of n b) (sym same) ∙ four_is _ _ _ _ (mod-lt _ (pow_pos 8)) (mod-lt _ (pow_pos 8)) (mod-lt _ (pow_pos 8))
-      (mod-lt _ (pow_pos 8)) b
+  four_of b = ap (λ n. bytes_of n b) (sym same) ∙ four_is _ _ _ _ (mod-lt _ (pow_pos 8), (mod-lt _ (pow_pos 8), (mod-lt _ (pow_pos 8), mod-lt _ (pow_pos 8)))) b
 
   pub base_of : IsNormal w → effective_exponent_base (raw v) ≡ bytes_of v layout.exponent_base
   base_of normal = (λ i. effective (four_of layout.exponent_base i) (four_of layout.mantissa_radix i))
@@ -175,6 +174,9 @@ module _ (w v : ℕ) (same : radixes_of w ≡ v) where
   exponent_of normal = (λ i. effective (four_of layout.exponent_radix i) (four_of layout.mantissa_radix i))
       ∙ filled _ _ normal.exponent_radix ∙ sym (four_of layout.exponent_radix)
 
+pub bytes_fit : (a : Inside) → AreFields a → AreBytes a.separator a.radix a.exponent_base a.exponent_radix
+bytes_fit a h = (h.bytes layout.digit_separator, (h.bytes layout.mantissa_radix, (h.bytes layout.exponent_base, h.bytes layout.exponent_radix)))
+
 -- The literal of a grammar.
 module _ (a : Inside) (g : Worded) (h : AreFields a) (same : worded a ≡ g) (text : List ℕ) (c : Cuts) (sums : Sums) where
   pub made_of : (m e : Option ℕ) → IsSyntax g → IsCut (notation_of g) text c → AreSums (raw g.word) (cut text c) sums
@@ -182,8 +184,7 @@ module _ (a : Inside) (g : Worded) (h : AreFields a) (same : worded a ≡ g) (te
       → IsSmall a.exponent_radix (number a.exponent_radix (summed_in parts.Exponent (cut text c))) e
       → IsMade (radixes a.separator a.radix a.exponent_base a.exponent_radix) text c m sums.places e
   made_of m e is cuts are M E =
-      let byte = four_is a.separator a.radix a.exponent_base a.exponent_radix (h.bytes layout.digit_separator) (h.bytes layout.mantissa_radix)
-          (h.bytes layout.exponent_base) (h.bytes layout.exponent_radix) in
+      let byte = four_is a.separator a.radix a.exponent_base a.exponent_radix (bytes_fit a h) in
       let exponent = (λ i. effective (byte layout.exponent_radix i) (byte layout.mantissa_radix i)) ∙ h.radix in
       let l = cut text c in record {
         grammar = g;

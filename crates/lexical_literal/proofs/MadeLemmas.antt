@@ -1,5 +1,5 @@
 -- What the lengths of its parts tell of a literal, and what a syntax without conditions is.
-use Rattle.lexical_literal.proofs.Common.{Bool, Conditions, Grammar, IsUsual, List, arith, false, has, has_sizes, is_absent, is_minus, is_present, length, nat_tests}
+use Rattle.lexical_literal.proofs.Common.{Conditions, Grammar, IsUsual, List, and_parts, arith, false, has, has_sizes, is_absent, is_minus, is_present, length, nat_tests}
 use Rattle.lexical_literal.proofs.Common.{not, notation_of, take, true, ℕ, ◌&&◌, ◌==◌, ◌||◌, ◌≡◌, ◌≢◌}
 use Rattle.lexical_literal.specs.Additions.Scan.{are_usual}
 use Rattle.lexical_literal.specs.declared.syntax.Condition.TheVariants as conditions
@@ -25,8 +25,8 @@ second n k none = grind arith
 no_sizes : (c : Conditions) → are_usual c ≡ true → (has c conditions.IntegerGroupSize || has c conditions.FractionGroupSize) ≡ false
 no_sizes c usual = grind (arith, nat_tests)
 
-last : (a b c d e f g : Bool) → (a && (b && (c && (d && (e && (f && g)))))) ≡ true → g ≡ true
-last a b c d e f g all = grind arith
-
 pub usual_sizes : (g : Grammar) → IsUsual g → has_sizes (notation_of g) ≡ false
-usual_sizes g usual = no_sizes g.conditions (last _ _ _ _ _ _ _ usual)
+usual_sizes g usual =
+    let from-base = and_parts _ _ (and_parts _ _ (and_parts _ _ usual).1).1 in
+    let from-sign = and_parts _ _ (and_parts _ _ from-base.1).1 in
+    no_sizes g.conditions (and_parts _ _ from-sign.1).1

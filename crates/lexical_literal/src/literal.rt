@@ -97,14 +97,15 @@ impl<'a> Model for Literal<'a> {
 
     ghost Value = { Read };
 
-    ghost use Rattle.lexical_literal.specs.Additions.Literal.{IsMade, cut, given};
+    ghost use Rattle.lexical_literal.specs.Additions.Literal.{AreBytes, IsMade, cut, given};
     ghost use Rattle.lexical_literal.specs.Read.{radixes};
     ghost use Rattle.lexical_literal.specs.Additions.Step.{HasLengths, cuts_of};
 
     ghost view = { λ it. record { format = radixes it.separator it.radix it.exponent_base it.exponent_radix; literal = cut it.text.now (cuts_of it.counts); kind = it.kind; opened = it.opened } };
 
     ghost invariant = { λ it. IsMade (radixes it.separator it.radix it.exponent_base it.exponent_radix) it.text.now (cuts_of it.counts)
-        (given it.has_mantissa it.mantissa) it.places (given it.has_exponent it.exponent) };
+        (given it.has_mantissa it.mantissa) it.places (given it.has_exponent it.exponent)
+        × AreBytes it.separator it.radix it.exponent_base it.exponent_radix };
 }
 
 impl<'a> Literal<'a> {

@@ -558,6 +558,7 @@ impl Syntax {
     #[doc(hidden)]
     pub const fn grammar(&self) -> Grammar
         ensures value { result ≡ self.now }
+        ensures syntax { IsSyntax self.now }
         ensures ready { IsReady (steps_of self.now) }
         ensures sizes { HasSizes (notation_of self.now) }
     {

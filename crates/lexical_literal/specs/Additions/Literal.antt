@@ -1,5 +1,5 @@
 -- The parts of a literal by their lengths, and the sums of their digits.
-use Rattle.std.specs.Prelude.{ℕ, ◌≡◌, ◌+◌, ◌%◌, ◌^◌, ◌++◌, Bool, if◌then◌else◌, IsTrue, List, Option, Some, None, drop, take}
+use Rattle.std.specs.Prelude.{ℕ, ◌≡◌, ◌<◌, ◌+◌, ◌%◌, ◌^◌, ◌++◌, Bool, if◌then◌else◌, IsTrue, List, Option, Some, None, drop, take}
 use Rattle.lexical_util.specs.Layout as layout
 use Rattle.lexical_util.specs.Record.{Record, bytes_of, effective_exponent_radix, raw}
 use Rattle.lexical_util.specs.declared.format_flags.Part.{Part}
@@ -87,6 +87,10 @@ pub record IsMantissa (r : Record) (text : List ℕ) (run : Reading) : Type 0 wh
 -- `given has n` is `Some n` if `has` is true, and `None` otherwise.
 abbrev pub given : Bool → ℕ → Option ℕ
 given has n = if has then Some n else None
+
+-- `AreBytes k l m n` holds if these numbers are below 256.
+abbrev pub AreBytes : ℕ → ℕ → ℕ → ℕ → Type 0
+AreBytes k l m n = (k < 2 ^ 8) × ((l < 2 ^ 8) × ((m < 2 ^ 8) × (n < 2 ^ 8)))
 
 -- `IsMade word text c m n e` holds if `text` is a literal of a syntax whose format has the radixes, the base and the separator of `word`,
 -- and no others, if its parts have the lengths `c`, and if `m` and `e` are its mantissa and its exponent if they are short, and `n` is the

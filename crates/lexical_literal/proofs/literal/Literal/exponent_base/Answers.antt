@@ -8,7 +8,6 @@ use Rattle.lexical_literal.proofs.literal.Literal.exponent_base.Goals as goal
 pub returns : goal.returns
 returns c =
     let it = c.self.inside in
-    let told = c.self.told in
-    sym (four_is it.separator it.radix it.exponent_base it.exponent_radix told.1 told.1 told.1 told.1 layout.exponent_base)
-    ∙ sym (base_of _ _ c.self.invariant.format c.self.invariant.syntax.normal)
+    sym (four_is it.separator it.radix it.exponent_base it.exponent_radix c.self.invariant.1 layout.exponent_base)
+    ∙ sym (base_of _ _ c.self.invariant.0.format c.self.invariant.0.syntax.normal)
     ∙ ap (λ (read : Read). effective_exponent_base (raw read.format)) c.self.view_is

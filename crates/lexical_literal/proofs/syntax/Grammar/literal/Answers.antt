@@ -3,7 +3,7 @@ use Rattle.lexical_literal.proofs.Common.{IsSum, cut, cuts_of, subst, summed_in,
 use Rattle.lexical_util.specs.Layout as layout
 use Rattle.lexical_util.specs.declared.format_flags.Part.TheVariants as parts
 use Rattle.lexical_literal.specs.Additions.Literal.{given}
-use Rattle.lexical_literal.proofs.FieldLemmas.{byte_is, exponent_fits, format_is, made_of, radix_fits, radix_is}
+use Rattle.lexical_literal.proofs.FieldLemmas.{byte_is, bytes_fit, exponent_fits, format_is, made_of, radix_fits, radix_is}
 use Rattle.lexical_literal.proofs.syntax.Grammar.literal.Goals as goal
 
 pub are_few-requires-clause-radix : goal.are_few-requires-clause-radix
@@ -23,9 +23,9 @@ are_few-requires-2-clause-sum c =
     (sym (radix_is c.self.inside c.args.self c.self.invariant c.self.view_is)) c.requires.sums.scale
 
 pub invariant_of-result : goal.invariant_of-result
-invariant_of-result c = made_of c.self.inside c.args.self c.self.invariant c.self.view_is c.args.text.now (cuts_of c.args.counts) c.args.sums
+invariant_of-result c = (made_of c.self.inside c.args.self c.self.invariant c.self.view_is c.args.text.now (cuts_of c.args.counts) c.args.sums
     (given c.are_few.result c.args.sums.mantissa.value) (given c.are_few-2.result c.args.sums.exponent.value) c.requires.syntax c.requires.cut
-    c.requires.sums c.are_few.ensures c.are_few-2.ensures
+    c.requires.sums c.are_few.ensures c.are_few-2.ensures, bytes_fit c.self.inside c.self.invariant)
 
 pub returns : goal.returns
 returns c = λ i. record {
