@@ -41,8 +41,8 @@ const fn lacks_zero(grammar: Grammar, text: &[u8], sign: usize) -> bool
     requires { sign ≡ sign_size text.now }
     ensures { IsTrue result → LacksZero (notation_of grammar) text.now }
 {
-    (grammar.conditions.has(Condition::BasePrefix)
-        || grammar.conditions.has(Condition::LeadingZero))
+    (grammar.conditions().has(Condition::BasePrefix)
+        || grammar.conditions().has(Condition::LeadingZero))
         && sign < text.len()
         && text[sign] != b'0'
 }
@@ -54,7 +54,7 @@ const fn lacks_second(grammar: Grammar, text: &[u8], sign: usize) -> bool
     requires { sign ≡ sign_size text.now }
     ensures { IsTrue result → IsExcluded (notation_of grammar) text.now (sign_size text.now + 1) }
 {
-    if grammar.conditions.has(Condition::BasePrefix) {
+    if grammar.conditions().has(Condition::BasePrefix) {
         lacks_letter(grammar, text, sign + 1)
     } else {
         is_silent_at(grammar, text, sign + 1)
@@ -201,7 +201,7 @@ const fn lacks_prefix(grammar: Grammar, text: &[u8]) -> bool
     ensures none { IsTrue result → NoFront (notation_of grammar) text.now }
     ensures within { IsTrue result → IsWithin (notation_of grammar) text.now (sign_size text.now + 1) }
 {
-    grammar.conditions.has(Condition::BasePrefix) && !has_prefix(grammar, text, sign_size(text))
+    grammar.conditions().has(Condition::BasePrefix) && !has_prefix(grammar, text, sign_size(text))
 }
 
 // Returns whether a zero and a base prefix are at `index`.

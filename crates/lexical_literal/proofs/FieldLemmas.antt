@@ -135,6 +135,33 @@ module _ (a : Inside) (g : Worded) (h : AreFields a) (same : worded a ≡ g) whe
 filled : (byte radix : ℕ) → (byte ≡ 0 → radix ≡ 0) → effective byte radix ≡ byte
 filled byte radix none = grind (arith, nat_tests)
 
+-- The fields with the flags of the word `w` and other conditions, and without a separator.
+module _ (a : Inside) (h : AreFields a) (w : ℕ) (k : Conditions) (eight : length k.numbers ≡ 8) where
+  abbrev pub other : Inside
+  other = record a { flags = w % 2 ^ 64; separator = 0; conditions = k }
+
+  other_fit : (b : Byte) → byte_of other b < 2 ^ 8
+  other_fit layout.digit_separator = pow_pos 8
+  other_fit layout.base_prefix = h.bytes layout.base_prefix
+  other_fit layout.base_suffix = h.bytes layout.base_suffix
+  other_fit layout.mantissa_radix = h.bytes layout.mantissa_radix
+  other_fit layout.exponent_base = h.bytes layout.exponent_base
+  other_fit layout.exponent_radix = h.bytes layout.exponent_radix
+
+  pub other_fields : AreFields other
+  other_fields = record {
+    flags = mod-lt w (pow_pos 64);
+    bytes = other_fit;
+    base = h.base;
+    radix = h.radix;
+    separator = inr refl;
+    exponent = h.exponent;
+    conditions = eight;
+  }
+
+  pub other_flag : (f : Flag) → (raw (worded other).word).flag f ≡ (raw w).flag f
+  other_flag f = sym (flag_is other (worded other) other_fields refl f) ∙ low_flag w f
+
 -- `four separator radix base exponent` has these bytes, and no others.
 abbrev pub four : ℕ → ℕ → ℕ → ℕ → Byte → ℕ
 four separator radix base exponent layout.digit_separator = separator

@@ -385,7 +385,7 @@ impl Spot {
         ensures { result ≡ kept (unmet (notation_of (grammar_at self.now)) self.now.read (group_at self.now) self.now.byte) (number_of (grammar_at self.now).conditions) }
     {
         let grammar = self.grammar();
-        let conditions = grammar.conditions;
+        let conditions = grammar.conditions();
         let mut unmet = Conditions::NONE;
         let mut index = 0;
         while index < CONDITIONS.len() {
@@ -403,7 +403,7 @@ impl Spot {
         ensures { result ≡ unmet (notation_of (grammar_at self.now)) self.now.read (group_at self.now) self.now.byte condition }
     {
         let grammar = self.grammar();
-        let conditions = grammar.conditions;
+        let conditions = grammar.conditions();
         conditions.has(condition)
             && self.goes_on_bare()
             && !self.allows(self.bare(), conditions.only(condition))

@@ -29,8 +29,8 @@ pub(crate) const fn has_size(grammar: Grammar, part: Part) -> bool
     ensures { result ≡ has_size (notation_of grammar) part }
 {
     match part {
-        Part::Integer => grammar.conditions.has(Condition::IntegerGroupSize),
-        Part::Fraction => grammar.conditions.has(Condition::FractionGroupSize),
+        Part::Integer => grammar.conditions().has(Condition::IntegerGroupSize),
+        Part::Fraction => grammar.conditions().has(Condition::FractionGroupSize),
         Part::Exponent => false,
     }
 }
@@ -39,7 +39,7 @@ pub(crate) const fn has_size(grammar: Grammar, part: Part) -> bool
 const fn size(grammar: Grammar, condition: Condition) -> usize
     ensures { result ≡ (notation_of grammar).number condition }
 {
-    grammar.conditions.number(condition) as usize
+    grammar.conditions().number(condition) as usize
 }
 
 // Returns the number of digits of a group of the integer before the last one.

@@ -350,8 +350,8 @@ const fn sized(grammar: Grammar, text: &[u8], begun: Begun) -> Begun
 const fn has_first(grammar: Grammar, text: &[u8], size: usize) -> bool
     ensures { result ≡ has_first (steps_of grammar) text.now size }
 {
-    let needs_zero = grammar.conditions.has(Condition::LeadingZero);
-    let needs_decimal = grammar.conditions.has(Condition::DecimalFirstDigit);
+    let needs_zero = grammar.conditions().has(Condition::LeadingZero);
+    let needs_decimal = grammar.conditions().has(Condition::DecimalFirstDigit);
     (!needs_zero && !needs_decimal) || is_first(grammar, text, size)
 }
 
@@ -364,8 +364,8 @@ const fn is_first(grammar: Grammar, text: &[u8], size: usize) -> bool
 {
     size < text.len()
         && is_digit(grammar, Part::Integer, text[size])
-        && (!grammar.conditions.has(Condition::LeadingZero) || text[size] == b'0')
-        && (!grammar.conditions.has(Condition::DecimalFirstDigit) || text[size] <= b'9')
+        && (!grammar.conditions().has(Condition::LeadingZero) || text[size] == b'0')
+        && (!grammar.conditions().has(Condition::DecimalFirstDigit) || text[size] <= b'9')
 }
 
 // Returns the length of the base prefix, with its zero, and the stage behind it, or `None` if a base prefix or a first digit is
@@ -390,7 +390,7 @@ const fn open(
         && is_prefix(grammar, text[sign + 1])
     {
         Some((2, Stage::Prefixed))
-    } else if !grammar.conditions.has(Condition::BasePrefix) && has_first(grammar, text, sign) {
+    } else if !grammar.conditions().has(Condition::BasePrefix) && has_first(grammar, text, sign) {
         Some((0, stage))
     } else {
         None
@@ -404,7 +404,7 @@ const fn misses_prefix(grammar: Grammar, text: &[u8], size: usize) -> bool
         × ((steps_of grammar).prefix (get_or text.now size 0) ≡ false) }
 {
     size < text.len()
-        && grammar.conditions.has(Condition::BasePrefix)
+        && grammar.conditions().has(Condition::BasePrefix)
         && !is_prefix(grammar, text[size])
 }
 

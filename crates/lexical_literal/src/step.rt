@@ -201,7 +201,7 @@ pub(crate) const fn allows_plus(grammar: Grammar, part: Part) -> bool
 pub(crate) const fn allows_minus(grammar: Grammar, part: Part) -> bool
     ensures { result ≡ not (has grammar.conditions conditions.NegativeSign && is_negative part false Role.Sign) }
 {
-    matches!(part, Part::Exponent) || !grammar.conditions.has(Condition::NegativeSign)
+    matches!(part, Part::Exponent) || !grammar.conditions().has(Condition::NegativeSign)
 }
 
 // Returns whether `byte` is the decimal point.
@@ -385,8 +385,8 @@ pub(crate) const fn is_complete(grammar: Grammar, read: Summary) -> bool
     ensures { result ≡ is_complete (steps_of grammar) read }
 {
     (read.ended || ends_before(grammar, read, Role::Suffix))
-        && !(grammar.conditions.has(Condition::BasePrefix) && lacks_prefix(read.stage))
-        && (!grammar.conditions.has(Condition::BaseSuffix) || read.ended)
+        && !(grammar.conditions().has(Condition::BasePrefix) && lacks_prefix(read.stage))
+        && (!grammar.conditions().has(Condition::BaseSuffix) || read.ended)
 }
 
 // Returns whether the base prefix may still follow, or what is left of it.
@@ -579,7 +579,7 @@ pub(crate) const fn step_as(
 {
     if !read.ended
         && takes(grammar, read, byte == b'+', role)
-        && admits(grammar.conditions, read, byte, role)
+        && admits(grammar.conditions(), read, byte, role)
     {
         Some(after(read, byte == b'0', role))
     } else {

@@ -336,6 +336,14 @@ impl Grammar {
         self.flags as u128
     }
 
+    // Returns the conditions.
+    #[inline(always)]
+    pub const fn conditions(self) -> Conditions
+        ensures { result ≡ self.conditions }
+    {
+        self.conditions
+    }
+
     // Returns whether literals are integers alone.
     #[inline(always)]
     pub const fn is_whole(self) -> bool

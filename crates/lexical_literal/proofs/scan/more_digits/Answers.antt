@@ -1,4 +1,5 @@
 -- Each digit is read behind the others, and so is a separator with the digit behind it.
+use Rattle.lexical_literal.proofs.Common.{refl}
 use Rattle.lexical_literal.proofs.Common.{Bool, Grammar, IsRunOn, IsSeparated, Part, ap, arith, radix_of, raw, separators_in, steps_of, subst, sym, up_to, ℕ}
 use Rattle.lexical_literal.proofs.Common.{◌%◌, ◌*◌, ◌+◌, ◌^◌, ◌∙◌, true, false, not, ◌≡◌}
 use Rattle.lexical_literal.proofs.SumLemmas.{both_runs, more_digit, more_separated, no_run, one_more, pushed}
@@ -58,9 +59,7 @@ loop-digit-preserved c =
     let separated : IsSeparated m radix text part l.size v = record {
       digit = c.in-Some-value_at.ensures.some;
       separator = sym c.is_separator.ensures ∙ c.if-not-is_separator.false;
-      allowed = internal c.args.grammar part
-          (subst (λ w. (raw w).flag (separators_in part).internal ≡ true) c.view.ensures
-          (sym c.separators.ensures.internal ∙ is_set _ c.if-not-separators.false));
+      allowed = internal c.args.grammar part (sym (c.has_place.ensures.internal refl) ∙ c.if-not-has_place.false);
     } in
     record {
       within = omega (arith, c.in-Some-value_at.ensures.some.0);

@@ -3,7 +3,10 @@ use Rattle.lexical_literal.proofs.Common.{get_or, prefix, raw, steps_of, subst, 
 use Rattle.lexical_literal.proofs.JoinLemmas.{opened_prefix}
 use Rattle.lexical_literal.proofs.scan.open.Goals as goal
 
-pub returns-then-is_base_prefix : goal.returns-then-is_base_prefix
-returns-then-is_base_prefix c =
+pub returns-then-is_prefix : goal.returns-then-is_prefix
+returns-then-is_prefix c =
     opened_prefix (steps_of c.args.grammar) c.args.text.now c.requires.ready.roles c.args.sign c.requires.sign c.if-sign-text.true c.if-text-sign-eq48.true
-    (subst (λ w. prefix (raw w) (get_or c.args.text.now (c.args.sign + 1) 0) ≡ true) c.view.ensures (sym c.is_base_prefix.ensures ∙ c.if-is_base_prefix.true))
+    (sym c.is_prefix.ensures ∙ c.if-is_prefix.true)
+
+pub returns-then-has_first : goal.returns-then-has_first
+returns-then-has_first c = ?

@@ -7,9 +7,9 @@ use Rattle.lexical_literal.proofs.JoinLemmas.{suffix_at}
 use Rattle.lexical_literal.proofs.PassedLemmas.{passed}
 use Rattle.lexical_literal.proofs.StoppedLemmas.{complete_at}
 use Rattle.lexical_literal.proofs.scan.suffix.Goals as goal
-use Rattle.lexical_literal.proofs.scan.suffix.Goals.{then-size-text+then-is_base_suffix+then-takes, else-size-text+else-not-fronts}
-use Rattle.lexical_literal.proofs.scan.suffix.Goals.{else-size-text-via-then-size-text+then-is_base_suffix+else-takes}
-use Rattle.lexical_literal.proofs.scan.suffix.Goals.{else-size-text-via-then-size-text+else-is_base_suffix, else-size-text-via-else-size-text}
+use Rattle.lexical_literal.proofs.scan.suffix.Goals.{then-size-text+then-is_suffix+then-takes, else-size-text+else-not-fronts}
+use Rattle.lexical_literal.proofs.scan.suffix.Goals.{else-size-text-via-then-size-text+then-is_suffix+else-takes}
+use Rattle.lexical_literal.proofs.scan.suffix.Goals.{else-size-text-via-then-size-text+else-is_suffix, else-size-text-via-else-size-text}
 
 placed : (m : Notation) (text : List ℕ) (s : Reading) (a b c : ℕ) (at next : Stopped) (n suffix : ℕ) → next ≡ at → suffix ≡ n
     → IsAt m text at (cuts_of (counts_of s a b c n)) → IsAt m text next (cuts_of (counts_of s a b c suffix))
@@ -22,9 +22,9 @@ returns-clause-found c =
     let text = c.args.text.now in
     let at = c.args.at in
     complete_at _ c.requires.ready _ _ (elim c.if-size-text.branch [
-      | then-size-text+then-is_base_suffix+then-takes w ↦ placed m text c.args.mantissa _ _ _ _ _ _ _ w.at-is w.suffix-is
+      | then-size-text+then-is_suffix+then-takes w ↦ placed m text c.args.mantissa _ _ _ _ _ _ _ w.at-is w.suffix-is
           (suffix_at m text c.requires.ready.roles c.args.mantissa _ _ _ at w.if-size-text.true
-          (subst (λ w. suffix (raw w) (get_or text at.size 0) ≡ true) w.view.ensures (sym w.is_base_suffix.ensures ∙ w.if-is_base_suffix.true))
+          (sym w.is_suffix.ensures ∙ w.if-is_suffix.true)
           c.requires.going (sym w.takes.ensures ∙ w.if-takes.true) c.requires.free c.requires.at)
       | else-size-text+else-not-fronts w ↦ placed m text c.args.mantissa _ _ _ _ _ _ _ w.at-is w.suffix-is c.requires.at
     ]) c.is_complete.ensures refl
@@ -36,9 +36,9 @@ unfinished-requires-clause-refused c holds =
     let b = get_or c.args.text.now at.size 0 in
     let inside = c.if-size-text-2.true in
     let suffix_passed : m.suffix b ≡ true → takes m at.read false roles.Suffix ≡ false = λ is. elim c.else-size-text.branch [
-      | else-size-text-via-then-size-text+then-is_base_suffix+else-takes w ↦ sym w.takes.ensures ∙ w.if-takes.false
-      | else-size-text-via-then-size-text+else-is_base_suffix w ↦ absurd (false≢true
-          (sym (subst (λ v. suffix (raw v) b ≡ false) w.view.ensures (sym w.is_base_suffix.ensures ∙ w.if-is_base_suffix.false)) ∙ is))
+      | else-size-text-via-then-size-text+then-is_suffix+else-takes w ↦ sym w.takes.ensures ∙ w.if-takes.false
+      | else-size-text-via-then-size-text+else-is_suffix w ↦ absurd (false≢true
+          (sym (sym w.is_suffix.ensures ∙ w.if-is_suffix.false) ∙ is))
       | else-size-text-via-else-size-text w ↦ absurd (omega (arith, w.if-size-text.false, inside))
     ] in
     let is = c.is_passed-refused.ensures in

@@ -1,4 +1,4 @@
-use Rattle.lexical_literal.proofs.Common.{Bool, Condition, Conditions, ap, arith, bare, false, false≢true, goes, grammar_at, group_at, has, is_same, not}
+use Rattle.lexical_literal.proofs.Common.{Bool, Condition, Conditions, Grammar, ap, arith, bare, false, false≢true, goes, grammar_at, group_at, has, is_same, not}
 use Rattle.lexical_literal.proofs.Common.{notation_of, sym, true, with_rules, ◌&&◌, ◌||◌, ◌∙◌, ◌≡◌}
 use Rattle.lexical_literal.proofs.NumberLemmas.{has_only}
 use Rattle.lexical_literal.proofs.cause.Spot.is_unmet.Goals as goal
@@ -12,7 +12,8 @@ both h f x is free = grind arith
 
 pub returns-then-goes_on_bare : goal.returns-then-goes_on_bare
 returns-then-goes_on_bare c =
-    let conditions = (grammar_at c.args.self.now).conditions in
+    let conditions = c.conditions-conditions.result in
+    let same = c.conditions-conditions.ensures ∙ ap (λ (g : Grammar). g.conditions) c.grammar-grammar.ensures in
     let m = notation_of (grammar_at c.args.self.now) in
     elim c.if-has.branch [
       | then-has w ↦
@@ -22,6 +23,6 @@ returns-then-goes_on_bare c =
           ap not (c.allows.ensures ∙ (λ j. goes (with_rules m (λ f. c.bare.ensures f j) (λ d. only d j))
           c.args.self.now.read (group_at c.args.self.now) c.args.self.now.byte))
           ∙ both (m.condition c.args.condition) (goes (bare m) c.args.self.now.read (group_at c.args.self.now) c.args.self.now.byte) _
-          set (sym w.goes_on_bare.ensures ∙ sym w.value-is ∙ c.if-goes_on_bare.true)
+          (ap (λ (k : Conditions). has k c.args.condition) (sym same) ∙ set) (sym w.goes_on_bare.ensures ∙ sym w.value-is ∙ c.if-goes_on_bare.true)
       | else-has w ↦ absurd (false≢true (sym w.if-has.false ∙ sym w.value-is ∙ c.if-goes_on_bare.true))
     ]

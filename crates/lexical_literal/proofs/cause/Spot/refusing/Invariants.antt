@@ -4,7 +4,7 @@ use Rattle.lexical_literal.proofs.cause.Spot.refusing.Given as goal
 
 abbrev pub invariant-loop-number : goal.invariant-loop-number
 invariant-loop-number l = (f : Flag) → (raw l.mask).flag f ≡ ((raw l.flags).flag f
-    && (if nat_lt (bit f) l.number then not (goes (adding f (bare (notation_of (grammar_at l.self.now)))) l.self.now.read (group_at l.self.now) l.self.now.byte) else true))
+    && (if nat_lt (bit f) l.number then not (goes (adding f (bare (notation_of (grammar_at l.self)))) l.self.read (group_at l.self) l.self.byte) else true))
 
 abbrev pub decreases-loop-number : goal.decreases-loop-number
 decreases-loop-number l = 45 - l.number

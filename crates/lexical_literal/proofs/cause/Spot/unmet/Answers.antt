@@ -1,5 +1,5 @@
 -- After a condition, and after the last.
-use Rattle.lexical_literal.proofs.Common.{Bool, Condition, Conditions, all_conditions, ap, arith, false, get_or, grammar_at, group_at, if◌then◌else◌, is_same}
+use Rattle.lexical_literal.proofs.Common.{Bool, Condition, Conditions, Grammar, all_conditions, ap, arith, false, get_or, grammar_at, group_at, if◌then◌else◌, is_same}
 use Rattle.lexical_literal.proofs.Common.{length, nat_lt, nat_tests, notation_of, number_of, order, sym, true, unmet, ℕ, ◌&&◌, ◌∙◌, ◌≡◌, ◌≤◌}
 use Rattle.lexical_literal.specs.declared.syntax.Condition.TheVariants as conditions
 use Rattle.lexical_literal.proofs.NumberLemmas.{is_kept, number_next}
@@ -21,6 +21,7 @@ loop-index-preserved c =
     let m = notation_of (grammar_at c.args.self.now) in
     let X = unmet m c.args.self.now.read (group_at c.args.self.now) c.args.self.now.byte in
     let N = number_of (grammar_at c.args.self.now).conditions in
+    let same = c.conditions-conditions.ensures ∙ ap (λ (g : Grammar). g.conditions) c.grammar-grammar.ensures in
     let i = c.loop-index.index in
     let at = get_or all_conditions i conditions.BasePrefix in
     let next = λ (d : Condition). number_next X N i (number_of c.loop-index.unmet d) d c.loop-index-test.true (c.loop-index.invariant.each d) in
@@ -30,7 +31,7 @@ loop-index-preserved c =
           record {
             all = ap (λ (k : Conditions). length k.numbers) w.unmet-is ∙ w.with-unmet.ensures.all;
             each = λ d. ap (λ (k : Conditions). number_of k d) w.unmet-is ∙ w.with-unmet.ensures.each d
-                ∙ ap (λ n. if is_same at d then n else number_of c.loop-index.unmet d) w.number.ensures
+                ∙ ap (λ n. if is_same at d then n else number_of c.loop-index.unmet d) (w.number.ensures ∙ ap (λ (k : Conditions). number_of k at) same)
                 ∙ ap (λ t. if t then (if is_same at d then N at else number_of c.loop-index.unmet d) else number_of c.loop-index.unmet d) (sym is)
                 ∙ next d;
           }

@@ -6,8 +6,8 @@ abbrev pub invariant-loop-index : goal.invariant-loop-index
 invariant-loop-index l = record {
   all : length l.unmet.numbers ≡ length all_conditions;
   each : (d : Condition) → number_of l.unmet d
-      ≡ (if nat_lt (order d) l.index && unmet (notation_of (grammar_at l.self.now)) l.self.now.read (group_at l.self.now) l.self.now.byte d
-      then number_of (grammar_at l.self.now).conditions d
+      ≡ (if nat_lt (order d) l.index && unmet (notation_of (grammar_at l.self)) l.self.read (group_at l.self) l.self.byte d
+      then number_of (grammar_at l.self).conditions d
       else 0);
 }
 

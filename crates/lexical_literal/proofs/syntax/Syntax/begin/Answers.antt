@@ -26,19 +26,17 @@ returns-then-decimal-clause-found c =
     (usual_sizes c.args.self.now (c.requires.usual c.if-decimal.true))
 
 pub sized-requires-clause-ready : goal.sized-requires-clause-ready
-sized-requires-clause-ready c = subst (λ (g : Grammar). IsReady (steps_of g)) (sym c.grammar.ensures.value) c.grammar.ensures.ready
+sized-requires-clause-ready c = subst (λ (g : Grammar). IsReady (steps_of g)) (sym c.grammar-grammar.ensures.value) c.grammar-grammar.ensures.ready
 
 pub sized-requires-clause-sizes : goal.sized-requires-clause-sizes
-sized-requires-clause-sizes c = subst (λ (g : Grammar). HasSizes (notation_of g)) (sym c.grammar.ensures.value) c.grammar.ensures.sizes
+sized-requires-clause-sizes c = subst (λ (g : Grammar). HasSizes (notation_of g)) (sym c.grammar-grammar.ensures.value) c.grammar-grammar.ensures.sizes
 
 pub sized-requires-clause-found : goal.sized-requires-clause-found
-sized-requires-clause-found c =
-    subst (λ (g : Grammar). HasFound (steps_of g) c.args.text.now c.scan-begun.result) (c.grammar-grammar.ensures.value ∙ sym c.grammar.ensures.value)
-    c.scan-begun.ensures.found
+sized-requires-clause-found c = c.scan-begun.ensures.found
 
 pub returns-then-has_sizes-clause-found : goal.returns-then-has_sizes-clause-found
 returns-then-has_sizes-clause-found c =
-    subst (λ (g : Grammar). HasBegun (notation_of g) c.args.text.now c.sized.result) c.grammar.ensures.value c.sized.ensures.begun
+    subst (λ (g : Grammar). HasBegun (notation_of g) c.args.text.now c.sized.result) c.grammar-grammar.ensures.value c.sized.ensures.begun
 
 pub returns-else-has_sizes-clause-found : goal.returns-else-has_sizes-clause-found
 returns-else-has_sizes-clause-found c =
