@@ -26,7 +26,7 @@ module _ (m : Notation) (text : List ℕ) where
       (on.reads (cuts_of counts) is)
 
   -- The sign of the mantissa.
-  sign_at : (sign : ℕ) → IsSign m text parts.Integer 0 sign → IsAt m text (at_stage sign (behind_sign parts.Integer sign))
+  pub sign_at : (sign : ℕ) → IsSign m text parts.Integer 0 sign → IsAt m text (at_stage sign (behind_sign parts.Integer sign))
       (cuts_of (integer_counts sign 0 0))
   sign_at sign is = grind arith
 

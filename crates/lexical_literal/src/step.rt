@@ -11,7 +11,7 @@ ghost use Rattle.lexical_literal.specs.Additions.GroupSize.{steps_of};
 ghost use Rattle.lexical_literal.specs.declared.syntax.Condition.TheVariants as conditions;
 ghost use Rattle.lexical_literal.specs.Additions.Step.{after_point, digits_of, part_of, role_at, piece_number, piece_of, has_digit, may_follow, admits};
 ghost use Rattle.lexical_literal.specs.Additions.Step.{forbids_plus, awaits_integer, is_negative, is_signed, lacks_prefix, is_run};
-ghost use Rattle.lexical_literal.specs.Additions.Step.{leads, leads_to_prefix, needs_exponent, continues, ends, is_complete, move_by, step, takes, after};
+ghost use Rattle.lexical_literal.specs.Additions.Step.{leads, leads_to_prefix, needs_exponent, continues, digits_suffice, ends, is_complete, move_by, step, takes, after};
 
 use crate::group_size::has_size;
 use crate::syntax::{Condition, Conditions, Grammar};
@@ -339,6 +339,47 @@ pub(crate) const fn is_signed(grammar: Grammar, part: Part, stage: Stage) -> boo
     !matches!(stage, Stage::Start | Stage::Mark) || !needs_sign
 }
 
+// Returns whether `part` has the digits that flags require.
+#[inline(always)]
+const fn digits_suffice(grammar: Grammar, part: Part, stage: Stage) -> bool
+    ensures { result ≡ digits_suffice (steps_of grammar) part stage }
+{
+    let digit = has_digit(stage);
+    match part {
+        Part::Integer => !grammar.has(REQUIRED_INTEGER_DIGITS) || digit,
+        Part::Fraction => {
+            (!grammar.has(REQUIRED_FRACTION_DIGITS) || digit)
+                && (!grammar.has(REQUIRED_MANTISSA_DIGITS) || !matches!(stage, Stage::Lone))
+        }
+        Part::Exponent => !grammar.has(REQUIRED_EXPONENT_DIGITS) || digit,
+    }
+}
+
+// Returns whether a byte with the role `role` may follow `part`.
+#[inline(always)]
+const fn continues(grammar: Grammar, part: Part, stage: Stage, role: Role) -> bool
+    ensures { result ≡ continues (steps_of grammar) part stage role }
+{
+    let digit = has_digit(stage);
+    let led = matches!(stage, Stage::Led);
+    match (part, role) {
+        (Part::Integer, Role::Point) => !grammar.has(NO_FLOAT_LEADING_ZEROS) || !led,
+        (Part::Integer, Role::Exponent) => {
+            !grammar.has(NO_EXPONENT_NOTATION)
+                && (!grammar.has(NO_FLOAT_LEADING_ZEROS) || !led)
+                && (!grammar.has(REQUIRED_MANTISSA_DIGITS) || digit)
+                && !grammar.has(NO_EXPONENT_WITHOUT_FRACTION)
+        }
+        (Part::Integer, Role::Suffix) => {
+            !needs_exponent(grammar) && digit && (!grammar.has(NO_INTEGER_LEADING_ZEROS) || !led)
+        }
+        (Part::Fraction, Role::Exponent) => !grammar.has(NO_EXPONENT_NOTATION),
+        (Part::Fraction, Role::Suffix) => !needs_exponent(grammar),
+        (Part::Exponent, Role::Suffix) => true,
+        _ => false,
+    }
+}
+
 // Returns whether the part that is read may end before a byte with the role `role`.
 #[inline(always)]
 const fn ends_before(grammar: Grammar, read: Summary, role: Role) -> bool
@@ -346,37 +387,10 @@ const fn ends_before(grammar: Grammar, read: Summary, role: Role) -> bool
 {
     let Summary { stage, gap, .. } = read;
     let part = part_of(stage);
-    let digit = has_digit(stage);
-    let led = matches!(stage, Stage::Led);
-    let may_float = !grammar.has(NO_FLOAT_LEADING_ZEROS) || !led;
-    let needs_digit = match part {
-        Part::Integer => grammar.has(REQUIRED_INTEGER_DIGITS),
-        Part::Fraction if grammar.has(REQUIRED_MANTISSA_DIGITS) && matches!(stage, Stage::Lone) =>
-            return false,
-        Part::Fraction => grammar.has(REQUIRED_FRACTION_DIGITS),
-        Part::Exponent => grammar.has(REQUIRED_EXPONENT_DIGITS),
-    };
     is_signed(grammar, part, stage)
-        && (!gap || is_place(grammar, part, digit, false))
-        && (!needs_digit || digit)
-        && match (part, role) {
-            (Part::Integer, Role::Point) => may_float,
-            (Part::Integer, Role::Exponent) => {
-                !grammar.has(NO_EXPONENT_NOTATION)
-                    && may_float
-                    && (!grammar.has(REQUIRED_MANTISSA_DIGITS) || digit)
-                    && !grammar.has(NO_EXPONENT_WITHOUT_FRACTION)
-            }
-            (Part::Integer, Role::Suffix) => {
-                !needs_exponent(grammar)
-                    && digit
-                    && (!grammar.has(NO_INTEGER_LEADING_ZEROS) || !led)
-            }
-            (Part::Fraction, Role::Exponent) => !grammar.has(NO_EXPONENT_NOTATION),
-            (Part::Fraction, Role::Suffix) => !needs_exponent(grammar),
-            (Part::Exponent, Role::Suffix) => true,
-            _ => false,
-        }
+        && (!gap || is_place(grammar, part, has_digit(stage), false))
+        && digits_suffice(grammar, part, stage)
+        && continues(grammar, part, stage, role)
 }
 
 // Returns whether what has been read is a literal.

@@ -1,4 +1,5 @@
 -- The first digit, and those behind it.
+use Rattle.lexical_literal.proofs.Common.{length, nat_tests, ◌<◌}
 use Rattle.lexical_literal.proofs.Common.{Bool, Grammar, HasRoles, IsDigitAt, IsReadOn, IsRunOn, List, Part, Reading, Stage, ap, arith, at_stage}
 use Rattle.lexical_literal.proofs.Common.{Notation, awaits_integer, digits_of, digits_piece, false, get_or, has_digit, if◌then◌else◌, is_free, is_signed}
 use Rattle.lexical_literal.proofs.Common.{may_follow, may_read, part_of}
@@ -88,3 +89,29 @@ returns-in_default-value_at-clause-run c =
     first_digit g text part _ c.with_digit-one.result _ c.in-Some.value stages.Bare true c.requires.ready.roles c.requires.part c.requires.none
     c.requires.signed c.requires.first c.in-Some.ensures.some c.with_digit-one.ensures (λ j. naught j && begun j) refl
     (same_run (steps_of g) (radix_of (raw g.word) part) text part (record c.with_digit-one.result { stage = stages.Bare }))
+
+-- Where no digit follows, none was required, and behind a digit, none is.
+none_free : (m : Notation) (text : List ℕ) (part : Part) (size : ℕ) (stage : Stage) → part_of stage ≡ part
+    → (size < length text → m.digit part (get_or text size 0) ≡ false) → may_read m text size stage ≡ true → is_free m stage ≡ true
+none_free m text part size stage is none first = grind (arith, nat_tests, awaited_part)
+
+run_free : (m : Notation) (part : Part) → is_free m (digits_of part) ≡ true
+run_free m part = grind arith
+
+pub returns-in_default-clause-free : goal.returns-in_default-clause-free
+returns-in_default-clause-free c = none_free (steps_of c.args.grammar) c.args.text.now c.args.part c.args.begun.size c.args.begun.stage c.requires.part
+    (c.in_default.ensures.none refl) c.requires.first
+
+pub returns-then-text-begun-ne48-clause-free : goal.returns-then-text-begun-ne48-clause-free
+returns-then-text-begun-ne48-clause-free c = subst (λ stage. is_free (steps_of c.args.grammar) stage ≡ true)
+    (sym (c.more_digits.ensures.stage ∙ c.digits_of-stage.ensures)) (run_free (steps_of c.args.grammar) c.args.part)
+
+pub returns-in-Some-value_at-clause-part : goal.returns-in-Some-value_at-clause-part
+returns-in-Some-value_at-clause-part c =
+    let begun : awaits_integer c.args.begun.stage ≡ true = sym c.awaits_integer.ensures ∙ c.if-not-awaits_integer.false in
+    ap part_of c.more_digits-in-Some-value_at.ensures.stage ∙ sym (awaited_part c.args.begun.stage begun) ∙ c.requires.part
+
+pub returns-in_default-value_at-clause-free : goal.returns-in_default-value_at-clause-free
+returns-in_default-value_at-clause-free c =
+    let begun : awaits_integer c.args.begun.stage ≡ true = sym c.awaits_integer.ensures ∙ c.if-not-awaits_integer.false in
+    bare_free (steps_of c.args.grammar) c.args.text.now c.args.begun.size c.args.begun.stage begun c.requires.first

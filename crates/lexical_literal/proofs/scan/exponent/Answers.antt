@@ -1,6 +1,9 @@
 -- The exponent, and its sign.
 use Rattle.lexical_literal.proofs.Common.{IsAt, IsBegun, IsReadOn, Stopped, at_stage, counts_of, cuts_of, steps_of, subst, sym, ◌+◌, ◌-◌}
 use Rattle.lexical_literal.specs.declared.step.Piece.TheVariants as pieces
+use Rattle.lexical_literal.proofs.Common.{List, Notation, arith, may_read, nat_tests, true, ℕ, ◌≡◌}
+use Rattle.lexical_literal.specs.Additions.Scan.{behind_sign}
+use Rattle.lexical_util.specs.declared.format_flags.Part.TheVariants as parts
 use Rattle.lexical_literal.proofs.JoinLemmas.{exponent_at}
 use Rattle.lexical_literal.proofs.scan.exponent.Goals as goal
 
@@ -27,3 +30,12 @@ unfinished-requires-then-not-has_digit-clause-begun c =
     (exponent_at m text c.args.mantissa (c.args.mantissa.size + 1) sign run.size run.stage c.requires.at c.in-Some.ensures.sign
     (subst (λ stage. IsReadOn m text (at_stage from stage) pieces.Exponent (at_stage run.size run.stage)) c.in-Some.ensures.stage
     c.digits-run.ensures.run.on)).begun
+
+exponent_free : (m : Notation) (text : List ℕ) (size sign : ℕ) → may_read m text size (behind_sign parts.Exponent sign) ≡ true
+exponent_free m text size sign = grind (arith, nat_tests)
+
+pub digits-run-requires-clause-first : goal.digits-run-requires-clause-first
+digits-run-requires-clause-first c =
+    let m = steps_of c.args.grammar in
+    let from = c.args.mantissa.size + 1 + c.in-Some.sign in
+    subst (λ stage. may_read m c.args.text.now from stage ≡ true) c.in-Some.ensures.stage (exponent_free m c.args.text.now from c.in-Some.sign)

@@ -1,5 +1,6 @@
 -- The fraction, and what follows it.
-use Rattle.lexical_literal.proofs.Common.{IsBegun, IsReadOn, after_point, at_stage, has_digit, raw, steps_of, subst, sym, ◌+◌, ◌-◌}
+use Rattle.lexical_literal.proofs.Common.{Bool, IsBegun, IsReadOn, List, Notation, after_point, arith, at_stage, has_digit, may_read, nat_tests, raw, steps_of}
+use Rattle.lexical_literal.proofs.Common.{subst, sym, true, ℕ, ◌+◌, ◌-◌, ◌≡◌}
 use Rattle.lexical_literal.specs.declared.step.Piece.TheVariants as pieces
 use Rattle.lexical_literal.proofs.JoinLemmas.{fraction_at}
 use Rattle.lexical_literal.proofs.MantissaLemmas.{fraction_sum}
@@ -31,3 +32,12 @@ unfinished-requires-clause-begun c =
     (after_point (has_digit c.args.integer.stage)) run.stage c.requires.none.1 c.requires.at
     (subst (λ stage. IsReadOn m text (at_stage from stage) pieces.Fraction (at_stage run.size run.stage)) c.after_point-stage.ensures
     c.digits-run.ensures.run.on)).begun
+
+fraction_free : (m : Notation) (text : List ℕ) (size : ℕ) (digit : Bool) → may_read m text size (after_point digit) ≡ true
+fraction_free m text size digit = grind (arith, nat_tests)
+
+pub digits-run-requires-clause-first : goal.digits-run-requires-clause-first
+digits-run-requires-clause-first c =
+    let m = steps_of c.args.grammar in
+    let from = c.args.integer.size + 1 in
+    subst (λ stage. may_read m c.args.text.now from stage ≡ true) (sym c.after_point-stage.ensures) (fraction_free m c.args.text.now from _)
