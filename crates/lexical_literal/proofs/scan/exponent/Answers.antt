@@ -38,4 +38,4 @@ pub digits-run-requires-clause-first : goal.digits-run-requires-clause-first
 digits-run-requires-clause-first c =
     let m = steps_of c.args.grammar in
     let from = c.args.mantissa.size + 1 + c.in-Some.sign in
-    subst (λ stage. may_read m c.args.text.now from stage ≡ true) c.in-Some.ensures.stage (exponent_free m c.args.text.now from c.in-Some.sign)
+    subst (λ stage. may_read m c.args.text.now from stage ≡ true) (sym c.in-Some.ensures.stage) (exponent_free m c.args.text.now from c.in-Some.sign)
