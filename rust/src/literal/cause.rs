@@ -301,7 +301,7 @@ impl Spot {
     // Returns the conditions to blame for a requirement: those that refuse alone.
     const fn unmet(&self) -> Conditions {
         let grammar = self.as_grammar();
-        let conditions = grammar.conditions;
+        let conditions = grammar.conditions();
         let mut unmet = Conditions::NONE;
         let mut index = 0;
         while index < CONDITIONS.len() {
@@ -317,7 +317,7 @@ impl Spot {
     // Returns whether the syntax has a condition that alone refuses what cannot follow.
     const fn is_unmet(&self, condition: Condition) -> bool {
         let grammar = self.as_grammar();
-        let conditions = grammar.conditions;
+        let conditions = grammar.conditions();
         conditions.has(condition) && self.goes_on_bare() && !self.allows(self.bare(), conditions.only(condition))
     }
 

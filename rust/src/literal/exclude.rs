@@ -26,7 +26,7 @@ pub(crate) const fn excludes(grammar: &Grammar, text: &[u8], reach: usize) -> Op
 // Returns whether a zero is required behind the sign, which has this length, and another byte is there.
 #[inline(always)]
 const fn lacks_zero(grammar: &Grammar, text: &[u8], sign: usize) -> bool {
-    (grammar.conditions.has(Condition::BasePrefix) || grammar.conditions.has(Condition::LeadingZero))
+    (grammar.conditions().has(Condition::BasePrefix) || grammar.conditions().has(Condition::LeadingZero))
         && sign < text.len()
         && text[sign] != b'0'
 }
@@ -35,7 +35,7 @@ const fn lacks_zero(grammar: &Grammar, text: &[u8], sign: usize) -> bool {
 // none is required, plays no role.
 #[inline(always)]
 const fn lacks_second(grammar: &Grammar, text: &[u8], sign: usize) -> bool {
-    if grammar.conditions.has(Condition::BasePrefix) {
+    if grammar.conditions().has(Condition::BasePrefix) {
         lacks_letter(grammar, text, sign + 1)
     } else {
         is_silent_at(grammar, text, sign + 1)
@@ -139,7 +139,7 @@ const fn has_no_role(grammar: &Grammar, byte: u8) -> bool {
 // Returns whether there is not the base prefix that is required.
 #[inline(always)]
 const fn lacks_prefix(grammar: &Grammar, text: &[u8]) -> bool {
-    grammar.conditions.has(Condition::BasePrefix) && !has_prefix(grammar, text, sign_size(text))
+    grammar.conditions().has(Condition::BasePrefix) && !has_prefix(grammar, text, sign_size(text))
 }
 
 // Returns whether a zero and a base prefix are at `index`.

@@ -20,15 +20,15 @@ pub(crate) const FIRST: Group = Group { part: Part::Integer, separated: false, d
 // Returns whether a condition is on groups of `part`.
 pub(crate) const fn has_size(grammar: &Grammar, part: Part) -> bool {
     match part {
-        Part::Integer => grammar.conditions.has(Condition::IntegerGroupSize),
-        Part::Fraction => grammar.conditions.has(Condition::FractionGroupSize),
+        Part::Integer => grammar.conditions().has(Condition::IntegerGroupSize),
+        Part::Fraction => grammar.conditions().has(Condition::FractionGroupSize),
         Part::Exponent => false,
     }
 }
 
 // Returns the number of a condition.
 const fn size(grammar: &Grammar, condition: Condition) -> usize {
-    grammar.conditions.number(condition) as usize
+    grammar.conditions().number(condition) as usize
 }
 
 // Returns the number of digits of a group of the integer before the last one.

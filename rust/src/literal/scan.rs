@@ -209,8 +209,8 @@ const fn sized(grammar: &Grammar, text: &[u8], begun: Begun) -> Begun {
 // Returns whether no condition is on the first digit, or one follows that they allow.
 #[inline(always)]
 const fn has_first(grammar: &Grammar, text: &[u8], size: usize) -> bool {
-    let needs_zero = grammar.conditions.has(Condition::LeadingZero);
-    let needs_decimal = grammar.conditions.has(Condition::DecimalFirstDigit);
+    let needs_zero = grammar.conditions().has(Condition::LeadingZero);
+    let needs_decimal = grammar.conditions().has(Condition::DecimalFirstDigit);
     (!needs_zero && !needs_decimal) || is_first(grammar, text, size)
 }
 
@@ -220,8 +220,8 @@ const fn has_first(grammar: &Grammar, text: &[u8], size: usize) -> bool {
 const fn is_first(grammar: &Grammar, text: &[u8], size: usize) -> bool {
     size < text.len()
         && is_digit(grammar, Part::Integer, text[size])
-        && (!grammar.conditions.has(Condition::LeadingZero) || text[size] == b'0')
-        && (!grammar.conditions.has(Condition::DecimalFirstDigit) || text[size] <= b'9')
+        && (!grammar.conditions().has(Condition::LeadingZero) || text[size] == b'0')
+        && (!grammar.conditions().has(Condition::DecimalFirstDigit) || text[size] <= b'9')
 }
 
 // Returns the length of the base prefix, with its zero, and the stage behind it, or `None` if a base prefix or a first digit is
@@ -230,7 +230,7 @@ const fn is_first(grammar: &Grammar, text: &[u8], size: usize) -> bool {
 const fn open(grammar: &Grammar, decimal: bool, text: &[u8], sign: usize, stage: Stage) -> Option<(usize, Stage)> {
     if !decimal && sign + 1 < text.len() && text[sign] == b'0' && is_prefix(grammar, text[sign + 1]) {
         Some((2, Stage::Prefixed))
-    } else if !grammar.conditions.has(Condition::BasePrefix) && has_first(grammar, text, sign) {
+    } else if !grammar.conditions().has(Condition::BasePrefix) && has_first(grammar, text, sign) {
         Some((0, stage))
     } else {
         None
@@ -240,7 +240,7 @@ const fn open(grammar: &Grammar, decimal: bool, text: &[u8], sign: usize, stage:
 // Returns whether a byte follows that is no base prefix, and one is required.
 #[inline(always)]
 const fn misses_prefix(grammar: &Grammar, text: &[u8], size: usize) -> bool {
-    size < text.len() && grammar.conditions.has(Condition::BasePrefix) && !is_prefix(grammar, text[size])
+    size < text.len() && grammar.conditions().has(Condition::BasePrefix) && !is_prefix(grammar, text[size])
 }
 
 // Reads the zero with which a required base prefix begins, if it follows.

@@ -197,7 +197,7 @@ const fn allows(grammar: &Grammar, sign: Option<Sign>) -> bool {
         && match sign {
             None => !format.required_mantissa_sign(),
             Some(Sign::Plus) => !format.no_positive_mantissa_sign(),
-            Some(Sign::Minus) => !grammar.conditions.has(Condition::NegativeSign),
+            Some(Sign::Minus) => !grammar.conditions().has(Condition::NegativeSign),
         }
 }
 

@@ -148,7 +148,7 @@ pub(crate) const fn allows_plus(grammar: &Grammar, part: Part) -> bool {
 // Returns whether a minus sign may be before the digits of `part`.
 #[inline(always)]
 pub(crate) const fn allows_minus(grammar: &Grammar, part: Part) -> bool {
-    matches!(part, Part::Exponent) || !grammar.conditions.has(Condition::NegativeSign)
+    matches!(part, Part::Exponent) || !grammar.conditions().has(Condition::NegativeSign)
 }
 
 // Returns whether `byte` is the decimal point.
@@ -252,47 +252,60 @@ pub(crate) const fn is_signed(grammar: &Grammar, part: Part, stage: Stage) -> bo
     !matches!(stage, Stage::Start | Stage::Mark) || !needs_sign
 }
 
+// Returns whether `part` has the digits that flags require.
+#[inline(always)]
+const fn digits_suffice(grammar: &Grammar, part: Part, stage: Stage) -> bool {
+    let digit = has_digit(stage);
+    match part {
+        Part::Integer => !grammar.has(REQUIRED_INTEGER_DIGITS) || digit,
+        Part::Fraction => {
+            (!grammar.has(REQUIRED_FRACTION_DIGITS) || digit)
+                && (!grammar.has(REQUIRED_MANTISSA_DIGITS) || !matches!(stage, Stage::Lone))
+        }
+        Part::Exponent => !grammar.has(REQUIRED_EXPONENT_DIGITS) || digit,
+    }
+}
+
+// Returns whether a byte with the role `role` may follow `part`.
+#[inline(always)]
+const fn continues(grammar: &Grammar, part: Part, stage: Stage, role: Role) -> bool {
+    let digit = has_digit(stage);
+    let led = matches!(stage, Stage::Led);
+    match (part, role) {
+        (Part::Integer, Role::Point) => !grammar.has(NO_FLOAT_LEADING_ZEROS) || !led,
+        (Part::Integer, Role::Exponent) => {
+            !grammar.has(NO_EXPONENT_NOTATION)
+                && (!grammar.has(NO_FLOAT_LEADING_ZEROS) || !led)
+                && (!grammar.has(REQUIRED_MANTISSA_DIGITS) || digit)
+                && !grammar.has(NO_EXPONENT_WITHOUT_FRACTION)
+        }
+        (Part::Integer, Role::Suffix) => {
+            !needs_exponent(grammar) && digit && (!grammar.has(NO_INTEGER_LEADING_ZEROS) || !led)
+        }
+        (Part::Fraction, Role::Exponent) => !grammar.has(NO_EXPONENT_NOTATION),
+        (Part::Fraction, Role::Suffix) => !needs_exponent(grammar),
+        (Part::Exponent, Role::Suffix) => true,
+        _ => false,
+    }
+}
+
 // Returns whether the part that is read may end before a byte with the role `role`.
 #[inline(always)]
 const fn ends_before(grammar: &Grammar, read: Summary, role: Role) -> bool {
     let Summary { stage, gap, .. } = read;
     let part = part_of(stage);
-    let digit = has_digit(stage);
-    let led = matches!(stage, Stage::Led);
-    let may_float = !grammar.has(NO_FLOAT_LEADING_ZEROS) || !led;
-    let needs_digit = match part {
-        Part::Integer => grammar.has(REQUIRED_INTEGER_DIGITS),
-        Part::Fraction if grammar.has(REQUIRED_MANTISSA_DIGITS) && matches!(stage, Stage::Lone) => return false,
-        Part::Fraction => grammar.has(REQUIRED_FRACTION_DIGITS),
-        Part::Exponent => grammar.has(REQUIRED_EXPONENT_DIGITS),
-    };
     is_signed(grammar, part, stage)
-        && (!gap || is_place(grammar, part, digit, false))
-        && (!needs_digit || digit)
-        && match (part, role) {
-            (Part::Integer, Role::Point) => may_float,
-            (Part::Integer, Role::Exponent) => {
-                !grammar.has(NO_EXPONENT_NOTATION)
-                    && may_float
-                    && (!grammar.has(REQUIRED_MANTISSA_DIGITS) || digit)
-                    && !grammar.has(NO_EXPONENT_WITHOUT_FRACTION)
-            }
-            (Part::Integer, Role::Suffix) => {
-                !needs_exponent(grammar) && digit && (!grammar.has(NO_INTEGER_LEADING_ZEROS) || !led)
-            }
-            (Part::Fraction, Role::Exponent) => !grammar.has(NO_EXPONENT_NOTATION),
-            (Part::Fraction, Role::Suffix) => !needs_exponent(grammar),
-            (Part::Exponent, Role::Suffix) => true,
-            _ => false,
-        }
+        && (!gap || is_place(grammar, part, has_digit(stage), false))
+        && digits_suffice(grammar, part, stage)
+        && continues(grammar, part, stage, role)
 }
 
 // Returns whether what has been read is a literal.
 #[inline(always)]
 pub(crate) const fn is_complete(grammar: &Grammar, read: Summary) -> bool {
     (read.ended || ends_before(grammar, read, Role::Suffix))
-        && !(grammar.conditions.has(Condition::BasePrefix) && lacks_prefix(read.stage))
-        && (!grammar.conditions.has(Condition::BaseSuffix) || read.ended)
+        && !(grammar.conditions().has(Condition::BasePrefix) && lacks_prefix(read.stage))
+        && (!grammar.conditions().has(Condition::BaseSuffix) || read.ended)
 }
 
 // Returns whether the base prefix may still follow, or what is left of it.
@@ -445,7 +458,7 @@ pub(crate) const fn step(grammar: &Grammar, read: Summary, byte: u8) -> Option<(
 // Returns what `byte` makes of what has been read if it has the role `role`, or `None` if no literal begins so.
 #[cfg_attr(not(peltzivar_small), inline(always))]
 pub(crate) const fn step_as(grammar: &Grammar, read: Summary, byte: u8, role: Role) -> Option<Summary> {
-    if !read.ended && takes(grammar, read, byte == b'+', role) && admits(grammar.conditions, read, byte, role) {
+    if !read.ended && takes(grammar, read, byte == b'+', role) && admits(grammar.conditions(), read, byte, role) {
         Some(after(read, byte == b'0', role))
     } else {
         None

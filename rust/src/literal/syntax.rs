@@ -258,6 +258,12 @@ impl Grammar {
         self.flags as u128
     }
 
+    // Returns the conditions.
+    #[inline(always)]
+    pub(crate) const fn conditions(self) -> Conditions {
+        self.conditions
+    }
+
     // Returns whether literals are integers alone.
     #[inline(always)]
     pub(crate) const fn is_whole(self) -> bool {
