@@ -1,6 +1,7 @@
 -- A syntax has what reading needs.
 use Rattle.lexical_literal.proofs.Common.{Grammar, HasBegun, HasFound, HasSizes, IsReady, IsTrue, ap, has_sizes, notation_of, raw, steps_of, subst, sym, ◌∙◌}
 use Rattle.lexical_literal.specs.Additions.Scan.{IsDecimal}
+use Rattle.lexical_literal.specs.Additions.Literal.{IsSummed}
 use Rattle.lexical_literal.proofs.StoppedLemmas.{begun_free}
 use Rattle.lexical_literal.proofs.MadeLemmas.{usual_sizes}
 use Rattle.lexical_literal.proofs.syntax.Syntax.begin.Goals as goal
@@ -43,3 +44,11 @@ returns-else-has_sizes-clause-found c =
     begun_free (notation_of c.args.self.now) c.grammar-grammar.ensures.ready c.grammar-grammar.ensures.sizes c.args.text.now c.scan-begun.result
     (subst (λ (g : Grammar). HasFound (steps_of g) c.args.text.now c.scan-begun.result) c.grammar-grammar.ensures.value c.scan-begun.ensures.found)
     (ap (λ (g : Grammar). has_sizes (notation_of g)) (sym c.grammar-grammar.ensures.value) ∙ sym c.has_sizes.ensures ∙ c.if-has_sizes.false)
+
+pub returns-then-has_sizes-clause-summed : goal.returns-then-has_sizes-clause-summed
+returns-then-has_sizes-clause-summed c =
+    subst (λ (g : Grammar). IsSummed (raw g.word) c.args.text.now c.sized.result) c.grammar-grammar.ensures.value c.sized.ensures.summed
+
+pub returns-else-has_sizes-clause-summed : goal.returns-else-has_sizes-clause-summed
+returns-else-has_sizes-clause-summed c =
+    subst (λ (g : Grammar). IsSummed (raw g.word) c.args.text.now c.scan-begun.result) c.grammar-grammar.ensures.value c.scan-begun.ensures.summed
