@@ -8,6 +8,10 @@ ghost use Rattle.lexical_forms.specs.Additions.Forms.{special_separator};
 
 use lexical_literal::step;
 use lexical_literal::syntax::{Condition, Grammar, Syntax};
+use lexical_util::format_flags::{
+    CASE_SENSITIVE_SPECIAL, NO_POSITIVE_MANTISSA_SIGN, NO_SPECIAL, REQUIRED_MANTISSA_SIGN,
+    SPECIAL_DIGIT_SEPARATOR,
+};
 
 /// The spellings of special values. A spelling that is absent or empty matches no text.
 ///
@@ -171,7 +175,7 @@ const fn written_sign(grammar: Grammar, special: Special) -> Option<Sign>
 {
     if is_negative(special.sign) {
         Some(Sign::Minus)
-    } else if grammar.view().required_mantissa_sign() {
+    } else if grammar.has(REQUIRED_MANTISSA_SIGN) {
         Some(Sign::Plus)
     } else {
         None
@@ -220,11 +224,10 @@ const fn split_sign(text: &[u8]) -> (Option<Sign>, &[u8])
 const fn allows(grammar: Grammar, sign: Option<Sign>) -> bool
     ensures { result ≡ allows (notation_of grammar) sign }
 {
-    let format = grammar.view();
-    !format.no_special()
+    !grammar.has(NO_SPECIAL)
         && match sign {
-            None => !format.required_mantissa_sign(),
-            Some(Sign::Plus) => !format.no_positive_mantissa_sign(),
+            None => !grammar.has(REQUIRED_MANTISSA_SIGN),
+            Some(Sign::Plus) => !grammar.has(NO_POSITIVE_MANTISSA_SIGN),
             Some(Sign::Minus) => !grammar.conditions().has(Condition::NegativeSign),
         }
 }
@@ -276,14 +279,14 @@ const fn is_spelled(grammar: Grammar, word: &[u8], text: &[u8]) -> bool
 const fn is_separator(grammar: Grammar, byte: u8) -> bool
     ensures { result ≡ special_separator (notation_of grammar) byte }
 {
-    grammar.view().special_digit_separator() && step::is_separator(grammar, byte)
+    grammar.has(SPECIAL_DIGIT_SEPARATOR) && step::is_separator(grammar, byte)
 }
 
 // Returns whether `byte` is `letter`, letter case aside unless special values are case-sensitive.
 const fn is_letter(grammar: Grammar, letter: u8, byte: u8) -> bool
     ensures { result ≡ (letter_of (notation_of grammar) letter == letter_of (notation_of grammar) byte) }
 {
-    if grammar.view().case_sensitive_special() {
+    if grammar.has(CASE_SENSITIVE_SPECIAL) {
         letter == byte
     } else {
         letter.eq_ignore_ascii_case(&byte)

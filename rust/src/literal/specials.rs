@@ -2,6 +2,9 @@
 
 //! Special values: the texts that are NaN or infinity.
 
+use crate::format_flags::{
+    CASE_SENSITIVE_SPECIAL, NO_POSITIVE_MANTISSA_SIGN, NO_SPECIAL, REQUIRED_MANTISSA_SIGN, SPECIAL_DIGIT_SEPARATOR,
+};
 use crate::literal::step;
 use crate::literal::syntax::{Condition, Grammar, Syntax};
 
@@ -153,7 +156,7 @@ impl<'a> Specials<'a> {
 const fn written_sign(grammar: &Grammar, special: Special) -> Option<Sign> {
     if is_negative(special.sign) {
         Some(Sign::Minus)
-    } else if grammar.view().required_mantissa_sign() {
+    } else if grammar.has(REQUIRED_MANTISSA_SIGN) {
         Some(Sign::Plus)
     } else {
         None
@@ -192,11 +195,10 @@ const fn split_sign(text: &[u8]) -> (Option<Sign>, &[u8]) {
 
 // Returns whether the format and the conditions allow special values with this sign.
 const fn allows(grammar: &Grammar, sign: Option<Sign>) -> bool {
-    let format = grammar.view();
-    !format.no_special()
+    !grammar.has(NO_SPECIAL)
         && match sign {
-            None => !format.required_mantissa_sign(),
-            Some(Sign::Plus) => !format.no_positive_mantissa_sign(),
+            None => !grammar.has(REQUIRED_MANTISSA_SIGN),
+            Some(Sign::Plus) => !grammar.has(NO_POSITIVE_MANTISSA_SIGN),
             Some(Sign::Minus) => !grammar.conditions().has(Condition::NegativeSign),
         }
 }
@@ -241,12 +243,12 @@ const fn is_spelled(grammar: &Grammar, word: &[u8], text: &[u8]) -> bool {
 
 // Returns whether `byte` is a digit separator that a special value may have.
 const fn is_separator(grammar: &Grammar, byte: u8) -> bool {
-    grammar.view().special_digit_separator() && step::is_separator(grammar, byte)
+    grammar.has(SPECIAL_DIGIT_SEPARATOR) && step::is_separator(grammar, byte)
 }
 
 // Returns whether `byte` is `letter`, letter case aside unless special values are case-sensitive.
 const fn is_letter(grammar: &Grammar, letter: u8, byte: u8) -> bool {
-    if grammar.view().case_sensitive_special() {
+    if grammar.has(CASE_SENSITIVE_SPECIAL) {
         letter == byte
     } else {
         letter.eq_ignore_ascii_case(&byte)
