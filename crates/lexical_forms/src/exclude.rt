@@ -66,8 +66,7 @@ const fn lacks_second(grammar: Grammar, text: &[u8], sign: usize) -> bool
 const fn lacks_letter(grammar: Grammar, text: &[u8], index: usize) -> bool
     ensures { IsTrue result → LacksLetter (notation_of grammar) text.now index }
 {
-    index < text.len()
-        && is_apart(grammar.prefix, text[index], other_case(text[index]))
+    index < text.len() && is_apart(grammar.prefix, text[index], other_case(text[index]))
 }
 
 // Returns whether a byte is at `index` that plays no role, and its other case neither.
@@ -144,9 +143,7 @@ const fn has_other_prefix(grammar: Grammar, byte: Option<u8>) -> bool
 {
     match byte {
         None => false,
-        Some(byte) => {
-            !is_prefix(grammar, byte) && is_prefix(grammar, other_case(byte))
-        }
+        Some(byte) => { !is_prefix(grammar, byte) && is_prefix(grammar, other_case(byte)) }
     }
 }
 

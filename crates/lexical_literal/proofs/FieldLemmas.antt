@@ -313,7 +313,7 @@ module _ (a : Inside) (g : Worded) (h : AreFields a) (same : worded a ≡ g) (us
       let radix = byte layout.mantissa_radix 10 from-radix.0 in let base = byte layout.exponent_base 10 from-base.0 in
       let exponent = byte layout.exponent_radix 10 from-exponent.0 in let prefix = byte layout.base_prefix 0 from-prefix.0 in
       let flags = unset a.flags (flag_is a g h same layout.required_mantissa_sign ∙ off _ from-sign.0)
-          (flag_is a g h same layout.required_exponent_notation ∙ off _ from-notation.0) in
+      (flag_is a g h same layout.required_exponent_notation ∙ off _ from-notation.0) in
       let conditions = only ∙ sym (usual_kept a.conditions h.conditions
-          (ap (λ (g : Worded). are_usual g.conditions) same ∙ from-notation.1)) in
+      (ap (λ (g : Worded). are_usual g.conditions) same ∙ from-notation.1)) in
       λ i. record a { radix = radix i; exponent_base = base i; exponent_radix = exponent i; prefix = prefix i; flags = flags i; conditions = conditions i }

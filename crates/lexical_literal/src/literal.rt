@@ -433,14 +433,7 @@ fn sums_of(radix: u32, exponent_radix: u32, parts: &Parts) -> Sums
 // Returns whether the digits of the exponent, or else of the integer and the fraction together, are so few behind their leading zeros that
 // `sum` is the number. There are `digits` of them, and `sum` is the number modulo `2 ^ 64`.
 #[inline(always)]
-fn are_few(
-    radix: u8,
-    text: &[u8],
-    counts: [usize; 9],
-    part: Part,
-    digits: usize,
-    sum: u64,
-) -> bool
+fn are_few(radix: u8, text: &[u8], counts: [usize; 9], part: Part, digits: usize, sum: u64) -> bool
     requires radix { IsRadix radix }
     requires cut { (m : Notation) × IsCut m text.now (cuts_of counts) }
     requires sum { IsSum radix (summed_in part (cut text.now (cuts_of counts))) (record { digits = digits; value = sum }) }

@@ -357,8 +357,8 @@ impl Grammar {
     const fn is_usual(self) -> bool
         ensures { result ≡ is_usual self }
     {
-        let radixes =
-            (self.radix == 10) & ((self.exponent_base == 10) & (self.exponent_radix == 10));
+        let radixes = (self.radix == 10)
+            & ((self.exponent_base == 10) & (self.exponent_radix == 10));
         let required = self.has(REQUIRED_MANTISSA_SIGN) | self.has(REQUIRED_EXPONENT_NOTATION);
         radixes & (self.prefix == 0) & !required & self.conditions.are_usual()
     }
@@ -667,8 +667,9 @@ const fn missing(
         Condition::FractionGroupSize if !grammar.has(FRACTION_INTERNAL_DIGIT_SEPARATOR) => {
             Some(ConditionsErrorKind::NoFractionSeparator)
         }
-        Condition::IntegerGroupSize | Condition::FractionGroupSize if separator == 0 =>
-            Some(ConditionsErrorKind::NoSeparator),
+        Condition::IntegerGroupSize | Condition::FractionGroupSize if separator == 0 => Some(
+            ConditionsErrorKind::NoSeparator,
+        ),
         Condition::HigherGroupSize if !conditions.has(Condition::IntegerGroupSize) => Some(
             ConditionsErrorKind::NoIntegerGroupSize,
         ),

@@ -26,7 +26,7 @@ pub returns-in_default-6 : goal.returns-in_default-6
 returns-in_default-6 c =
     let r = raw c.args.grammar.word in
     let found = none_if c.grammar.inside.separator _ faults.NoSeparator
-        (byte_is c.grammar.inside c.args.grammar c.grammar.invariant c.grammar.view_is layout.digit_separator) c.if-separator-eq0.false in
+    (byte_is c.grammar.inside c.args.grammar c.grammar.invariant c.grammar.view_is layout.digit_separator) c.if-separator-eq0.false in
     elim c.in-IntegerGroupSize-2-1.branch [
       | in-IntegerGroupSize+else-not-has w ↦ found ∙ has_both r layout.integer_internal_digit_separator faults.NoInternalSeparator
           (sym w.has.ensures ∙ w.if-not-has.false) ∙ ap (missing r c.args.conditions) (sym w.in-IntegerGroupSize.is)

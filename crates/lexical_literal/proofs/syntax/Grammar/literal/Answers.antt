@@ -23,9 +23,12 @@ are_few-requires-2-clause-sum c =
     (sym (radix_is c.self.inside c.args.self c.self.invariant c.self.view_is)) c.requires.sums.scale
 
 pub invariant_of-result : goal.invariant_of-result
-invariant_of-result c = (made_of c.self.inside c.args.self c.self.invariant c.self.view_is c.args.text.now (cuts_of c.args.counts) c.args.sums
-    (given c.are_few.result c.args.sums.mantissa.value) (given c.are_few-2.result c.args.sums.exponent.value) c.requires.syntax c.requires.cut
-    c.requires.sums c.are_few.ensures c.are_few-2.ensures, bytes_fit c.self.inside c.self.invariant)
+invariant_of-result c = (
+  made_of c.self.inside c.args.self c.self.invariant c.self.view_is c.args.text.now (cuts_of c.args.counts) c.args.sums
+      (given c.are_few.result c.args.sums.mantissa.value) (given c.are_few-2.result c.args.sums.exponent.value) c.requires.syntax c.requires.cut
+      c.requires.sums c.are_few.ensures c.are_few-2.ensures,
+  bytes_fit c.self.inside c.self.invariant,
+)
 
 pub returns : goal.returns
 returns c = λ i. record {

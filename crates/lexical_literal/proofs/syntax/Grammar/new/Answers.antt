@@ -8,9 +8,16 @@ use Rattle.lexical_literal.proofs.syntax.Grammar.new.Goals as goal
 pub invariant_of-result : goal.invariant_of-result
 invariant_of-result c =
     let a : Inside = (record {
-      exponent_radix = c.exponent_radix.result; exponent_base = c.exponent_base.result; radix = c.mantissa_radix.result; suffix = c.base_suffix.result;
-      prefix = c.base_prefix.result; separator = c.used_separator.result; flags = c.args.word % 2 ^ 64; exponent = c.args.exponent;
-      point = c.args.point; conditions = no_conditions;
+      exponent_radix = c.exponent_radix.result;
+      exponent_base = c.exponent_base.result;
+      radix = c.mantissa_radix.result;
+      suffix = c.base_suffix.result;
+      prefix = c.base_prefix.result;
+      separator = c.used_separator.result;
+      flags = c.args.word % 2 ^ 64;
+      exponent = c.args.exponent;
+      point = c.args.point;
+      conditions = no_conditions;
     }) in
     are_fields c.args.word c.ranges.word.fits c.requires.normal a refl
     (bytes_are c.args.word c.ranges.word.fits c.requires.normal a c.exponent_radix.ensures.value c.exponent_base.ensures.value
@@ -20,9 +27,16 @@ invariant_of-result c =
 pub returns : goal.returns
 returns c =
     let a : Inside = (record {
-      exponent_radix = c.exponent_radix.result; exponent_base = c.exponent_base.result; radix = c.mantissa_radix.result; suffix = c.base_suffix.result;
-      prefix = c.base_prefix.result; separator = c.used_separator.result; flags = c.args.word % 2 ^ 64; exponent = c.args.exponent;
-      point = c.args.point; conditions = no_conditions;
+      exponent_radix = c.exponent_radix.result;
+      exponent_base = c.exponent_base.result;
+      radix = c.mantissa_radix.result;
+      suffix = c.base_suffix.result;
+      prefix = c.base_prefix.result;
+      separator = c.used_separator.result;
+      flags = c.args.word % 2 ^ 64;
+      exponent = c.args.exponent;
+      point = c.args.point;
+      conditions = no_conditions;
     }) in
     worded_is c.args.word c.ranges.word.fits c.requires.normal a refl
     (bytes_are c.args.word c.ranges.word.fits c.requires.normal a c.exponent_radix.ensures.value c.exponent_base.ensures.value

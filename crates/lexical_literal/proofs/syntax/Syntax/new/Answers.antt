@@ -30,10 +30,11 @@ syntax-requires c = is_syntax c.word.result c.normal_form-normal.result c.args.e
 
 pub returns-in-Ok-clause-accepted : goal.returns-in-Ok-clause-accepted
 returns-in-Ok-clause-accepted c =
-    let word = c.normal_form-normal.ensures.word in
-    (subst (λ w. OptionsFit w c.args.exponent c.args.point) word c.in-Ok.ensures.accepted.0,
-    c.syntax.ensures ∙ grammar_is c.word.result c.normal_form-normal.result c.args.exponent c.args.point c.new.result c.word.ensures.word
-    c.in-Ok.ensures.accepted.0 c.new.ensures ∙ ap (λ w. syntax_of w c.args.exponent c.args.point) word)
+    let word = c.normal_form-normal.ensures.word in (
+      subst (λ w. OptionsFit w c.args.exponent c.args.point) word c.in-Ok.ensures.accepted.0,
+      c.syntax.ensures ∙ grammar_is c.word.result c.normal_form-normal.result c.args.exponent c.args.point c.new.result c.word.ensures.word
+          c.in-Ok.ensures.accepted.0 c.new.ensures ∙ ap (λ w. syntax_of w c.args.exponent c.args.point) word,
+    )
 
 pub returns-in-Err-clause-error : goal.returns-in-Err-clause-error
 returns-in-Err-clause-error c = rw (← c.normal_form-normal.ensures.word) c.in-Err.ensures.error
