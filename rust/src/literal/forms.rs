@@ -135,32 +135,33 @@ impl<'a> Forms<'a> {
     // Returns what `parse` returns, where the first form stops at `stop`, if it has been asked.
     #[inline(never)]
     fn parse_behind<T: FromLiteral>(&self, text: &[u8], stop: Option<Stopped>) -> Result<T, ParseError> {
-        let (error, kind) = match self.find_literal(text, stop) {
-            Ok((_, literal)) => match T::from_literal(literal) {
-                Ok(value) => return Ok(value),
-                Err(error) => (error, literal.integer_kind()),
-            },
+        let (value, kind) = match self.find_behind(text, stop) {
+            Ok((_, literal)) => (T::from_literal(literal), literal.integer_kind()),
             Err(furthest) => match self.special(text) {
-                None => return self.refuse(text, furthest),
-                Some(special) => match T::from_special(special) {
-                    Ok(value) => return Ok(value),
-                    Err(error) => (error, IntegerKind::Exact),
-                },
+                Some(special) => (T::from_special(special), IntegerKind::Exact),
+                None => return Err(self.refuse(text, furthest)),
             },
         };
-        Err(ParseError::Value(ValueError::of::<T>(error, text.len(), kind)))
+        value.map_err(|error| ParseError::Value(ValueError::of::<T>(error, text.len(), kind)))
+    }
+
+    // Returns what `find_literal` returns. All types share this code.
+    #[inline(never)]
+    fn find_behind<'t>(&self, text: &'t [u8], stop: Option<Stopped>) -> Result<(usize, Literal<'t>), Furthest> {
+        self.find_literal(text, stop)
     }
 
     // Returns the error of the form that goes furthest, made in its place.
     #[cold]
-    fn refuse<T>(&self, text: &[u8], furthest: Furthest) -> Result<T, ParseError> {
+    #[inline(never)]
+    fn refuse(&self, text: &[u8], furthest: Furthest) -> ParseError {
         let Furthest { form, stop, .. } = furthest;
         let Form { name, ref syntax, ref opening, .. } = self.forms[form];
         if cfg!(peltzivar_small) || !opening.is_empty() {
-            return Err(ParseError::Read(self.error_at(text, furthest)));
+            return ParseError::Read(self.error_at(text, furthest));
         }
         let suffix = self.suffix_at(text, form, stop);
-        Err(ParseError::Read(FormError { form, name, opened: 0, suffix, error: Ok(stop.error(syntax, text)) }))
+        ParseError::Read(FormError { form, name, opened: 0, suffix, error: Ok(stop.error(syntax, text)) })
     }
 
     /// Returns the value of the longest literal of any form that `text` begins with, and the rest of `text`, as
