@@ -220,6 +220,13 @@ fn an_error_tells_a_suffix_that_only_a_token_has() {
             assert_eq!(language.read_bytes(text.as_bytes()), Err(error));
         }
     }
+    // A suffix that is not UTF-8 is not told.
+    for (language, byte) in Language::ALL.iter().flat_map(|it| (0x80..=0xFF).map(move |byte| (it, byte))) {
+        for text in [&[b'1', byte][..], &[b'1', b'_', byte], &[b'1', b'.', b'5', byte]] {
+            let sentence = language.read(text).unwrap_err().to_string();
+            assert!(!sentence.contains("``"), "{language} {text:?}: {sentence}");
+        }
+    }
     let sentence = |it: &str| Language::RUST.parse::<u8>(it).unwrap_err().to_string();
     assert_eq!(sentence("10u8"), "unexpected character 'u'; `u8` is a suffix, which `token` reads");
     assert_eq!(sentence("10u9"), "unexpected character 'u'");

@@ -366,11 +366,14 @@ impl FormError {
 impl fmt::Display for FormError {
     fn fmt(&self, f: &mut fmt::Formatter<'_>) -> fmt::Result {
         match &self.error {
-            Ok(error) if self.suffix[0] != 0 => {
-                let text = if f.alternate() { error.full_text() } else { error.text() };
-                let suffix = str::from_utf8(&self.suffix).unwrap_or_default().trim_end_matches('\0');
-                f.pad(text.and("; `").and(suffix).and("` is a suffix, which `token` reads").as_str())
-            }
+            Ok(error) if self.suffix[0] != 0 => match str::from_utf8(&self.suffix) {
+                Ok(suffix) => {
+                    let text = if f.alternate() { error.full_text() } else { error.text() };
+                    let suffix = suffix.trim_end_matches('\0');
+                    f.pad(text.and("; `").and(suffix).and("` is a suffix, which `token` reads").as_str())
+                }
+                Err(_) => error.fmt(f),
+            },
             Ok(error) => error.fmt(f),
             Err(Unopened { opening, .. }) => {
                 write!(f, "expected the opening `{}`", str::from_utf8(opening.as_bytes()).unwrap_or_default())
