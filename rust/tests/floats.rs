@@ -8,11 +8,6 @@ use peltzivar::Format;
 use random::Random;
 use std::fmt::{Debug, Display, LowerExp};
 
-/// How many floats are written: `FLOATS=1000000 cargo test --release --test floats` writes more.
-fn count() -> usize {
-    std::env::var("FLOATS").map_or(2_000, |count| count.parse().unwrap())
-}
-
 /// A float type, and its bits.
 trait Bits: WriteFloat + LowerExp + Display + Debug {
     const FRACTION: u32;
@@ -81,7 +76,7 @@ fn floats_are_written_as_std_writes_them() {
     let state = &mut Random::new(20_261_132);
     (-323..=308).for_each(|power| compare(format!("1e{power}").parse::<f64>().unwrap()));
     (-45..=38).for_each(|power| compare(format!("1e{power}").parse::<f32>().unwrap()));
-    for _ in 0..10 * count() {
+    for _ in 0..20_000 {
         compare(float::<f64>(state));
         compare(float::<f32>(state));
     }
