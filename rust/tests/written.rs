@@ -33,8 +33,8 @@ fn read(language: Language, text: &str) -> Option<Given<'_>> {
         Ok(Number::Special(_)) => return None,
         Err(_) => {
             let is_written = |it: &Token| {
-                let form = language.forms().as_slice().get(it.form);
-                it.rest.is_empty() && form.is_some_and(|form| form.suffixes().unwrap().written().contains(&it.suffix))
+                let suffixes = language.forms().as_slice().get(it.form).and_then(Form::suffixes);
+                it.rest.is_empty() && suffixes.is_some_and(|words| words.written().contains(&it.suffix))
             };
             let token = language.token(text).ok().filter(is_written)?;
             (token.literal, token.form)
