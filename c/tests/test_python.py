@@ -287,6 +287,33 @@ class Literals(unittest.TestCase):
         for syntax, value, sentence in wrong:
             self.assertRaisesRegex(ValueError, sentence, syntax.format_number, value)
 
+    def test_tokens_are_those_of_the_rows(self):
+        rows = (TOP / "rust/tests/tokens.txt").read_text(encoding="utf-8")
+        back = re.search("^# BACK = (.*)$", rows, re.M)[1]
+        for line in rows.splitlines():
+            if not line or line.startswith("# "):
+                continue
+            text, names, wanted = line.split(" ; ")
+            for name in (back if names == "BACK" else names).split():
+                # The forms of a language, and the same as forms of one's own.
+                for forms in (Language[name], pickle.loads(pickle.dumps(Language[name].forms))):
+                    with self.subTest(line, name=name):
+                        try:
+                            token = forms.token(text.encode())
+                            taken = text.encode()
+                            self.assertIn(token.literal.text, taken)
+                            self.assertTrue(taken.endswith(token.suffix + token.rest))
+                            self.assertEqual(token.end, len(taken) - len(token.rest))
+                            stated = f"{token.literal}|{token.suffix.decode()}"
+                            self.assertEqual(pickle.loads(pickle.dumps(token.literal)), token.literal)
+                            self.assertEqual(forms.token(text).rest.encode(), token.rest)
+                        except LiteralError as error:
+                            # Known suffixes are behind a semicolon.
+                            stated = f"{error.span[0]}..{error.span[1]} {str(error).split(';')[0]}"
+                            if error.kind in (ReadErrorKind.SUFFIX, ReadErrorKind.POINT, ReadErrorKind.STOP):
+                                self.assertEqual(error.valid_up_to, error.span[0])
+                        self.assertEqual(stated, wanted)
+
     def test_a_list_has_at_most_256_words(self):
         for most in (256, 257):
             with contextlib.nullcontext() if most == 256 else self.assertRaisesRegex(ValueError, "more than 256 words, kinds of suffixes, or stops"):

@@ -1,10 +1,19 @@
 //! Numbers of several forms: which form has a text, which has its error, and which writes a number.
 
+#[path = "known/limits.rs"]
+#[allow(dead_code, reason = "`kinds.rs` uses the rest")]
+mod limits;
+#[path = "../../compare/rust/src/random.rs"]
+mod random;
+
+use limits::{whole, Limits};
 use peltzivar::literal::{
-    Condition, Conditions, ExponentStyle, FloatKind, Form, Forms, IntegerKind, Kind, Language, Number, Opening,
-    ParseError, Real, Specials, Style, Syntax, Whole, Writable, WriteError,
+    Condition, Conditions, ExponentStyle, FloatKind, Form, Forms, IntegerKind, Kind, Language, Literal, Number,
+    Opening, ParseError, Real, Specials, Style, Syntax, Whole, Writable, WriteError,
 };
-use peltzivar::{Format, NumberFormatBuilder};
+use peltzivar::{Format, NumberFormatBuilder, Part};
+use random::Random;
+use std::iter;
 
 /// What a lexer gets of the text that begins with a number: its value and the rest, or the bytes to blame.
 #[test]
@@ -69,6 +78,49 @@ fn is_unsigned(forms: &Forms, value: f64) -> bool {
     value.is_sign_negative() && written.all(|form| form.syntax().conditions().has(Condition::NegativeSign))
 }
 
+/// Returns digits of std with the point and the groups of a language. Common Lisp and Fortran have `d0` where a single is another number.
+fn amount_in(language: Language, digits: &str) -> String {
+    let (group, point) = match language.name() {
+        "CSV_EN" => (",", "."),
+        "CSV_DE" => (".", ","),
+        _ => ("", "."),
+    };
+    let (integer, fraction) = digits.split_once('.').unwrap_or((digits, ""));
+    let split = if integer.trim_matches('-').len() > 3 { integer.len() - 3 } else { 0 };
+    let single = digits.parse::<f32>().map(f64::from) == digits.parse::<f64>();
+    let has_singles = [Language::COMMON_LISP, Language::FORTRAN].contains(&language);
+    [
+        &integer[..split],
+        if split > 0 { group } else { "" },
+        &integer[split..],
+        if fraction.is_empty() { "" } else { point },
+        fraction,
+        if has_singles && !fraction.is_empty() && !single { "d0" } else { "" },
+    ]
+    .concat()
+}
+
+#[test]
+fn amounts_are_rounded_as_std_rounds_them() {
+    let state = &mut Random::new(20_261_201);
+    for (language, index) in Language::ALL.iter().flat_map(|language| (0..1000).map(move |index| (*language, index))) {
+        let amount = state.below(10_000_000) as f64 / if index % 4 == 0 { -1000.0 } else { 1000.0 };
+        for places in 0..=6 {
+            let (style, size) = (Style::PLAIN.decimals(places), usize::from(places));
+            // Bash has no floats.
+            let wanted = if language == Language::BASH {
+                Err(WriteError::Fraction)
+            } else if is_unsigned(language.forms(), amount) {
+                Err(WriteError::Negative)
+            } else {
+                Ok(amount_in(language, &format!("{amount:.size$}")))
+            };
+            let written = language.forms().format_float(amount, style);
+            assert_eq!(written.map(|text| text.to_string()), wanted, "{language}");
+        }
+    }
+}
+
 /// The floats of PostScript are all singles.
 #[test]
 fn a_double_is_written_where_all_floats_are_singles() {
@@ -86,6 +138,78 @@ fn a_double_is_written_where_all_floats_are_singles() {
     let (large, small) = (WriteError::TooLarge, WriteError::ReadBack);
     for (value, error) in [(1e39, large), (-1e300, large), (1e-46, small), (f64::MIN_POSITIVE, small)] {
         assert_eq!(forms.format_float(value, Style::PLAIN).err(), Some(error), "{value}");
+    }
+}
+
+/// Returns whether a literal can be a number: an integer by the bits of its kind, and a float if it is exactly this
+/// number.
+fn has(limits: &Limits, is_float: bool, number: i128) -> bool {
+    let size = number.unsigned_abs();
+    let above = |bits: u32, size: u128| size.checked_shr(bits).is_some_and(|it| it > 0);
+    match limits.integers {
+        _ if is_float => size == if limits.single { size as f32 as u128 } else { size as f64 as u128 },
+        None => true,
+        Some(('u', bits)) => number >= 0 && !above(bits, size),
+        Some((_, bits)) => !above(bits - 1, if number < 0 { size - 1 } else { size }),
+    }
+}
+
+/// Returns the whole number that a text with a suffix is by its digits, their radix and its exponent, if a literal with
+/// this suffix can be this number.
+fn number_of(language: Language, text: &str, suffix: &str) -> Option<i128> {
+    let (literal, form) = whole(language, text, suffix)?;
+    let digits =
+        |part: &[u8]| part.iter().map(|it| char::from(*it)).filter(|it| it.is_alphanumeric()).collect::<String>();
+    let [integer, fraction, exponent] = [literal.integer(), literal.fraction(), literal.exponent()].map(digits);
+    let fraction = fraction.trim_end_matches('0');
+    let exponent: u32 = format!("0{exponent}").parse().ok()?;
+    let (up, down) = if literal.exponent_sign() == b"-" { (0, exponent) } else { (exponent, 0) };
+    let (radix, base) = (literal.radix(Part::Integer), form.syntax().format().exponent_base());
+    let power = |base: u32, exponent| i128::from(base).checked_pow(exponent);
+    let size = i128::from_str_radix(&(integer + fraction), radix).ok()?.checked_mul(power(base, up)?)?;
+    let divisor = power(radix, fraction.len() as u32)?.checked_mul(power(base, down)?)?;
+    let number = size / divisor * if literal.is_negative() { -1 } else { 1 };
+    let is_whole = size % divisor == 0;
+    (is_whole && has(&Limits::of(language, form, suffix), literal.is_float(), number)).then_some(number)
+}
+
+/// Returns what a list writes for a decimal integer: the first text that is this integer by the limits of the language. Decimal
+/// forms come first, and each form writes it without a word and then with its words.
+fn integer_in(language: Language, literal: &Literal, value: i128) -> Option<String> {
+    let forms = language.forms();
+    let is_value = |text: &str, word| number_of(language, text, word) == Some(value);
+    let asked = |decimal| forms.into_iter().filter(move |it| (it.syntax().format().mantissa_radix() == 10) == decimal);
+    asked(true).chain(asked(false)).find_map(|form| {
+        let text = form.syntax().format_literal(literal, Style::PLAIN).ok()?.to_string();
+        let words = form.suffixes().into_iter().flat_map(|it| it.written());
+        let words = words.filter_map(|word| std::str::from_utf8(word).ok());
+        let mut texts = iter::once("").chain(words).map(|word| (format!("{text}{word}"), word));
+        texts.find(|(text, word)| is_value(text, word)).map(|it| it.0)
+    })
+}
+
+/// No wish for an exponent changes what is written.
+#[test]
+fn an_integer_never_becomes_another_number() {
+    let state = &mut Random::new(20_261_202);
+    let powers = (0..126).map(|bits| 1 << bits).chain((0..38).map(|power| 10_i128.pow(power)));
+    let mut values = Vec::from_iter(powers.flat_map(|power| [power - 1, power, power + 1]));
+    values.extend((0..300).map(|_| (state.bits() >> 1) as i128 >> state.below(127)));
+    for (language, value) in Language::ALL.iter().flat_map(|it| values.iter().map(move |value| (it, *value))) {
+        let (forms, value) = (language.forms(), if state.one_in(2) { value } else { -value });
+        let digits = value.to_string();
+        let literal = Language::YAML.read(&digits).unwrap().literal().unwrap();
+        let wanted = integer_in(*language, &literal, value).ok_or_else(|| match forms.read(&digits) {
+            Ok(Number::Literal { literal, .. }) if literal.to_i128().is_err() => WriteError::TooLarge,
+            Ok(_) => WriteError::ReadBack,
+            Err(_) => WriteError::Negative,
+        });
+        for wish in [ExponentStyle::AsNumber, ExponentStyle::Always, ExponentStyle::Never] {
+            let style = Style::PLAIN.exponent(wish);
+            for written in [forms.format_integer(value, style), forms.format_literal(&literal, style)] {
+                assert_eq!(written.map(|text| text.to_string()), wanted, "{language}: {value}, {wish:?}");
+            }
+        }
     }
 }
 

@@ -320,6 +320,19 @@ fn a_special_value_is_a_sign_and_a_spelling() {
     }
 }
 
+#[test]
+fn the_first_spelling_that_is_not_empty_matches() {
+    let read = |inf: &'static [u8], text| {
+        let specials = Specials { nan: None, inf: Some(inf), infinity: Some(b"+oo") };
+        specials.read(&Syntax::integers(Format::default()), text).map(|it| (it.sign, it.spelling))
+    };
+    assert_eq!(["", "+", "+oo"].map(|text| read(b"", text)), [None; 3]);
+    assert_eq!(
+        [read(b"", "++oo"), read(b"+oo", "++oo")],
+        [Spelling::Infinity, Spelling::Inf].map(|it| Some((Some(Sign::Plus), it)))
+    );
+}
+
 /// Each flag has a row: settings, and the phrases that the sentence has beside `decimal` and `NaN`, or lacks.
 #[test]
 fn sentences_on_syntaxes_state_each_difference() {

@@ -140,7 +140,7 @@ fn texts() -> impl Iterator<Item = &'static str> {
 #[test]
 fn some_texts_are_read_back_as_the_number() {
     let (random, texts) = (&mut Random::new(20_261_203), Vec::from_iter(texts()));
-    for _ in 0..50_000 {
+    for _ in 0..80_000 {
         let given = read(random.pick(Language::ALL), random.pick(&texts));
         assert_eq!(given.map_or(vec![], |given| faults(&given, random.pick(Language::ALL))), [""; 0]);
     }
