@@ -86,6 +86,10 @@ pub record IsAhead (back : PointsBack) (text : List ℕ) (end : ℕ) (form : For
 abbrev pub lets_words : Tokens → Form → List ℕ → ℕ → Bool
 lets_words t form text end = t.any_word_follows && not (is_in (notation_of form.syntax).point (byte_before text end))
 
+-- `part_size text stop` is the number of bytes up to the end of the word at `stop`, and at least 1 unless `text` is empty.
+abbrev pub part_size : List ℕ → ℕ → ℕ
+part_size text stop = let end = stop + word_size [] (drop stop text) in if (end == 0) && nat_lt 0 (length text) then 1 else end
+
 -- Forms of a list, and those that need a suffix, whose indexes are behind.
 module _ (list : FormList) (t : Tokens) (text : List ℕ) where
   -- `IsChosen index form size end` holds if `form`, with this index, has the longest candidate: the best of the list, and no form that needs a suffix
@@ -137,17 +141,16 @@ module _ (list : FormList) (t : Tokens) (text : List ℕ) where
   IsRefused = HasNone ⊎ ((index : ℕ) × (form : Form) × (size : ℕ) × (end : ℕ) × (IsCut index form size end true ⊎ (IsChosen index form size end
       × (IsFollowed end → ⊥) × (i : ℕ) × IsSomeAnd (slice_get list.forms i) (IsAhead t.gives_points_back text end))))
 
-  -- `IsWordUpTo size` holds if the form of the list that goes furthest in `text` stops in a word that ends at `size`.
-  abbrev pub IsWordUpTo : ℕ → Type 0
-  IsWordUpTo size = (index : ℕ) × (stop : ℕ) × IsGreatest (λ form. IsValidBy (ReadsIn form) text) list.forms index stop
-      × (size ≡ stop + word_size [] (drop stop text))
+  -- `IsPartUpTo size` holds if `size` is the size of the part up to the word where the form of the list stops that goes furthest in `text`.
+  abbrev pub IsPartUpTo : ℕ → Type 0
+  IsPartUpTo size = (index : ℕ) × (stop : ℕ) × IsGreatest (λ form. IsValidBy (ReadsIn form) text) list.forms index stop × (size ≡ part_size text stop)
 
   -- `IsTokenError error` holds if `error` says why `text` begins with no token: a form is to blame, or behind the longest candidate a word follows that
   -- is not one of the suffixes of its form, and ends at `end`, or a byte that may not follow, and then maybe a word.
   abbrev pub IsTokenError : TokenError → Type 0
   IsTokenError errors.NoTokens = ⊥
-  IsTokenError (errors.Literal error) = IsRefused × ((size : ℕ) × IsWordUpTo size × IsFormError list.forms (take size text) error)
-  IsTokenError (errors.NotAToken end) = IsRefused × IsWordUpTo end × (NoForm list.forms (take end text) → ⊥)
+  IsTokenError (errors.Literal error) = IsRefused × ((size : ℕ) × IsPartUpTo size × IsFormError list.forms (take size text) error)
+  IsTokenError (errors.NotAToken end) = IsRefused × IsPartUpTo end × (NoForm list.forms (take end text) → ⊥)
   IsTokenError (errors.UnknownSuffix index start end suffixes) = (form : Form) × (behind : ℕ) × IsCut index form start behind false
       × (is_in is_word_byte (slice_get text behind) ≡ true) × (end ≡ stop_end (more_of form.suffixes) text behind)
       × ((l : Literal) × ReadsIn form l (take start text) × (suffixes.now ≡ suffix_words form.suffixes (is_float l)))

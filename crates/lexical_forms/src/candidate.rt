@@ -10,7 +10,7 @@ ghost use Rattle.lexical_literal.specs.Cause.{is_in};
 ghost use Rattle.lexical_literal.specs.Notation.{notation_of};
 ghost use Rattle.lexical_forms.specs.Forms.{IsGreatest, ReadsIn};
 ghost use Rattle.lexical_forms.specs.Suffix.{is_stopped, kind_with, stop_end};
-ghost use Rattle.lexical_forms.specs.Token.{HasNone, IsAhead, IsReadByTokens, IsRefused, IsTokenError, NoCandidate, is_alone, is_shorter, lets_words};
+ghost use Rattle.lexical_forms.specs.Token.{HasNone, IsAhead, IsReadByTokens, IsRefused, IsTokenError, NoCandidate, is_alone, is_shorter, lets_words, part_size};
 
 use crate::form::Form;
 use crate::list::{Forms, PointsBack, Tokens};
@@ -100,9 +100,7 @@ impl<'a> Forms<'a> {
         requires { IsRefused self.now _tokens.now text.now }
         ensures { IsTokenError self.now _tokens.now text.now result }
     {
-        let size = furthest_stop(self.forms, text);
-        let (_, rest) = text.split_at(size);
-        let end = size + word_size(&[], rest);
+        let end = part_size(text, furthest_stop(self.forms, text));
         let (word, _) = text.split_at(end);
         match self.find_literal(word, None) {
             Err(furthest) => TokenError::Literal(self.error_at(word, furthest)),
@@ -251,6 +249,17 @@ fn furthest_stop(forms: &[Form], text: &[u8]) -> usize
         Some((_, size)) => size,
         None => 0,
     }
+}
+
+// Returns the number of bytes up to the end of the word at `stop`, and at least 1 unless `text` is empty.
+fn part_size(text: &[u8], stop: usize) -> usize
+    requires { stop ≤ length text.now }
+    ensures size { result ≡ part_size text.now stop }
+    ensures within { result ≤ length text.now }
+{
+    let (_, rest) = text.split_at(stop);
+    let end = stop + word_size(&[], rest);
+    if end == 0 && text.len() > 0 { 1 } else { end }
 }
 
 // Returns which of two forms goes further, the first of equals.

@@ -76,15 +76,13 @@ impl<'a> Forms<'a> {
     // Returns why `text` does not begin with a token.
     #[cold]
     const fn fail(&self, _tokens: &Tokens, text: &[u8]) -> TokenError {
-        let size = furthest_stop(self.forms, text);
-        let (_, rest) = text.split_at(size);
-        let end = size + word_size(&[], rest);
+        let end = part_size(text, furthest_stop(self.forms, text));
         let (word, _) = text.split_at(end);
         if cfg!(peltzivar_small) {
-            return self.fault(word, end);
+            return self.fault(text, end);
         }
         match self.find_literal(word, None) {
-            Err(furthest) => TokenError::Literal(self.error_at(word, furthest)),
+            Err(furthest) => TokenError::Literal(self.error_at(word, furthest).before(end < text.len())),
             Ok(_) => TokenError::NotAToken { end },
         }
     }
@@ -192,6 +190,17 @@ const fn furthest_stop(forms: &[Form], text: &[u8]) -> usize {
     match furthest {
         Some((_, size)) => size,
         None => 0,
+    }
+}
+
+// Returns the number of bytes up to the end of the word at `stop`, and at least 1 unless `text` is empty.
+const fn part_size(text: &[u8], stop: usize) -> usize {
+    let (_, rest) = text.split_at(stop);
+    let end = stop + word_size(&[], rest);
+    if end == 0 && text.len() > 0 {
+        1
+    } else {
+        end
     }
 }
 
