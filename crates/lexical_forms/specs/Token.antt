@@ -1,6 +1,6 @@
 -- Tokens: numbers that a text begins with, each with its suffix, and whatever follows.
 use Rattle.std.specs.Prelude.{ℕ, ◌≡◌, ◌+◌, ◌-◌, ◌==◌, ◌&&◌, ◌||◌, ◌<◌, ◌⊎◌, Bool, true, false, if◌then◌else◌, nat_lt, IsTrue, IsSomeAnd, List, Option, Some}
-use Rattle.std.specs.Prelude.{[], None, All, Result, Ok, Err, drop, length, not, slice_get, take}
+use Rattle.std.specs.Prelude.{[], ◌++◌, None, All, Result, Ok, Err, drop, length, map, not, slice_get, take}
 use Rattle.std.specs.Borrow.{Bor}
 use Rattle.std.specs.Char.{is_ascii_alphabetic, is_ascii_digit}
 use Rattle.lexical_util.specs.Ascii.{ByteSet}
@@ -54,24 +54,13 @@ pub record IsCandidate (back : PointsBack) (needs : Bool) (text : List ℕ) (for
 abbrev pub is_shorter : ℕ → ℕ → ℕ → ℕ → Bool
 is_shorter size end other_size other_end = nat_lt end other_end || ((end == other_end) && nat_lt size other_size)
 
--- `AllShorter`, `NoLonger` and `NoCandidate` hold of a form whose candidate, if it has one, is shorter than one of `size` bytes that ends
--- at `end`, or not longer, or that has none.
-module _ (back : PointsBack) (needs : Bool) (text : List ℕ) where
-  abbrev pub AllShorter : ℕ → ℕ → Form → Type 0
-  AllShorter size end form = (s e : ℕ) → IsCandidate back needs text form s e → is_shorter s e size end ≡ true
+-- `tried list t` lists the forms of the list, and then those that need a suffix, each with whether it does.
+abbrev pub tried : FormList → Tokens → List (Form × Bool)
+tried list t = map (λ form. (form, false)) list.forms ++ map (λ form. (form, true)) t.forms.now
 
-  abbrev pub NoLonger : ℕ → ℕ → Form → Type 0
-  NoLonger size end form = (s e : ℕ) → IsCandidate back needs text form s e → is_shorter size end s e ≡ false
-
-  abbrev pub NoCandidate : Form → Type 0
-  NoCandidate form = (s e : ℕ) → IsCandidate back needs text form s e → ⊥
-
--- `IsBest back needs forms text index size end` holds if the form with this index is the first of `forms` with the longest candidate,
--- which has a literal of `size` bytes and ends at `end`.
-pub record IsBest (back : PointsBack) (needs : Bool) (forms : List Form) (text : List ℕ) (index size end : ℕ) : Type 0 where
-  pub here : IsSomeAnd (slice_get forms index) (λ form. IsCandidate back needs text form size end)
-  pub before : All (AllShorter back needs text size end) (take index forms)
-  pub others : All (NoLonger back needs text size end) forms
+-- `Has back text it size end` holds if the form of `it` has this candidate.
+abbrev pub Has : PointsBack → List ℕ → Form × Bool → ℕ → ℕ → Type 0
+Has back text it size end = IsCandidate back it.1 text it.0 size end
 
 -- `IsAhead back text end form` holds if some literal of `form` begins with more than the first `end` bytes of `text`, and not only with a
 -- point that stands alone in a list that gives points back.
@@ -92,14 +81,13 @@ part_size text stop = let end = stop + word_size [] (drop stop text) in if (end 
 
 -- Forms of a list, and those that need a suffix, whose indexes are behind.
 module _ (list : FormList) (t : Tokens) (text : List ℕ) where
-  -- `IsChosen index form size end` holds if `form`, with this index, has the longest candidate: the best of the list, and no form that needs a suffix
-  -- has a longer one, or the best of those, and a longer one than the forms of the list.
-  abbrev pub IsChosen : ℕ → Form → ℕ → ℕ → Type 0
-  IsChosen index form size end =
-      ((slice_get list.forms index ≡ Some form) × IsBest t.gives_points_back false list.forms text index size end
-      × All (NoLonger t.gives_points_back true text size end) t.forms.now)
-      ⊎ ((behind : ℕ) × (index ≡ length list.forms + behind) × (slice_get t.forms.now behind ≡ Some form)
-      × IsBest t.gives_points_back true t.forms.now text behind size end × All (AllShorter t.gives_points_back false text size end) list.forms)
+  -- `IsChosen index form size end` holds if `form`, with this index, is the first that has the longest candidate.
+  pub record IsChosen (index : ℕ) (form : Form) (size end : ℕ) : Type 0 where
+    pub needs : Bool
+    pub at : slice_get (tried list t) index ≡ Some (form, needs)
+    pub own : Has t.gives_points_back text (form, needs) size end
+    pub before : All (λ it. (s e : ℕ) → Has t.gives_points_back text it s e → is_shorter s e size end ≡ true) (take index (tried list t))
+    pub others : All (λ it. (s e : ℕ) → Has t.gives_points_back text it s e → is_shorter size end s e ≡ false) (tried list t)
 
   -- `IsFollowed end` holds if a word that may follow a number is behind `end`.
   abbrev pub IsFollowed : ℕ → Type 0
@@ -135,7 +123,7 @@ module _ (list : FormList) (t : Tokens) (text : List ℕ) where
   -- `HasNone` holds if no form has a candidate, and `IsRefused` if none has one, if a literal goes on behind the longest, or if a digit is directly
   -- behind it. Then a form is to blame.
   abbrev pub HasNone : Type 0
-  HasNone = All (NoCandidate t.gives_points_back false text) list.forms × All (NoCandidate t.gives_points_back true text) t.forms.now
+  HasNone = All (λ it. (s e : ℕ) → Has t.gives_points_back text it s e → ⊥) (tried list t)
 
   abbrev pub IsRefused : Type 0
   IsRefused = HasNone ⊎ ((index : ℕ) × (form : Form) × (size : ℕ) × (end : ℕ) × (IsCut index form size end true ⊎ (IsChosen index form size end
