@@ -6,8 +6,10 @@ mod random;
 
 use peltzivar::literal::{
     Form, FormError, Forms, FromLiteral, Kind, Language, Literal, Number, Opening, ParseError, Special, Specials,
+    Suffixes, Tokens,
 };
 use random::Random;
+use std::cmp::Reverse;
 use std::fmt::{Debug, Display};
 use std::ops::Range;
 
@@ -33,11 +35,40 @@ fn text(random: &mut Random) -> Vec<u8> {
 /// Openings that overlap literals. Those with a capital letter are case-sensitive.
 const OPENINGS: [&[u8]; 9] = [b"0", b"0x", b"x", b"1", b"12", b"0Xe5", b"-", b"e", b"8F.+0001"];
 
-/// Returns a form of any language, with the kind of another one, maybe with an opening.
+/// Suffixes of half of the forms, and words that may follow numbers.
+const WORDS: Suffixes = Suffixes::new(&[b"u8", b"x", b"D0", b"x-", b"-", b"2x"], &[b"f", b"f1", b"f,f"], &[]);
+static SUFFIXES: [Suffixes; 4] = [
+    WORDS,
+    WORDS.whole_words(true),
+    WORDS.whole_words(true).with_word_bytes(b"-"),
+    WORDS.any_word(b"h,").with_word_bytes(b"-,"),
+];
+const FOLLOWING: [&[u8]; 2] = [b"inf", b"x"];
+
+/// What points are given back to.
+#[derive(Clone, Copy, PartialEq)]
+enum Back {
+    Never,
+    ToWords,
+    ToLetters,
+}
+
+/// A list, the forms that need a suffix, to what points are given back, and whether any word may follow.
+struct Case {
+    list: Forms<'static>,
+    needing: &'static [Form],
+    back: Back,
+    any_word_follows: bool,
+}
+
+/// Returns a form of any language, with the kind of another one, maybe with an opening and suffixes.
 fn form(random: &mut Random, are_opened: bool) -> Form {
     let forms: Vec<Form> = Language::ALL.iter().flat_map(Language::forms).copied().collect();
     let [from, kind] = [random.pick(&forms), random.pick(&forms)];
     let mut form = Form::new(from.name(), from.syntax()).with_kind(kind.kind());
+    if random.one_in(2) {
+        form = form.with_suffixes(&SUFFIXES[usize::from(random.byte(0, 3))]);
+    }
     if are_opened && random.one_in(2) {
         let bytes = random.pick(&OPENINGS);
         let is_case_sensitive = bytes.iter().any(u8::is_ascii_uppercase);
@@ -47,15 +78,22 @@ fn form(random: &mut Random, are_opened: bool) -> Form {
 }
 
 /// Returns a list of forms, some with special values that begin as literals do.
-fn list(random: &mut Random) -> Forms<'static> {
-    let (are_opened, count) = (random.one_in(2), random.byte(1, 5));
-    let forms = (0..count).map(|_| form(random, are_opened)).collect::<Vec<_>>().leak();
+fn list(random: &mut Random) -> Case {
+    let are_opened = random.one_in(2);
+    let mut forms = |least, most| {
+        let count = random.byte(least, most);
+        &*(0..count).map(|_| form(random, are_opened)).collect::<Vec<_>>().leak()
+    };
+    let (list, needing) = (forms(1, 5), forms(0, 2));
+    let back = random.pick(&[Back::Never, Back::ToWords, Back::ToLetters]);
+    let any_word_follows = random.one_in(4);
+    let tokens = Tokens::new(needing, &FOLLOWING).gives_points_back(back == Back::ToWords);
+    let tokens = if back == Back::ToLetters { tokens.gives_points_to_letters() } else { tokens };
+    let tokens = Box::leak(Box::new(tokens.any_word_follows(any_word_follows)));
     let odd = Specials { nan: Some(b"1x"), inf: Some(b"0x"), infinity: Some(b"q1") };
-    Forms::new_or_panic(forms).with_specials(random.pick(&[
-        Specials::default(),
-        Language::TOML.forms().specials(),
-        odd,
-    ]))
+    let specials = random.pick(&[Specials::default(), Language::TOML.forms().specials(), odd]);
+    let list = Forms::new_or_panic(list).with_specials(specials).with_tokens(tokens);
+    Case { list, needing, back, any_word_follows }
 }
 
 /// How many bytes of an opening a text begins with.
@@ -148,6 +186,90 @@ fn read_prefix(list: &Forms, text: &[u8]) -> Result<(usize, usize), (usize, Why)
     }
 }
 
+fn is_word_byte(byte: u8) -> bool {
+    byte.is_ascii_alphanumeric() || byte == b'_' || byte >= 128
+}
+
+/// The length of the word with which a text begins. It may have more bytes.
+fn word(text: &[u8], more: &[u8]) -> usize {
+    text.iter().take_while(|it| is_word_byte(**it) || more.contains(it)).count()
+}
+
+/// The bytes that words of a form have besides.
+fn more(form: &Form) -> &'static [u8] {
+    form.suffixes().map_or(&[][..], Suffixes::word_bytes)
+}
+
+/// Whether the byte at an index is the point of a form.
+fn is_point(form: &Form, text: &[u8], index: usize) -> bool {
+    form.syntax().point().is_some_and(|it| text.get(index) == Some(&it))
+}
+
+/// The lengths of the longest literal of a form, without a point that is given back, and of this with its suffix.
+fn candidate(form: &Form, needs: bool, back: Back, text: &[u8]) -> Option<(usize, usize)> {
+    let mut size = longest(form, text)?;
+    let takes = |it: &u8| match back {
+        Back::Never => false,
+        Back::ToWords => *it == b'.' || is_word_byte(*it),
+        Back::ToLetters => it.is_ascii_alphabetic(),
+    };
+    if text.get(size).is_some_and(takes) && is_point(form, text, size - 1) {
+        size -= 1;
+    }
+    let literal = behind(form, &text[..size])?;
+    let words = form.suffixes().map_or(&[][..], |it| if literal.is_float() { it.floats() } else { it.integers() });
+    let (behind, whole) = (&text[size..], word(&text[size..], more(form)));
+    let is_whole = form.suffixes().is_some_and(|it| SUFFIXES[1..3].contains(it));
+    let is_suffix =
+        |it: &&&[u8]| behind.starts_with(it) && if is_whole { it.len() == whole } else { it.len() <= whole };
+    let any = form.suffixes().is_some_and(|it| behind.first().is_some_and(|byte| it.begins_any_word().contains(byte)));
+    let listed = words.iter().filter(is_suffix).map(|it| it.len()).max().unwrap_or(0);
+    let suffix = if any { whole } else { listed };
+    (suffix > 0 || !needs).then_some((size, size + suffix))
+}
+
+/// The index of the form, and the lengths of the literal with its marks and of this with its suffix, or the span and the sentence of an error.
+type Ended = Result<(usize, usize, usize), (Range<usize>, String)>;
+
+/// The token by the steps of the page.
+fn token(case: &Case, text: &[u8]) -> Ended {
+    let Case { list, needing, back, any_word_follows } = case;
+    let forms = list.into_iter().map(|it| (it, false)).chain(needing.iter().map(|it| (it, true)));
+    let candidates = forms.enumerate().filter_map(|(index, (form, needs))| {
+        let (size, end) = candidate(form, needs, *back, text)?;
+        Some(((end, size, Reverse(index)), form))
+    });
+    let chosen = candidates.max_by_key(|it| it.0);
+    let fails = || {
+        let furthest = list.into_iter().map(|form| right(form, text)).max().unwrap();
+        let end = (furthest + word(&text[furthest..], b"")).max(text.len().min(1));
+        let part = &text[..end];
+        if list.into_iter().any(|form| behind(form, part).is_some()) {
+            return Err((end..end, "the decimal point belongs to what follows".into()));
+        }
+        let (_, (_, _, span, [sentence, _])) = error_in(list, part);
+        Err((span, sentence))
+    };
+    let Some(((end, size, Reverse(index)), form)) = chosen else { return fails() };
+    let behind = &text[end..];
+    let goes_on = |form: &Form| {
+        let right = right(form, text);
+        let two = *back == Back::ToLetters && right == end + 2 && text[end + 1].is_ascii_alphabetic();
+        let name = two && text.get(right).is_some_and(|it| *it == b'.' || it.is_ascii_alphabetic());
+        right > end && !(*back != Back::Never && (right == end + 1 || name) && is_point(form, text, end))
+    };
+    let follows = word(behind, b"");
+    let may = *any_word_follows && !is_point(form, text, end.wrapping_sub(1));
+    let stops = follows > 0 && (!may || behind[0].is_ascii_digit());
+    if FOLLOWING.contains(&&behind[..follows]) || !(list.into_iter().any(goes_on) || stops) {
+        Ok((index, size, end))
+    } else if list.into_iter().any(goes_on) || (size == end && behind[0].is_ascii_digit()) {
+        fails()
+    } else {
+        Err((size..end + word(behind, more(form)), "unknown suffix".into()))
+    }
+}
+
 /// What an error answers.
 fn answers(error: FormError) -> (usize, usize, Range<usize>, [String; 2]) {
     let sentences = [format!("{error}"), format!("{error:#}")];
@@ -198,16 +320,33 @@ fn agrees(forms: &Forms, text: &[u8]) {
     parses::<f32, _>(forms, text, f32::to_bits);
 }
 
+/// Asserts that a list has the token that the page states.
+fn has_token(case: &Case, text: &[u8]) {
+    let own = case.list.token(text);
+    if let Ok(it) = own {
+        let end = text.len() - it.rest.len();
+        let literal = behind(&case.list[it.form], &text[..end - it.suffix.len()]).map(|it| format!("{it:?}"));
+        assert_eq!(Some(format!("{:?}", it.literal)), literal, "{text:?} {:?}", case.list);
+    }
+    let own = match own {
+        Ok(it) => Ok((it.form, text.len() - it.rest.len() - it.suffix.len(), text.len() - it.rest.len())),
+        Err(error) => Err((error.span(), error.to_string().split("; known").next().unwrap().to_string())),
+    };
+    assert_eq!(own, token(case, text), "{text:?} {:?}", case.list);
+}
+
 #[test]
 fn languages_and_other_lists_read_as_their_forms_do() {
     let random = &mut Random::new(20_261_128);
     for language in Language::ALL.iter().cycle().take(1_000) {
         let text = text(random);
         agrees(language.forms(), &text);
-        let list = list(random);
-        let form = list[usize::from(random.byte(0, list.as_slice().len() as u8 - 1))];
+        let case = list(random);
+        let form = case.list[usize::from(random.byte(0, case.list.as_slice().len() as u8 - 1))];
         let opened = [form.opening().as_bytes(), &text, random.pick(&PIECES)].concat();
-        agrees(&list, &text);
-        agrees(&list, &opened[..usize::from(random.byte(0, opened.len() as u8))]);
+        for text in [&text, &opened[..usize::from(random.byte(0, opened.len() as u8))]] {
+            agrees(&case.list, text);
+            has_token(&case, text);
+        }
     }
 }

@@ -49,12 +49,13 @@ impl<'a> Forms<'a> {
         }
     }
 
-    // Returns why `word`, up to `end`, is not a token, as the library for C reads all texts.
+    // Returns why `text`, up to `end`, is not a token, as the library for C reads all texts.
     #[cold]
-    pub(crate) const fn fault(&self, word: &[u8], end: usize) -> TokenError {
+    pub(crate) const fn fault(&self, text: &[u8], end: usize) -> TokenError {
         let specials = Specials { nan: None, inf: None, infinity: None };
+        let (word, rest) = text.split_at(end);
         match self.with_specials(specials).read_behind(word, None) {
-            Err(error) => TokenError::Literal(error),
+            Err(error) => TokenError::Literal(error.before(!rest.is_empty())),
             Ok(_) => TokenError::NotAToken { end },
         }
     }
@@ -285,6 +286,9 @@ impl fmt::Display for Special {
     }
 }
 
+// The bit of an error's opening which says that it is of a part of a text, and that more follows.
+const MORE: u8 = 1 << 7;
+
 impl FormError {
     /// Returns the error of a single syntax.
     #[doc(hidden)]
@@ -293,12 +297,25 @@ impl FormError {
         FormError { form: 0, name: "", opened: 0, suffix: [0; 7], error: Ok(error) }
     }
 
+    // Returns the same error, of a part of a text, where more of the text follows if `more` is true.
+    pub(crate) const fn before(mut self, more: bool) -> FormError {
+        if more {
+            self.opened |= MORE;
+        }
+        self
+    }
+
+    // Returns the number of bytes of the opening, or of those that are right where it is not there.
+    const fn opened(&self) -> usize {
+        (self.opened & !MORE) as usize
+    }
+
     /// Returns why what is behind the [opening][Form::with_opening] is not a literal of the syntax, or `None` if the opening
     /// is not there. All indexes count from the beginning of the text.
     #[must_use]
     pub const fn error(&self) -> Option<ReadError> {
         match &self.error {
-            Ok(error) => Some(error.behind(self.opened as usize)),
+            Ok(error) => Some(error.behind(self.opened())),
             Err(_) => None,
         }
     }
@@ -314,7 +331,7 @@ impl FormError {
                 0..first_character(&[*byte, tail[0], tail[1], tail[2]]).len()
             }
         };
-        let opened = self.opened as usize;
+        let opened = self.opened();
         opened + start..opened + end
     }
 
@@ -327,10 +344,18 @@ impl FormError {
         }
     }
 
-    /// Returns whether bytes are missing, as [`ReadError::is_incomplete`] does.
+    /// Returns whether bytes are missing, as [`ReadError::is_incomplete`] does. An error of a [`token`][Forms::token] is
+    /// complete if more of the text follows.
+    ///
+    /// ```
+    /// use peltzivar::literal::{Language, TokenError};
+    ///
+    /// let is_incomplete = |text| matches!(Language::RUST.token(text), Err(TokenError::Literal(it)) if it.is_incomplete());
+    /// assert!(is_incomplete("0x") && !is_incomplete("0x;") && !is_incomplete("-1"));
+    /// ```
     #[must_use]
     pub const fn is_incomplete(&self) -> bool {
-        self.byte().is_none()
+        self.opened & MORE == 0 && self.byte().is_none()
     }
 
     /// Returns the byte that cannot follow, or `None` if bytes are missing, as [`ReadError::byte`] does.
@@ -355,8 +380,8 @@ impl FormError {
     #[must_use]
     pub const fn valid_up_to(&self) -> usize {
         match &self.error {
-            Ok(error) => self.opened as usize + error.valid_up_to(),
-            Err(_) => self.opened as usize,
+            Ok(error) => self.opened() + error.valid_up_to(),
+            Err(_) => self.opened(),
         }
     }
 }
