@@ -112,11 +112,6 @@ pub whole_is : (read : Read) (o : Option (Bool × ℕ)) → is_float read.litera
 whole_is read o whole is =
     ap (λ float. if float then None else integer_worth read.kind.integers (raw read.format).byte read.literal) whole ∙ is
 
--- A literal with a decimal point or an exponent is worth no integer.
-pub no_whole : (read : Read) (w : Bool × ℕ) → is_float read.literal ≡ true → whole_of read ≡ Some w → ⊥
-no_whole read w float is = false≢true (ap is_some (sym
-    (ap (λ float. if float then None else integer_worth read.kind.integers (raw read.format).byte read.literal) float) ∙ is))
-
 -- What is above each number is none.
 above : (o : Option (Bool × ℕ)) (A : Type 0) (B : Bool × ℕ → Type 0) → ((most : ℕ) → MatchOption o A (λ w. B w × (most < w.1))) → o ≡ None
 above None A B all = refl

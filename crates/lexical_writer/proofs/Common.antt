@@ -34,7 +34,7 @@ pub use Rattle.lexical_writer.specs.Choice.{IsRefused, IsSearched, IsStopped, Is
 pub use Rattle.lexical_writer.specs.Choice.{IsWrittenBy, Task, is_short, steps, text_by, unasked, ways, whole_of, words_of}
 pub use Rattle.lexical_writer.specs.Private.{IsPut}
 pub use Rattle.lexical_writer.specs.Conversion.{SameFraction, own_amount}
-pub use Rattle.lexical_writer.specs.Digits.{at_least, begins_decimal, character, ends_group, grouped, grouped_front, no_groups, only_if, padded_values}
+pub use Rattle.lexical_writer.specs.Digits.{at_least, begins_decimal, character, ends_group, grouped, grouped_front, no_groups, only_if}
 pub use Rattle.lexical_writer.specs.Digits.{separated, size_of, values_of}
 pub use Rattle.lexical_writer.specs.Layout.{HasNumber, HasValue, IsLaidOut, allows_exponent, first_error, given_fraction, given_power, has_exponent, has_point}
 pub use Rattle.lexical_writer.specs.Layout.{integer_literal, laid_out, literal_of, needs_exponent, no_power, number_of_size, one_if, refusal}

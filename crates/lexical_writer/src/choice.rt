@@ -2,7 +2,7 @@
 
 ghost use Rattle.std.specs.Prelude.{◌==◌, ◌≡◌, ◌≤◌, ◌<◌, ◌-◌, ◌^◌, ◌⊎◌, ◌||◌, ◌++◌, if◌then◌else◌, not, Bool, true, false};
 ghost use Rattle.std.specs.Prelude.{ℕ, ◌+◌, Err, List, IfErr, IfOk, IfSome, IsFalse, None, Ok, Option, Result, Some};
-ghost use Rattle.std.specs.Prelude.{unwrap_or, from_bits, is_some, length, slice_get, take, ℤ};
+ghost use Rattle.std.specs.Prelude.{[], unwrap_or, from_bits, is_some, length, slice_get, take, ℤ};
 ghost use Rattle.std.specs.Float.{Float as Value, float_is_infinite};
 ghost use Rattle.lexical_util.specs.Record.{bytes_of};
 ghost use Rattle.lexical_literal.specs.Read.{exact, Read};
@@ -20,7 +20,7 @@ ghost use Rattle.lexical_forms.specs.declared.form.Form.{Form as Asked};
 ghost use Rattle.lexical_writer.specs.Layout.{integer_literal, laid_out, literal_of as written, number_of_size};
 ghost use Rattle.lexical_writer.specs.Choice.{ArePassed, IsChosen, IsFound, IsMisread, IsNoToken, IsPassedOver, IsReadBack, IsReadElse, IsReal};
 ghost use Rattle.lexical_writer.specs.Choice.{IsRefused, IsSearched, IsStopped, IsTokenOf, IsWhole, IsWrittenBy, Task, bytes_of_word, has_floats};
-ghost use Rattle.lexical_writer.specs.Choice.{has_worth, is_asked, is_own, is_short, steps, text_by, unasked, ways, whole_of};
+ghost use Rattle.lexical_writer.specs.Choice.{has_worth, is_asked, is_own, is_short, steps, text_by, unasked, ways, whole_of, words_of};
 ghost use Rattle.lexical_writer.specs.Private.{IsPut};
 ghost use Rattle.lexical_writer.specs.declared.layout.WriteError.{WriteError as Reason};
 ghost use Rattle.lexical_writer.specs.declared.layout.WriteError.TheVariants as errors;
@@ -29,7 +29,7 @@ ghost use Rattle.lexical_writer.specs.declared.layout.Style.{Style as Wishes};
 use crate::float::{format_float, is_integer};
 use crate::float_digits::FloatDigits;
 use crate::integer::WrittenInteger;
-use crate::layout::{Layout, Style, WriteError};
+use crate::layout::{Layout, Style, WriteError, is_whole};
 use crate::literal::format_literal;
 use lexical_forms::form::Form;
 use lexical_forms::list::{Forms, Number};
@@ -337,19 +337,12 @@ fn is_same_whole(own: &Literal, literal: &Literal) -> bool
 fn is_same_integer(own: &Literal, literal: &Literal) -> bool
     ensures { result ≡ true → (z : ℤ) × IsWhole z own.now × IsWhole z literal.now }
 {
-    match (own_numeral(own), own_numeral(literal)) {
-        (Ok(own), Ok(numeral)) => own.negative == numeral.negative
-            && is_same_size(own.magnitude, numeral.magnitude),
-        _ => false,
-    }
-}
-
-// Returns whether two numbers have the same digits.
-fn is_same_size(own: Magnitude, magnitude: Magnitude) -> bool
-    ensures { result ≡ true → magnitude_size own.entry ≡ magnitude_size magnitude.entry }
-{
-    match (own, magnitude) {
-        (Magnitude::Digits(bytes, radix), Magnitude::Digits(digits, base)) => radix == base
+    let (Ok(own), Ok(numeral)) = (own_numeral(own), own_numeral(literal)) else {
+        return false;
+    };
+    match (own.magnitude, numeral.magnitude) {
+        (Magnitude::Digits(bytes, radix), Magnitude::Digits(digits, base)) => own.negative == numeral.negative
+            && radix == base
             && bytes == digits,
         _ => false,
     }
@@ -554,18 +547,8 @@ const fn unasked(own: Own) -> WriteError
 fn is_asked(own: Own, step: u8, form: &Form) -> bool
     ensures { result ≡ is_asked own step form.now }
 {
-    is_turn(step, is_own(own, &form.syntax())) & !form.is_only_read()
-}
-
-// Returns whether a step is that of a number's own forms, or of the others.
-#[inline(always)]
-const fn is_turn(step: u8, own: bool) -> bool
-    ensures { result ≡ (if step == 0 then own else not own) }
-{
-    match step {
-        0 => own,
-        _ => !own,
-    }
+    let here = is_own(own, &form.syntax());
+    (if step == 0 { here } else { !here }) & !form.is_only_read()
 }
 
 // Returns whether a form with a syntax is one of a number's own.
@@ -573,15 +556,7 @@ const fn is_turn(step: u8, own: bool) -> bool
 fn is_own(own: Own, syntax: &Syntax) -> bool
     ensures { result ≡ is_own own syntax.now }
 {
-    (syntax.format().view().mantissa_radix() == own.radix) & takes(own.integer, syntax)
-}
-
-// Returns whether a syntax has floats, or the number is an integer.
-#[inline(always)]
-fn takes(integer: bool, syntax: &Syntax) -> bool
-    ensures { result ≡ (integer || not (lacks_options syntax.now.options)) }
-{
-    integer || syntax.options().is_some()
+    (syntax.format().view().mantissa_radix() == own.radix) & (own.integer | !is_whole(syntax))
 }
 
 /// Returns how the first form of a list writes an integer, if this form is asked first, and its text is known to be read back.
@@ -607,7 +582,8 @@ pub fn lay_out_first(forms: &Forms, number: &Whole, style: Style) -> Option<Writ
     Some(integer)
 }
 
-// Writes a number by one form, without a word or else with one, or returns why it is not used.
+// Writes a number by one form, without a word or else, if it is an integer, with the first of the form's words that makes its token this
+// integer, or returns why the form is not used.
 fn write_form<N: Writable>(
     forms: &Forms,
     index: usize,
@@ -638,43 +614,7 @@ fn write_form<N: Writable>(
     if is_short(error) {
         return Err(error);
     }
-    if !number.own(style).integer {
-        return Err(error);
-    }
-    match write_words(forms, index, form, number, style, buffer) {
-        Ok(chosen) => Ok(chosen),
-        Err(other) if is_short(other) => Err(other),
-        Err(_) => Err(error),
-    }
-}
-
-// Writes an integer by one form with the first of its words that makes its token this integer, or returns why there is none.
-#[cold]
-fn write_words<N: Writable>(
-    forms: &Forms,
-    index: usize,
-    form: &Form,
-    number: &N,
-    style: Style,
-    buffer: &mut [u8],
-) -> Result<Chosen, WriteError>
-    requires form { slice_get forms.now.forms index ≡ Some form.now }
-    requires integer { (N.task number.now style).own.integer ≡ true }
-    requires passed { ArePassed (N.task number.now style) (length buffer.now) forms.now index form.now 1 }
-    ensures length { IfOk result (λ it. it.length ≤ length buffer.new) }
-    ensures room { length buffer.new ≡ length buffer.old }
-    ensures form { IfOk result (λ it. it.form ≡ index) }
-    ensures text { IfOk result (λ it. IsChosen (N.task number.now style) (length buffer.old) forms.now index form.now (bytes_of_word it.word)
-        (take it.length buffer.new)) }
-    ensures passed { IfErr result (λ error. is_short error ≡ false
-        → ArePassed (N.task number.now style) (length buffer.old) forms.now index form.now (length (ways (N.task number.now style).own.integer form.now))) }
-    ensures stopped { IfErr result (λ error. is_short error ≡ true
-        → IsStopped (N.task number.now style) (length buffer.old) forms.now index form.now error) }
-{
-    let Some(suffixes) = form.suffixes() else {
-        return Err(WriteError::ReadBack);
-    };
-    let words = suffixes.written();
+    let words = words_in(number.own(style).integer, form);
     for word in words {
         match write_by(forms, index, form, number, style, Some(word), buffer) {
             Ok(length) => return Ok(Chosen {
@@ -682,11 +622,22 @@ fn write_words<N: Writable>(
                 word: Some(word),
                 length,
             }),
-            Err(error) if is_short(error) => return Err(error),
+            Err(other) if is_short(other) => return Err(other),
             Err(_) => {}
         }
     }
-    Err(WriteError::ReadBack)
+    Err(error)
+}
+
+// Returns the words with which a form writes a number.
+#[cold]
+const fn words_in(integer: bool, form: &Form) -> &'static [&'static [u8]]
+    ensures { result.now ≡ (if integer then words_of form.now.suffixes else []) }
+{
+    match form.suffixes() {
+        Some(suffixes) if integer => suffixes.written(),
+        _ => &[],
+    }
 }
 
 // Writes a number by one form with its opening, and a word behind it if there is one, and returns the length of the text, or
