@@ -18,8 +18,8 @@ ghost use Rattle.lexical_writer.specs.Buffer.{IsTaken};
 ghost use Rattle.lexical_forms.specs.Forms.{IsFirst, NoForm};
 ghost use Rattle.lexical_forms.specs.declared.form.Form.{Form as Asked};
 ghost use Rattle.lexical_writer.specs.Layout.{integer_literal, laid_out, literal_of as written, number_of_size};
-ghost use Rattle.lexical_writer.specs.Choice.{ArePassed, IsChosen, IsFound, IsMisread, IsNoToken, IsPassedOver, IsReadBack, IsReadElse, IsReal};
-ghost use Rattle.lexical_writer.specs.Choice.{IsRefused, IsSearched, IsStopped, IsTokenOf, IsWhole, IsWrittenBy, Task, bytes_of_word, has_floats};
+ghost use Rattle.lexical_writer.specs.Choice.{ArePassed, IsChosen, IsFound, IsMisread, IsNoToken, IsPassedOver, IsReadElse, IsReadWith, IsReal};
+ghost use Rattle.lexical_writer.specs.Choice.{IsRefused, IsSearched, IsStopped, IsWhole, IsWrittenBy, Task, bytes_of_word, has_floats};
 ghost use Rattle.lexical_writer.specs.Choice.{has_worth, is_asked, is_own, is_short, steps, text_by, unasked, ways, whole_of, words_of};
 ghost use Rattle.lexical_writer.specs.Private.{IsPut};
 ghost use Rattle.lexical_writer.specs.declared.layout.WriteError.{WriteError as Reason};
@@ -563,7 +563,7 @@ fn is_own(own: Own, syntax: &Syntax) -> bool
 #[inline(always)]
 pub fn lay_out_first(forms: &Forms, number: &Whole, style: Style) -> Option<WrittenInteger>
     ensures back { IfSome result (λ it.
-        IsReadBack forms.now (text_of (integer_literal it)) (IsWhole (with_sign number.now.negative number.now.size))) }
+        IsReadWith forms.now None (text_of (integer_literal it)) (IsWhole (with_sign number.now.negative number.now.size))) }
     ensures first { IfSome result (λ it. (form : Asked) × (slice_get forms.now.forms 0 ≡ Some form) × (form.only_read ≡ false)
         × (is_own (record { radix = 10; integer = true; rounded = false }) form.syntax ≡ true)
         × (integer_literal it ≡ laid_out form.syntax style (number_of_size number.now.negative number.now.size))) }
@@ -735,7 +735,7 @@ fn read_token<N: Writable>(
     word: &[u8],
     text: &[u8],
 ) -> Result<(), WriteError>
-    ensures value { (g : Grammar) → (l : Parts) → IfOk result (λ _. IsTokenOf forms.now word.now text.now ((N.task number.now style).is g l)) }
+    ensures value { (g : Grammar) → (l : Parts) → IfOk result (λ _. IsReadWith forms.now (Some word.now) text.now ((N.task number.now style).is g l)) }
     ensures error { IfErr result (IsNoToken (N.task number.now style).keeps forms.now word.now text.now) }
 {
     let Ok(token) = forms.token(text) else {
@@ -810,7 +810,7 @@ fn read_written<N: Writable>(
     requires written { (l : Parts) × Reads (notation_of form.now.syntax) l text.now × (N.task number.now style).writes form.now.syntax (Ok l)
         × (float ≡ is_float l) }
     ensures value { IfOk result (λ _. (l : Parts) × (N.task number.now style).writes form.now.syntax (Ok l) × (text.now ≡ text_of l)
-        × IsReadBack forms.now text.now ((N.task number.now style).is form.now.syntax l)) }
+        × IsReadWith forms.now None text.now ((N.task number.now style).is form.now.syntax l)) }
     ensures error { IfErr result (IsReadElse (N.task number.now style).keeps forms.now.forms index text.now) }
 {
     let syntax = form.syntax();

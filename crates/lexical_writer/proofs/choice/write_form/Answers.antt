@@ -6,8 +6,8 @@ use Rattle.lexical_writer.proofs.choice.write_form.Goals as goal
 pub loop-word-init : goal.loop-word-init
 loop-word-init g c = record {
   room = c.in-Err.ensures.room;
-  passed = passed_first (g.N.Writable.task c.args.number.now c.args.style) _ c.args.forms.now _ _ _ c.in-Err.ensures.error
-      (sym c.is_short.ensures ∙ c.if-is_short.false);
+  passed = passed_first (g.N.Writable.task c.args.number.now c.args.style) (length c.args.buffer.now) c.args.forms.now c.args.index c.args.form.now
+      c.in-Err.error c.in-Err.ensures.error (sym c.is_short.ensures ∙ c.if-is_short.false);
 }
 
 pub returns-in-Ok-write_by-clause-text : goal.returns-in-Ok-write_by-clause-text
