@@ -19,7 +19,7 @@ ghost use Rattle.lexical_forms.specs.Forms.{IsFirst, NoForm};
 ghost use Rattle.lexical_forms.specs.declared.form.Form.{Form as Asked};
 ghost use Rattle.lexical_writer.specs.Layout.{integer_literal, laid_out, literal_of as written, number_of_size};
 ghost use Rattle.lexical_writer.specs.Choice.{ArePassed, IsChosen, IsFound, IsMisread, IsNoToken, IsPassedOver, IsReadElse, IsReadWith, IsReal};
-ghost use Rattle.lexical_writer.specs.Choice.{IsRefused, IsSearched, IsStopped, IsWhole, IsWrittenBy, Task, bytes_of_word, has_floats};
+ghost use Rattle.lexical_writer.specs.Choice.{IsRefused, IsSearched, IsStopped, IsWhole, IsWrittenBy, Task, bytes_of_word};
 ghost use Rattle.lexical_writer.specs.Choice.{has_worth, is_asked, is_own, is_short, steps, text_by, unasked, ways, whole_of, words_of};
 ghost use Rattle.lexical_writer.specs.Private.{IsPut};
 ghost use Rattle.lexical_writer.specs.declared.layout.WriteError.{WriteError as Reason};
@@ -213,7 +213,7 @@ impl<F: Float> Writable for Real<F> {
     }
 
     fn is_plain(&self, syntax: &Syntax, kind: Kind, style: Style, float: bool) -> bool {
-        if !has_floats(syntax) {
+        if !supports_floats(syntax.format().view()) {
             return false;
         }
         is_nearest(kind, float) && is_within(self.value, style.decimals, kind.limits())
@@ -307,7 +307,7 @@ impl Writable for Literal<'_> {
     }
 
     fn is_plain(&self, _syntax: &Syntax, kind: Kind, _: Style, float: bool) -> bool {
-        is_exact(self.kind()) & is_exact(kind) & (self.is_float() | !float)
+        is_exact(self.kind()) && is_exact(kind) && (self.is_float() || !float)
     }
 
     fn is_read_as(&self, style: Style, _: &Literal, literal: &Literal) -> bool {
@@ -356,13 +356,6 @@ fn put(layout: &Layout, buffer: &mut [u8]) -> (usize, bool)
 {
     let float = layout.point.is_some() | layout.exponent_character.is_some();
     (layout.write(buffer), float)
-}
-
-// Returns whether literals of a syntax have floats.
-fn has_floats(syntax: &Syntax) -> bool
-    ensures { result ≡ has_floats syntax.now.word }
-{
-    supports_floats(syntax.format().view())
 }
 
 // Returns whether literals of a kind, with a decimal point or an exponent or without, are worth the nearest float.
@@ -688,10 +681,11 @@ fn put_text<N: Writable>(
     let opening = form.opening();
     let start = put_at(buffer, 0, opening.as_bytes());
     let (end, float) = put_number(&form.syntax(), number, style, start, buffer)?;
-    Ok(match word {
-        Some(word) => (put_at(buffer, end, word), float),
-        None => (end, float),
-    })
+    let word: &[u8] = match word {
+        Some(word) => word,
+        None => &[],
+    };
+    Ok((put_at(buffer, end, word), float))
 }
 
 // Writes a number as a literal of a syntax to a buffer from an index on, as far as it has room, and returns the index behind it,

@@ -120,7 +120,7 @@ impl<F: Float> Writable for Real<F> {
     }
 
     fn is_plain(&self, syntax: &Syntax, kind: Kind, style: Style, float: bool) -> bool {
-        if !has_floats(syntax) {
+        if !supports_floats(syntax.format().view()) {
             return false;
         }
         is_nearest(kind, float) && is_within(self.value, style.decimals, kind.limits())
@@ -179,7 +179,7 @@ impl Writable for Literal<'_> {
     }
 
     fn is_plain(&self, _syntax: &Syntax, kind: Kind, _: Style, float: bool) -> bool {
-        is_exact(self.kind()) & is_exact(kind) & (self.is_float() | !float)
+        is_exact(self.kind()) && is_exact(kind) && (self.is_float() || !float)
     }
 
     fn is_read_as(&self, style: Style, _: &Literal, literal: &Literal) -> bool {
@@ -220,11 +220,6 @@ fn is_same_integer(own: &Literal, literal: &Literal) -> bool {
 fn put(layout: &Layout, buffer: &mut [u8]) -> (usize, bool) {
     let float = layout.point.is_some() | layout.exponent_character.is_some();
     (layout.write(buffer), float)
-}
-
-// Returns whether literals of a syntax have floats.
-fn has_floats(syntax: &Syntax) -> bool {
-    supports_floats(syntax.format().view())
 }
 
 // Returns whether literals of a kind, with a decimal point or an exponent or without, are worth the nearest float.
@@ -471,10 +466,11 @@ fn put_text<N: Writable + ?Sized>(
     let opening = form.opening();
     let start = put_at(buffer, 0, opening.as_bytes());
     let (end, float) = put_number(&form.syntax(), number, style, start, buffer)?;
-    Ok(match word {
-        Some(word) => (put_at(buffer, end, word), float),
-        None => (end, float),
-    })
+    let word: &[u8] = match word {
+        Some(word) => word,
+        None => &[],
+    };
+    Ok((put_at(buffer, end, word), float))
 }
 
 // Writes a number as a literal of a syntax to a buffer from an index on, as far as it has room, and returns the index behind it,
