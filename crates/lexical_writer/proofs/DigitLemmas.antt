@@ -5,8 +5,9 @@ use Rattle.lexical_writer.proofs.Common.{cons_option, digit_characters, digit_of
 use Rattle.lexical_writer.proofs.Common.{drop-cons, drop-set, ends_group, false, false≢true, get_or, get_or_from_slice_get, grouped, grouped_front, inl, inr}
 use Rattle.lexical_writer.proofs.Common.{is_present, length, length-append, length-digits_of_step, length-map, length-replicate, length-set, ltb-true, map}
 use Rattle.lexical_writer.proofs.Common.{map_push, max, mod-mul-add, nat_lt, nat_tests, no_groups, number, number_after_append, number_from_digits}
-use Rattle.lexical_writer.proofs.Common.{number_from_digits_after, only_if, option_to_list, pow-suc, pow-zero, refl, replicate, replicate-append-replicate, separated, set, slice_get, subst}
-use Rattle.lexical_writer.proofs.Common.{suc, sym, true, values_of, zero, ℕ, ◌%◌, ◌*◌, ◌++◌, ◌+◌, ◌-◌, ◌/◌, ◌<◌, ◌^◌, ◌||◌, ◌∙◌, ◌∷◌, ◌≡◌, ◌≤◌}
+use Rattle.lexical_writer.proofs.Common.{number_from_digits_after, only_if, option_to_list, pow-suc, pow-zero, refl, replicate, replicate-append-replicate}
+use Rattle.lexical_writer.proofs.Common.{separated, set, slice_get, subst, suc, sym, true, values_of, zero, ℕ, ◌%◌, ◌*◌, ◌++◌, ◌+◌, ◌-◌, ◌/◌, ◌<◌, ◌^◌, ◌||◌}
+use Rattle.lexical_writer.proofs.Common.{◌∙◌, ◌∷◌, ◌≡◌, ◌≤◌}
 use Rattle.lexical_base.proofs.ValueLemmas.{byte_value-digit_character, same_at}
 use Rattle.lexical_writer.specs.declared.run.Source.TheVariants as sources
 

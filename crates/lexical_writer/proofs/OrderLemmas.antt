@@ -2,19 +2,12 @@
 use Rattle.std.specs.Borrow.{Bor}
 use Rattle.std.specs.Option.{option_map}
 use Rattle.std.proofs.lemmas.List.{length-map}
-use Rattle.std.proofs.lemmas.Option.{slice_get-map}
+use Rattle.std.proofs.lemmas.Option.{slice_get-map, slice_get-get_or, slice_get_within}
 use Rattle.lexical_forms.specs.FormList.{FormList}
 use Rattle.lexical_writer.specs.declared.choice.Own.{Own}
-use Rattle.lexical_writer.proofs.Common.{ArePassed, AreBefore, Bool, Form, IsRefused, IsSearched, IsSomeAnd, List, None, Option, Task}
-use Rattle.lexical_writer.proofs.Common.{Some, WriteError, [], ap, arith, cases_lt, false, false≢true, if◌then◌else◌, is_short, suc, ways, words_of}
-use Rattle.lexical_writer.proofs.Common.{inl, inr, is_some, length, refl, slice_get, slice_index_or, subst, sym, true, unwrap_or, ℕ, ◌+◌, ◌<◌, ◌∙◌, ◌≡◌, ◌≤◌, ◌⊎◌}
-use Rattle.std.proofs.lemmas.Option.{slice_get-get_or, slice_get_within}
-
--- Nothing is asked before the first form in the first step.
-pub before_start : {P : ℕ → Form → Type 0} {asked : ℕ → Form → Bool} {forms : List Form} → AreBefore P asked forms 0 0
-before_start = record {
-  each = λ before at form earlier there now. elim earlier [ inl less ↦ absurd (omega (arith, less)) | inr same ↦ absurd (omega (arith, same.1)) ];
-}
+use Rattle.lexical_writer.proofs.Common.{ArePassed, AreBefore, Bool, Form, IsRefused, IsSearched, IsSomeAnd, List, None, Option, Task, Some, WriteError, [], ap}
+use Rattle.lexical_writer.proofs.Common.{arith, cases_lt, false, false≢true, if◌then◌else◌, is_short, suc, ways, words_of, inl, inr, is_some, length, refl}
+use Rattle.lexical_writer.proofs.Common.{slice_get, slice_index_or, subst, sym, true, unwrap_or, ℕ, ◌+◌, ◌<◌, ◌∙◌, ◌≡◌, ◌≤◌, ◌⊎◌}
 
 -- The form at an index is one alone.
 one_form : (o : Option Form) (form it : Form) → o ≡ Some form → o ≡ Some it → form ≡ it
@@ -53,10 +46,6 @@ before_next {P} {asked} {forms} {step} {index} end old = record {
 }
 
 module _ (P : ℕ → Form → WriteError → Type 0) (asked : ℕ → Form → Bool) (forms : List Form) where
-  -- Before the first step, there is no reason.
-  pub searched_start : IsSearched P asked forms 0 0 None
-  searched_start = record { passed = before_start; none = λ _. before_start; first = λ error same. absurd (false≢true (ap is_some same)) }
-
   module _ (step index : ℕ) (reason : Option WriteError) (old : IsSearched P asked forms step index reason) where
     -- Behind forms that are not asked, the reason is the same.
     moved : (to at : ℕ) → ((Q : ℕ → Form → Type 0) → AreBefore Q asked forms step index → AreBefore Q asked forms to at)

@@ -341,7 +341,8 @@ fn is_same_integer(own: &Literal, literal: &Literal) -> bool
         return false;
     };
     match (own.magnitude, numeral.magnitude) {
-        (Magnitude::Digits(bytes, radix), Magnitude::Digits(digits, base)) => own.negative == numeral.negative
+        (Magnitude::Digits(bytes, radix), Magnitude::Digits(digits, base)) => own.negative
+            == numeral.negative
             && radix == base
             && bytes == digits,
         _ => false,

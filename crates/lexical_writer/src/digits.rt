@@ -313,9 +313,7 @@ impl<'a> Padded<'a> {
         ensures count { result ≡ length (values_of radix (sources.Padded self.now)) }
         ensures small { result < 2 ^ 67 }
     {
-        self.before as u128
-            + count(self.digits, radix) as u128
-            + self.after as u128
+        self.before as u128 + count(self.digits, radix) as u128 + self.after as u128
     }
 
     // Returns the digits without the zeros that they begin with.
