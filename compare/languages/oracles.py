@@ -2,6 +2,7 @@
 import collections
 import fractions
 import math
+import os
 import re
 import struct
 import sys
@@ -13,6 +14,7 @@ PYTHON, DEBIAN, NODE, MCS = sys.executable, "/usr/bin/python3", "/usr/share/node
 PACKAGES = "/usr/lib/python3/dist-packages"
 JAVAC = " ".join(f"--add-exports jdk.compiler/com.sun.tools.javac.{it}=ALL-UNNAMED" for it in ("file", "parser", "tree", "util"))
 SCALA = "/usr/share/java/scala-compiler.jar:/usr/share/java/scala-library.jar:/usr/share/java/scala-reflect.jar"
+LIBGHDL = f"/usr/lib/{os.uname().machine}-linux-gnu/libghdl-2_0_0.so"
 OCAMLC = "ocamlc -w -a -I +compiler-libs ocamlcommon.cma"
 TOOLS = {
     "ast": Tool("python3", [PYTHON], f"{PYTHON} --version", "", f"{PYTHON} libraries.py python"),
@@ -30,7 +32,7 @@ TOOLS = {
     "gfortran": Tool("gfortran", ["gfortran"], "gfortran --version", "", f"{PYTHON} compilers.py gfortran"),
     "gdc": Tool("gdc", ["gdc"], "gdc --version", "", f"{PYTHON} compilers.py gdc"),
     "ghc": Tool("ghc", ["ghc"], "ghc --version", "ghc -v0 -package ghc -outputdir {work} -o {work}/ghc haskell.hs", "{work}/ghc"),
-    "ghdl": Tool("ghdl", ["ghdl"], "ghdl --version", "", f"{PYTHON} compilers.py ghdl"),
+    "ghdl": Tool("ghdl libghdl-2-0-0", ["ghdl", LIBGHDL], "ghdl --version", "", f"{PYTHON} compilers.py ghdl"),
     "ghostscript": Tool("ghostscript", ["gs"], "echo Ghostscript $(gs --version)", "", "gs -q -dNODISPLAY -dBATCH -dNOPAUSE postscript.ps"),
     "gnat": Tool("gnat", ["gnatmake"], "gnatmake --version", "", f"{PYTHON} compilers.py gnat"),
     "go": Tool("golang-go", ["go"], "go version", "go build -o {work}/go scanner.go", "{work}/go"),
