@@ -2,6 +2,7 @@
 import collections
 import fractions
 import math
+import os
 import re
 import struct
 import sys
@@ -13,6 +14,7 @@ PYTHON, DEBIAN, NODE, MCS = sys.executable, "/usr/bin/python3", "/usr/share/node
 PACKAGES = "/usr/lib/python3/dist-packages"
 JAVAC = " ".join(f"--add-exports jdk.compiler/com.sun.tools.javac.{it}=ALL-UNNAMED" for it in ("file", "parser", "tree", "util"))
 SCALA = "/usr/share/java/scala-compiler.jar:/usr/share/java/scala-library.jar:/usr/share/java/scala-reflect.jar"
+LIBGHDL = f"/usr/lib/{os.uname().machine}-linux-gnu/libghdl-2_0_0.so"
 OCAMLC = "ocamlc -w -a -I +compiler-libs ocamlcommon.cma"
 TOOLS = {
     "ast": Tool("python3", [PYTHON], f"{PYTHON} --version", "", f"{PYTHON} libraries.py python"),
@@ -30,7 +32,7 @@ TOOLS = {
     "gfortran": Tool("gfortran", ["gfortran"], "gfortran --version", "", f"{PYTHON} compilers.py gfortran"),
     "gdc": Tool("gdc", ["gdc"], "gdc --version", "", f"{PYTHON} compilers.py gdc"),
     "ghc": Tool("ghc", ["ghc"], "ghc --version", "ghc -v0 -package ghc -outputdir {work} -o {work}/ghc haskell.hs", "{work}/ghc"),
-    "ghdl": Tool("ghdl", ["ghdl"], "ghdl --version", "", f"{PYTHON} compilers.py ghdl"),
+    "ghdl": Tool("ghdl libghdl-2-0-0", ["ghdl", LIBGHDL], "ghdl --version", "", f"{PYTHON} compilers.py ghdl"),
     "ghostscript": Tool("ghostscript", ["gs"], "echo Ghostscript $(gs --version)", "", "gs -q -dNODISPLAY -dBATCH -dNOPAUSE postscript.ps"),
     "gnat": Tool("gnat", ["gnatmake"], "gnatmake --version", "", f"{PYTHON} compilers.py gnat"),
     "go": Tool("golang-go", ["go"], "go version", "go build -o {work}/go scanner.go", "{work}/go"),
@@ -103,14 +105,6 @@ def number(text):
         return match and fractions.Fraction(text if fractions.Fraction(match[1]) else match[1])
 
 
-def nearest(text):
-    """Returns the double that is nearest to the number of a text."""
-    try:
-        return float(number(text))
-    except (OverflowError, TypeError):
-        return math.inf
-
-
 def out_of_range(most):
     """The tool refuses integers from `most` on, and floats that become infinite or zero."""
     def test(ours, _):
@@ -129,17 +123,19 @@ def doubles(least):
 
 
 ZERO = Cause("=", r"-[0.,]+([eE].*)?", "a negative zero", lambda _, theirs: theirs == 0)
-ROUNDED = Cause("=", ".*", "rounded to the next float", lambda ours, theirs: ours.double == nearest(ours.text)
-                and theirs in [math.nextafter(ours.double, to) for to in (-math.inf, math.inf)])
 
 def is_next(ours, theirs):
-    """Returns whether the float or the single of the library is nearer to a number of Lisp than that of the tool, which is the next one."""
-    exact = number(re.sub("[sfdl]", "e", ours.text.lower()))
-    own, other, shape = (ours.single, theirs.value, ">fi") if isinstance(theirs, tuple) else (ours.double, theirs, ">dq")
-    one, next = (struct.unpack(shape[0] + shape[2], struct.pack(shape[:2], it))[0] for it in (own, other))
-    return abs(one - next) == 1 and abs(fractions.Fraction(own) - exact) <= abs(fractions.Fraction(other) - exact)
+    """Returns whether the float or the single of the library is nearer to the number of the text than that of the tool, which is the next one."""
+    exact, is_single = number(ours.text), isinstance(theirs, tuple)
+    if exact is None or not is_single and not isinstance(theirs, float):
+        return False
+    floats, shape, most = ((ours.single, theirs.value), ">fi", 2**128) if is_single else ((ours.double, theirs), ">dq", 2**1024)
+    bits = [struct.unpack(shape[0] + shape[2], struct.pack(shape[:2], it))[0] for it in floats]
+    own, other = (fractions.Fraction(it) if math.isfinite(it) else most if it > 0 else -most for it in floats)
+    return abs(bits[0] - bits[1]) == 1 and abs(own - exact) <= abs(other - exact)
 
 
+ROUNDED = Cause("=", ".*", "rounded to the next float", is_next)
 RADIX = Cause("=", r".*\..*", "a fraction in a radix without floats", lambda ours, _: math.isnan(ours.double))
 BASED = [
     Cause("+", r"[\d_]+#[\da-fA-F_.]+#[eE][+-]?[\d_]+", "an exponent after a based literal"),
@@ -176,7 +172,7 @@ LANGUAGES = [
         Cause("+", r"(#([xXoObB]|\d+[rR]))?[+-]?\w+/\w+", "a ratio"), Cause("+", r"(#[xX])?[+-]?[\d.]+[rR][+-]?\d+", "an exponent of a ratio"),
         Cause("+", r"#\d+[xXoObB].+", "a radix that is ignored"), Cause("+", r"#([xXoObB]|\d+[rR])[+-]?\d+\.", "a point, by which digits are decimal"),
         Cause("+", r"#0\d*[rR].+", "zeros in a radix"), Cause("+", "#.+#.+", "a number after an opening"),
-        Cause("=", ".*", "rounded to the next float", is_next)]),
+        ROUNDED._replace(test=lambda ours, theirs: is_next(ours._replace(text=re.sub("[sfl]", "e", ours.text.lower())), theirs))]),
     Language("CSS", "tinycss2", "0189.eE+-x", "_", "1e3px 10%", []),
     Language("CSV", "csv", "019.,eE+-iN", "_", "1.23E+05 +5 NaN nan Inf -inf Infinity infinity 1,234", [
         Cause("+", "[^_]*_.*", "a separator, which no program writes"), doubles(2**53)]),
