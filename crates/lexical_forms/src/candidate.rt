@@ -110,8 +110,8 @@ impl<'a> Forms<'a> {
     {
         let it = self.tried(tokens, form);
         let needs = self.needs(form);
-        let (reach, candidate) = it.candidate(tokens.gives_points_back, needs, text);
-        self.longer(tokens, text, least, found, form, reach, candidate)
+        let asked = it.candidate(tokens.gives_points_back, needs, text);
+        self.longer(tokens, text, least, found, form, asked)
     }
 
     // Returns the form with this index. Those that need a suffix are behind the others.
@@ -135,7 +135,7 @@ impl<'a> Forms<'a> {
         self.forms.len() <= form
     }
 
-    // Returns the longest candidate after one form more, which has the index `form`, goes up to `reach`, and has this candidate.
+    // Returns the longest candidate after one form more, which has the index `form`, and of which this is known.
     #[inline(always)]
     fn longer(
         &self,
@@ -144,13 +144,13 @@ impl<'a> Forms<'a> {
         least: usize,
         found: Longest,
         form: usize,
-        reach: usize,
-        candidate: Option<Candidate>,
+        asked: (usize, Option<Candidate>),
     ) -> Longest
         ensures { (it : Form × Bool) → slice_get (tried self.now tokens.now) form ≡ Some it
-            → IsAsked tokens.now.gives_points_back text.now it reach candidate → IsYet self.now tokens.now text.now least form found
+            → IsAsked tokens.now.gives_points_back text.now it asked.0 asked.1 → IsYet self.now tokens.now text.now least form found
             → IsYet self.now tokens.now text.now least (form + 1) result }
     {
+        let (reach, candidate) = asked;
         let reach = larger(found.reach, reach);
         match candidate {
             None => Longest { reach, ..found },

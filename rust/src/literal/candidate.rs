@@ -67,8 +67,8 @@ impl<'a> Forms<'a> {
     const fn ask(&self, tokens: &Tokens, text: &[u8], least: usize, found: Longest, form: usize) -> Longest {
         let it = self.tried(tokens, form);
         let needs = self.needs(form);
-        let (reach, candidate) = it.candidate(tokens.gives_points_back, needs, text);
-        self.longer(tokens, text, least, found, form, reach, candidate)
+        let asked = it.candidate(tokens.gives_points_back, needs, text);
+        self.longer(tokens, text, least, found, form, asked)
     }
 
     // Returns the form with this index. Those that need a suffix are behind the others.
@@ -87,7 +87,7 @@ impl<'a> Forms<'a> {
         self.forms.len() <= form
     }
 
-    // Returns the longest candidate after one form more, which has the index `form`, goes up to `reach`, and has this candidate.
+    // Returns the longest candidate after one form more, which has the index `form`, and of which this is known.
     #[cfg_attr(not(peltzivar_small), inline(always))]
     const fn longer(
         &self,
@@ -96,9 +96,9 @@ impl<'a> Forms<'a> {
         least: usize,
         found: Longest,
         form: usize,
-        reach: usize,
-        candidate: Option<Candidate>,
+        asked: (usize, Option<Candidate>),
     ) -> Longest {
+        let (reach, candidate) = asked;
         let reach = larger(found.reach, reach);
         match candidate {
             None => Longest { reach, ..found },
