@@ -47,7 +47,7 @@ TOOLS = {
     "mcs": Tool("mono-mcs", ["mcs", MCS], "mcs --version", f"mcs -r:{MCS} -out:{{work}}/cs.exe mcs.cs",
                 "env MONO_PATH=/usr/lib/mono/4.5 mono {work}/cs.exe"),
     "nasm": Tool("nasm", ["nasm"], "nasm --version", "", f"{PYTHON} compilers.py nasm"),
-    "nim": Tool("nim", ["nim"], "nim --version", "", "nim e --hints:off nim.nims"),
+    "nim": Tool("nim", ["nim"], "nim --version", "", "nim e --hints:off --maxLoopIterationsVM:1000000000 nim.nims"),
     "ocaml": Tool("ocaml-nox ocaml-compiler-libs", ["ocamlc"], "echo OCaml $(ocamlc -version)", f"cp ocaml.ml {{work}} && cd {{work}} && {OCAMLC} -o judge ocaml.ml",
                   "{work}/judge"),
     "octave": Tool("octave", ["octave-cli"], "octave-cli --version", "", "octave-cli -q --no-history octave.m"),
