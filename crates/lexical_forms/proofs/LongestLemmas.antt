@@ -157,10 +157,10 @@ module _ (form : Form) (text part : List ℕ) (opened : ℕ) (is : IsOpenedTo fo
       (subst (λ t. AreSums (raw form.syntax.word) (cut t (cuts_of begun.counts)) begun.sums) (sym inside_is)
       (sums_of_front (raw form.syntax.word) part begun.at.size (cuts_of begun.counts) begun.sums (notation_of form.syntax) (found.literal complete).0
       found.begun.begun.within (found.literal complete).1 (found.lengths complete (found.literal complete).0 (found.literal complete).1) (summed complete))) where
-    inside_is : drop form.opening.size (take front.size text) ≡ take begun.at.size part
-    inside_is = inner_is form text front read_front (take front.size text) _ refl refl
-        ∙ ap (λ k. take k (behind form text)) (let same : front.size - form.opening.size ≡ begun.at.size = omega (arith, opened_is) in same)
-        ∙ ap (take begun.at.size) (sym part_is)
+        inside_is : drop form.opening.size (take front.size text) ≡ take begun.at.size part
+        inside_is = inner_is form text front read_front (take front.size text) _ refl refl
+            ∙ ap (λ k. take k (behind form text)) (let same : front.size - form.opening.size ≡ begun.at.size = omega (arith, opened_is) in same)
+            ∙ ap (take begun.at.size) (sym part_is)
 
   pub read_over : (back : PointsBack) → IsOverFrom back text front.size form
   read_over back end past ahead =
@@ -302,9 +302,9 @@ module _ (list : FormList) (t : Tokens) (text : List ℕ) where
           pub no_gain : is_longer found.best c ≡ false → IsYet list t text least (i + 1) (record found { reach = new })
           no_gain up = stays (λ s e counts. subst (NotLonger found.best s) (sym (same_end t.gives_points_back it.1 text it.0 c made s e counts.1))
               (subst (λ n. NotLonger found.best n c.end) (sym (same_size t.gives_points_back it.1 text it.0 c made s e counts.1)) (up_of found.best up))) where
-            up_of : (best : Option (ℕ × Candidate)) → is_longer best c ≡ false → NotLonger best c.size c.end
-            up_of None up = false≢true (sym up)
-            up_of (Some best) up = up
+                up_of : (best : Option (ℕ × Candidate)) → is_longer best c ≡ false → NotLonger best c.size c.end
+                up_of None up = false≢true (sym up)
+                up_of (Some best) up = up
 
           own_end : c.size ≤ c.end
           own_end = let end = made.candidate.end_is in omega (arith, end)
@@ -415,26 +415,28 @@ module _ (list : FormList) (t : Tokens) (text : List ℕ) where
             let yet = best_at best at in
             let here = here_is (λ it. IsMade t.gives_points_back it.1 text it.0 best.1) (slice_get all best.0) yet.here in
             let made = here.2 in
-            let order = made.candidate.end_is in
-            (here.0.0, record {
-              chosen = record {
-                needs = here.0.1;
-                at = here.1;
-                own = made.candidate;
-                before = λ k d below s e has. elim (cases_lt least s) [
-                  | inl more ↦ yet.before k d below s e (more, has)
-                  | inr low ↦ in_front best at yet k d below s e low has
-                ];
-                others = λ k d below s e has. elim (cases_lt least s) [
-                  | inl more ↦ others_all best yet k d below s e (more, has)
-                  | inr low ↦ not_both_ways s e best.1.size best.1.end (uncounted best at yet k d below s e low has)
-                ];
-              };
-              counted = made.counted;
-              sums = made.sums;
-              order = omega (arith, order);
-              within = made.within;
-            }) where
+            let order = made.candidate.end_is in (
+              here.0.0,
+              record {
+                chosen = record {
+                  needs = here.0.1;
+                  at = here.1;
+                  own = made.candidate;
+                  before = λ k d below s e has. elim (cases_lt least s) [
+                    | inl more ↦ yet.before k d below s e (more, has)
+                    | inr low ↦ in_front best at yet k d below s e low has
+                  ];
+                  others = λ k d below s e has. elim (cases_lt least s) [
+                    | inl more ↦ others_all best yet k d below s e (more, has)
+                    | inr low ↦ not_both_ways s e best.1.size best.1.end (uncounted best at yet k d below s e low has)
+                  ];
+                };
+                counted = made.counted;
+                sums = made.sums;
+                order = omega (arith, order);
+                within = made.within;
+              },
+            ) where
               others_all : (best : ℕ × Candidate) → IsFirstYet list t text least i best.0 best.1
                   → All (λ it. (s e : ℕ) → Counts list t text least it s e → is_shorter best.1.size best.1.end s e ≡ false) all
               others_all best yet = subst (λ xs. All (λ it. (s e : ℕ) → Counts list t text least it s e → is_shorter best.1.size best.1.end s e ≡ false) xs)

@@ -398,12 +398,7 @@ impl Form {
 
     // Returns the literal with these parts, and with their sums if they are known.
     #[inline(always)]
-    fn literal_of<'t>(
-        &self,
-        text: &'t [u8],
-        counts: [usize; 9],
-        sums: Option<Sums>,
-    ) -> Literal<'t>
+    fn literal_of<'t>(&self, text: &'t [u8], counts: [usize; 9], sums: Option<Sums>) -> Literal<'t>
         requires cut { IsCut (notation_of self.now.syntax) text.now (cuts_of counts) }
         requires sums { ForSome sums (AreSums (raw self.now.syntax.word) (cut text.now (cuts_of counts))) }
         ensures { result ≡ record { format = self.now.syntax.word; literal = cut text.now (cuts_of counts); kind = exact; opened = 0 } }
@@ -599,7 +594,10 @@ fn stopped(it: &Form, text: &[u8], form: usize, candidate: Candidate) -> TokenEr
     ensures { IsEnd it.now text.now form candidate result }
 {
     let Candidate {
-        size, counts, end, ..
+        size,
+        counts,
+        end,
+        ..
     } = candidate;
     let behind = stop_end(more_of(it.suffixes), text, end);
     if has_word_byte(text, end) {
