@@ -43,10 +43,11 @@ NOTES = """
 ## Notes
 
 The grammar of each list, and how it differs from its tool. *Refused* are texts that only the tool reads, and *read* those that it
-refuses.
+refuses. That some tools make doubles of large integers, or round to the next float, is left out.
 
 """
 READS = ("-5", "+5", ".5", "1.", "1e5", "017", "1_0", "1'0", "1,000", "1.000", "1__0", "1_", "0x_F")
+LEFT_OUT = rf"{oracles.SUFFIX}|{oracles.ROUNDED.reason}|an integer from 2\^\d+ on"
 MARKS = {"+": "Refused", "-": "Read", "=": "Other values"}
 
 
@@ -129,7 +130,7 @@ def suffixes(rows):
     words = re.findall(r"`(.*?)`", re.sub(r"(written|begin) with `.*?`|with `.*?` in words", "", all_words))
     words = dict.fromkeys(map(str.lower, words))
     found = [f"`{it}`" for it in words if it[1:] not in words or it[0].isalpha()]
-    found += ["also behind `'`"] * any(it[0] == "'" for it in words)
+    found += ["also after `'`"] * any(it[0] == "'" for it in words)
     found += ["any word"] * ("any word" in all_words)
     return " ".join([*found, *(f"`{it}..`" for it in dict.fromkeys(re.findall(r"begin with `(.)`", all_words)))])
 
@@ -150,7 +151,8 @@ def recorded():
 
 def differences(name, rows):
     """Returns a sentence for each mark: what differs, each with a text that is recorded, if there is one."""
-    causes = [cause for row in oracles.LANGUAGES if row.name == name for cause in row.announced if cause.reason != oracles.SUFFIX]
+    announced = [cause for row in oracles.LANGUAGES if row.name == name for cause in row.announced]
+    causes = [it for it in announced if not re.fullmatch(LEFT_OUT, it.reason)]
     for mark, about in MARKS.items():
         shown, texts = {}, [text for it, sign, text in rows if (it, sign) == (name, mark)]
         for cause in causes:

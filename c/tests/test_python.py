@@ -280,26 +280,12 @@ class Literals(unittest.TestCase):
         self.assertEqual([grouped.format_number(it, decimals=2) for it in (Fraction(-1, 300), Language.C.read("0x10"))], ["-0.00", "16.00"])
         self.assertEqual(Syntax.integers(Format()).format_number(Decimal("1.0")), "1")
         self.assertEqual(Language.JSON.format_number(Language.C.read("0x1p-3")), "0.125")
+        self.assertEqual([languages.JAVA.format_number(it) for it in (2**31 - 1, 2**31, 2**53 + 1)], ["2147483647", "2147483648L", "9007199254740993L"])
         self.assertEqual([hexadecimal.format_number(it) for it in (2**128 // 3, 1.5, -(2.0**-70))], ["0x" + "5" * 32, "0x1.8", "-0x4p-12"])
         wrong = [(german, math.inf, "NaN or infinity"), (german, Decimal("NaN"), "NaN or infinity"), (hexadecimal, Decimal("1.5"), "radix")]
         wrong += [(Language.JSON, Language.C.read("0x1.23456789abcdefp-60"), "radix"), (Syntax.integers(Format()), 1.5, "not whole"), (Language.C, -1, "'-'")]
         for syntax, value, sentence in wrong:
             self.assertRaisesRegex(ValueError, sentence, syntax.format_number, value)
-
-    def test_numbers_are_written_as_the_rows_say(self):
-        """A row has a text or, behind `=`, a float, the settings of the syntaxes that read and write it, wishes, and a text or an error."""
-        syntax_of, errors = lambda settings: Syntax.of("required_digits=false", *settings.split()), {}
-        for row in re.findall("^[^#\n].*", (TOP / "rust/tests/writing.txt").read_text(), re.M):
-            text, source, target, wishes, wanted = (it.strip() for it in row.split("|"))
-            number = float(text[1:]) if text[0] == "=" else syntax_of(source).read(text)
-            style = {name: it == "true" or (int(it) if it.isdigit() else it) for name, it in (wish.split("=") for wish in wishes.split())}
-            try:
-                written = syntax_of(target).format_number(number, **style)
-            except ValueError as error:
-                written = f"!{error}"
-            self.assertEqual(written, errors.setdefault(wanted, written) if wanted[0] == "!" == written[0] else wanted, row)
-        # Each error has a sentence of its own.
-        self.assertEqual(len(set(errors.values())), len(errors))
 
     def test_tokens_are_those_of_the_rows(self):
         rows = (TOP / "rust/tests/tokens.txt").read_text(encoding="utf-8")
@@ -369,18 +355,6 @@ class Literals(unittest.TestCase):
         for wrong in ("123456789", "\u00e9"):
             self.assertRaises(ValueError, Opening, wrong)
         self.assertRaisesRegex(ValueError, "no form", Forms, {"": Syntax.of()}, only_read=["x"])
-
-    def test_integers_are_written_with_words(self):
-        """A token has what is written as the value, also by forms that are not those of the language."""
-        for language in Language:
-            if language.forms.tokens and any(it.written for it in language.forms.suffixes.values()):
-                for value in [sign * (2**bits + more) for bits in (8, 31, 32, 53, 63, 64) for more in (-1, 0, 1) for sign in (1, -1)]:
-                    with contextlib.suppress(ValueError):
-                        text = language.format_number(value)
-                        token = language.token(text)
-                        self.assertEqual((token.literal.value, token.rest), (value, ""), (language, text))
-                        self.assertEqual(Forms(language.forms).format_number(value), text)
-        self.assertEqual([languages.JAVA.format_number(it) for it in (2**31 - 1, 2**31, 2**53 + 1)], ["2147483647", "2147483648L", "9007199254740993L"])
 
     def test_causes_of_format(self):
         self.assertGreater(len(CAUSES), 10)
@@ -862,21 +836,11 @@ class Lists(unittest.TestCase):
         with self.assertRaisesRegex(LiteralError, "^the decimal point belongs to what follows$") as caught:
             forms.token("..\u00e9")
         self.assertEqual((caught.exception.kind, caught.exception.span), (ReadErrorKind.POINT, (1, 1)))
-
-    def test_each_suffix_of_a_language_gives_the_values_of_its_kind(self):
-        lists = [(of, it) for of in Language for it in (of.forms, of.forms.tokens and of.forms.tokens.forms) if it]
-        rows = [(of, it[name], name, own) for of, it in lists for name, own in it.suffixes.items()]
-        for (language, syntax, name, own), number in itertools.product(rows, {0.1, *LIMITS}):
-            text = outcome(syntax.format_number, number) if number < 2**65 else None
-            for word in {*own.integers.split(), *own.floats.split(), *(it for it, _ in own.kinds)}:
-                token = outcome(language.token, text + word) if text else None
-                if token and (token.suffix, token.literal.form) == (word, name):
-                    kind, exact = token.literal.kind, token.literal.fraction()
-                    code, wanted = "f" if kind.single else "d", valued(kind, int(exact))
-                    if token.literal.is_float:
-                        (wanted,) = struct.unpack(code, struct.pack(code, exact))
-                    self.assertEqual(outcome(lambda: token.literal.value), wanted, (language, token))
-                    self.assertEqual(eval(repr(token.literal)), token.literal)
+        with self.assertRaisesRegex(LiteralError, "^the number cannot end here$") as caught:
+            Forms({"": SYNTAX}, suffixes={"": Suffixes(stops=[("7", "-", "")])}, tokens=Tokens()).token("\u00e97-", 1)
+        self.assertEqual((caught.exception.kind, caught.exception.valid_up_to, caught.exception.span[0]), (ReadErrorKind.STOP, 2, 2))
+        literal = languages.RUST.token("7u8;").literal
+        self.assertEqual((eval(repr(literal)), pickle.loads(pickle.dumps(literal))), (literal, literal))
 
 
 def halved(part):

@@ -2,6 +2,7 @@
 import collections
 import fractions
 import math
+import os
 import re
 import struct
 import sys
@@ -13,6 +14,7 @@ PYTHON, DEBIAN, NODE, MCS = sys.executable, "/usr/bin/python3", "/usr/share/node
 PACKAGES = "/usr/lib/python3/dist-packages"
 JAVAC = " ".join(f"--add-exports jdk.compiler/com.sun.tools.javac.{it}=ALL-UNNAMED" for it in ("file", "parser", "tree", "util"))
 SCALA = "/usr/share/java/scala-compiler.jar:/usr/share/java/scala-library.jar:/usr/share/java/scala-reflect.jar"
+LIBGHDL = f"/usr/lib/{os.uname().machine}-linux-gnu/libghdl-2_0_0.so"
 OCAMLC = "ocamlc -w -a -I +compiler-libs ocamlcommon.cma"
 TOOLS = {
     "ast": Tool("python3", [PYTHON], f"{PYTHON} --version", "", f"{PYTHON} libraries.py python"),
@@ -30,7 +32,7 @@ TOOLS = {
     "gfortran": Tool("gfortran", ["gfortran"], "gfortran --version", "", f"{PYTHON} compilers.py gfortran"),
     "gdc": Tool("gdc", ["gdc"], "gdc --version", "", f"{PYTHON} compilers.py gdc"),
     "ghc": Tool("ghc", ["ghc"], "ghc --version", "ghc -v0 -package ghc -outputdir {work} -o {work}/ghc haskell.hs", "{work}/ghc"),
-    "ghdl": Tool("ghdl", ["ghdl"], "ghdl --version", "", f"{PYTHON} compilers.py ghdl"),
+    "ghdl": Tool("ghdl libghdl-2-0-0", ["ghdl", LIBGHDL], "ghdl --version", "", f"{PYTHON} compilers.py ghdl"),
     "ghostscript": Tool("ghostscript", ["gs"], "echo Ghostscript $(gs --version)", "", "gs -q -dNODISPLAY -dBATCH -dNOPAUSE postscript.ps"),
     "gnat": Tool("gnat", ["gnatmake"], "gnatmake --version", "", f"{PYTHON} compilers.py gnat"),
     "go": Tool("golang-go", ["go"], "go version", "go build -o {work}/go scanner.go", "{work}/go"),
@@ -45,7 +47,7 @@ TOOLS = {
     "mcs": Tool("mono-mcs", ["mcs", MCS], "mcs --version", f"mcs -r:{MCS} -out:{{work}}/cs.exe mcs.cs",
                 "env MONO_PATH=/usr/lib/mono/4.5 mono {work}/cs.exe"),
     "nasm": Tool("nasm", ["nasm"], "nasm --version", "", f"{PYTHON} compilers.py nasm"),
-    "nim": Tool("nim", ["nim"], "nim --version", "", "nim e --hints:off nim.nims"),
+    "nim": Tool("nim", ["nim"], "nim --version", "", "nim e --hints:off --maxLoopIterationsVM:1000000000 nim.nims"),
     "ocaml": Tool("ocaml-nox ocaml-compiler-libs", ["ocamlc"], "echo OCaml $(ocamlc -version)", f"cp ocaml.ml {{work}} && cd {{work}} && {OCAMLC} -o judge ocaml.ml",
                   "{work}/judge"),
     "octave": Tool("octave", ["octave-cli"], "octave-cli --version", "", "octave-cli -q --no-history octave.m"),
@@ -103,14 +105,6 @@ def number(text):
         return match and fractions.Fraction(text if fractions.Fraction(match[1]) else match[1])
 
 
-def nearest(text):
-    """Returns the double that is nearest to the number of a text."""
-    try:
-        return float(number(text))
-    except (OverflowError, TypeError):
-        return math.inf
-
-
 def out_of_range(most):
     """The tool refuses integers from `most` on, and floats that become infinite or zero."""
     def test(ours, _):
@@ -129,20 +123,22 @@ def doubles(least):
 
 
 ZERO = Cause("=", r"-[0.,]+([eE].*)?", "a negative zero", lambda _, theirs: theirs == 0)
-ROUNDED = Cause("=", ".*", "rounded to the next float", lambda ours, theirs: ours.double == nearest(ours.text)
-                and theirs in [math.nextafter(ours.double, to) for to in (-math.inf, math.inf)])
 
 def is_next(ours, theirs):
-    """Returns whether the float or the single of the library is nearer to a number of Lisp than that of the tool, which is the next one."""
-    exact = number(re.sub("[sfdl]", "e", ours.text.lower()))
-    own, other, shape = (ours.single, theirs.value, ">fi") if isinstance(theirs, tuple) else (ours.double, theirs, ">dq")
-    one, next = (struct.unpack(shape[0] + shape[2], struct.pack(shape[:2], it))[0] for it in (own, other))
-    return abs(one - next) == 1 and abs(fractions.Fraction(own) - exact) <= abs(fractions.Fraction(other) - exact)
+    """Returns whether the float or the single of the library is nearer to the number of the text than that of the tool, which is the next one."""
+    exact, is_single = number(ours.text), isinstance(theirs, tuple)
+    if exact is None or not is_single and not isinstance(theirs, float):
+        return False
+    floats, shape, most = ((ours.single, theirs.value), ">fi", 2**128) if is_single else ((ours.double, theirs), ">dq", 2**1024)
+    bits = [struct.unpack(shape[0] + shape[2], struct.pack(shape[:2], it))[0] for it in floats]
+    own, other = (fractions.Fraction(it) if math.isfinite(it) else most if it > 0 else -most for it in floats)
+    return abs(bits[0] - bits[1]) == 1 and abs(own - exact) <= abs(other - exact)
 
 
+ROUNDED = Cause("=", ".*", "rounded to the next float", is_next)
 RADIX = Cause("=", r".*\..*", "a fraction in a radix without floats", lambda ours, _: math.isnan(ours.double))
 BASED = [
-    Cause("+", r"[\d_]+#[\da-fA-F_.]+#[eE][+-]?[\d_]+", "an exponent behind a based literal"),
+    Cause("+", r"[\d_]+#[\da-fA-F_.]+#[eE][+-]?[\d_]+", "an exponent after a based literal"),
     Cause("+", r"(0[\d_]*|\d_[\d_]*)[#:].*", "a zero or a separator in a base"), Cause("+", r"[\d_]+:.*", "a colon for a number sign"),
     Cause("-", r"[\d_]+[eE]-[\d_]+", "a negative exponent of an integer"), RADIX]
 CELLS = [
@@ -166,7 +162,7 @@ LANGUAGES = [
     Language("ADA", "gnat", "019._eEF+-#", "_", "16#FF# 2#1.1# 2#1.1#e3 1E-3 16#F.8#E1 16#F_F# 16:FF: 016#FF# 1_6#FF# 3#1.1# 17#1# 2#12# 16#F", [
         *BASED, ROUNDED]),
     Language("BASH", "bash", "0189#xaZ", "", "16#ff 16#FF 2#101 36#Zz 8#17 3#12 37#a 64#_ 16# 65#1 1#0 02#1", [
-        Cause("+", "0[xX]", "no digits behind a prefix"), Cause("+", r"(3[7-9]|[45]\d|6[0-4])#[\w@]+", "a radix above 36")]),
+        Cause("+", "0[xX]", "no digits after a prefix"), Cause("+", r"(3[7-9]|[45]\d|6[0-4])#[\w@]+", "a radix above 36")]),
     Language("C", "gcc", "018.'exp-b", "'", "1u 1UL 1.0f 0x1p3L 10wb", [
         suffix("([uU]|ll?|LL?|wb|WB)+|[fFlL]|[dD][fFdDlL]")]),
     Language("CLOJURE", "clojure", "018.rexN-", "", "16rFF -16rFF 2r101 36rZz 1N 1M 1.5M 08M 017N 0xFFN 1/2 3r12 1r0 37r1 02r1", [
@@ -175,8 +171,8 @@ LANGUAGES = [
     Language("COMMON_LISP", "sbcl", "01.e-#xrd", "", "#xFF #x-FF #X+ff #o17 #b101 #16rFF #36RzZ #8r-17 1.e5 -1.d5 1d3 1.5d0 1f0 1s0 1l0 1.5d300 1/2 #x1/2 +.5", [
         Cause("+", r"(#([xXoObB]|\d+[rR]))?[+-]?\w+/\w+", "a ratio"), Cause("+", r"(#[xX])?[+-]?[\d.]+[rR][+-]?\d+", "an exponent of a ratio"),
         Cause("+", r"#\d+[xXoObB].+", "a radix that is ignored"), Cause("+", r"#([xXoObB]|\d+[rR])[+-]?\d+\.", "a point, by which digits are decimal"),
-        Cause("+", r"#0\d*[rR].+", "zeros in a radix"), Cause("+", "#.+#.+", "a number behind an opening"),
-        Cause("=", ".*", "rounded to the next float", is_next)]),
+        Cause("+", r"#0\d*[rR].+", "zeros in a radix"), Cause("+", "#.+#.+", "a number after an opening"),
+        ROUNDED._replace(test=lambda ours, theirs: is_next(ours._replace(text=re.sub("[sfl]", "e", ours.text.lower())), theirs))]),
     Language("CSS", "tinycss2", "0189.eE+-x", "_", "1e3px 10%", []),
     Language("CSV", "csv", "019.,eE+-iN", "_", "1.23E+05 +5 NaN nan Inf -inf Infinity infinity 1,234", [
         Cause("+", "[^_]*_.*", "a separator, which no program writes"), doubles(2**53)]),
@@ -192,8 +188,8 @@ LANGUAGES = [
     Language("D", "gdc", "018._exp-b", "_", "1L 1uL 1.5f 1i 0x1p3L 0x.8p3 1e_5 0x_1p_3", [
         suffix("[uU]?L?[uU]?|[fFL]?i?"), Cause("+", "0[0-7_]+([uU]?L?[uU]?)", "an octal number below 8"),
         Cause("+", "0[0-9_]*([fF]i?|L?i)", "a float of leading zeros"),
-        Cause("+", r"0[\d_]+\._*([eE][+-]?[\d_]+|_[\d_]*([eE][+-]?[\d_]+)?)?[fFL]?i?", "no digit behind a point and leading zeros"),
-        Cause("+", r"0[xX]_*(\.[\da-fA-F_]*)?[pP][+-]?[\d_]+[fFL]?i?", "no digits behind a prefix"),
+        Cause("+", r"0[\d_]+\._*([eE][+-]?[\d_]+|_[\d_]*([eE][+-]?[\d_]+)?)?[fFL]?i?", "no digit after a point and leading zeros"),
+        Cause("+", r"0[xX]_*(\.[\da-fA-F_]*)?[pP][+-]?[\d_]+[fFL]?i?", "no digits after a prefix"),
         ROUNDED]),
     Language("ELIXIR", "elixir", "018._exo-+", "_", "1.0e10 1.5e-3", []),
     Language("ERLANG", "erlang", "018._#eF-", "_", "16#FF 16#F_f 2#101 36#Zz 3#12 016#FF 1_6#F 37#1 1#0 16#F.8 16#_F $a 1.0e10 1.5e-3", [
@@ -204,7 +200,7 @@ LANGUAGES = [
         Cause("=", ".*", "a subnormal number, 0 there",
               lambda ours, theirs: theirs == (0.0,) and abs(ours.single) < 2**-126), ROUNDED]),
     Language("GNU_ASSEMBLER", "as", "018.xebf-d", "", "0e5 0e-1.5 0E+1 0f1.5 0f-1.5e3 0d.5 0D5. 1f 1b 0f 08.5 017.5 1e400 1e-400 0e1e400 1u 0b1e", [
-        Cause("+", "0[a-zA-Z].*", "a letter behind a zero that the manual does not name"),
+        Cause("+", "0[a-zA-Z].*", "a letter after a zero that the manual does not name"),
         Cause("+", r"[\d.]+[eE][+-]?", "an exponent without digits"), Cause("+", r"0\d+", "a float with a zero in front"),
         Cause("+", r"\.?([eE].*)?", "no digits before an exponent"),
         Cause("+", "(?i)nan|inf|infinity", "a name"), Cause("+", ".*'.*", "a character"), suffix("[uUlL]+"),
@@ -231,7 +227,7 @@ LANGUAGES = [
         Cause("-", r"0[xXbB]0\w{16,}", "zeros in front beyond 64 bits"), doubles(2**53)]),
     Language("NASM", "nasm", "01a._hxebd$", "_", "0c8h 0c8x 17q 17o 10d 10t 101b 101y 0h1F 0y1 0q7 0t9 $0c8 1h. 1x. 7q. 7o. 9d. 9t. 1b. 1y. $0FF $0f_f $9 $0 $0x1 $ff $0_", [
         Cause("+", r"\$(\D[\w$.]*|\w+\..*)?", "two prefixes, or an address"),
-        Cause("+", r"0[a-zA-Z][_.]*([eEpP][+-]?[0-9_]*)?", "no digits behind a prefix"),
+        Cause("+", r"0[a-zA-Z][_.]*([eEpP][+-]?[0-9_]*)?", "no digits after a prefix"),
         Cause("+", r"0[a-zA-Z][\w.]*[pP][+-]_*", "a sign without an exponent"),
         Cause("+", r"[\w.]+(\._+([eEpP][+-]?[\d_]*)?|[eEpP][+-]?_+)|0[a-zA-Z]_+\.[\w.]*([pP][+-]?[\d_]*)?", "a part of separators alone"),
         Cause("=", ".*", "an infinite value, NaN there", lambda ours, theirs: ours.double == math.inf and math.isnan(theirs)), ROUNDED]),
@@ -242,9 +238,9 @@ LANGUAGES = [
         suffix("[lLn]"), Cause("+", r"\w+\._+([eEpP][+-]?\d[\d_]*)?", "a fraction of separators alone"),
         Cause("+", r"[\d_]+", "the least integer without its sign", lambda _, theirs: theirs == -2**62)]),
     Language("PASCAL", "fpc", "018.$%&eF+-", "", "$FF $ff $-F -$F %101 &17 $FFFFFFFFFFFFFFFF $10000000000000000 %2 &8 1.5e300", [
-        Cause("+", r"(\d+|\$[\da-fA-F]+|&[0-7]+|%[01]+)\.(&?[eE][+-]?\d+)?", "no digits behind a point"), doubles(2**64), ROUNDED]),
+        Cause("+", r"(\d+|\$[\da-fA-F]+|&[0-7]+|%[01]+)\.(&?[eE][+-]?\d+)?", "no digits after a point"), doubles(2**64), ROUNDED]),
     Language("PERL", "perl", "018._exp-o", "_", "01.4p0 0o1.4p0 0b1.1p0 07_7 1.2.3", [
-        Cause("-", "0_[0-7_]+(\\.[0-7_]*)?([pP][+-]?[\\d_]+)?", "a separator behind the first zero"),
+        Cause("-", "0_[0-7_]+(\\.[0-7_]*)?([pP][+-]?[\\d_]+)?", "a separator after the first zero"),
         Cause("-", r"0(\.[0-7_]*)?[pP][+-]?[\d_]+", "an octal float with one digit before its point"),
         Cause("=", "0.*[pP].*", "a fraction of more than 52 bits", lambda ours, theirs: theirs < ours.double),
         doubles(2**63)]),
@@ -262,14 +258,14 @@ LANGUAGES = [
     Language("PYTHON", "ast", "018._exj-+b", "_", "1j 0j", [
         suffix("[jJ]"), Cause("+", "0[0_]*", "an integer of zeros alone"), Cause("+", "[0-9_]+[jJ]", "digits of an imaginary number")]),
     Language("R", "r", "018.aexp-L", "_", "1L 1i 0x1.8p3", [
-        suffix("[Li]"), Cause("+", "NaN|Inf", "a name"), ROUNDED, Cause("+", r"0[xX]\.[pP][+-]?\d+[Li]?", "no digits behind a prefix"),
+        suffix("[Li]"), Cause("+", "NaN|Inf", "a name"), ROUNDED, Cause("+", r"0[xX]\.[pP][+-]?\d+[Li]?", "no digits after a prefix"),
         doubles(2**53)]),
     Language("RAKU", "rakudo", "018._ex:<F>", "_", ":16<FF> :16<F.8> :16<F_F> :36<zZ> :2<101> :2<12> :37<1> :016<F> 0_0e0 :16<0xF> :16<0b1> "
              ":16<0bF> :16<F.8*16**2> :3<1.1> 1i :16<F", [
-        Cause("+", "Inf|NaN", "a name"), *(Cause(mark, ":.*<0[bdox].*>", "a prefix behind a radix") for mark in "+-="),
+        Cause("+", "Inf|NaN", "a name"), *(Cause(mark, ":.*<0[bdox].*>", "a prefix after a radix") for mark in "+-="),
         Cause("+", ":0.*", "a zero before a radix"),
         Cause("+", r":.*\*.*", "a power of a radix"), RADIX,
-        Cause("-", r"0_[\d_]*(\.[\d_]+)?[eE][+-]?[\d_]+", "a separator behind the first zero of a float")]),
+        Cause("-", r"0_[\d_]*(\.[\d_]+)?[eE][+-]?[\d_]+", "a separator after the first zero of a float")]),
     Language("RUBY", "ruby", "018._exr-+b", "_", "1r 1i 1ri 0d10", [suffix("ri?|i")]),
     Language("RUST", "rustc", "018._exo-u", "_", "1u8 1.5f32 1_i64 0x1z", [
         suffix("([ui](8|16|32|64|128|size)|f32|f64)")]),

@@ -36,13 +36,16 @@ fn bits(literal: &Literal<'_>) -> Option<u64> {
 
 impl Given<'_> {
     /// Returns whether a literal, which may be a float, is exactly the same integer or, if a float was given, the same
-    /// float, or the nearest one in a list of singles. An `f32` has digits of its own.
+    /// float, or its single in a list of singles. An `f32` has digits of its own.
     fn is(&self, literal: &Literal<'_>, has_singles: bool) -> bool {
         match self {
             Given::Float(value) if has_singles => bits(literal) == Some(f64::from(*value as f32).to_bits()),
             Given::Float(value) => bits(literal) == Some(value.to_bits()),
             Given::Single(value) => f32::try_from(*literal).is_ok_and(|it| it.to_bits() == value.to_bits()),
-            Given::Literal(own) if own.is_float() => bits(own).is_some() && bits(own) == bits(literal),
+            Given::Literal(own) if own.is_float() => {
+                let value = |it: &Literal<'_>| if has_singles { it.to_f32().map(f64::from) } else { it.to_f64() };
+                value(own).is_ok_and(|it| Some(it.to_bits()) == bits(literal))
+            }
             // No float may have the radix.
             Given::Literal(own) => {
                 integer(own) == integer(literal) && bits(own).is_none_or(|it| bits(literal) == Some(it))

@@ -242,7 +242,7 @@ fn token(case: &Case, text: &[u8]) -> Ended {
     let chosen = candidates.max_by_key(|it| it.0);
     let fails = || {
         let furthest = list.into_iter().map(|form| right(form, text)).max().unwrap();
-        let end = furthest + word(&text[furthest..], b"");
+        let end = (furthest + word(&text[furthest..], b"")).max(text.len().min(1));
         let part = &text[..end];
         if list.into_iter().any(|form| behind(form, part).is_some()) {
             return Err((end..end, "the decimal point belongs to what follows".into()));

@@ -6,10 +6,7 @@
 mod limits;
 
 use limits::{whole, Limits, KINDS};
-use peltzivar::literal::{
-    Condition, ExponentStyle, FloatKind, FloatLimits, Form, IntegerKind, Kind, Language, Literal, Style, Syntax,
-    ValueErrorKind, WriteError,
-};
+use peltzivar::literal::{Condition, ExponentStyle, Form, Language, Literal, Style, ValueErrorKind, WriteError};
 use std::collections::{BTreeSet, HashMap};
 
 /// A language, a token, and the integer that it is.
@@ -225,38 +222,6 @@ fn numbers_have_the_limits_of_their_forms_and_suffixes() {
     }
 }
 
-/// A limit holds for each float type, for integers of the exact kind, and for the nearest float and single alike.
-#[test]
-fn floats_have_the_limits_of_their_kind() {
-    let decimal = Syntax::default();
-    let wide = ["1".repeat(400), format!("{}e9", "1".repeat(400)), "1e99999999999999999999".into(), "1.8e308".into()];
-    let near = [format!("0.{}1", "0".repeat(400)), "1e-99999999999999999999".into(), "2.4e-324".into()];
-    let zeros = ["0".into(), "0.0e-999".into(), "0".repeat(400), "0e999".into()];
-    for limits in [FloatLimits::None, FloatLimits::Largest, FloatLimits::Both] {
-        for floats in [FloatKind::Nearest, FloatKind::Single] {
-            let kind = Kind::new(IntegerKind::Exact, floats).unwrap().with_limits(limits);
-            assert_eq!((kind.floats(), kind.limits()), (floats, limits));
-            let has = |text: &str, value: f64, error: Option<ValueErrorKind>| {
-                let literal = decimal.read(text).unwrap().with_kind(kind);
-                let wanted = error.map_or(Ok(value), Err);
-                assert_eq!(literal.to_f64().map_err(|it| it.kind()), wanted, "{kind:?}: {text}");
-                assert_eq!(literal.to_f32().map_err(|it| it.kind()), wanted.map(|it| it as f32), "{kind:?}: {text}");
-                assert_eq!((literal.to_f64(), literal.to_f32()), (literal.try_into(), literal.try_into()));
-            };
-            let is_limited = limits != FloatLimits::None;
-            for text in &wide {
-                has(text, f64::INFINITY, is_limited.then_some(ValueErrorKind::TooLarge));
-                let error = is_limited.then_some(ValueErrorKind::TooSmall);
-                has(&format!("-{text}"), f64::NEG_INFINITY, error);
-            }
-            for text in &near {
-                has(text, 0.0, (limits == FloatLimits::Both).then_some(ValueErrorKind::Vanishes));
-            }
-            zeros.iter().for_each(|text| has(text, 0.0, None));
-            has("1.5", 1.5, None);
-        }
-    }
-}
 /// What is written has the value, and not the digits.
 #[test]
 fn values_are_written() {

@@ -367,19 +367,6 @@ fn spans_begin_with_the_opening() {
     }
 }
 
-/// Any word may follow a number that does not end in the decimal point of its form, whichever byte that is.
-#[test]
-fn no_word_follows_a_decimal_point() {
-    let tokens = &Tokens::new(&[], &[]).any_word_follows(true);
-    for (suffix, point, ends) in [(b'h', b'.', [0, 1]), (b'h', b',', [1, 0]), (b'.', b',', [2, 0])] {
-        let format = NumberFormatBuilder::new().base_suffix(NonZeroU8::new(suffix)).build_format_or_panic();
-        let forms = [Form::new("", Syntax::new_or_panic(format, b'e', point))];
-        let forms = Forms::new_or_panic(&forms).with_tokens(tokens);
-        let sizes = ["1.x", "1,x"].map(|text| forms.token(text).map_or(0, |it| text.len() - it.rest.len()));
-        assert_eq!(sizes, ends, "{forms:?}");
-    }
-}
-
 /// An error of a scaled value names the limit as it would be in the text.
 #[test]
 #[allow(clippy::unnecessary_cast, reason = "it is for each type")]

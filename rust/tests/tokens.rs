@@ -1,7 +1,7 @@
 //! Numbers in the middle of source text: what is the token, and why there is none. Expected results are those of the grammars, and of the
 //! scanners of rustc, javac, go/scanner, CPython, node, gcc, ocaml and ripper where these take a word for a number's end.
 
-use peltzivar::literal::{Form, Forms, Language, Suffixes, Syntax, Token, TokenError, Tokens};
+use peltzivar::literal::{Form, FormError, Forms, Language, Suffixes, Syntax, Token, TokenError, Tokens};
 use std::collections::BTreeSet;
 
 /// Returns what a row states.
@@ -47,6 +47,31 @@ fn each_language_ends_its_numbers_as_its_scanner_does() {
             language.token(text).ok().map(|it| it.literal.as_bytes().to_vec()),
             "{language}: {text}"
         );
+    }
+}
+
+/// Where no form goes beyond the first byte, the error is the one that `read` has of this byte, and it is incomplete only
+/// if the text ends where it is. The text is each byte, and each one with each byte behind it.
+#[test]
+fn an_error_is_that_of_the_first_byte_at_least() {
+    let of = |error: &FormError| (error.form, error.span(), error.byte(), error.to_string(), format!("{error:#}"));
+    let tokens = Language::ALL.iter().filter(|it| it.forms().tokens().is_some());
+    for language in tokens {
+        for first in 0..=u8::MAX {
+            let alone = language.forms().read(&[first][..]).err();
+            for size in [1, 2] {
+                for second in 0..=if size == 1 { 0 } else { u8::MAX } {
+                    let text = &[first, second][..size];
+                    let Err(TokenError::Literal(error)) = language.token(text) else { continue };
+                    let what = || format!("{language} {:?}: {error}", text.escape_ascii().to_string());
+                    assert!(!error.is_incomplete() || error.valid_up_to() == text.len(), "{}", what());
+                    let is_word = |it: u8| it == b'_' || it.is_ascii_alphanumeric() || !it.is_ascii();
+                    if error.valid_up_to() == 0 && !is_word(first) {
+                        assert_eq!(Some(of(&error)), alone.as_ref().map(of), "{}", what());
+                    }
+                }
+            }
+        }
     }
 }
 
@@ -218,6 +243,13 @@ fn an_error_tells_a_suffix_that_only_a_token_has() {
             assert_eq!(sentence.ends_with(" is a suffix, which `token` reads"), told, "{language} {text}: {sentence}");
             assert_eq!(language.parse::<f64>(text).map_err(|it| it.to_string()), Err(sentence));
             assert_eq!(language.read_bytes(text.as_bytes()), Err(error));
+        }
+    }
+    // A suffix that is not UTF-8 is not told.
+    for (language, byte) in Language::ALL.iter().flat_map(|it| (0x80..=0xFF).map(move |byte| (it, byte))) {
+        for text in [&[b'1', byte][..], &[b'1', b'_', byte], &[b'1', b'.', b'5', byte]] {
+            let sentence = language.read(text).unwrap_err().to_string();
+            assert!(!sentence.contains("``"), "{language} {text:?}: {sentence}");
         }
     }
     let sentence = |it: &str| Language::RUST.parse::<u8>(it).unwrap_err().to_string();

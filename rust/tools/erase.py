@@ -160,7 +160,8 @@ REPLACED += [
     ("list.rt", "fn read_prefix<", "fn read_prefix_bytes<"),
     ("suffix.rt", "\nconst fn begins(", "\npub(crate) const fn begins("),
     ("lexical_literal/src/stop.rt", "    const fn longest(", "    pub(crate) const fn longest("),
-    # An error knows a suffix behind the part that is right, in bytes that the size of an opening does not need.
+    # An error knows a suffix behind the part that is right, and whether it is of a part of a text, in bytes and a bit that the size of an
+    # opening does not need.
     ("list.rt", "    pub(crate) opened: usize,", "    pub(crate) opened: u8, pub(crate) suffix: [u8; 7],"),
     ("list.rt", "self.as_slice()[form].refuse(text, form, stop)", "self.with_suffix(text, self.as_slice()[form].refuse(text, form, stop))"),
     ("lexical_forms/src/behind.rt", "            opened,\n", "            opened: opened as u8, suffix: [0; 7],\n"),
@@ -175,13 +176,11 @@ REPLACED += [
     # Programs have one copy of these.
     ("lexical_literal/src/stop.rt", "self.begin(false, text, false)", "self.begin_any(text, false)"),
     ("lexical_literal/src/stop.rt", "self.begin(false, text, true)", "self.begin_any(text, true)"),
-    ("token.rt", "it.syntax.begin(false, text, true)", "it.syntax.begin_small(text, true)"),
-    ("token.rt", "it.syntax.begin(false, front, true)", "it.syntax.begin_small(front, true)"),
+    ("candidate.rt", "self.syntax.begin(false, inside, true)", "self.syntax.begin_small(inside, true)"),
     # The library for C has one copy of these.
-    ("candidate.rt", "match self.find_literal(word, None) {", "if cfg!(peltzivar_small) { return self.fault(word, end); } match self.find_literal(word, None) {"),
+    ("candidate.rt", "match self.find_literal(word, None) {", "if cfg!(peltzivar_small) { return self.fault(text, end); } match self.find_literal(word, None) {"),
+    ("candidate.rt", "TokenError::Literal(self.error_at(word, furthest))", "TokenError::Literal(self.error_at(word, furthest).before(end < text.len()))"),
     ("behind.rt", "let begun = syntax.begin(false, inside, false);", "let begun = syntax.begin_small(inside, false);"),
-    ("token.rt", "        if has_letter_behind_zero(text) {", "        if !cfg!(peltzivar_small) && has_letter_behind_zero(text) {"),
-    ("token.rt", "match self.leading(tokens, text, sign) {", "let start = if cfg!(peltzivar_small) && has_letter_behind_zero(text) { sign + 1 } else { sign };\n        match self.leading(tokens, text, start) {"),
     ("lexical_literal/src/stop.rt", "stop.step(syntax, text, last)", "stop.step_any(syntax, text, last)"),
     ("lexical_literal/src/stop.rt", "at.step(self, text, last)", "at.step_any(self, text, last)"),
     ("list.rt", "    #[inline(never)]\n    const fn furthest(", "    #[cfg_attr(not(peltzivar_small), inline(never))]\n #[cfg_attr(peltzivar_small, inline(always))]\n    const fn furthest("),
@@ -209,7 +208,7 @@ REPLACED += [
     ("lexical_value/src/integer.rt", "pub fn integer_numeral", "pub(crate) const fn integer_numeral"),
     ("sink.rt", "#[derive(Drop)]", "#[derive(Debug)]"),
     # Programs have one copy of these, for any kind of number.
-    *[("choice.rt", f"fn {it}<N: Writable>(", f"fn {it}<N: Writable + ?Sized>(") for it in "choose put_number put_text write_form read_alone read_token read_written write_by write_words".split()],
+    *[("choice.rt", f"fn {it}<N: Writable>(", f"fn {it}<N: Writable + ?Sized>(") for it in "choose put_number put_text write_form read_alone read_token read_written write_by".split()],
     # Programs that write floats have no code for tokens.
     ("choice.rt", "    /// Returns which forms are asked first.\n", "    /// Returns the token that `text` begins with. Only integers are written with words.\n fn token<'t>(&self, _: &Forms, _: &'t [u8]) -> Option<Token<'t>> { None }\n\n    /// Returns which forms are asked first.\n"),
     ("choice.rt", "impl Writable for Whole {", "impl Writable for Whole { fn token<'t>(&self, forms: &Forms, text: &'t [u8]) -> Option<Token<'t>> { forms.token(text).ok() }"),

@@ -1,9 +1,9 @@
 # The judge of MATLAB: Octave, which evaluates the text. Reads texts on standard input, and prints `-`, or `+` and the value.
-# A text that begins with a letter is a name, and a sign is an operator, but for that of an exponent.
+# A text that begins with a letter is a name, a sign is an operator, but for that of an exponent, and `...` continues a line.
 1;
 function shown = judge(text)
   shown = "-";
-  if isempty(regexp(text, '^(0[xXbB]\w*|(?!0[xXbB])[\d.][\w.]*([eEdD][+-][\w.]*)?)$', 'once')) return; end
+  if isempty(regexp(text, '^(?!.*\.\.\.)(0[xXbB]\w*|(?!0[xXbB])[\d.][\w.]*([eEdD][+-][\w.]*)?)$', 'once')) return; end
   try
     value = eval([text ";"]);
   catch

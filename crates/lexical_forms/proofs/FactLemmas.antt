@@ -1,12 +1,12 @@
 -- What the parts of a token are, and which tokens are a whole text.
-use Rattle.lexical_forms.proofs.Common.{AreBare, Bool, Bor, Form, FormList, IsCandidate, IsChosen, IsFirst, IsSomeAnd, IsToken, List, Literal, None}
-use Rattle.lexical_forms.proofs.Common.{Option, Reads, ReadsForm, ReadsIn, Some, Token, Tokens, [], ap, arith, behind, drop, drop-drop, false, false≢true}
-use Rattle.lexical_forms.proofs.Common.{get_or}
-use Rattle.lexical_forms.proofs.Common.{gives_back, if◌then◌else◌, inl, inr, is_float, is_in, kind_with, length, length-drop, length-take, min}
+use Rattle.lexical_forms.proofs.Common.{AreBare, Bool, Bor, Form, FormList, IsCandidate, IsFirst, IsSomeAnd, IsToken, List, Literal, None}
+use Rattle.lexical_forms.proofs.Common.{Option, Reads, ReadsForm, ReadsIn, Some, Token, Tokens, [], ap, arith, drop, drop-drop, false, false≢true}
+use Rattle.lexical_forms.proofs.Common.{get_or, slice_get}
+use Rattle.lexical_forms.proofs.Common.{gives_back, if◌then◌else◌, is_float, is_shorter, is_in, kind_with, length, length-drop, length-take, min}
 use Rattle.lexical_forms.proofs.Common.{more_of, nat_tests, notation_of, refl, slice_get_past, subst, suffix_size, sym, take, take-append-drop}
-use Rattle.lexical_forms.proofs.Common.{take_all, takes_point, text_of, true, word_size, ℕ, ◌&&◌, ◌++◌, ◌+◌, ◌-◌, ◌∙◌, ◌∷◌, ◌≡◌, ◌≤◌}
+use Rattle.lexical_forms.proofs.Common.{take_all, takes_point, text_of, tried, true, word_size, ℕ, ◌&&◌, ◌++◌, ◌+◌, ◌-◌, ◌∙◌, ◌∷◌, ◌≡◌, ◌≤◌}
 use Rattle.lexical_forms.specs.declared.suffix.Suffixes.{Suffixes}
-use Rattle.lexical_forms.proofs.FormLemmas.{all_at}
+use Rattle.lexical_forms.proofs.LongestLemmas.{all_tried, at_all, before_at, first_below, first_of}
 use Rattle.lexical_forms.proofs.LeadingLemmas.{IsBare, are_bare, less_or_same, suffix_within}
 use Rattle.lexical_forms.proofs.BehindLemmas.{plain_of}
 
@@ -24,27 +24,20 @@ kept a b is = grind arith
 
 module _ (list : FormList) (t : Tokens) (text : List ℕ) (token : Token) (is : IsToken list t text token) where
   -- The form has a candidate, which needs a suffix or not.
-  candidate : (needs : Bool) × IsCandidate t.gives_points_back needs text is.form is.size is.end
-  candidate = of is.chosen where
-    of : IsChosen list t text token.form is.form is.size is.end → (needs : Bool) × IsCandidate t.gives_points_back needs text is.form is.size is.end
-    of (inl (at, best, others)) =
-        (false, subst (λ o. IsSomeAnd o (λ form. IsCandidate t.gives_points_back false text form is.size is.end)) at best.here)
-    of (inr (behind, same, at, best, others)) =
-        (true, subst (λ o. IsSomeAnd o (λ form. IsCandidate t.gives_points_back true text form is.size is.end)) at best.here)
+  candidate : IsCandidate t.gives_points_back is.chosen.needs text is.form is.size is.end
+  candidate = is.chosen.own
 
   module _ (bare : AreBare list t) where
     own_bare : IsBare is.form
-    own_bare = of is.chosen where
-      of : IsChosen list t text token.form is.form is.size is.end → IsBare is.form
-      of (inl (at, best, others)) = all_at IsBare list.forms token.form is.form at (are_bare list.forms bare.0)
-      of (inr (behind, same, at, best, others)) = all_at IsBare t.forms.now behind is.form at (are_bare t.forms.now bare.1)
+    own_bare = at_all (λ (it : Form × Bool). IsBare it.0) (tried list t) token.form (is.form, is.chosen.needs) is.chosen.at
+        (all_tried IsBare list t (are_bare list.forms bare.0) (are_bare t.forms.now bare.1))
 
     reads_plain : Reads (notation_of is.form.syntax) token.literal.literal (take is.size text)
     reads_plain = plain_of is.form (take is.size text) own_bare token.literal.literal is.literal.1
 
     pub parts_are : text ≡ text_of token.literal.literal ++ (token.suffix.now ++ token.rest.now)
     parts_are =
-        let end = candidate.1.end_is in
+        let end = candidate.end_is in
         let sum : is.size + (is.end - is.size) ≡ is.end = omega (arith, end) in
         sym (take-append-drop is.size text)
         ∙ (λ j. reads_plain.whole j ++ sym (take-append-drop (is.end - is.size) (drop is.size text)) j)
@@ -60,7 +53,7 @@ module _ (list : FormList) (t : Tokens) (text : List ℕ) (token : Token) (is : 
         let left = length-drop is.size text in omega (arith, behind, more, left)
 
     end : is.end ≡ is.size
-    end = candidate.1.end_is ∙ (let none = no_more is.form (is_float candidate.1.literal) text is.size past in omega (arith, none))
+    end = candidate.end_is ∙ (let none = no_more is.form (is_float candidate.literal) text is.size past in omega (arith, none))
 
     -- A form that reads the text has it as a candidate.
     whole : (form : Form) (l : Literal) → ReadsIn form l text → IsCandidate t.gives_points_back false text form (length text) (length text)
@@ -78,9 +71,9 @@ module _ (list : FormList) (t : Tokens) (text : List ℕ) (token : Token) (is : 
 
     size : is.size ≤ length text
     size =
-        let longest = candidate.1.front.1.within in
-        let own = candidate.1.size_is in
-        let less = less_or_same (gives_back t.gives_points_back is.form text candidate.1.longest) candidate.1.longest in
+        let longest = candidate.front.1.within in
+        let own = candidate.size_is in
+        let less = less_or_same (gives_back t.gives_points_back is.form text candidate.longest) candidate.longest in
         omega (arith, longest, own, less)
 
     -- Without a suffix, it has the kind of the form.
@@ -91,15 +84,17 @@ module _ (list : FormList) (t : Tokens) (text : List ℕ) (token : Token) (is : 
       own (Some it) = refl
 
     pub is_whole : IsFirst list.forms text token.form token.literal
-    is_whole = of is.chosen where
-      of : IsChosen list t text token.form is.form is.size is.end → IsFirst list.forms text token.form token.literal
-      of (inl (at, best, others)) = record {
-        reads = subst (λ o. IsSomeAnd o (ReadsForm text token.literal)) (sym at)
+    is_whole = of is.chosen.needs is.chosen.at is.chosen.own where
+      of : (needs : Bool) → slice_get (tried list t) token.form ≡ Some (is.form, needs)
+          → IsCandidate t.gives_points_back needs text is.form is.size is.end → IsFirst list.forms text token.form token.literal
+      of false at own = record {
+        reads = subst (λ o. IsSomeAnd o (ReadsForm text token.literal)) (sym (first_of list.forms t.forms.now token.form is.form at))
             (is.literal.0, kind, subst (ReadsIn is.form token.literal.literal) (take_all is.size text past) is.literal.1);
         before = λ k d below l read.
-            let shorter = best.before k d below (length text) (length text) (whole (get_or (take token.form list.forms) k d) l read) in
+            let less = first_below list t token.form k d is.form at below in
+            let shorter = before_at (λ (it : Form × Bool). (s e : ℕ) → IsCandidate t.gives_points_back it.1 text it.0 s e
+            → is_shorter s e is.size is.end ≡ true) (tried list t) token.form k (get_or (take token.form list.forms) k d, false) less.0 less.1 is.chosen.before
+            (length text) (length text) (whole (get_or (take token.form list.forms) k d) l read) in
             let stop = end in let own = size in let less = past in grind (arith, nat_tests);
       }
-      of (inr (behind, same, at, best, others)) =
-          let own = subst (λ o. IsSomeAnd o (λ form. IsCandidate t.gives_points_back true text form is.size is.end)) at best.here in
-          let longer = own.suffixed refl in absurd (omega (arith, longer, end))
+      of true at own = let longer = own.suffixed refl in absurd (omega (arith, longer, end))

@@ -1,8 +1,8 @@
 -- Several forms: what has been found in the first of them, and what one form more adds.
-use Rattle.lexical_forms.proofs.Common.{All, All-more, AreBare, AreBelow, ArePassed, Bool, Bor, Form, FormList, Found, Furthest, GoesTo, HasFront}
+use Rattle.lexical_forms.proofs.Common.{All, All-more, AreBelow, ArePassed, Bool, Form, Found, Furthest, GoesTo, HasFront}
 use Rattle.lexical_forms.proofs.Common.{IsCountedFront, IsErrorOfForm, IsFormError, IsFoundForm, IsFoundFrontForm, IsFrontIn, IsGreatest, IsLed}
 use Rattle.lexical_forms.proofs.Common.{IsLongestPast, IsLow, IsPassed, IsPast, IsRefusedAt, IsSomeAnd, Leads, List, NoForm, NoFrontBy, NoFrontPast, None}
-use Rattle.lexical_forms.proofs.Common.{NonePast, Notation, Ok, Option, Reaches, Read, ReadsForm, ReadsIn, Some, Stopped, Tokens, [], ap, are_opened, arith}
+use Rattle.lexical_forms.proofs.Common.{NonePast, Notation, Ok, Option, Reaches, Read, ReadsForm, ReadsIn, Some, Stopped, [], ap, arith}
 use Rattle.lexical_forms.proofs.Common.{behind, cases_lt, common_steps, false, false≢true, further, get_or, get_or-take, have_openings, if◌then◌else◌, inl}
 use Rattle.lexical_forms.proofs.Common.{inr, length, length-take-le, nat_lt, nat_tests, reached, refl, slice_get, slice_get-get_or, slice_get_within}
 use Rattle.lexical_forms.proofs.Common.{◌∙◌}
@@ -124,10 +124,6 @@ pub plain_at : (forms : List Form) (i : ℕ) (d : Form) → i < length forms →
 plain_at [] i d inside none = absurd (omega (arith, inside))
 plain_at (form ∷ forms) ℕ.zero d inside none = no_size form.opening.size _ refl (no_one _ (have_openings forms) none).0
 plain_at (form ∷ forms) (ℕ.suc i) d inside none = plain_at forms i d (omega (arith, inside)) (no_one _ (have_openings forms) none).1
-
--- The forms of a list and of its tokens have none.
-pub bare_list : (list : FormList) (t : Bor Tokens) → are_opened list.forms list.tokens ≡ false → list.tokens ≡ Some t → AreBare list t.now
-bare_list list t none same = no_one _ _ (subst (λ o. are_opened list.forms o ≡ false) same none)
 
 -- All forms have been tried.
 module _ (forms : List Form) (text : List ℕ) (i : ℕ) (end : length forms ≤ i) where

@@ -7,4 +7,5 @@ pub mod BehindLemmas
 mod FormLemmas
 mod TokenLemmas
 mod LeadingLemmas
+mod LongestLemmas
 mod FactLemmas

@@ -1,16 +1,17 @@
 -- Tokens: the best of the candidates of several forms.
-use Rattle.lexical_forms.proofs.Common.{All, All-more, AllShorter, Bool, Candidate, Form, FormList, Found, GoesTo, HasLengths, IfSome, IsAhead, IsBestMade}
-use Rattle.lexical_forms.proofs.Common.{IsBestOf, lets_words}
+use Rattle.lexical_forms.proofs.Common.{Bool, Candidate, Form, FormList, Found, GoesTo, HasLengths, HasSumsOf, IfSome, IsAhead}
+use Rattle.lexical_forms.proofs.Common.{lets_words}
 use Rattle.lexical_forms.proofs.Common.{IsCandidate, IsChosen, IsCounted, IsCut, IsEnd, IsFirst, IsFollowed, IsFrontIn, IsMade, IsMeasured, IsNone}
 use Rattle.lexical_forms.proofs.Common.{IsOver}
 use Rattle.lexical_forms.proofs.Common.{IsOwn}
-use Rattle.lexical_forms.proofs.Common.{IsPicked, IsRefused, IsSomeAnd, IsToken, IsTokenError, IsTrue, List, Literal, NoCandidate, NoForm, NoLonger, NoOwn}
+use Rattle.lexical_forms.proofs.Common.{IsPicked, IsRefused, IsSomeAnd, IsToken, IsTokenError, IsTrue, List, Literal, NoCandidate, NoForm, NoOwn}
 use Rattle.lexical_forms.proofs.Common.{None, NonePast, NoneBy, Option, PointsBack, Read, ReadsForm, ReadsIn, Some, [], ◌∷◌}
-use Rattle.lexical_forms.proofs.Common.{Token, Tokens, ap, arith, better, cuts_of, drop, false, get_or, gives_back, goes_on, has_float, if◌then◌else◌}
+use Rattle.lexical_forms.proofs.Common.{Token, Tokens, ap, arith, cuts_of, drop, false, gives_back, goes_on, has_float, if◌then◌else◌}
 use Rattle.lexical_forms.proofs.Common.{inl, inr, is_ascii_digit, is_float, is_in, is_shorter, is_stopped, is_word_byte, kind_with, length, length-take-le}
-use Rattle.lexical_forms.proofs.Common.{more_of, nat_tests, notation_of, refl, slice_get, slice_get-get_or, stop_end, subst, suffix_size, suffix_words}
+use Rattle.lexical_forms.proofs.Common.{more_of, nat_tests, notation_of, refl, slice_get, stop_end, subst, suffix_size, suffix_words}
 use Rattle.lexical_forms.proofs.Common.{suffixed, sym, take, take_all, true, whole, ℕ, ◌&&◌, ◌+◌, ◌-◌, ◌<◌, ◌==◌, ◌||◌, ◌∙◌, ◌≡◌, ◌≤◌, ◌⊎◌}
 use Rattle.lexical_forms.specs.declared.token.TokenError.{TokenError}
+use Rattle.lexical_literal.specs.declared.literal.Sums.{Sums}
 use Rattle.lexical_forms.specs.declared.token.TokenError.TheVariants as errors
 use Rattle.lexical_forms.proofs.FormLemmas.{all_at}
 use Rattle.lexical_forms.proofs.BehindLemmas.{front_in, inner_is, none_empty_in}
@@ -18,17 +19,14 @@ use Rattle.lexical_forms.proofs.OpeningLemmas.{one_front, one_valid}
 use Rattle.lexical_literal.proofs.MadeLemmas.{present}
 
 -- The order of candidates, each with the length of its literal and its end.
-none_below : (a b : ℕ) → is_shorter a b a b ≡ false
+pub none_below : (a b : ℕ) → is_shorter a b a b ≡ false
 none_below a b = grind (arith, nat_tests)
 
-below_up : (a b s e c d : ℕ) → is_shorter a b s e ≡ false → is_shorter a b c d ≡ true → is_shorter s e c d ≡ true
+pub below_up : (a b s e c d : ℕ) → is_shorter a b s e ≡ false → is_shorter a b c d ≡ true → is_shorter s e c d ≡ true
 below_up a b s e c d old up = grind (arith, nat_tests)
 
-above_up : (a b s e c d : ℕ) → is_shorter a b s e ≡ false → is_shorter a b c d ≡ true → is_shorter c d s e ≡ false
+pub above_up : (a b s e c d : ℕ) → is_shorter a b s e ≡ false → is_shorter a b c d ≡ true → is_shorter c d s e ≡ false
 above_up a b s e c d old up = grind (arith, nat_tests)
-
-above_all : (a b c d s e : ℕ) → is_shorter a b c d ≡ false → is_shorter c d s e ≡ false → is_shorter a b s e ≡ false
-above_all a b c d s e first other = grind (arith, nat_tests)
 
 -- Whether a literal is a float is told by the lengths of its parts.
 pub float_is : (l : Literal) (counts : List ℕ) → HasLengths l (cuts_of counts) → has_float counts ≡ is_float l
@@ -72,7 +70,7 @@ some_is v x same = ap (from_some v) same
 pub for_some : {X : Type 0} (P : X → Type 0) (v : X) → P v → (x : X) → Some v ≡ Some x → P x
 for_some P v is x same = subst P (some_is v x same) is
 
-no_some : {X : Type 0} (x : X) → None ≡ Some x → ⊥
+pub no_some : {X : Type 0} (x : X) → None ≡ Some x → ⊥
 no_some x same = grind arith
 
 pub none_is : {X : Type 0} (o : Option X) → IsNone o → o ≡ None
@@ -95,7 +93,7 @@ more_than_none true n s off on = grind (arith, nat_tests)
 more_than_none false n s off on = grind arith
 
 -- A literal has a byte.
-literal_size : (form : Form) (text : List ℕ) (l : Literal) → ReadsIn form l text → 0 < length text
+pub literal_size : (form : Form) (text : List ℕ) (l : Literal) → ReadsIn form l text → 0 < length text
 literal_size form [] l reads = absurd (none_empty_in form l reads)
 literal_size form (byte ∷ text) l reads = omega arith
 
@@ -113,6 +111,17 @@ counted_in form text found is =
 pub front_some : (form : Form) (text : List ℕ) (found : Option Found) → IfSome found (λ found. (0 < found.size) × IsFrontIn text found form)
     → (g : Found) → found ≡ Some g → IsFrontIn text g form
 front_some form text found is g same = (subst (λ o. IfSome o (λ found. (0 < found.size) × IsFrontIn text found form)) same is).1
+
+-- A front has a byte.
+pub some_byte : (form : Form) (text : List ℕ) (found : Found) → IsFrontIn text found form → 0 < found.size
+some_byte form text found is =
+    let front = front_in form text found is in
+    let size = literal_size form (take found.size text) is.front.literal front.reads in
+    let long = length-take-le found.size text front.within in omega (arith, size, long)
+
+-- There may be no sums.
+pub no_sums : (form : Form) (text counts : List ℕ) → HasSumsOf form text counts None
+no_sums form text counts sums same = absurd (no_some sums same)
 
 -- The front of `text` that is left if its point is given back.
 module _ (back : PointsBack) (form : Form) (text : List ℕ) (found : Found) (is : IsFrontIn text found form) where
@@ -196,8 +205,8 @@ module _ (back : PointsBack) (needs : Bool) (text : List ℕ) (form : Form) (fou
     abbrev more : ℕ
     more = suffix_size form.suffixes (has_float own.counts) (drop own.size text)
 
-    abbrev own_with : Candidate
-    own_with = record { size = own.size; counts = own.counts; end = own.size + more }
+    abbrev own_with : Option Sums → Candidate
+    own_with sums = record { size = own.size; counts = own.counts; sums = sums; end = own.size + more }
 
     candidate_of : (IsTrue needs → own.size < own.size + more) → IsCandidate back needs text form own.size (own.size + more)
     candidate_of enough = record {
@@ -222,107 +231,29 @@ module _ (back : PointsBack) (needs : Bool) (text : List ℕ) (form : Form) (fou
               ∙ ap (λ b. own.size + suffix_size form.suffixes b (drop own.size text)) float,
         )
 
-    pub with_suffix : (candidate : Option Candidate) → candidate ≡ suffixed form.suffixes needs text own
+    pub with_suffix : (sums : Option Sums) → HasSumsOf form (take own.size text) own.counts sums
+        → (candidate : Option Candidate) → candidate ≡ suffixed form.suffixes needs text own sums
         → ((c : Candidate) → candidate ≡ Some c → c.end ≤ length text) → (c : Candidate) → candidate ≡ Some c → IsMade back needs text form c
-    with_suffix candidate same within c some = go (needs && (more == 0)) refl (sym same ∙ some) where
-      go : (b : Bool) → (needs && (more == 0)) ≡ b
-          → (if b then None else Some (record { size = own.size; counts = own.counts; end = own.size + more })) ≡ Some c
-          → IsMade back needs text form c
+    with_suffix sums are candidate same within c some = go (needs && (more == 0)) refl (sym same ∙ some) where
+      go : (b : Bool) → (needs && (more == 0)) ≡ b → (if b then None else Some (own_with sums)) ≡ Some c → IsMade back needs text form c
       go true on none = absurd (no_some c none)
       go false off is_c =
-          let e = some_is (record { size = own.size; counts = own.counts; end = own.size + more }) c is_c in
+          let e = some_is (own_with sums) c is_c in
           subst (IsMade back needs text form) e (record {
             candidate = candidate_of (λ needed. more_than_none needs more own.size off needed);
             counted = owned.counted;
+            sums = are;
             within = subst (λ (c : Candidate). c.end ≤ length text) (sym e) (within c some);
           })
 
-    pub without_suffix : suffixed form.suffixes needs text own ≡ None → NoCandidate back needs text form
-    without_suffix none s e other = go (needs && (more == 0)) refl none where
-      go : (b : Bool) → (needs && (more == 0)) ≡ b → (if b then None else Some own_with) ≡ None → ⊥
+    pub without_suffix : (sums : Option Sums) → suffixed form.suffixes needs text own sums ≡ None → NoCandidate back needs text form
+    without_suffix sums none s e other = go (needs && (more == 0)) refl none where
+      go : (b : Bool) → (needs && (more == 0)) ≡ b → (if b then None else Some (own_with sums)) ≡ None → ⊥
       go true on none =
           let at = end_of s e other in
           let needed = both_hold needs more on in
           let longer = other.suffixed needed.0 in omega (arith, longer, at.0, at.1, needed.1)
       go false off none = no_some _ (sym none)
-
-module _ (back : PointsBack) (needs : Bool) (forms : List Form) (text : List ℕ) where
-  -- `IsBestYet i best` holds if `best` is the best candidate of the first `i` forms.
-  pub record IsYet (i index : ℕ) (c : Candidate) : Type 0 where
-    pub here : IsSomeAnd (slice_get forms index) (λ form. IsMade back needs text form c)
-    pub before : All (AllShorter back needs text c.size c.end) (take index forms)
-    pub others : All (NoLonger back needs text c.size c.end) (take i forms)
-
-  abbrev pub IsBestYet : ℕ → Option (ℕ × Candidate) → Type 0
-  IsBestYet i None = All (NoCandidate back needs text) (take i forms)
-  IsBestYet i (Some best) = IsYet i best.0 best.1
-
-  -- The form at `i` has no candidate, or `c`.
-  module _ (i : ℕ) (d : Form) (inside : i < length forms) where
-    abbrev g : Form
-    g = get_or forms i d
-
-    stays : NoCandidate back needs text g → (best : Option (ℕ × Candidate)) → IsBestYet i best → IsBestYet (i + 1) best
-    stays none None old = All-more (NoCandidate back needs text) forms i d inside old none
-    stays none (Some best) old = record {
-      here = old.here;
-      before = old.before;
-      others = All-more (NoLonger back needs text best.1.size best.1.end) forms i d inside old.others (λ s e is. absurd (none s e is));
-    }
-
-    at_it : (c : Candidate) → IsMade back needs text g c → IsSomeAnd (slice_get forms i) (λ form. IsMade back needs text form c)
-    at_it c is = subst (λ o. IsSomeAnd o (λ form. IsMade back needs text form c)) (sym (slice_get-get_or forms i d inside)) is
-
-    -- Of this form, no candidate is longer than `c`, or than what is not shorter than `c`.
-    none_longer : (c : Candidate) → IsMade back needs text g c → (a b : ℕ) → is_shorter a b c.size c.end ≡ false → NoLonger back needs text a b g
-    none_longer c is a b up s e other =
-        ap (λ n. is_shorter a b n e) (same_size back needs text g c is s e other)
-        ∙ ap (is_shorter a b c.size) (same_end back needs text g c is s e other) ∙ up
-
-    gains : (c : Candidate) → IsMade back needs text g c → (best : Option (ℕ × Candidate)) → IsBestYet i best → IsBestYet (i + 1) (better best i (Some c))
-    gains c is None old = record {
-      here = at_it c is;
-      before = λ k f below s e other. absurd (old k f below s e other);
-      others = All-more (NoLonger back needs text c.size c.end) forms i d inside (λ k f below s e other. absurd (old k f below s e other))
-          (none_longer c is c.size c.end (none_below c.size c.end));
-    }
-    gains c is (Some best) old = go (is_shorter best.1.size best.1.end c.size c.end) refl where
-      go : (b : Bool) → is_shorter best.1.size best.1.end c.size c.end ≡ b → IsBestYet (i + 1) (if b then Some (i, c) else Some best)
-      go true up = record {
-        here = at_it c is;
-        before = λ k f below s e other. below_up best.1.size best.1.end s e c.size c.end (old.others k f below s e other) up;
-        others = All-more (NoLonger back needs text c.size c.end) forms i d inside
-            (λ k f below s e other. above_up best.1.size best.1.end s e c.size c.end (old.others k f below s e other) up)
-            (none_longer c is c.size c.end (none_below c.size c.end));
-      }
-      go false up = record {
-        here = old.here;
-        before = old.before;
-        others = All-more (NoLonger back needs text best.1.size best.1.end) forms i d inside old.others
-            (none_longer c is best.1.size best.1.end up);
-      }
-
-    pub candidate_more : (found : Option Candidate) → ((c : Candidate) → found ≡ Some c → IsMade back needs text g c)
-        → (found ≡ None → NoCandidate back needs text g) → (best : Option (ℕ × Candidate)) → IsBestYet i best → IsBestYet (i + 1) (better best i found)
-    candidate_more None some none None old = stays (none refl) None old
-    candidate_more None some none (Some best) old = stays (none refl) (Some best) old
-    candidate_more (Some c) some none best old = gains c (some c refl) best old
-
-  -- All forms have been tried.
-  pub best_of : (i : ℕ) → length forms ≤ i → (best : Option (ℕ × Candidate)) → IsBestYet i best → IsBestOf back needs forms text best
-  best_of i end None is = subst (All (NoCandidate back needs text)) (take_all i forms end) is
-  best_of i end (Some best) is = record {
-    best = record {
-      here = go (slice_get forms best.0) is.here;
-      before = is.before;
-      others = subst (All (NoLonger back needs text best.1.size best.1.end)) (take_all i forms end) is.others;
-    };
-    made = is.here;
-  } where
-    go : (o : Option Form) → IsSomeAnd o (λ form. IsMade back needs text form best.1)
-        → IsSomeAnd o (λ form. IsCandidate back needs text form best.1.size best.1.end)
-    go None made = made
-    go (Some form) made = made.candidate
 
 -- Whether a form goes on behind `end`.
 module _ (back : PointsBack) (text : List ℕ) (end : ℕ) (form : Form) (stop : ℕ) (valid : GoesTo text form stop) where
@@ -341,53 +272,7 @@ some_form forms text i read is none = go (slice_get forms i) refl is.reads where
   go None at reads = reads
   go (Some form) at reads = all_at (λ form. NoneBy (ReadsIn form) text) forms i form at none read.literal reads.2
 
--- The best candidate of the list, and of the forms that need a suffix.
 module _ (list : FormList) (t : Tokens) (text : List ℕ) where
-  made_of : (needs : Bool) (forms : List Form) (i : ℕ) (form : Form) (c : Candidate) → slice_get forms i ≡ Some form
-      → IsBestMade t.gives_points_back needs forms text i c → IsMade t.gives_points_back needs text form c
-  made_of needs forms i form c at is = subst (λ o. IsSomeAnd o (λ form. IsMade t.gives_points_back needs text form c)) at is.made
-
-  module _ (i : ℕ) (form : Form) (c : Candidate) (at : slice_get list.forms i ≡ Some form) (is : IsBestMade t.gives_points_back false list.forms text i c) where
-    plain_is : All (NoLonger t.gives_points_back true text c.size c.end) t.forms.now → IsPicked list t text i form c
-    plain_is others =
-        let made = made_of false list.forms i form c at is in
-        let end = made.candidate.end_is in
-        record {
-          chosen = inl (at, is.best, others);
-          counted = made.counted;
-          order = omega (arith, end);
-          within = made.within;
-        }
-
-    pub plain_alone : IsBestOf t.gives_points_back true t.forms.now text None → IsPicked list t text i form c
-    plain_alone none = plain_is (λ k d below s e other. absurd (none k d below s e other))
-
-    pub plain_first : (j : ℕ) (o : Candidate) → IsBestMade t.gives_points_back true t.forms.now text j o → is_shorter c.size c.end o.size o.end ≡ false
-        → IsPicked list t text i form c
-    plain_first j o other up = plain_is
-        (λ k d below s e longer. above_all c.size c.end o.size o.end s e up (other.best.others k d below s e longer))
-
-  module _ (j : ℕ) (form : Form) (o : Candidate) (at : slice_get t.forms.now j ≡ Some form)
-      (is : IsBestMade t.gives_points_back true t.forms.now text j o) where
-    suffixed_is : All (AllShorter t.gives_points_back false text o.size o.end) list.forms → IsPicked list t text (length list.forms + j) form o
-    suffixed_is others =
-        let made = made_of true t.forms.now j form o at is in
-        let end = made.candidate.end_is in
-        record {
-          chosen = inr (j, refl, at, is.best, others);
-          counted = made.counted;
-          order = omega (arith, end);
-          within = made.within;
-        }
-
-    pub suffixed_alone : IsBestOf t.gives_points_back false list.forms text None → IsPicked list t text (length list.forms + j) form o
-    suffixed_alone none = suffixed_is (λ k d below s e other. absurd (none k d below s e other))
-
-    pub suffixed_first : (i : ℕ) (c : Candidate) → IsBestMade t.gives_points_back false list.forms text i c
-        → is_shorter c.size c.end o.size o.end ≡ true → IsPicked list t text (length list.forms + j) form o
-    suffixed_first i c other up = suffixed_is
-        (λ k d below s e shorter. below_up c.size c.end s e o.size o.end (other.best.others k d below s e shorter) up)
-
   -- The token that was picked, or why there is none.
   module _ (index : ℕ) (form : Form) (c : Candidate) (is : IsPicked list t text index form c) where
     pub token_is : (token : Token) → token.form ≡ index → (token.literal.format ≡ form.syntax.word) × ReadsIn form token.literal.literal (take c.size text)

@@ -1,5 +1,5 @@
 -- The forms of numbers, and the spellings of special values, as contracts see them.
-use Rattle.std.specs.Prelude.{◌==◌, ◌||◌, not, Bool, List, None, Option, Some}
+use Rattle.std.specs.Prelude.{◌==◌, not, Bool, List, Option}
 use Rattle.std.specs.Borrow.{Bor}
 use Rattle.std.specs.List.{list_any}
 use Rattle.lexical_forms.specs.declared.form.Form.{Form}
@@ -12,10 +12,6 @@ pub record FormList : Type 0 where
   pub specials : Specials
   pub tokens : Option (Bor Tokens)
 
--- `have_openings forms` is true if one of `forms` has an opening, and `are_opened forms tokens` if one of them or of those of `tokens` has.
+-- `have_openings forms` is true if one of `forms` has an opening.
 abbrev pub have_openings : List Form → Bool
 have_openings forms = list_any (λ (form : Form). not (form.opening.size == 0)) forms
-
-abbrev pub are_opened : List Form → Option (Bor Tokens) → Bool
-are_opened forms None = have_openings forms
-are_opened forms (Some t) = have_openings forms || have_openings t.now.forms.now

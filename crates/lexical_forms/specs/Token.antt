@@ -1,6 +1,6 @@
 -- Tokens: numbers that a text begins with, each with its suffix, and whatever follows.
 use Rattle.std.specs.Prelude.{ℕ, ◌≡◌, ◌+◌, ◌-◌, ◌==◌, ◌&&◌, ◌||◌, ◌<◌, ◌⊎◌, Bool, true, false, if◌then◌else◌, nat_lt, IsTrue, IsSomeAnd, List, Option, Some}
-use Rattle.std.specs.Prelude.{[], None, All, Result, Ok, Err, drop, length, not, slice_get, take}
+use Rattle.std.specs.Prelude.{[], ◌++◌, None, All, Result, Ok, Err, drop, length, map, not, slice_get, take}
 use Rattle.std.specs.Borrow.{Bor}
 use Rattle.std.specs.Char.{is_ascii_alphabetic, is_ascii_digit}
 use Rattle.lexical_util.specs.Ascii.{ByteSet}
@@ -55,24 +55,13 @@ pub record IsCandidate (back : PointsBack) (needs : Bool) (text : List ℕ) (for
 abbrev pub is_shorter : ℕ → ℕ → ℕ → ℕ → Bool
 is_shorter size end other_size other_end = nat_lt end other_end || ((end == other_end) && nat_lt size other_size)
 
--- `AllShorter`, `NoLonger` and `NoCandidate` hold of a form whose candidate, if it has one, is shorter than one of `size` bytes that ends
--- at `end`, or not longer, or that has none.
-module _ (back : PointsBack) (needs : Bool) (text : List ℕ) where
-  abbrev pub AllShorter : ℕ → ℕ → Form → Type 0
-  AllShorter size end form = (s e : ℕ) → IsCandidate back needs text form s e → is_shorter s e size end ≡ true
+-- `tried list t` lists the forms of the list, and then those that need a suffix, each with whether it does.
+abbrev pub tried : FormList → Tokens → List (Form × Bool)
+tried list t = map (λ form. (form, false)) list.forms ++ map (λ form. (form, true)) t.forms.now
 
-  abbrev pub NoLonger : ℕ → ℕ → Form → Type 0
-  NoLonger size end form = (s e : ℕ) → IsCandidate back needs text form s e → is_shorter size end s e ≡ false
-
-  abbrev pub NoCandidate : Form → Type 0
-  NoCandidate form = (s e : ℕ) → IsCandidate back needs text form s e → ⊥
-
--- `IsBest back needs forms text index size end` holds if the form with this index is the first of `forms` with the longest candidate,
--- which has a literal of `size` bytes and ends at `end`.
-pub record IsBest (back : PointsBack) (needs : Bool) (forms : List Form) (text : List ℕ) (index size end : ℕ) : Type 0 where
-  pub here : IsSomeAnd (slice_get forms index) (λ form. IsCandidate back needs text form size end)
-  pub before : All (AllShorter back needs text size end) (take index forms)
-  pub others : All (NoLonger back needs text size end) forms
+-- `Has back text it size end` holds if the form of `it` has this candidate.
+abbrev pub Has : PointsBack → List ℕ → Form × Bool → ℕ → ℕ → Type 0
+Has back text it size end = IsCandidate back it.1 text it.0 size end
 
 -- `IsAhead back text end form` holds if some literal of `form` begins with more than the first `end` bytes of `text`, and not only with a
 -- point that stands alone in a list that gives points back.
@@ -87,16 +76,19 @@ pub record IsAhead (back : PointsBack) (text : List ℕ) (end : ℕ) (form : For
 abbrev pub lets_words : Tokens → Form → List ℕ → ℕ → Bool
 lets_words t form text end = t.any_word_follows && not (is_in (notation_of form.syntax).point (byte_before text end))
 
+-- `part_size text stop` is the number of bytes up to the end of the word at `stop`, and at least 1 unless `text` is empty.
+abbrev pub part_size : List ℕ → ℕ → ℕ
+part_size text stop = let end = stop + word_size [] (drop stop text) in if (end == 0) && nat_lt 0 (length text) then 1 else end
+
 -- Forms of a list, and those that need a suffix, whose indexes are behind.
 module _ (list : FormList) (t : Tokens) (text : List ℕ) where
-  -- `IsChosen index form size end` holds if `form`, with this index, has the longest candidate: the best of the list, and no form that needs a suffix
-  -- has a longer one, or the best of those, and a longer one than the forms of the list.
-  abbrev pub IsChosen : ℕ → Form → ℕ → ℕ → Type 0
-  IsChosen index form size end =
-      ((slice_get list.forms index ≡ Some form) × IsBest t.gives_points_back false list.forms text index size end
-      × All (NoLonger t.gives_points_back true text size end) t.forms.now)
-      ⊎ ((behind : ℕ) × (index ≡ length list.forms + behind) × (slice_get t.forms.now behind ≡ Some form)
-      × IsBest t.gives_points_back true t.forms.now text behind size end × All (AllShorter t.gives_points_back false text size end) list.forms)
+  -- `IsChosen index form size end` holds if `form`, with this index, is the first that has the longest candidate.
+  pub record IsChosen (index : ℕ) (form : Form) (size end : ℕ) : Type 0 where
+    pub needs : Bool
+    pub at : slice_get (tried list t) index ≡ Some (form, needs)
+    pub own : Has t.gives_points_back text (form, needs) size end
+    pub before : All (λ it. (s e : ℕ) → Has t.gives_points_back text it s e → is_shorter s e size end ≡ true) (take index (tried list t))
+    pub others : All (λ it. (s e : ℕ) → Has t.gives_points_back text it s e → is_shorter size end s e ≡ false) (tried list t)
 
   -- `IsFollowed end` holds if a word that may follow a number is behind `end`.
   abbrev pub IsFollowed : ℕ → Type 0
@@ -132,23 +124,22 @@ module _ (list : FormList) (t : Tokens) (text : List ℕ) where
   -- `HasNone` holds if no form has a candidate, and `IsRefused` if none has one, if a literal goes on behind the longest, or if a digit is directly
   -- behind it. Then a form is to blame.
   abbrev pub HasNone : Type 0
-  HasNone = All (NoCandidate t.gives_points_back false text) list.forms × All (NoCandidate t.gives_points_back true text) t.forms.now
+  HasNone = All (λ it. (s e : ℕ) → Has t.gives_points_back text it s e → ⊥) (tried list t)
 
   abbrev pub IsRefused : Type 0
   IsRefused = HasNone ⊎ ((index : ℕ) × (form : Form) × (size : ℕ) × (end : ℕ) × (IsCut index form size end true ⊎ (IsChosen index form size end
       × (IsFollowed end → ⊥) × (i : ℕ) × IsSomeAnd (slice_get list.forms i) (IsAhead t.gives_points_back text end))))
 
-  -- `IsWordUpTo size` holds if the form of the list that goes furthest in `text` stops in a word that ends at `size`.
-  abbrev pub IsWordUpTo : ℕ → Type 0
-  IsWordUpTo size = (index : ℕ) × (stop : ℕ) × IsGreatest (λ form. IsValidBy (ReadsIn form) text) list.forms index stop
-      × (size ≡ stop + word_size [] (drop stop text))
+  -- `IsPartUpTo size` holds if `size` is the size of the part up to the word where the form of the list stops that goes furthest in `text`.
+  abbrev pub IsPartUpTo : ℕ → Type 0
+  IsPartUpTo size = (index : ℕ) × (stop : ℕ) × IsGreatest (λ form. IsValidBy (ReadsIn form) text) list.forms index stop × (size ≡ part_size text stop)
 
   -- `IsTokenError error` holds if `error` says why `text` begins with no token: a form is to blame, or behind the longest candidate a word follows that
   -- is not one of the suffixes of its form, and ends at `end`, or a byte that may not follow, and then maybe a word.
   abbrev pub IsTokenError : TokenError → Type 0
   IsTokenError errors.NoTokens = ⊥
-  IsTokenError (errors.Literal error) = IsRefused × ((size : ℕ) × IsWordUpTo size × IsFormError list.forms (take size text) error)
-  IsTokenError (errors.NotAToken end) = IsRefused × IsWordUpTo end × (NoForm list.forms (take end text) → ⊥)
+  IsTokenError (errors.Literal error) = IsRefused × ((size : ℕ) × IsPartUpTo size × IsFormError list.forms (take size text) error)
+  IsTokenError (errors.NotAToken end) = IsRefused × IsPartUpTo end × (NoForm list.forms (take end text) → ⊥)
   IsTokenError (errors.UnknownSuffix index start end suffixes) = (form : Form) × (behind : ℕ) × IsCut index form start behind false
       × (is_in is_word_byte (slice_get text behind) ≡ true) × (end ≡ stop_end (more_of form.suffixes) text behind)
       × ((l : Literal) × ReadsIn form l (take start text) × (suffixes.now ≡ suffix_words form.suffixes (is_float l)))

@@ -1,7 +1,7 @@
 //! Forms with an opening: what a syntax reads behind it.
 
 ghost use Rattle.std.specs.Prelude.{◌≡◌, ◌<◌, ◌≤◌, IfErr, IfOk, IfSome, IsNone, IsTrue, None, length};
-ghost use Rattle.lexical_forms.specs.Additions.Forms.{GoesTo, IsFrontIn, IsInside, IsLow, IsOpened, IsPassed, IsRefusedAt, NonePast};
+ghost use Rattle.lexical_forms.specs.Additions.Forms.{GoesTo, GoesWithin, IsFrontIn, IsInside, IsLow, IsOpened, IsPassed, IsRefusedAt, NonePast};
 ghost use Rattle.lexical_forms.specs.Forms.{IsErrorIn, IsErrorOfForm, Reaches, ReadsForm, ReadsIn, reached};
 ghost use Rattle.lexical_literal.specs.Additions.Stop.{IsStopped};
 ghost use Rattle.lexical_literal.specs.Cause.{IsRefusal};
@@ -60,12 +60,21 @@ impl Form {
     // Returns whether it is known at once that `text` is not a literal, and that the form goes no further than `reach`.
     #[inline(always)]
     pub(crate) fn is_behind(&self, text: &[u8], reach: usize) -> bool
-        ensures { IsTrue result → IsLow text.now reach self.now }
+        ensures low { IsTrue result → IsLow text.now reach self.now }
+        ensures within { IsTrue result → GoesWithin text.now reach self.now }
     {
         match self.begins(text, reach) {
             Err(bound) => bound <= reach,
             Ok(_) => false,
         }
+    }
+
+    // Returns whether it is known at once that no literal begins with more than the first `past` bytes of `text`.
+    #[inline(always)]
+    pub(crate) fn is_passed(&self, text: &[u8], past: usize) -> bool
+        ensures { IsTrue result → GoesWithin text.now past self.now }
+    {
+        past >= text.len() || self.is_behind(text, past)
     }
 
     // Returns the literal that `_text` is, where `inside` is behind the opening, or where the form stops.
@@ -112,6 +121,32 @@ impl Form {
         let Found { size, counts } = found;
         let size = opened + size;
         Some(Found { size, counts })
+    }
+}
+
+impl Form {
+    // Returns where the form stops, and the longest front of `text` that is a literal, if there is one.
+    #[inline(always)]
+    pub(crate) fn front(&self, text: &[u8]) -> (usize, Option<Found>)
+        ensures valid { GoesTo text.now self.now result.0 }
+        ensures none { IsNone result.1 → NonePast text.now 0 self.now }
+        ensures some { IfSome result.1 (λ found. (0 < found.size) × IsFrontIn text.now found self.now) }
+    {
+        let opened = self.opening.opened(text);
+        if opened < self.opening.size() {
+            let _syntax = self.syntax();
+            literal_facts();
+            return (opened, None);
+        }
+        let (_, inside) = text.split_at(opened);
+        let (stop, found) = self.syntax.front(inside);
+        let stop = opened + stop.size;
+        let Some(found) = found else {
+            return (stop, None);
+        };
+        let Found { size, counts } = found;
+        let size = opened + size;
+        (stop, Some(Found { size, counts }))
     }
 }
 

@@ -1,26 +1,34 @@
 //! The candidates of forms for a token, and the token that the longest of them makes.
 
-ghost use Rattle.std.specs.Prelude.{◌≡◌, ◌<◌, ◌≤◌, ◌+◌, ◌-◌, ◌==◌, ◌&&◌, ◌||◌, ℕ, All, IsNone, IsSomeAnd, IsTrue, Some, drop, false, length, slice_get, take};
-ghost use Rattle.std.specs.Prelude.{true};
+ghost use Rattle.std.specs.Prelude.{◌≡◌, ◌<◌, ◌≤◌, ◌+◌, ◌-◌, ◌==◌, ◌&&◌, ◌||◌, ◌⊎◌, ℕ, All, Bool, IfSome, IsNone, IsSomeAnd, IsTrue, None, Some, drop, false};
+ghost use Rattle.std.specs.Prelude.{if◌then◌else◌, length, nat_le, nat_lt, slice_get, take, true};
 ghost use Rattle.std.specs.Char.{is_ascii_alphabetic, is_ascii_digit};
 ghost use Rattle.std.specs.Option.{ForSome};
-ghost use Rattle.lexical_forms.specs.Additions.Forms.{GoesTo, IsFrontIn, further};
-ghost use Rattle.lexical_forms.specs.Additions.Token.{IsBestOf, IsCounted, IsEnd, IsMade, IsOwn, IsPicked, NoOwn, better, goes_on, has_float, suffixed, whole};
+ghost use Rattle.lexical_forms.specs.Additions.Forms.{GoesTo, GoesWithin, IsFrontIn, further};
+ghost use Rattle.lexical_forms.specs.Additions.Token.{HasNoWord, HasSumsOf, IsAsked, IsCounted, IsEnd, IsEnded, IsMade, IsOverFrom, IsOwn, IsPicked};
+ghost use Rattle.lexical_forms.specs.Additions.Token.{IsWinner, IsYet, NoCandidate, NoOwn, goes_on, has_float, is_longer, suffixed, whole};
 ghost use Rattle.lexical_literal.specs.Cause.{is_in};
+ghost use Rattle.lexical_literal.specs.Additions.Literal.{AreSums, IsCut, cut};
+ghost use Rattle.lexical_literal.specs.Additions.Step.{cuts_of};
 ghost use Rattle.lexical_literal.specs.Notation.{notation_of};
-ghost use Rattle.lexical_literal.specs.Read.{radixes_of};
+ghost use Rattle.lexical_literal.specs.Read.{exact, radixes_of};
 ghost use Rattle.lexical_forms.specs.Forms.{IsGreatest, ReadsIn};
 ghost use Rattle.lexical_forms.specs.Suffix.{is_stopped, kind_with, stop_end};
-ghost use Rattle.lexical_forms.specs.Token.{HasNone, IsAhead, IsReadByTokens, IsRefused, IsTokenError, NoCandidate, is_alone, is_shorter, lets_words};
+ghost use Rattle.lexical_forms.specs.Token.{IsAhead, IsOver, IsReadByTokens, IsRefused, IsTokenError, is_alone, is_shorter, lets_words, part_size};
+ghost use Rattle.lexical_forms.specs.Token.{tried};
+ghost use Rattle.lexical_forms.specs.declared.form.Form.{Form};
+ghost use Rattle.lexical_util.specs.Record.{raw};
 
+use crate::exclude::is_over;
 use crate::form::Form;
 use crate::list::{Forms, PointsBack, Tokens};
 use crate::suffix::{
     byte_after, byte_before, has_digit_at, has_word_byte, is_followed, is_stopped, kind_with,
     more_of, suffix_size, suffix_words, word_size,
 };
-use crate::token::{Token, TokenError, is_float, is_one};
-use lexical_literal::stop::{Found, byte_at};
+use crate::token::{Token, TokenError, is_float, is_one, larger};
+use lexical_literal::literal::{Literal, Sums};
+use lexical_literal::stop::{Begun, Found, byte_at};
 use lexical_literal::syntax::Syntax;
 
 // The candidate of a form: the length of its literal, the lengths of its parts, and the index behind its suffix.
@@ -28,11 +36,22 @@ use lexical_literal::syntax::Syntax;
 pub(crate) struct Candidate {
     pub(crate) size: usize,
     pub(crate) counts: [usize; 9],
+    pub(crate) sums: Option<Sums>,
     pub(crate) end: usize,
 }
 
+// The longest candidate of the forms that have been asked, with the index of its form, and how far they go, but for a point that is given
+// back. Forms with no literal of more than `past` bytes may be passed over, and `clear` says that no word goes on behind the candidate.
+#[derive(Clone, Copy)]
+pub(crate) struct Longest {
+    pub(crate) best: Option<(usize, Candidate)>,
+    pub(crate) reach: usize,
+    pub(crate) past: usize,
+    pub(crate) clear: bool,
+}
+
 impl<'a> Forms<'a> {
-    // Returns the token that `text` begins with.
+    // Returns the token that `text` begins with, by all candidates.
     #[cold]
     #[inline(never)]
     pub(crate) fn token_of<'t>(
@@ -42,56 +61,208 @@ impl<'a> Forms<'a> {
     ) -> Result<Token<'t>, TokenError>
         ensures { IsReadByTokens self.now (Some tokens.entry) text.now result }
     {
-        let back = tokens.gives_points_back;
-        let plain = best_of(self.forms, back, false, text);
-        let suffixed = best_of(tokens.forms, back, true, text);
-        let Some((form, it, candidate)) = self.choose(tokens, text, plain, suffixed) else {
-            return Err(self.fail(tokens, text));
-        };
-        let Candidate { size, end, .. } = candidate;
-        let (_, rest) = text.split_at(end);
-        if !is_followed(tokens.following, rest) {
-            if is_one_ahead(self.forms, back, text, end) {
-                return Err(self.fail(tokens, text));
-            }
-            if it.is_stopped(tokens, text, end) {
-                if has_digit(text, size, end) {
-                    return Err(self.fail(tokens, text));
-                }
-                return Err(stopped(it, text, form, candidate));
-            }
-        }
-        Ok(it.made(text, form, candidate))
+        self.end_of(tokens, text, self.longest(tokens, text, 0))
     }
 
-    // Returns the longest of the candidates of the list and of the forms that need a suffix, with its form.
-    fn choose<'f>(
-        &'f self,
-        tokens: &'f Tokens,
-        _text: &[u8],
-        plain: Option<(usize, Candidate)>,
-        suffixed: Option<(usize, Candidate)>,
-    ) -> Option<(usize, &'f Form, Candidate)>
-        requires plain { IsBestOf tokens.now.gives_points_back false self.now.forms _text.now plain }
-        requires suffixed { IsBestOf tokens.now.gives_points_back true tokens.now.forms.now _text.now suffixed }
-        ensures none { IsNone result → HasNone self.now tokens.now _text.now }
-        ensures some { ForSome result (λ it. IsPicked self.now tokens.now _text.now it.0 it.1.now it.2) }
+    // Returns the longest candidate of the list and of the forms that need a suffix, of those with literals of more than `least` bytes.
+    #[inline(always)]
+    pub(crate) fn longest(&self, tokens: &Tokens, text: &[u8], least: usize) -> Longest
+        ensures { (IsTrue result.clear ⊎ (least ≡ 0)) → IsWinner self.now tokens.now text.now result }
     {
-        match suffixed {
-            None => match plain {
-                None => None,
-                Some((form, best)) => Some((form, &self.forms[form], best)),
-            },
-            Some((behind, other)) => match plain {
-                None => Some((self.forms.len() + behind, &tokens.forms[behind], other)),
-                Some((form, best)) => {
-                    if is_shorter(best, other) {
-                        Some((self.forms.len() + behind, &tokens.forms[behind], other))
-                    } else {
-                        Some((form, &self.forms[form], best))
-                    }
+        let mut found = Longest {
+            best: None,
+            reach: 0,
+            past: least,
+            clear: false,
+        };
+        let mut form = 0;
+        while form < self.forms.len() + tokens.forms.len() {
+            if !self.passes(tokens, text, found.past, form) {
+                found = self.ask(tokens, text, least, found, form);
+            }
+            form += 1;
+        }
+        found
+    }
+
+    // Returns whether it is known at once that no literal of the form with this index begins with more than the first `past` bytes of `text`.
+    #[inline(always)]
+    fn passes(&self, tokens: &Tokens, text: &[u8], past: usize, form: usize) -> bool
+        requires { form < length (tried self.now tokens.now) }
+        ensures { IsTrue result → (it : Form × Bool) × (slice_get (tried self.now tokens.now) form ≡ Some it) × GoesWithin text.now past it.0 }
+    {
+        let it = self.tried(tokens, form);
+        it.is_passed(text, past)
+    }
+
+    // Returns the longest candidate after one form more, which has the index `form`.
+    #[inline(always)]
+    fn ask(
+        &self,
+        tokens: &Tokens,
+        text: &[u8],
+        least: usize,
+        found: Longest,
+        form: usize,
+    ) -> Longest
+        requires { form < length (tried self.now tokens.now) }
+        ensures { IsYet self.now tokens.now text.now least form found → IsYet self.now tokens.now text.now least (form + 1) result }
+    {
+        let it = self.tried(tokens, form);
+        let needs = self.needs(form);
+        let asked = it.candidate(tokens.gives_points_back, needs, text);
+        self.longer(tokens, text, least, found, form, asked)
+    }
+
+    // Returns the form with this index. Those that need a suffix are behind the others.
+    #[inline(always)]
+    fn tried<'f>(&'f self, tokens: &'f Tokens, form: usize) -> &'f Form
+        requires { form < length (tried self.now tokens.now) }
+        ensures { slice_get (tried self.now tokens.now) form ≡ Some (result.now, nat_le (length self.now.forms) form) }
+    {
+        if self.needs(form) {
+            &tokens.forms[form - self.forms.len()]
+        } else {
+            &self.forms[form]
+        }
+    }
+
+    // Returns whether the form with this index needs a suffix.
+    #[inline(always)]
+    fn needs(&self, form: usize) -> bool
+        ensures { result ≡ nat_le (length self.now.forms) form }
+    {
+        self.forms.len() <= form
+    }
+
+    // Returns the longest candidate after one form more, which has the index `form`, and of which this is known.
+    #[inline(always)]
+    fn longer(
+        &self,
+        tokens: &Tokens,
+        text: &[u8],
+        least: usize,
+        found: Longest,
+        form: usize,
+        asked: (usize, Option<Candidate>),
+    ) -> Longest
+        ensures { (it : Form × Bool) → slice_get (tried self.now tokens.now) form ≡ Some it
+            → IsAsked tokens.now.gives_points_back text.now it asked.0 asked.1 → IsYet self.now tokens.now text.now least form found
+            → IsYet self.now tokens.now text.now least (form + 1) result }
+    {
+        let (reach, candidate) = asked;
+        let reach = larger(found.reach, reach);
+        match candidate {
+            None => Longest { reach, ..found },
+            Some(candidate) => {
+                if candidate.size <= least || !is_longer(found.best, candidate) {
+                    return Longest { reach, ..found };
                 }
-            },
+                let clear = self.is_clear(tokens, text, candidate.end);
+                Longest {
+                    best: Some((form, candidate)),
+                    reach,
+                    past: past_of(found.past, clear, candidate.size),
+                    clear,
+                }
+            }
+        }
+    }
+
+    // Returns whether no word of a form goes on behind `end`.
+    #[inline(always)]
+    fn is_clear(&self, tokens: &Tokens, text: &[u8], end: usize) -> bool
+        ensures { IsTrue result → All (λ it. HasNoWord text.now end it.0) (tried self.now tokens.now) }
+    {
+        !has_word_byte(text, end) && !self.go_on_with(tokens, byte_at(text, end))
+    }
+
+    // Returns the token of the longest candidate, or why there is none.
+    #[inline(always)]
+    pub(crate) fn end_of<'t>(
+        &self,
+        tokens: &Tokens,
+        text: &'t [u8],
+        found: Longest,
+    ) -> Result<Token<'t>, TokenError>
+        requires { IsWinner self.now tokens.now text.now found }
+        ensures { IsReadByTokens self.now (Some tokens.entry) text.now result }
+    {
+        let Some((form, candidate)) = found.best else {
+            return Err(self.fail(tokens, text));
+        };
+        let it = self.tried(tokens, form);
+        let goes_on = candidate.end < found.reach;
+        match self.fault_of(tokens, text, it, form, candidate, goes_on) {
+            Some(error) => Err(error),
+            None => Ok(it.made(text, form, candidate)),
+        }
+    }
+
+    // Returns why the candidate of a form is not a token, if it is none. Literals of the list may go on behind it if `goes_on` is true.
+    #[inline(always)]
+    fn fault_of(
+        &self,
+        tokens: &Tokens,
+        text: &[u8],
+        it: &Form,
+        form: usize,
+        candidate: Candidate,
+        goes_on: bool,
+    ) -> Option<TokenError>
+        requires picked { IsPicked self.now tokens.now text.now form it.now candidate }
+        requires over { goes_on ≡ false → IsOver self.now tokens.now text.now candidate.end }
+        ensures none { IsNone result → IsEnded self.now tokens.now text.now it.now candidate.end }
+        ensures some { ForSome result (IsTokenError self.now tokens.now text.now) }
+    {
+        if goes_on || it.is_stopped(tokens, text, candidate.end) {
+            self.cut(tokens, text, it, form, candidate, goes_on)
+        } else {
+            None
+        }
+    }
+
+    // Returns whether a literal of a form of the list goes on behind `end`, where one may if `goes_on` is true.
+    fn is_ahead(&self, tokens: &Tokens, text: &[u8], end: usize, goes_on: bool) -> bool
+        requires { goes_on ≡ false → IsOver self.now tokens.now text.now end }
+        ensures ahead { IsTrue result → (i : ℕ) × IsSomeAnd (slice_get self.now.forms i) (IsAhead tokens.now.gives_points_back text.now end) }
+        ensures over { result ≡ false → IsOver self.now tokens.now text.now end }
+    {
+        goes_on && is_one_ahead(self.forms, tokens.gives_points_back, text, end)
+    }
+
+    // Returns the same by asking the forms again.
+    #[cold]
+    #[inline(never)]
+    fn cut(
+        &self,
+        tokens: &Tokens,
+        text: &[u8],
+        it: &Form,
+        form: usize,
+        candidate: Candidate,
+        goes_on: bool,
+    ) -> Option<TokenError>
+        requires picked { IsPicked self.now tokens.now text.now form it.now candidate }
+        requires over { goes_on ≡ false → IsOver self.now tokens.now text.now candidate.end }
+        ensures none { IsNone result → IsEnded self.now tokens.now text.now it.now candidate.end }
+        ensures some { ForSome result (IsTokenError self.now tokens.now text.now) }
+    {
+        let Candidate { size, end, .. } = candidate;
+        let (_, rest) = text.split_at(end);
+        if is_followed(tokens.following, rest) {
+            return None;
+        }
+        if self.is_ahead(tokens, text, end, goes_on) {
+            return Some(self.fail(tokens, text));
+        }
+        if !it.is_stopped(tokens, text, end) {
+            return None;
+        }
+        if has_digit(text, size, end) {
+            Some(self.fail(tokens, text))
+        } else {
+            Some(stopped(it, text, form, candidate))
         }
     }
 
@@ -101,9 +272,7 @@ impl<'a> Forms<'a> {
         requires { IsRefused self.now _tokens.now text.now }
         ensures { IsTokenError self.now _tokens.now text.now result }
     {
-        let size = furthest_stop(self.forms, text);
-        let (_, rest) = text.split_at(size);
-        let end = size + word_size(&[], rest);
+        let end = part_size(text, furthest_stop(self.forms, text));
         let (word, _) = text.split_at(end);
         match self.find_literal(word, None) {
             Err(furthest) => TokenError::Literal(self.error_at(word, furthest)),
@@ -113,18 +282,65 @@ impl<'a> Forms<'a> {
 }
 
 impl Form {
-    // Returns the candidate of the form, if there is one.
+    // Returns how far the form goes, but for a point that is given back, and its candidate, if there is one.
     #[inline(always)]
-    fn candidate(&self, back: PointsBack, needs: bool, text: &[u8]) -> Option<Candidate>
-        ensures some { ForSome result (IsMade back needs text.now self.now) }
-        ensures none { IsNone result → NoCandidate back needs text.now self.now }
+    fn candidate(&self, back: PointsBack, needs: bool, text: &[u8]) -> (usize, Option<Candidate>)
+        ensures some { ForSome result.1 (IsMade back needs text.now self.now) }
+        ensures none { IsNone result.1 → NoCandidate back needs text.now self.now }
+        ensures over { IsOverFrom back text.now result.0 self.now }
     {
-        match self.front_past(text, 0) {
-            None => None,
+        let opened = self.opening.opened(text);
+        if opened < self.opening.size() {
+            return (opened, None);
+        }
+        let (_, inside) = text.split_at(opened);
+        let begun = self.syntax.begin(false, inside, true);
+        let size = opened + begun.at.size;
+        if begun.complete
+            && is_over(self.syntax.grammar(), inside, begun.at.size)
+            && !self.gives_back(back, text, size)
+        {
+            let Begun { counts, sums, .. } = begun;
+            return (
+                size,
+                self.suffixed(needs, text, Found { size, counts }, Some(sums)),
+            );
+        }
+        self.any_candidate(back, needs, text)
+    }
+
+    // Returns the same by all of the form's fronts.
+    #[cold]
+    #[inline(never)]
+    fn any_candidate(
+        &self,
+        back: PointsBack,
+        needs: bool,
+        text: &[u8],
+    ) -> (usize, Option<Candidate>)
+        ensures some { ForSome result.1 (IsMade back needs text.now self.now) }
+        ensures none { IsNone result.1 → NoCandidate back needs text.now self.now }
+        ensures over { IsOverFrom back text.now result.0 self.now }
+    {
+        let (stop, found) = self.front(text);
+        let reach = self.reach_of(back, text, stop);
+        match found {
+            None => (reach, None),
             Some(found) => match self.own(back, text, found) {
-                None => None,
-                Some(own) => self.suffixed(needs, text, own),
+                None => (reach, None),
+                Some(own) => (reach, self.suffixed(needs, text, own, None)),
             },
+        }
+    }
+
+    // Returns how far the form goes that stops at `stop`, but for a point before it that does not go on.
+    fn reach_of(&self, back: PointsBack, text: &[u8], stop: usize) -> usize
+        requires { GoesTo text.now self.now stop }
+        ensures { IsOverFrom back text.now result self.now }
+    {
+        match back {
+            PointsBack::ToWords if is_one(self.syntax, byte_before(text, stop)) => stop - 1,
+            _ => stop,
         }
     }
 
@@ -145,9 +361,15 @@ impl Form {
 
     // Returns the candidate with the literal `own`, if there is a suffix or none is needed.
     #[inline(always)]
-    fn suffixed(&self, needs: bool, text: &[u8], own: Found) -> Option<Candidate>
+    fn suffixed(
+        &self,
+        needs: bool,
+        text: &[u8],
+        own: Found,
+        sums: Option<Sums>,
+    ) -> Option<Candidate>
         requires { own.size ≤ length text.now }
-        ensures candidate { result ≡ suffixed self.now.suffixes needs text.now own }
+        ensures candidate { result ≡ suffixed self.now.suffixes needs text.now own sums }
         ensures within { ForSome result (λ c. c.end ≤ length text.now) }
     {
         let Found { size, counts } = own;
@@ -157,7 +379,12 @@ impl Form {
             None
         } else {
             let end = size + more;
-            Some(Candidate { size, counts, end })
+            Some(Candidate {
+                size,
+                counts,
+                sums,
+                end,
+            })
         }
     }
 
@@ -169,10 +396,24 @@ impl Form {
         is_stopped(words, self.suffixes, text, end)
     }
 
+    // Returns the literal with these parts, and with their sums if they are known.
+    #[inline(always)]
+    fn literal_of<'t>(&self, text: &'t [u8], counts: [usize; 9], sums: Option<Sums>) -> Literal<'t>
+        requires cut { IsCut (notation_of self.now.syntax) text.now (cuts_of counts) }
+        requires sums { ForSome sums (AreSums (raw self.now.syntax.word) (cut text.now (cuts_of counts))) }
+        ensures { result ≡ record { format = radixes_of self.now.syntax.word; literal = cut text.now (cuts_of counts); kind = exact; opened = 0 } }
+    {
+        match sums {
+            None => self.syntax.summed(text, counts),
+            Some(sums) => self.syntax.literal(text, counts, sums),
+        }
+    }
+
     // Returns the token with this candidate.
     #[inline(always)]
     fn made<'t>(&self, text: &'t [u8], form: usize, candidate: Candidate) -> Token<'t>
         requires counted { IsCounted self.now (take candidate.size text.now) candidate.counts }
+        requires sums { HasSumsOf self.now (take candidate.size text.now) candidate.counts candidate.sums }
         requires order { candidate.size ≤ candidate.end }
         requires within { candidate.end ≤ length text.now }
         ensures form { result.form ≡ form }
@@ -182,13 +423,18 @@ impl Form {
         ensures suffix { result.suffix.now ≡ take (candidate.end - candidate.size) (drop candidate.size text.now) }
         ensures rest { result.rest.now ≡ drop candidate.end text.now }
     {
-        let Candidate { size, counts, end } = candidate;
+        let Candidate {
+            size,
+            counts,
+            sums,
+            end,
+        } = candidate;
         let (front, behind) = text.split_at(size);
         let (suffix, _) = behind.split_at(end - size);
         let (_, rest) = text.split_at(end);
         let kind = kind_with(self.suffixes, suffix, self.kind);
         let (_, inside) = front.split_at(self.opening.size());
-        let literal = self.syntax.summed(inside, counts);
+        let literal = self.literal_of(inside, counts, sums);
         Token {
             literal: literal.with_kind(kind).behind(self.opening.size),
             form,
@@ -198,35 +444,23 @@ impl Form {
     }
 }
 
-// Returns the longest candidate of the forms, the first of equals, with the index of its form.
-fn best_of(forms: &[Form], back: PointsBack, needs: bool, text: &[u8]) -> Option<(usize, Candidate)>
-    ensures { IsBestOf back needs forms.now text.now result }
+// Returns whether a candidate is longer than the best one, if there is one.
+#[inline(always)]
+fn is_longer(best: Option<(usize, Candidate)>, candidate: Candidate) -> bool
+    ensures { result ≡ is_longer best candidate }
 {
-    let mut best = None;
-    let mut form = 0;
-    while form < forms.len() {
-        best = better(best, form, forms[form].candidate(back, needs, text));
-        form += 1;
+    match best {
+        None => true,
+        Some((_, other)) => is_shorter(other, candidate),
     }
-    best
 }
 
-// Returns the longer of two candidates, the first of equals.
+// Returns the larger of two sizes, of which the second one counts only behind a candidate that is clear.
 #[inline(always)]
-fn better(
-    best: Option<(usize, Candidate)>,
-    form: usize,
-    candidate: Option<Candidate>,
-) -> Option<(usize, Candidate)>
-    ensures { result ≡ better best form candidate }
+const fn past_of(past: usize, clear: bool, size: usize) -> usize
+    ensures { result ≡ (if clear && nat_lt past size then size else past) }
 {
-    match candidate {
-        None => best,
-        Some(candidate) => match best {
-            Some((_, other)) if !is_shorter(other, candidate) => best,
-            _ => Some((form, candidate)),
-        },
-    }
+    if clear && past < size { size } else { past }
 }
 
 // Returns whether a candidate is shorter than another.
@@ -252,6 +486,17 @@ fn furthest_stop(forms: &[Form], text: &[u8]) -> usize
         Some((_, size)) => size,
         None => 0,
     }
+}
+
+// Returns the number of bytes up to the end of the word at `stop`, and at least 1 unless `text` is empty.
+fn part_size(text: &[u8], stop: usize) -> usize
+    requires { stop ≤ length text.now }
+    ensures size { result ≡ part_size text.now stop }
+    ensures within { result ≤ length text.now }
+{
+    let (_, rest) = text.split_at(stop);
+    let end = stop + word_size(&[], rest);
+    if end == 0 && text.len() > 0 { 1 } else { end }
 }
 
 // Returns which of two forms goes further, the first of equals.
@@ -348,7 +593,12 @@ fn has_digit(text: &[u8], size: usize, end: usize) -> bool
 fn stopped(it: &Form, text: &[u8], form: usize, candidate: Candidate) -> TokenError
     ensures { IsEnd it.now text.now form candidate result }
 {
-    let Candidate { size, counts, end } = candidate;
+    let Candidate {
+        size,
+        counts,
+        end,
+        ..
+    } = candidate;
     let behind = stop_end(more_of(it.suffixes), text, end);
     if has_word_byte(text, end) {
         TokenError::UnknownSuffix {

@@ -4,7 +4,6 @@ ghost use Rattle.std.specs.Prelude.{ℕ, ◌≡◌, ◌<◌, ◌+◌, IfSome, Is
 ghost use Rattle.std.specs.Prelude.{slice_get};
 ghost use Rattle.lexical_forms.specs.Additions.Forms.{ArePassed, IsFoundForm, IsFoundFrontForm, IsLed, IsLongestPast, IsPast, IsRefusedAt, Leads};
 ghost use Rattle.lexical_forms.specs.Additions.Token.{IsNarrow};
-ghost use Rattle.lexical_forms.specs.FormList.{have_openings};
 ghost use Rattle.lexical_forms.specs.Forms.{IsFormError, IsFrontByForms, IsReadByForms, NoForm, Reaches, special_by};
 ghost use Rattle.lexical_forms.specs.declared.list.PointsBack.TheVariants as points;
 
@@ -120,8 +119,6 @@ pub struct Forms<'a> {
     pub(crate) forms: &'a [Form],
     specials: Specials<'a>,
     pub(crate) tokens: Option<&'a Tokens>,
-    // Whether a form, or one of the tokens, may have an opening.
-    pub(crate) opened: bool,
     // Whether words behind a form may have other bytes than those of any word.
     pub(crate) wide: bool,
 }
@@ -129,14 +126,13 @@ pub struct Forms<'a> {
 impl<'a> Model for Forms<'a> {
     ghost use Rattle.std.specs.Prelude.{◌≡◌, ◌<◌, false, length};
     ghost use Rattle.lexical_forms.specs.Additions.Token.{IsNarrow};
-    ghost use Rattle.lexical_forms.specs.FormList.{FormList, are_opened};
+    ghost use Rattle.lexical_forms.specs.FormList.{FormList};
 
     ghost Value = { FormList };
 
     ghost view = { λ it. record { forms = it.forms.now; specials = it.specials; tokens = it.tokens } };
 
-    ghost invariant = { λ it. (0 < length it.forms.now) × (it.opened ≡ are_opened it.forms.now it.tokens)
-        × (it.wide ≡ false → IsNarrow it.forms.now) };
+    ghost invariant = { λ it. (0 < length it.forms.now) × (it.wide ≡ false → IsNarrow it.forms.now) };
 }
 
 /// A number that has one of several forms.
@@ -227,7 +223,6 @@ impl<'a> Forms<'a> {
             forms,
             specials,
             tokens: None,
-            opened: have_openings(forms),
             wide: are_wide(forms),
         })
     }
@@ -254,10 +249,8 @@ impl<'a> Forms<'a> {
     pub const fn with_tokens(self, tokens: &'a Tokens) -> Forms<'a>
         ensures { result ≡ record self.entry { tokens = Some tokens.entry } }
     {
-        let opened = have_openings(self.forms) || have_openings(tokens.forms);
         Forms {
             tokens: Some(tokens),
-            opened,
             ..self
         }
     }
@@ -520,20 +513,6 @@ impl<'a> Forms<'a> {
         let Furthest { form, stop, .. } = furthest;
         self.as_slice()[form].refuse(text, form, stop)
     }
-}
-
-// Returns whether a form has an opening.
-const fn have_openings(forms: &[Form]) -> bool
-    ensures { result ≡ have_openings forms.now }
-{
-    let mut form = 0;
-    while form < forms.len() {
-        if forms[form].has_opening() {
-            return true;
-        }
-        form += 1;
-    }
-    false
 }
 
 // Returns whether words behind one of the forms may have other bytes than those of any word.

@@ -203,16 +203,6 @@ impl Stopped {
         }
     }
 
-    // Returns whether the front of `text` up to here is a literal.
-    #[inline(always)]
-    pub const fn is_literal(self, syntax: &Syntax, text: &[u8]) -> bool
-        requires { IsStopped (notation_of syntax.now) text.now self }
-        ensures { result ≡ false → NoLiteral (notation_of syntax.now) (take self.size text.now) }
-    {
-        let group = self.group(syntax, text);
-        self.may_end(syntax.grammar(), group)
-    }
-
     // Returns whether what has been read, with the last group `group`, is a literal.
     #[inline(always)]
     const fn may_end(self, grammar: Grammar, group: Group) -> bool

@@ -1,6 +1,7 @@
 -- Texts in buffers.
 use Rattle.lexical_writer.proofs.Common.{[], Form, IsPut, IsTaken, List, Literal, None, ap, append-nil, append_assoc, arith, drop, length, length-append}
-use Rattle.lexical_writer.proofs.Common.{length-drop, length-take, min, refl, subst, sym, take, take-append-drop, text_by, text_of, ℕ, ◌++◌, ◌+◌, ◌-◌, ◌<◌, ◌^◌, ◌∙◌, ◌≡◌, ◌≤◌}
+use Rattle.lexical_writer.proofs.Common.{length-drop, length-take, min, refl, subst, sym, take, take-append-drop, text_by, text_of, ℕ, ◌++◌, ◌+◌, ◌-◌, ◌<◌, ◌^◌}
+use Rattle.lexical_writer.proofs.Common.{◌∙◌, ◌≡◌, ◌≤◌}
 use Rattle.std.proofs.Math.Seq.{take-append_seam}
 
 -- What a buffer has taken of a text, it has taken of the same text.

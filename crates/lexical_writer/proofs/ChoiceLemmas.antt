@@ -1,10 +1,9 @@
 -- What a list reads is the number that a form has written.
-use Rattle.lexical_writer.proofs.Common.{Bool, Form, Grammar, IsFirst, IsSomeAnd, IsWhole, Kind, List, Literal, NoForm, None, Ok}
-use Rattle.lexical_writer.proofs.Common.{Option, Read, Reads, ReadsForm, Record, SameFraction, Some, ap, arith, exact, false, false≢true}
-use Rattle.lexical_writer.proofs.Common.{float_worth, format_by, if◌then◌else◌, inl, inr, integer_worth, is_binary, is_decimal, is_exact, is_float, is_minus}
-use Rattle.lexical_writer.proofs.Common.{is_some, length-take-le}
-use Rattle.lexical_writer.proofs.Common.{mantissa, nearest, negsuc, not, notation_of, pos, raw, refl, slice_get, subst, suc, sym, take, true, with_sign, within}
-use Rattle.lexical_writer.proofs.Common.{whole_of, worth, zero, ℕ, ℤ, ◌||◌, ◌<◌, ◌∙◌, ◌≡◌, ◌⊎◌}
+use Rattle.lexical_writer.proofs.Common.{Bool, Form, Grammar, IsFirst, IsSomeAnd, IsWhole, Kind, List, Literal, NoForm, None, Ok, Option, Read, Reads}
+use Rattle.lexical_writer.proofs.Common.{ReadsForm, Record, Some, ap, arith, exact, false, float_worth, format_by, if◌then◌else◌, inl, inr, integer_worth}
+use Rattle.lexical_writer.proofs.Common.{is_binary, is_decimal, is_exact, is_float, is_minus, is_some, length-take-le, mantissa, nearest, negsuc, not}
+use Rattle.lexical_writer.proofs.Common.{notation_of, pos, raw, refl, slice_get, subst, suc, sym, take, true, with_sign, within, whole_of, worth, zero, ℕ, ℤ}
+use Rattle.lexical_writer.proofs.Common.{◌||◌, ◌<◌, ◌∙◌, ◌≡◌}
 use Rattle.std.proofs.lemmas.Option.{get_or_from_slice_get, slice_get_within}
 use Rattle.std.specs.Float.{Float, Format, binary64}
 use Rattle.lexical_forms.specs.Forms.{ReadsIn}
@@ -16,7 +15,7 @@ use Rattle.lexical_value.specs.Integer.{integer_size}
 use Rattle.lexical_value.specs.Kind.{IsNotWorth}
 use Rattle.lexical_value.specs.declared.integer.ValueErrorKind.{ValueErrorKind}
 use Rattle.lexical_value.specs.declared.integer.ValueErrorKind.TheVariants as kinds
-use Rattle.lexical_writer.specs.Choice.{IsAmount, IsReal, IsSameNumber, has_floats, has_worth}
+use Rattle.lexical_writer.specs.Choice.{IsAmount, IsReal, has_floats, has_worth}
 use Rattle.lexical_writer.specs.Layout.{sign_of}
 use Rattle.lexical_forms.proofs.BehindLemmas.{plain_in}
 use Rattle.lexical_value.proofs.KindLemmas.{exact_float, limited_worth}
@@ -59,12 +58,6 @@ pub same_real : (f : Format) (x : Float) (decimals : Option ℕ) (g : Grammar) (
     → IsAmount f x decimals g own.literal read
 same_real f x decimals g own read kind word has y same real = amount_is f x decimals g own.literal read has
     (subst (λ z. IsReal f z read) (subst (λ w. y ≡ nearest f (raw w).byte own.literal) word (nearest_is f y own kind same)) real)
-
--- If a literal of the exact kind is written for a number of the exact kind, it is this number, unless an integer is written as a float.
-pub plain_number : (a : Read) (g : Grammar) (b : Read) → a.kind ≡ exact → b.kind ≡ exact → b.format ≡ g.word
-    → (is_float a.literal ≡ true) ⊎ (is_float b.literal ≡ false) → SameFraction (raw a.format) a.literal (raw g.word) b.literal → IsSameNumber a b
-plain_number a g b own kind word whole same =
-    inr (inr (own, kind, whole, subst (λ w. SameFraction (raw a.format) a.literal (raw w) b.literal) (sym word) same))
 
 abbrev size_without : ℤ → ℕ
 size_without (pos n) = n
@@ -111,11 +104,6 @@ pub whole_is : (read : Read) (o : Option (Bool × ℕ)) → is_float read.litera
     → integer_worth read.kind.integers (raw read.format).byte read.literal ≡ o → whole_of read ≡ o
 whole_is read o whole is =
     ap (λ float. if float then None else integer_worth read.kind.integers (raw read.format).byte read.literal) whole ∙ is
-
--- A literal with a decimal point or an exponent is worth no integer.
-pub no_whole : (read : Read) (w : Bool × ℕ) → is_float read.literal ≡ true → whole_of read ≡ Some w → ⊥
-no_whole read w float is = false≢true (ap is_some (sym
-    (ap (λ float. if float then None else integer_worth read.kind.integers (raw read.format).byte read.literal) float) ∙ is))
 
 -- What is above each number is none.
 above : (o : Option (Bool × ℕ)) (A : Type 0) (B : Bool × ℕ → Type 0) → ((most : ℕ) → MatchOption o A (λ w. B w × (most < w.1))) → o ≡ None

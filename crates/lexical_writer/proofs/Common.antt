@@ -1,5 +1,5 @@
 -- The names that most proofs of this crate cite, passed on from one place. Declares nothing.
-pub use Rattle.lexical_forms.specs.Forms.{IsFirst, IsReadByForms, NoForm, ReadsForm}
+pub use Rattle.lexical_forms.specs.Forms.{IsFirst, NoForm, ReadsForm}
 pub use Rattle.lexical_forms.specs.declared.form.Form.{Form}
 pub use Rattle.lexical_literal.specs.Groups.{is_grouped}
 pub use Rattle.lexical_literal.specs.Literal.{Literal, Reads, begins_with, has_leading_zero, is_absent, is_float, is_minus, is_none_or_one, is_plus, is_present}
@@ -15,7 +15,7 @@ pub use Rattle.lexical_literal.specs.declared.syntax.Options.{Options}
 pub use Rattle.lexical_number.proofs.SmallLemmas.{below}
 pub use Rattle.lexical_number.specs.Float.{format_of, is_power_of_two, raised_down, raised_up}
 pub use Rattle.lexical_number.specs.Leading.{IsCutTo}
-pub use Rattle.lexical_number.specs.Number.{digits_in, number, number_after, places}
+pub use Rattle.lexical_number.specs.Number.{digits_in, number, places}
 pub use Rattle.lexical_number.specs.Numeral.{magnitude_size, with_sign}
 pub use Rattle.lexical_number.specs.Shortest.{HasSize, is_whole}
 pub use Rattle.lexical_util.specs.Ascii.{ByteSet}
@@ -27,15 +27,14 @@ pub use Rattle.lexical_value.specs.Float.{is_binary, is_decimal, nearest}
 pub use Rattle.lexical_value.specs.Kind.{float_worth, format_by, integer_worth, is_exact, within, worth}
 pub use Rattle.lexical_value.specs.Value.{denominator, numerator, power, scale}
 pub use Rattle.lexical_writer.specs.Amount.{IsDigitsOf, IsExponent, IsFinite, IsFloatOf, IsRaised, IsRounded, IsShape, IsWorth, decimals_in, float_error}
-pub use Rattle.lexical_writer.specs.Amount.{is_far, is_shown, is_wanted, least_places, rounded, units_at, units_in, with_minus}
+pub use Rattle.lexical_writer.specs.Amount.{is_far, is_shown, least_places, rounded, units_at, units_in, with_minus}
 pub use Rattle.lexical_writer.specs.Buffer.{IsTaken}
-pub use Rattle.lexical_writer.specs.Choice.{AreBefore, ArePassed, IsChosen, IsFound, IsMisread, IsNoToken, IsPassedOver, IsReached, IsReadElse, IsReadWith}
-pub use Rattle.lexical_writer.specs.Choice.{IsRefused, IsSearched, IsStopped, IsUnusable, IsWhole, bytes_of_word, has_floats, is_asked, has_opening, is_own}
-pub use Rattle.lexical_writer.specs.Choice.{IsWrittenBy, Task, is_short, steps, text_by, unasked, ways, whole_of, words_of}
+pub use Rattle.lexical_writer.specs.Choice.{AreBefore, ArePassed, IsChosen, IsMisread, IsNoToken, IsPassedOver, IsRefused, IsSearched, IsStopped, IsWhole}
+pub use Rattle.lexical_writer.specs.Choice.{bytes_of_word, has_floats, is_asked, is_own, Task, is_short, steps, text_by, ways, whole_of, words_of}
 pub use Rattle.lexical_writer.specs.Private.{IsPut}
 pub use Rattle.lexical_writer.specs.Conversion.{SameFraction, own_amount}
-pub use Rattle.lexical_writer.specs.Digits.{at_least, begins_decimal, character, ends_group, grouped, grouped_front, no_groups, only_if, padded_values}
-pub use Rattle.lexical_writer.specs.Digits.{separated, size_of, values_of}
+pub use Rattle.lexical_writer.specs.Digits.{at_least, begins_decimal, character, ends_group, grouped, grouped_front, no_groups, only_if, separated, size_of}
+pub use Rattle.lexical_writer.specs.Digits.{values_of}
 pub use Rattle.lexical_writer.specs.Layout.{HasNumber, HasValue, IsLaidOut, allows_exponent, first_error, given_fraction, given_power, has_exponent, has_point}
 pub use Rattle.lexical_writer.specs.Layout.{integer_literal, laid_out, literal_of, needs_exponent, no_power, number_of_size, one_if, refusal}
 pub use Rattle.lexical_writer.specs.declared.layout.Amount.{Amount}
@@ -50,23 +49,22 @@ pub use Rattle.std.proofs.Common.{cond, div-add-mod', drop, drop-cons, eq-zero-o
 pub use Rattle.std.proofs.Common.{length, lt_of_mul-lt-mul_right, map, max, min, mul-le-mul, mul-le-mul_left, mul-le-mul_right, mul-lt-mul_of_pos_right}
 pub use Rattle.std.proofs.Common.{mul-pos, nat_le, nat_lt, not, option_to_list, refl, replicate, rules, set, slice_get, slice_index_or, subst, suc, sym, take}
 pub use Rattle.std.proofs.Common.{true, unwrap_or, zero, ℕ, ℤ, ◌%◌, ◌&&◌, ◌*◌, ◌++◌, ◌+◌, ◌-◌, ◌/◌, ◌<◌, ◌==◌, ◌^◌, ◌||◌, ◌∙◌, ◌∷◌, ◌≡◌, ◌≢◌, ◌≤◌, ◌⊎◌}
-pub use Rattle.std.proofs.Math.Nat.{div-add-mod, div-div-eq-div-mul, div-eq_of_lt, le-mul_of_pos_right, mod-eq_of_lt, mod-lt, one-le-pow, pow-le-pow_left}
-pub use Rattle.std.proofs.Math.Nat.{pow-le-pow_right, pow-suc, pow-zero}
+pub use Rattle.std.proofs.Math.Nat.{div-add-mod, div-div-eq-div-mul, div-eq_of_lt, mod-eq_of_lt, mod-lt, one-le-pow, pow-le-pow_left, pow-le-pow_right, pow-suc}
+pub use Rattle.std.proofs.Math.Nat.{pow-zero}
 pub use Rattle.std.proofs.lemmas.Bool.Decides.{nat_tests}
-pub use Rattle.std.proofs.lemmas.Bool.{and_from, and_parts, cases_lt, eq-eqb, eqb-true, false≢true, le-leb, le-ltb, lt-leb, lt-ltb, ltb-true, ne_eqb, not-true}
+pub use Rattle.std.proofs.lemmas.Bool.{and_from, and_parts, cases_lt, eq-eqb, eqb-true, false≢true, le-leb, le-ltb, lt-leb, lt-ltb, ltb-true, ne_eqb}
 pub use Rattle.std.proofs.lemmas.Int.Digits.{all_below_base_digits_of, digits_of_step, first_digits_of, length-digits_of-le, length-digits_of_step}
 pub use Rattle.std.proofs.lemmas.Int.Digits.{number_after_append, number_digits_of}
-pub use Rattle.std.proofs.lemmas.List.Elements.{All-more, filter_map-append}
+pub use Rattle.std.proofs.lemmas.List.Elements.{filter_map-append}
 pub use Rattle.std.proofs.lemmas.List.{append_assoc, drop-set, drop_all, length-append, length-drop, length-map, length-replicate, length-set, length-take}
-pub use Rattle.std.proofs.lemmas.List.{length-take-le, map_push, nil_from_length, replicate-append-replicate, take-append-drop, take_all, take_more, take_rest}
-pub use Rattle.std.proofs.lemmas.Nat.{div-mul-add, mod-mul-add, mul-pow}
+pub use Rattle.std.proofs.lemmas.List.{length-take-le, map_push, nil_from_length, replicate-append-replicate, take-append-drop, take_all, take_rest}
+pub use Rattle.std.proofs.lemmas.Nat.{div-mul-add, mod-mul-add}
 pub use Rattle.std.proofs.lemmas.Option.{get_or_from_slice_get, slice_get_read}
 pub use Rattle.std.proofs.lemmas.Result.{IfOk-weaker}
 pub use Rattle.std.specs.Int.Digits.{AllBelowBase, digits_of, number_from_digits, number_from_digits_after}
 pub use Rattle.std.specs.List.{cons_option}
-pub use Rattle.std.specs.Option.{SomeIff, ok_or}
-pub use Rattle.std.specs.Prelude.{All, IsErrAnd, from_bits, negsuc, pos}
-pub use lib.Count.{count_leading_zeros, count_trailing_zeros, leading_top}
+pub use Rattle.std.specs.Prelude.{IsErrAnd, from_bits, negsuc, pos}
+pub use lib.Count.{count_trailing_zeros, leading_top}
 pub use lib.Ieee.Scale.{round_same}
 pub use lib.Ieee.{Float, low, prec, round}
 pub use lib.Pointwise.{bytes_decides}

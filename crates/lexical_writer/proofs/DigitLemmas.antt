@@ -5,9 +5,9 @@ use Rattle.lexical_writer.proofs.Common.{cons_option, digit_characters, digit_of
 use Rattle.lexical_writer.proofs.Common.{drop-cons, drop-set, ends_group, false, false≢true, get_or, get_or_from_slice_get, grouped, grouped_front, inl, inr}
 use Rattle.lexical_writer.proofs.Common.{is_present, length, length-append, length-digits_of_step, length-map, length-replicate, length-set, ltb-true, map}
 use Rattle.lexical_writer.proofs.Common.{map_push, max, mod-mul-add, nat_lt, nat_tests, no_groups, number, number_after_append, number_from_digits}
-use Rattle.lexical_writer.proofs.Common.{number_from_digits_after, only_if, option_to_list, padded_values, pow-suc, pow-zero, refl, replicate, replicate-append-replicate, separated, set, slice_get, subst}
-use Rattle.lexical_writer.proofs.Common.{suc, sym, true, values_of, zero, ℕ, ◌%◌, ◌*◌, ◌++◌, ◌+◌, ◌-◌, ◌/◌, ◌<◌, ◌^◌, ◌||◌, ◌∙◌, ◌∷◌, ◌≡◌, ◌≤◌}
-use Rattle.lexical_writer.specs.declared.run.Padded.{Padded}
+use Rattle.lexical_writer.proofs.Common.{number_from_digits_after, only_if, option_to_list, pow-suc, pow-zero, refl, replicate, replicate-append-replicate}
+use Rattle.lexical_writer.proofs.Common.{separated, set, slice_get, subst, suc, sym, true, values_of, zero, ℕ, ◌%◌, ◌*◌, ◌++◌, ◌+◌, ◌-◌, ◌/◌, ◌<◌, ◌^◌, ◌||◌}
+use Rattle.lexical_writer.proofs.Common.{◌∙◌, ◌∷◌, ◌≡◌, ◌≤◌}
 use Rattle.lexical_base.proofs.ValueLemmas.{byte_value-digit_character, same_at}
 use Rattle.lexical_writer.specs.declared.run.Source.TheVariants as sources
 
@@ -27,20 +27,13 @@ both_below : (radix : ℕ) (xs ys : List ℕ) → AllBelowBase radix xs → AllB
 both_below radix [] ys all rest = rest
 both_below radix (x ∷ xs) ys all rest = (all.0, both_below radix xs ys all.1 rest)
 
--- The digits behind the first piece.
-pub behind_below : (radix : ℕ) (padded : Padded) → 2 ≤ radix → AllBelowBase radix (digits_in radix padded.second.now ++ replicate padded.after 0)
-behind_below radix padded two = both_below radix _ _ (below radix padded.second.now) (zeros_below radix padded.after two)
-
-pub padded_below : (radix : ℕ) (padded : Padded) → 2 ≤ radix → AllBelowBase radix (padded_values radix padded)
-padded_below radix padded two =
-    both_below radix _ _ (zeros_below radix padded.before two) (both_below radix _ _ (below radix padded.first.now) (behind_below radix padded two))
-
 pub values_below : (radix : ℕ) (source : Source) → 2 ≤ radix → AllBelowBase radix (values_of radix source)
 values_below radix (sources.Bytes bytes) two = below radix bytes.now
 values_below radix (sources.Number n) two = all_below_base_digits_of radix n two
 values_below radix (sources.Least n least) two =
     both_below radix _ _ (zeros_below radix (least - length (digits_of radix n)) two) (all_below_base_digits_of radix n two)
-values_below radix (sources.Padded padded) two = padded_below radix padded two
+values_below radix (sources.Padded padded) two = both_below radix _ _ (zeros_below radix padded.before two)
+    (both_below radix _ _ (below radix padded.digits.now) (zeros_below radix padded.after two))
 
 -- Digits that follow those of a number, and do not begin the whole with a zero, are digits of the whole.
 last : (radix n d : ℕ) → 2 ≤ radix → 0 < n * radix + d → d < radix → digits_of radix (n * radix + d) ≡ digits_of radix n ++ d ∷ []
@@ -270,22 +263,17 @@ grouped_last pattern left digits is =
     ∙ sym (grouped_parts pattern left digits [] (is ∙ sym (ap length (append-nil digits)))) ∙ ap (grouped pattern) (append-nil digits)
 
 -- Digits between zeros are written one part after the other.
-pub padded_text : (pattern : Pattern) (text a b c d : List ℕ) (n behind between last : ℕ) → n ≡ length (a ++ (b ++ (c ++ d)))
-    → behind ≡ n - length a → between ≡ behind - length b → last ≡ between - length c
-    → (((text ++ grouped_front pattern n a) ++ grouped_front pattern behind b) ++ grouped_front pattern between c)
-    ++ grouped_front pattern last d ≡ text ++ grouped pattern (a ++ (b ++ (c ++ d)))
-padded_text pattern text a b c d n behind between last all second third fourth =
-    let rest = length-append a (b ++ (c ++ d)) in
-    let more = length-append b (c ++ d) in
-    let end = length-append c d in
+pub padded_text : (pattern : Pattern) (text a b c : List ℕ) (n behind last : ℕ) → n ≡ length (a ++ (b ++ c)) → behind ≡ n - length a
+    → last ≡ behind - length b
+    → ((text ++ grouped_front pattern n a) ++ grouped_front pattern behind b) ++ grouped_front pattern last c ≡ text ++ grouped pattern (a ++ (b ++ c))
+padded_text pattern text a b c n behind last all second third =
+    let rest = length-append a (b ++ c) in
+    let end = length-append b c in
     let front = grouped_front pattern in
-    append_assoc ((text ++ front n a) ++ front behind b) (front between c) (front last d)
-    ∙ append_assoc (text ++ front n a) (front behind b) (front between c ++ front last d)
-    ∙ append_assoc text (front n a) (front behind b ++ (front between c ++ front last d))
-    ∙ sym (ap (λ it. text ++ it) (grouped_parts pattern n a (b ++ (c ++ d)) all ∙ ap (λ it. front n a ++ it)
-    (grouped_parts pattern behind b (c ++ d) (omega (arith, all, rest, second)) ∙ ap (λ it. front behind b ++ it)
-    (grouped_parts pattern between c d (omega (arith, all, rest, more, second, third)) ∙ ap (λ it. front between c ++ it)
-    (sym (grouped_last pattern last d (omega (arith, all, rest, more, end, second, third, fourth))))))))
+    append_assoc (text ++ front n a) (front behind b) (front last c) ∙ append_assoc text (front n a) (front behind b ++ front last c)
+    ∙ sym (ap (λ it. text ++ it) (grouped_parts pattern n a (b ++ c) all ∙ ap (λ it. front n a ++ it)
+    (grouped_parts pattern behind b c (omega (arith, all, rest, second)) ∙ ap (λ it. front behind b ++ it)
+    (sym (grouped_last pattern last c (omega (arith, all, rest, end, second, third)))))))
 
 -- Bytes from an index on that are uppercase digits.
 pub more_characters : (radix i d : ℕ) (bytes : List ℕ) (digit : Option ℕ) → i < length bytes → digit ≡ digit_of (get_or bytes i 0) radix

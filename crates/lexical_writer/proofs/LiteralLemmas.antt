@@ -21,8 +21,8 @@ use Rattle.lexical_literal.specs.Run.{is_run}
 use Rattle.lexical_literal.specs.Syntax.{FitIfAny, contradiction, fault, first_fault, forbids_zeros, limits, missing}
 use Rattle.lexical_literal.specs.declared.syntax.Condition.{Condition}
 use Rattle.lexical_literal.specs.declared.syntax.ConditionsError.{ConditionsError}
-use Rattle.lexical_writer.specs.Layout.{after_zero, base_byte, fraction_pattern, fraction_text, integer_pattern, lacks_zero, least_digits, led_digits, options_of}
-use Rattle.lexical_writer.specs.Layout.{pattern_of, sign_of, takes_zeros}
+use Rattle.lexical_writer.specs.Layout.{after_zero, base_byte, fraction_pattern, fraction_text, integer_pattern, least_digits, led_digits, options_of}
+use Rattle.lexical_writer.specs.Layout.{pattern_of, sign_of}
 use Rattle.lexical_literal.proofs.RunLemmas.{rest_of_none}
 use Rattle.lexical_util.specs.Layout as layout
 use Rattle.lexical_util.specs.Roles as sets
@@ -196,8 +196,8 @@ internal_allowed r parts.Exponent set = grind arith
 within_test : (count most size : ℕ) → 0 < count → count ≤ most → most ≡ size → (nat_lt 0 count && nat_le count size) ≡ true
 within_test count most size some within same = grind (arith, nat_tests)
 
-least_some : (lacks : Bool) (count other : ℕ) → nat_lt 0 (max (if lacks then count + 1 else 1) other) ≡ true
-least_some lacks count other = grind (arith, nat_tests)
+least_some : (c : Conditions) (prefix : Bool) (digits : List ℕ) (other : ℕ) → nat_lt 0 (max (led_digits c prefix digits) other) ≡ true
+least_some c prefix digits other = grind (arith, nat_tests)
 
 point_if : (exponent flag fraction : Bool) (a b : ℕ) → flag ≡ true
     → (is_absent (option_to_list (only_if exponent a)) || is_present (option_to_list (only_if (fraction || (exponent && flag)) b))) ≡ true
@@ -421,7 +421,7 @@ module _ (g : Grammar) (style : Style) (amount : Amount) (is : IsSyntax g)
 
   -- The integer has a digit.
   integer_some : is_present l.integer ≡ true
-  integer_some = integer_present ∙ or_left _ _ (least_some (lacks_zero g.conditions (is_some prefix) (digits_of radix (size_of radix amount.integer))) _ _)
+  integer_some = integer_present ∙ or_left _ _ (least_some g.conditions (is_some prefix) (digits_of radix (size_of radix amount.integer)) _)
 
   no_lead : (float : Bool) → (point || exponent) ≡ float → r.flag (if float then layout.no_float_leading_zeros else layout.no_integer_leading_zeros) ≡ true
       → not (is_zero_led m l) ≡ true
@@ -466,7 +466,7 @@ module _ (g : Grammar) (style : Style) (amount : Amount) (is : IsSyntax g)
 
   -- How many digits the style wants where there is no prefix.
   abbrev wish : ℕ
-  wish = if takes_zeros r (point || exponent) then style.min_digits else 0
+  wish = if not (r.flag (if point || exponent then layout.no_float_leading_zeros else layout.no_integer_leading_zeros)) then style.min_digits else 0
 
   zero_more : (prefixed : Bool) → prefixed ≡ false → has g.conditions conditions.LeadingZero ≡ true
       → length integer_digits < least_digits r g.conditions style prefixed (point || exponent) amount

@@ -2,18 +2,12 @@
 use Rattle.std.specs.Borrow.{Bor}
 use Rattle.std.specs.Option.{option_map}
 use Rattle.std.proofs.lemmas.List.{length-map}
-use Rattle.std.proofs.lemmas.Option.{slice_get-map}
+use Rattle.std.proofs.lemmas.Option.{slice_get-map, slice_get-get_or, slice_get_within}
 use Rattle.lexical_forms.specs.FormList.{FormList}
-use Rattle.lexical_writer.proofs.Common.{ArePassed, AreBefore, Bool, Form, IsRefused, IsSearched, IsSomeAnd, List, None, Option, Options, Task}
-use Rattle.lexical_writer.proofs.Common.{Some, WriteError, [], ap, arith, cases_lt, false, false≢true, if◌then◌else◌, is_short, lacks_options, not, suc, ways, words_of}
-use Rattle.lexical_writer.proofs.Common.{inl, inr, is_some, length, refl, slice_get, subst, sym, true, unwrap_or, ℕ, ◌+◌, ◌<◌, ◌∙◌, ◌≡◌, ◌≤◌, ◌⊎◌}
-use Rattle.std.proofs.lemmas.Option.{slice_get_within}
-
--- Nothing is asked before the first form in the first step.
-pub before_start : {P : ℕ → Form → Type 0} {asked : ℕ → Form → Bool} {forms : List Form} → AreBefore P asked forms 0 0
-before_start = record {
-  each = λ before at form earlier there now. elim earlier [ inl less ↦ absurd (omega (arith, less)) | inr same ↦ absurd (omega (arith, same.1)) ];
-}
+use Rattle.lexical_writer.specs.declared.choice.Own.{Own}
+use Rattle.lexical_writer.proofs.Common.{ArePassed, AreBefore, Bool, Form, IsRefused, IsSearched, IsSomeAnd, List, None, Option, Task, Some, WriteError, [], ap}
+use Rattle.lexical_writer.proofs.Common.{arith, cases_lt, false, false≢true, if◌then◌else◌, is_short, suc, ways, words_of, inl, inr, is_some, length, refl}
+use Rattle.lexical_writer.proofs.Common.{slice_get, slice_index_or, subst, sym, true, unwrap_or, ℕ, ◌+◌, ◌<◌, ◌∙◌, ◌≡◌, ◌≤◌, ◌⊎◌}
 
 -- The form at an index is one alone.
 one_form : (o : Option Form) (form it : Form) → o ≡ Some form → o ≡ Some it → form ≡ it
@@ -52,10 +46,6 @@ before_next {P} {asked} {forms} {step} {index} end old = record {
 }
 
 module _ (P : ℕ → Form → WriteError → Type 0) (asked : ℕ → Form → Bool) (forms : List Form) where
-  -- Before the first step, there is no reason.
-  pub searched_start : IsSearched P asked forms 0 0 None
-  searched_start = record { passed = before_start; none = λ _. before_start; first = λ error same. absurd (false≢true (ap is_some same)) }
-
   module _ (step index : ℕ) (reason : Option WriteError) (old : IsSearched P asked forms step index reason) where
     -- Behind forms that are not asked, the reason is the same.
     moved : (to at : ℕ) → ((Q : ℕ → Form → Type 0) → AreBefore Q asked forms step index → AreBefore Q asked forms to at)
@@ -114,25 +104,25 @@ module _ (task : Task) (room : ℕ) (list : FormList) (index : ℕ) (form : Form
       → ArePassed task room list index form 1
   passed_first error refused fits = passed_more 0 None error refl refused fits passed_none
 
--- Behind the way without a word, an integer has those with its words.
-pub word_way : (integer : Bool) (form : Form) (n : ℕ) (word : Bor (List ℕ)) → integer ≡ true
-    → slice_get (words_of form.suffixes) n ≡ Some word → slice_get (ways integer form) (n + 1) ≡ Some (Some word.now)
-word_way integer form n word whole here =
-    let rest : List (Bor (List ℕ)) = if integer then words_of form.suffixes else [] in
-    let all : rest ≡ words_of form.suffixes = ap (λ b. if b then words_of form.suffixes else []) whole in
-    ap (slice_get (ways integer form)) {x = n + 1} {y = suc n} (omega arith)
-    ∙ slice_get-map (λ (word : Bor (List ℕ)). Some word.now) rest n
-    ∙ ap (λ words. option_map (λ (word : Bor (List ℕ)). Some word.now) (slice_get words n)) all
-    ∙ ap (option_map (λ (word : Bor (List ℕ)). Some word.now)) here
+-- `words integer form` are the words with which a form writes a number.
+abbrev pub words : Bool → Form → List (Bor (List ℕ))
+words integer form = if integer then words_of form.suffixes else []
 
--- An integer has a way without a word, and one for each word.
-pub ways_count : (integer : Bool) (form : Form) → integer ≡ true → length (ways integer form) ≡ length (words_of form.suffixes) + 1
-ways_count integer form whole =
-    let rest : List (Bor (List ℕ)) = if integer then words_of form.suffixes else [] in
-    let size = length-map {B = Option (List ℕ)} rest (λ word. Some word.now) in
-    let all = ap (λ b. length (if b then words_of form.suffixes else [])) whole in
+abbrev pub no_word : Bor (List ℕ)
+no_word = record { ref_ptr = (0, 0); now = [] }
+
+-- Behind the way without a word, there is one with each word.
+pub word_way : (it own : Own) (form : Form) (list : List (Bor (List ℕ))) (n : ℕ) → it ≡ own → list ≡ words it.integer form → n < length list
+    → slice_get (ways own.integer form) (n + 1) ≡ Some (Some (slice_index_or list n no_word).now)
+word_way it own form list n same is below =
+    let some = option_map (λ (word : Bor (List ℕ)). Some word.now) in
+    ap (slice_get (ways own.integer form)) {x = n + 1} {y = suc n} (omega arith)
+    ∙ slice_get-map (λ (word : Bor (List ℕ)). Some word.now) (words own.integer form) n
+    ∙ ap (λ l. some (slice_get l n)) (sym (is ∙ (λ i. words (same i).integer form))) ∙ ap some (slice_get-get_or list n no_word below)
+
+pub ways_count : (it own : Own) (form : Form) (list : List (Bor (List ℕ))) → it ≡ own → list ≡ words it.integer form
+    → length (ways own.integer form) ≡ length list + 1
+ways_count it own form list same is =
+    let size = length-map {B = Option (List ℕ)} (words own.integer form) (λ word. Some word.now) in
+    let all = ap length (is ∙ (λ i. words (same i).integer form)) in
     omega (arith, size, all)
-
-pub some_options : (o : Option Options) → is_some o ≡ not (lacks_options o)
-some_options None = refl
-some_options (Some options) = refl

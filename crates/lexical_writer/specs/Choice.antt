@@ -124,21 +124,12 @@ abbrev pub IsNoToken : (Bool → Read → Type 0) → FormList → List ℕ → 
 IsNoToken keeps list word text error = (error ≡ errors.ReadBack) × (result : Result Token TokenError) × IsReadByTokens list list.tokens text result
     × IfOk result (λ token. token.suffix.now ≡ word → token.rest.now ≡ [] → keeps false token.literal → ⊥)
 
--- `IsReadBack list text P` holds if `text` is a literal of some form of the list, and if `P` holds of the literal that it is in the
--- first such form, with the kind of this form.
-abbrev pub IsReadBack : FormList → List ℕ → (Read → Type 0) → Type 0
-IsReadBack list text P = (read : Read) × (form : ℕ) × IsFirst list.forms text form read × P read
-
--- `IsTokenOf list word text P` holds if all of `text` is a token of the list with the suffix `word`, and if `P` holds of its literal.
-abbrev pub IsTokenOf : FormList → List ℕ → List ℕ → (Read → Type 0) → Type 0
-IsTokenOf list word text P = (token : Token)
-    × IsReadByTokens list list.tokens text (Ok token) × (token.suffix.now ≡ word) × (token.rest.now ≡ []) × P token.literal
-
--- `IsReadWith list word text P` holds if the list reads `text` as a literal or, with a `word`, as a token that has this suffix, and if `P` holds
--- of the literal.
+-- `IsReadWith list word text P` holds if `text` is a literal of some form of the list or, with a `word`, all of it is a token with this suffix, and if
+-- `P` holds of the literal: as it is in the first such form, with the kind of this form, or in the token.
 abbrev pub IsReadWith : FormList → Option (List ℕ) → List ℕ → (Read → Type 0) → Type 0
-IsReadWith list None text P = IsReadBack list text P
-IsReadWith list (Some word) text P = IsTokenOf list word text P
+IsReadWith list None text P = (read : Read) × (form : ℕ) × IsFirst list.forms text form read × P read
+IsReadWith list (Some word) text P = (token : Token)
+    × IsReadByTokens list list.tokens text (Ok token) × (token.suffix.now ≡ word) × (token.rest.now ≡ []) × P token.literal
 
 -- `IsMisread task list index form word text error` holds if `error` is why `text`, which a form writes, is not used: the list reads it as no literal that
 -- surely keeps the number or, with a word, has no such token.
@@ -192,14 +183,11 @@ module _ (task : Task) (room : ℕ) (list : FormList) (index : ℕ) (form : Form
   abbrev pub IsChosen : Option (List ℕ) → List ℕ → Type 0
   IsChosen word text = IsReached (λ way. way ≡ word) × IsWrittenBy task list form word text
 
--- `IsExactly z read` holds if `read` is worth an `f64` that is exactly the integer `z`, or -0 for 0.
-abbrev pub IsExactly : ℤ → Read → Type 0
-IsExactly z read = (value : Float) × (negative : Bool) × (size : ℕ) × (z ≡ with_sign negative size) × HasFraction value negative size 1
-    × (float_worth read.kind binary64 (bytes_of read.format) read.literal ≡ Ok value)
-
--- `IsWhole z read` holds if `read` is worth the integer `z` by its kind, or an `f64` that is exactly `z`.
+-- `IsWhole z read` holds if `read` is worth the integer `z` by its kind, or an `f64` that is exactly `z`, or -0 for 0.
 abbrev pub IsWhole : ℤ → Read → Type 0
-IsWhole z read = IsWorth read.kind.integers (bytes_of read.format) read.literal z ⊎ IsExactly z read
+IsWhole z read = IsWorth read.kind.integers (bytes_of read.format) read.literal z
+    ⊎ ((value : Float) × (negative : Bool) × (size : ℕ) × (z ≡ with_sign negative size) × HasFraction value negative size 1
+    × (float_worth read.kind binary64 (bytes_of read.format) read.literal ≡ Ok value))
 
 -- `IsReal f value read` holds if `read` is worth the float `value` of `f` by its kind, or if it is of the exact kind, and `value` is nearest to it.
 abbrev pub IsReal : Format → Float → Read → Type 0

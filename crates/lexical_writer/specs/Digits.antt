@@ -6,7 +6,6 @@ use Rattle.std.specs.Int.Digits.{digits_of, number_from_digits}
 use Rattle.lexical_util.specs.Digits.{digit_characters}
 use Rattle.lexical_number.specs.Number.{digits_in, number}
 use Rattle.lexical_writer.specs.declared.run.Pattern.{Pattern}
-use Rattle.lexical_writer.specs.declared.run.Padded.{Padded}
 use Rattle.lexical_writer.specs.declared.run.Run.{Run}
 use Rattle.lexical_writer.specs.declared.run.Source.{Source}
 use Rattle.lexical_writer.specs.declared.run.Source.TheVariants as sources
@@ -15,10 +14,6 @@ use Rattle.lexical_writer.specs.declared.run.Source.TheVariants as sources
 abbrev pub character : Bool → ℕ → ℕ
 character lowercase digit =
     if lowercase then to_ascii_lowercase (slice_index digit_characters digit) else slice_index digit_characters digit
-
--- `padded_values radix padded` lists the digits of `padded` in `radix`, with the zeros around them.
-abbrev pub padded_values : ℕ → Padded → List ℕ
-padded_values radix padded = replicate padded.before 0 ++ (digits_in radix padded.first.now ++ (digits_in radix padded.second.now ++ replicate padded.after 0))
 
 -- `at_least least digits` is `digits` with as many zeros before them as make their number `least`, if it is less.
 abbrev pub at_least : ℕ → List ℕ → List ℕ
@@ -29,14 +24,14 @@ abbrev pub values_of : ℕ → Source → List ℕ
 values_of radix (sources.Bytes bytes) = digits_in radix bytes.now
 values_of radix (sources.Number number) = digits_of radix number
 values_of radix (sources.Least number least) = at_least least (digits_of radix number)
-values_of radix (sources.Padded padded) = padded_values radix padded
+values_of radix (sources.Padded padded) = replicate padded.before 0 ++ (digits_in radix padded.digits.now ++ replicate padded.after 0)
 
 -- `size_of radix source` is the number that the digits of `source` represent in `radix`.
 abbrev pub size_of : ℕ → Source → ℕ
 size_of radix (sources.Bytes bytes) = number radix bytes.now
 size_of radix (sources.Number number) = number
 size_of radix (sources.Least number least) = number
-size_of radix (sources.Padded padded) = number_from_digits radix (padded_values radix padded)
+size_of radix (sources.Padded padded) = number_from_digits radix (values_of radix (sources.Padded padded))
 
 -- `begins_decimal digits` is true if the first of `digits` is below 10, so that its character is not a letter.
 abbrev pub begins_decimal : List ℕ → Bool
@@ -57,6 +52,12 @@ no_groups lowercase = record { last = 0; higher = 0; separator = 0; lowercase = 
 abbrev pub only_if : Bool → ℕ → Option ℕ
 only_if condition byte = if condition then Some byte else None
 
+-- `grouped pattern digits` has the characters of `digits`, with a separator where a group ends.
+abbrev pub grouped : Pattern → List ℕ → List ℕ
+grouped pattern [] = []
+grouped pattern (digit ∷ digits) = character pattern.lowercase digit
+    ∷ option_to_list (only_if (ends_group pattern (length digits)) pattern.separator) ++ grouped pattern digits
+
 -- `separated pattern left` is the separator where a group ends.
 abbrev pub separated : Pattern → ℕ → List ℕ
 separated pattern left = option_to_list (only_if (ends_group pattern left) pattern.separator)
@@ -67,11 +68,6 @@ abbrev pub grouped_front : Pattern → ℕ → List ℕ → List ℕ
 grouped_front pattern left [] = []
 grouped_front pattern left (digit ∷ digits) =
     character pattern.lowercase digit ∷ separated pattern (left - 1) ++ grouped_front pattern (left - 1) digits
-
--- `grouped pattern digits` has the characters of `digits`, with separators between groups.
-abbrev pub grouped : Pattern → List ℕ → List ℕ
-grouped pattern [] = []
-grouped pattern (digit ∷ digits) = character pattern.lowercase digit ∷ separated pattern (length digits) ++ grouped pattern digits
 
 -- `run_digits run` lists the digits that are written of `run`, and `run_text run` is what is written.
 abbrev pub run_digits : Run → List ℕ

@@ -93,17 +93,12 @@ integer_pattern r c style =
     let last = group_size (number_of c conditions.IntegerGroupSize) style.group in
     pattern_of r (r.flag layout.integer_internal_digit_separator) last (either (number_of c conditions.HigherGroupSize) last) style.lowercase
 
--- `fraction_size size group` is the number of digits of a group of a fraction where a condition requires `size`, or 0 if there are no groups.
-abbrev pub fraction_size : ℕ → Grouping → ℕ
-fraction_size size groupings.AsSyntax = size
-fraction_size size groupings.None = 0
-fraction_size size (groupings.Of other) = if other == 0 then 0 else size
-
 -- `fraction_pattern r c style count` is the pattern of a fraction of `count` digits. Its groups have the size that the conditions `c`
 -- require. They are counted from the left, so the last one has what is left.
 abbrev pub fraction_pattern : Record → Conditions → Style → ℕ → Pattern
 fraction_pattern r c style count =
-    let size = fraction_size (number_of c conditions.FractionGroupSize) style.group in
+    let given = number_of c conditions.FractionGroupSize in
+    let size = if given == 0 then 0 else group_size given style.group in
     pattern_of r (r.flag layout.fraction_internal_digit_separator) (if size == 0 then 0 else (count - 1) % size + 1) size style.lowercase
 
 -- `needs_exponent g` is true if each literal of `g` has an exponent.
@@ -126,36 +121,25 @@ has_point g amount = is_some amount.fraction || (has_exponent g amount && (raw g
 abbrev pub one_if : Bool → ℕ
 one_if condition = if condition then 1 else 0
 
--- `takes_zeros r float` is true if the integer of a float or of another number may have leading zeros in the format `r`.
-abbrev pub takes_zeros : Record → Bool → Bool
-takes_zeros r float = not (r.flag (if float then layout.no_float_leading_zeros else layout.no_integer_leading_zeros))
-
--- `lacks_zero c prefix digits` is true if a zero is written before the integer digits `digits`, of which the first is not 0, since the
--- conditions `c` allow no other first digit. Behind a base prefix, none is.
-abbrev pub lacks_zero : Conditions → Bool → List ℕ → Bool
-lacks_zero c prefix digits = not prefix && (has c conditions.LeadingZero || (has c conditions.DecimalFirstDigit && not (begins_decimal digits)))
-
--- `led_digits c prefix digits` is the number of `digits` with this zero, or 1 if none is written.
+-- `led_digits c prefix digits` is the number of the integer digits `digits`, of which the first is not 0, with a zero before them if the conditions
+-- `c` allow no other first digit, or 1 if no zero is written. Behind a base prefix, none is.
 abbrev pub led_digits : Conditions → Bool → List ℕ → ℕ
-led_digits c prefix digits = if lacks_zero c prefix digits then length digits + 1 else 1
+led_digits c prefix digits =
+    if not prefix && (has c conditions.LeadingZero || (has c conditions.DecimalFirstDigit && not (begins_decimal digits))) then length digits + 1 else 1
 
 -- `least_digits r c style prefix float amount` is how many integer digits are written at least: one, with the zero that the conditions `c`
 -- require, and those that `style` wants, where leading zeros are allowed.
 abbrev pub least_digits : Record → Conditions → Style → Bool → Bool → Amount → ℕ
 least_digits r c style prefix float amount =
     let radix = r.byte layout.mantissa_radix in
-    max (led_digits c prefix (digits_of radix (size_of radix amount.integer))) (if takes_zeros r float then style.min_digits else 0)
+    max (led_digits c prefix (digits_of radix (size_of radix amount.integer)))
+    (if not (r.flag (if float then layout.no_float_leading_zeros else layout.no_integer_leading_zeros)) then style.min_digits else 0)
 
 -- `integer_text r c style prefix float amount` is the integer that is written, behind a base prefix or not, of a float or not.
 abbrev pub integer_text : Record → Conditions → Style → Bool → Bool → Amount → List ℕ
 integer_text r c style prefix float amount = grouped (integer_pattern r c style)
     (at_least (least_digits r c style prefix float amount)
     (digits_of (r.byte layout.mantissa_radix) (size_of (r.byte layout.mantissa_radix) amount.integer)))
-
--- `exponent_text r style exponent source` is what is written of the exponent digits of `source`, where they are required or not.
-abbrev pub exponent_text : Record → Style → Bool → Source → List ℕ
-exponent_text r style exponent source = grouped (no_groups style.lowercase)
-    (at_least (one_if exponent) (digits_of (effective_exponent_radix r) (size_of (effective_exponent_radix r) source)))
 
 -- `fraction_text r c style point amount` is the fraction that is written, with a decimal point or not: that of `amount`, or a 0 behind a
 -- point if it has no digits.
@@ -179,7 +163,8 @@ laid_out g style amount =
       fraction = fraction_text r g.conditions style point amount;
       exponent_character = option_to_list (only_if exponent (options_of g).exponent);
       exponent_sign = option_to_list (sign_of (given_power amount).negative (exponent && r.flag layout.required_exponent_sign));
-      exponent = exponent_text r style exponent (given_power amount).source;
+      exponent = grouped (no_groups style.lowercase)
+          (at_least (one_if exponent) (digits_of (effective_exponent_radix r) (size_of (effective_exponent_radix r) (given_power amount).source)));
       suffix = option_to_list (base_byte (style.base || has g.conditions conditions.BaseSuffix) (r.byte layout.base_suffix));
     }
 

@@ -2,7 +2,7 @@
 
 ghost use Rattle.std.specs.Prelude.{◌==◌, ◌≡◌, ◌≤◌, ◌<◌, ◌-◌, ◌^◌, ◌⊎◌, ◌||◌, ◌++◌, if◌then◌else◌, not, Bool, true, false};
 ghost use Rattle.std.specs.Prelude.{ℕ, ◌+◌, Err, List, IfErr, IfOk, IfSome, IsFalse, None, Ok, Option, Result, Some};
-ghost use Rattle.std.specs.Prelude.{unwrap_or, from_bits, is_some, length, slice_get, take, ℤ};
+ghost use Rattle.std.specs.Prelude.{[], unwrap_or, from_bits, is_some, length, slice_get, take, ℤ};
 ghost use Rattle.std.specs.Float.{Float as Value, float_is_infinite};
 ghost use Rattle.lexical_util.specs.Record.{bytes_of};
 ghost use Rattle.lexical_literal.specs.Read.{exact, radixes_of, Read};
@@ -18,9 +18,9 @@ ghost use Rattle.lexical_writer.specs.Buffer.{IsTaken};
 ghost use Rattle.lexical_forms.specs.Forms.{IsFirst, NoForm};
 ghost use Rattle.lexical_forms.specs.declared.form.Form.{Form as Asked};
 ghost use Rattle.lexical_writer.specs.Layout.{integer_literal, laid_out, literal_of as written, number_of_size};
-ghost use Rattle.lexical_writer.specs.Choice.{ArePassed, IsChosen, IsFound, IsMisread, IsNoToken, IsPassedOver, IsReadBack, IsReadElse, IsReal};
-ghost use Rattle.lexical_writer.specs.Choice.{IsRefused, IsSearched, IsStopped, IsTokenOf, IsWhole, IsWrittenBy, Task, bytes_of_word, has_floats};
-ghost use Rattle.lexical_writer.specs.Choice.{has_worth, is_asked, is_own, is_short, steps, text_by, unasked, ways, whole_of};
+ghost use Rattle.lexical_writer.specs.Choice.{ArePassed, IsChosen, IsFound, IsMisread, IsNoToken, IsPassedOver, IsReadElse, IsReadWith, IsReal};
+ghost use Rattle.lexical_writer.specs.Choice.{IsRefused, IsSearched, IsStopped, IsWhole, IsWrittenBy, Task, bytes_of_word};
+ghost use Rattle.lexical_writer.specs.Choice.{has_worth, is_asked, is_own, is_short, steps, text_by, unasked, ways, whole_of, words_of};
 ghost use Rattle.lexical_writer.specs.Private.{IsPut};
 ghost use Rattle.lexical_writer.specs.declared.layout.WriteError.{WriteError as Reason};
 ghost use Rattle.lexical_writer.specs.declared.layout.WriteError.TheVariants as errors;
@@ -29,7 +29,7 @@ ghost use Rattle.lexical_writer.specs.declared.layout.Style.{Style as Wishes};
 use crate::float::{format_float, is_integer};
 use crate::float_digits::FloatDigits;
 use crate::integer::WrittenInteger;
-use crate::layout::{Layout, Style, WriteError};
+use crate::layout::{Layout, Style, WriteError, is_whole};
 use crate::literal::format_literal;
 use lexical_forms::form::Form;
 use lexical_forms::list::{Forms, Number};
@@ -213,7 +213,7 @@ impl<F: Float> Writable for Real<F> {
     }
 
     fn is_plain(&self, syntax: &Syntax, kind: Kind, style: Style, float: bool) -> bool {
-        if !has_floats(syntax) {
+        if !supports_floats(syntax.format().view()) {
             return false;
         }
         is_nearest(kind, float) && is_within(self.value, style.decimals, kind.limits())
@@ -307,7 +307,7 @@ impl Writable for Literal<'_> {
     }
 
     fn is_plain(&self, _syntax: &Syntax, kind: Kind, _: Style, float: bool) -> bool {
-        is_exact(self.kind()) & is_exact(kind) & (self.is_float() | !float)
+        is_exact(self.kind()) && is_exact(kind) && (self.is_float() || !float)
     }
 
     fn is_read_as(&self, style: Style, _: &Literal, literal: &Literal) -> bool {
@@ -337,19 +337,13 @@ fn is_same_whole(own: &Literal, literal: &Literal) -> bool
 fn is_same_integer(own: &Literal, literal: &Literal) -> bool
     ensures { result ≡ true → (z : ℤ) × IsWhole z own.now × IsWhole z literal.now }
 {
-    match (own_numeral(own), own_numeral(literal)) {
-        (Ok(own), Ok(numeral)) => own.negative == numeral.negative
-            && is_same_size(own.magnitude, numeral.magnitude),
-        _ => false,
-    }
-}
-
-// Returns whether two numbers have the same digits.
-fn is_same_size(own: Magnitude, magnitude: Magnitude) -> bool
-    ensures { result ≡ true → magnitude_size own.entry ≡ magnitude_size magnitude.entry }
-{
-    match (own, magnitude) {
-        (Magnitude::Digits(bytes, radix), Magnitude::Digits(digits, base)) => radix == base
+    let (Ok(own), Ok(numeral)) = (own_numeral(own), own_numeral(literal)) else {
+        return false;
+    };
+    match (own.magnitude, numeral.magnitude) {
+        (Magnitude::Digits(bytes, radix), Magnitude::Digits(digits, base)) => own.negative
+            == numeral.negative
+            && radix == base
             && bytes == digits,
         _ => false,
     }
@@ -363,13 +357,6 @@ fn put(layout: &Layout, buffer: &mut [u8]) -> (usize, bool)
 {
     let float = layout.point.is_some() | layout.exponent_character.is_some();
     (layout.write(buffer), float)
-}
-
-// Returns whether literals of a syntax have floats.
-fn has_floats(syntax: &Syntax) -> bool
-    ensures { result ≡ has_floats syntax.now.word }
-{
-    supports_floats(syntax.format().view())
 }
 
 // Returns whether literals of a kind, with a decimal point or an exponent or without, are worth the nearest float.
@@ -554,18 +541,8 @@ const fn unasked(own: Own) -> WriteError
 fn is_asked(own: Own, step: u8, form: &Form) -> bool
     ensures { result ≡ is_asked own step form.now }
 {
-    is_turn(step, is_own(own, &form.syntax())) & !form.is_only_read()
-}
-
-// Returns whether a step is that of a number's own forms, or of the others.
-#[inline(always)]
-const fn is_turn(step: u8, own: bool) -> bool
-    ensures { result ≡ (if step == 0 then own else not own) }
-{
-    match step {
-        0 => own,
-        _ => !own,
-    }
+    let here = is_own(own, &form.syntax());
+    (if step == 0 { here } else { !here }) & !form.is_only_read()
 }
 
 // Returns whether a form with a syntax is one of a number's own.
@@ -573,22 +550,14 @@ const fn is_turn(step: u8, own: bool) -> bool
 fn is_own(own: Own, syntax: &Syntax) -> bool
     ensures { result ≡ is_own own syntax.now }
 {
-    (syntax.format().view().mantissa_radix() == own.radix) & takes(own.integer, syntax)
-}
-
-// Returns whether a syntax has floats, or the number is an integer.
-#[inline(always)]
-fn takes(integer: bool, syntax: &Syntax) -> bool
-    ensures { result ≡ (integer || not (lacks_options syntax.now.options)) }
-{
-    integer || syntax.options().is_some()
+    (syntax.format().view().mantissa_radix() == own.radix) & (own.integer | !is_whole(syntax))
 }
 
 /// Returns how the first form of a list writes an integer, if this form is asked first, and its text is known to be read back.
 #[inline(always)]
 pub fn lay_out_first(forms: &Forms, number: &Whole, style: Style) -> Option<WrittenInteger>
     ensures back { IfSome result (λ it.
-        IsReadBack forms.now (text_of (integer_literal it)) (IsWhole (with_sign number.now.negative number.now.size))) }
+        IsReadWith forms.now None (text_of (integer_literal it)) (IsWhole (with_sign number.now.negative number.now.size))) }
     ensures first { IfSome result (λ it. (form : Asked) × (slice_get forms.now.forms 0 ≡ Some form) × (form.only_read ≡ false)
         × (is_own (record { radix = 10; integer = true; rounded = false }) form.syntax ≡ true)
         × (integer_literal it ≡ laid_out form.syntax style (number_of_size number.now.negative number.now.size))) }
@@ -607,7 +576,8 @@ pub fn lay_out_first(forms: &Forms, number: &Whole, style: Style) -> Option<Writ
     Some(integer)
 }
 
-// Writes a number by one form, without a word or else with one, or returns why it is not used.
+// Writes a number by one form, without a word or else, if it is an integer, with the first of the form's words that makes its token this
+// integer, or returns why the form is not used.
 fn write_form<N: Writable>(
     forms: &Forms,
     index: usize,
@@ -638,43 +608,7 @@ fn write_form<N: Writable>(
     if is_short(error) {
         return Err(error);
     }
-    if !number.own(style).integer {
-        return Err(error);
-    }
-    match write_words(forms, index, form, number, style, buffer) {
-        Ok(chosen) => Ok(chosen),
-        Err(other) if is_short(other) => Err(other),
-        Err(_) => Err(error),
-    }
-}
-
-// Writes an integer by one form with the first of its words that makes its token this integer, or returns why there is none.
-#[cold]
-fn write_words<N: Writable>(
-    forms: &Forms,
-    index: usize,
-    form: &Form,
-    number: &N,
-    style: Style,
-    buffer: &mut [u8],
-) -> Result<Chosen, WriteError>
-    requires form { slice_get forms.now.forms index ≡ Some form.now }
-    requires integer { (N.task number.now style).own.integer ≡ true }
-    requires passed { ArePassed (N.task number.now style) (length buffer.now) forms.now index form.now 1 }
-    ensures length { IfOk result (λ it. it.length ≤ length buffer.new) }
-    ensures room { length buffer.new ≡ length buffer.old }
-    ensures form { IfOk result (λ it. it.form ≡ index) }
-    ensures text { IfOk result (λ it. IsChosen (N.task number.now style) (length buffer.old) forms.now index form.now (bytes_of_word it.word)
-        (take it.length buffer.new)) }
-    ensures passed { IfErr result (λ error. is_short error ≡ false
-        → ArePassed (N.task number.now style) (length buffer.old) forms.now index form.now (length (ways (N.task number.now style).own.integer form.now))) }
-    ensures stopped { IfErr result (λ error. is_short error ≡ true
-        → IsStopped (N.task number.now style) (length buffer.old) forms.now index form.now error) }
-{
-    let Some(suffixes) = form.suffixes() else {
-        return Err(WriteError::ReadBack);
-    };
-    let words = suffixes.written();
+    let words = words_in(number.own(style).integer, form);
     for word in words {
         match write_by(forms, index, form, number, style, Some(word), buffer) {
             Ok(length) => return Ok(Chosen {
@@ -682,11 +616,22 @@ fn write_words<N: Writable>(
                 word: Some(word),
                 length,
             }),
-            Err(error) if is_short(error) => return Err(error),
+            Err(other) if is_short(other) => return Err(other),
             Err(_) => {}
         }
     }
-    Err(WriteError::ReadBack)
+    Err(error)
+}
+
+// Returns the words with which a form writes a number.
+#[cold]
+const fn words_in(integer: bool, form: &Form) -> &'static [&'static [u8]]
+    ensures { result.now ≡ (if integer then words_of form.now.suffixes else []) }
+{
+    match form.suffixes() {
+        Some(suffixes) if integer => suffixes.written(),
+        _ => &[],
+    }
 }
 
 // Writes a number by one form with its opening, and a word behind it if there is one, and returns the length of the text, or
@@ -737,10 +682,11 @@ fn put_text<N: Writable>(
     let opening = form.opening();
     let start = put_at(buffer, 0, opening.as_bytes());
     let (end, float) = put_number(&form.syntax(), number, style, start, buffer)?;
-    Ok(match word {
-        Some(word) => (put_at(buffer, end, word), float),
-        None => (end, float),
-    })
+    let word: &[u8] = match word {
+        Some(word) => word,
+        None => &[],
+    };
+    Ok((put_at(buffer, end, word), float))
 }
 
 // Writes a number as a literal of a syntax to a buffer from an index on, as far as it has room, and returns the index behind it,
@@ -784,7 +730,7 @@ fn read_token<N: Writable>(
     word: &[u8],
     text: &[u8],
 ) -> Result<(), WriteError>
-    ensures value { (g : Grammar) → (l : Parts) → IfOk result (λ _. IsTokenOf forms.now word.now text.now ((N.task number.now style).is g l)) }
+    ensures value { (g : Grammar) → (l : Parts) → IfOk result (λ _. IsReadWith forms.now (Some word.now) text.now ((N.task number.now style).is g l)) }
     ensures error { IfErr result (IsNoToken (N.task number.now style).keeps forms.now word.now text.now) }
 {
     let Ok(token) = forms.token(text) else {
@@ -859,7 +805,7 @@ fn read_written<N: Writable>(
     requires written { (l : Parts) × Reads (notation_of form.now.syntax) l text.now × (N.task number.now style).writes form.now.syntax (Ok l)
         × (float ≡ is_float l) }
     ensures value { IfOk result (λ _. (l : Parts) × (N.task number.now style).writes form.now.syntax (Ok l) × (text.now ≡ text_of l)
-        × IsReadBack forms.now text.now ((N.task number.now style).is form.now.syntax l)) }
+        × IsReadWith forms.now None text.now ((N.task number.now style).is form.now.syntax l)) }
     ensures error { IfErr result (IsReadElse (N.task number.now style).keeps forms.now.forms index text.now) }
 {
     let syntax = form.syntax();

@@ -3,11 +3,12 @@
 ghost use Rattle.std.specs.Prelude.{◌≡◌, ◌++◌, ◌∷◌, [], true, false, ◌-◌, ◌<◌, ◌≤◌, ◌/◌, ◌%◌, ◌^◌, ℕ, List, Some, length, map, option_to_list, replicate};
 ghost use Rattle.std.specs.Prelude.{slice_get};
 ghost use Rattle.lexical_util.specs.Digits.{digit_characters};
-ghost use Rattle.std.specs.Int.Digits.{digits_of, number_from_digits};
+ghost use Rattle.std.specs.Int.Digits.{digits_of};
 ghost use Rattle.lexical_number.specs.Number.{digits_in, number, places};
 ghost use Rattle.lexical_util.specs.Rules.{IsRadix};
-ghost use Rattle.lexical_writer.specs.Digits.{at_least, begins_decimal, character, ends_group, grouped, grouped_front, only_if, padded_values, run_digits};
-ghost use Rattle.lexical_writer.specs.Digits.{run_text, separated, values_of};
+ghost use Rattle.lexical_writer.specs.Digits.{at_least, begins_decimal, character, ends_group, grouped, grouped_front, only_if, run_digits};
+ghost use Rattle.lexical_writer.specs.Digits.{run_text, separated, size_of, values_of};
+ghost use Rattle.lexical_writer.specs.declared.run.Source.TheVariants as sources;
 
 use crate::run::{Padded, Pattern, Run, Source};
 use crate::sink::Sink;
@@ -198,14 +199,13 @@ fn put_zeros<S: Sink>(sink: &mut S, zeros: u128, count: u128, run: &Run) -> u128
 // Writes digits in groups, and zeros before them if there are fewer than the run has at least.
 fn put_padded<S: Sink>(sink: &mut S, padded: &Padded, run: &Run)
     ensures { (start : S) → (text : List ℕ) → S.has start sink.old text
-        → S.has start sink.new (text ++ grouped run.now.pattern (at_least run.now.least (padded_values run.now.radix padded.now))) }
+        → S.has start sink.new (text ++ grouped run.now.pattern (at_least run.now.least (values_of run.now.radix (sources.Padded padded.now)))) }
 {
     let count = padded.count(run.radix);
     let missing = run.least.saturating_sub(count);
     let zeros = missing + padded.before as u128;
     let left = put_zeros(sink, zeros, missing + count, run);
-    let left = put_digits(sink, padded.first, left, run);
-    let left = put_digits(sink, padded.second, left, run);
+    let left = put_digits(sink, padded.digits, left, run);
     put_zeros(sink, padded.after as u128, left, run);
 }
 
@@ -285,14 +285,12 @@ impl<'a> Padded<'a> {
     // Returns whether the first digit is decimal.
     fn begins_decimal(&self, radix: u32) -> bool
         requires { IsRadix radix }
-        ensures { result ≡ begins_decimal (padded_values radix self.now) }
+        ensures { result ≡ begins_decimal (values_of radix (sources.Padded self.now)) }
     {
         if self.before > 0 {
             true
-        } else if count(self.first, radix) > 0 {
-            begins_decimal(self.first, radix)
-        } else if count(self.second, radix) > 0 {
-            begins_decimal(self.second, radix)
+        } else if count(self.digits, radix) > 0 {
+            begins_decimal(self.digits, radix)
         } else {
             self.after > 0
         }
@@ -301,47 +299,33 @@ impl<'a> Padded<'a> {
     // Returns the digits among bytes, without zeros around them.
     #[inline(always)]
     pub(crate) const fn of(bytes: &'a [u8]) -> Padded<'a>
-        ensures { (radix : ℕ) → padded_values radix result ≡ digits_in radix bytes.entry.now }
+        ensures { (radix : ℕ) → values_of radix (sources.Padded result) ≡ digits_in radix bytes.entry.now }
     {
         Padded {
             before: 0,
-            first: bytes,
-            second: &[],
+            digits: bytes,
             after: 0,
         }
     }
 
     // Returns the number of digits.
     pub(crate) fn count(&self, radix: u32) -> u128
-        ensures count { result ≡ length (padded_values radix self.now) }
+        ensures count { result ≡ length (values_of radix (sources.Padded self.now)) }
         ensures small { result < 2 ^ 67 }
     {
-        self.before as u128
-            + count(self.first, radix) as u128
-            + count(self.second, radix) as u128
-            + self.after as u128
+        self.before as u128 + count(self.digits, radix) as u128 + self.after as u128
     }
 
     // Returns the digits without the zeros that they begin with.
     pub(crate) fn lean(&self, radix: u32) -> Padded<'a>
         requires { IsRadix radix }
-        ensures { padded_values radix result ≡ digits_of radix (number_from_digits radix (padded_values radix self.now)) }
+        ensures { values_of radix (sources.Padded result) ≡ digits_of radix (size_of radix (sources.Padded self.now)) }
     {
-        let first = without_zeros(self.first, radix);
-        if count(first, radix) > 0 {
-            return Padded {
-                before: 0,
-                first,
-                second: self.second,
-                after: self.after,
-            };
-        }
-        let second = without_zeros(self.second, radix);
-        let some = count(second, radix) > 0;
+        let digits = without_zeros(self.digits, radix);
+        let some = count(digits, radix) > 0;
         Padded {
             before: 0,
-            first: &[],
-            second,
+            digits,
             after: if some { self.after } else { 0 },
         }
     }

@@ -2,14 +2,14 @@
 
 ghost use Rattle.std.specs.Prelude.{◌≡◌, false, ◌++◌, ◌&&◌, nat_lt, [], ℕ, IfOk, List, length};
 ghost use Rattle.std.specs.Int.Digits.{digits_of};
-ghost use Rattle.lexical_util.specs.Record.{raw};
+ghost use Rattle.lexical_util.specs.Record.{effective_exponent_radix, raw};
 ghost use Rattle.lexical_util.specs.Rules.{IsRadix, Lawful};
 ghost use Rattle.lexical_literal.specs.Literal.{Reads, is_present, text_of};
 ghost use Rattle.lexical_literal.specs.Notation.{has, lacks_options, notation_of};
 ghost use Rattle.lexical_literal.specs.Syntax.{IsSyntax};
 ghost use Rattle.lexical_literal.specs.declared.syntax.Condition.TheVariants as conditions;
-ghost use Rattle.lexical_writer.specs.Digits.{no_groups, only_if, run_text, size_of, values_of};
-ghost use Rattle.lexical_writer.specs.Layout.{HasNumber, IsLaidOut, allows_exponent, base_byte, exponent_text, first_error, fraction_pattern, fraction_text};
+ghost use Rattle.lexical_writer.specs.Digits.{at_least, grouped, no_groups, only_if, run_text, size_of, values_of};
+ghost use Rattle.lexical_writer.specs.Layout.{HasNumber, IsLaidOut, allows_exponent, base_byte, first_error, fraction_pattern, fraction_text};
 ghost use Rattle.lexical_writer.specs.Layout.{has_exponent, has_point, integer_pattern, integer_text, laid_out};
 ghost use Rattle.lexical_writer.specs.Layout.{least_digits, led_digits, literal_of, needs_exponent, number_of_size, one_if, refusal, sign_of};
 ghost use Rattle.lexical_writer.specs.Buffer.{IsTaken};
@@ -453,7 +453,8 @@ fn exponent_run<'a>(
     exponent: bool,
 ) -> Run<'a>
     requires { Lawful format }
-    ensures { run_text result ≡ exponent_text (raw format) style exponent source.entry }
+    ensures { run_text result ≡ grouped (no_groups style.lowercase)
+        (at_least (one_if exponent) (digits_of (effective_exponent_radix (raw format)) (size_of (effective_exponent_radix (raw format)) source.entry))) }
 {
     let radix = format.exponent_radix();
     Run {

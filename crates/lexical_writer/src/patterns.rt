@@ -3,7 +3,7 @@
 ghost use Rattle.std.specs.Prelude.{◌≡◌, length};
 ghost use Rattle.lexical_util.specs.Record.{raw};
 ghost use Rattle.lexical_writer.specs.Digits.{no_groups, run_digits};
-ghost use Rattle.lexical_writer.specs.Layout.{either, fraction_pattern, fraction_size, group_size, integer_pattern, pattern_of};
+ghost use Rattle.lexical_writer.specs.Layout.{either, fraction_pattern, group_size, integer_pattern, pattern_of};
 
 use crate::layout::{Grouping, Style};
 use crate::run::{Pattern, Run};
@@ -36,8 +36,10 @@ pub(crate) fn fraction_pattern(
 ) -> Pattern
     ensures { result ≡ fraction_pattern (raw format) conditions style (length (run_digits run.now)) }
 {
-    let condition = conditions.number(Condition::FractionGroupSize);
-    let size = fraction_size(condition, style.group);
+    let size = match conditions.number(Condition::FractionGroupSize) {
+        0 => 0,
+        given => group_size(given, style.group),
+    };
     let last = if size == 0 {
         0
     } else {
@@ -89,16 +91,6 @@ const fn group_size(size: u8, group: Grouping) -> usize
         Grouping::AsSyntax => size as usize,
         Grouping::None | Grouping::Of(0) => 0,
         Grouping::Of(other) => either(size, other),
-    }
-}
-
-// Returns how many digits a group of a fraction has, where a condition requires `size` digits, or 0 for digits without groups.
-const fn fraction_size(size: u8, group: Grouping) -> usize
-    ensures { result ≡ fraction_size size group }
-{
-    match group {
-        Grouping::None | Grouping::Of(0) => 0,
-        Grouping::AsSyntax | Grouping::Of(_) => size as usize,
     }
 }
 

@@ -46,6 +46,12 @@ impl Form {
         }
     }
 
+    // Returns whether it is known at once that no literal begins with more than the first `past` bytes of `text`.
+    #[cfg_attr(not(peltzivar_small), inline(always))]
+    pub(crate) const fn is_passed(&self, text: &[u8], past: usize) -> bool {
+        past >= text.len() || self.is_behind(text, past)
+    }
+
     // Returns the literal that `_text` is, where `inside` is behind the opening, or where the form stops.
     #[cfg_attr(not(peltzivar_small), inline(always))]
     pub(crate) const fn read<'t>(&self, _text: &[u8], inside: &'t [u8]) -> Result<Literal<'t>, Stopped> {
@@ -83,6 +89,27 @@ impl Form {
         let Found { size, counts } = found;
         let size = opened + size;
         Some(Found { size, counts })
+    }
+}
+
+impl Form {
+    // Returns where the form stops, and the longest front of `text` that is a literal, if there is one.
+    #[cfg_attr(not(peltzivar_small), inline(always))]
+    pub(crate) const fn front(&self, text: &[u8]) -> (usize, Option<Found>) {
+        let opened = self.opening.opened(text);
+        if opened < self.opening.size() {
+            let _syntax = self.syntax();
+            return (opened, None);
+        }
+        let (_, inside) = text.split_at(opened);
+        let (stop, found) = self.syntax.front(inside);
+        let stop = opened + stop.size;
+        let Some(found) = found else {
+            return (stop, None);
+        };
+        let Found { size, counts } = found;
+        let size = opened + size;
+        (stop, Some(Found { size, counts }))
     }
 }
 

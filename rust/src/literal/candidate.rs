@@ -2,104 +2,255 @@
 
 //! The candidates of forms for a token, and the token that the longest of them makes.
 
+use crate::literal::exclude::is_over;
 use crate::literal::form::Form;
 use crate::literal::list::{Forms, PointsBack, Tokens};
-use crate::literal::stop::{byte_at, Found};
+use crate::literal::literal::{Literal, Sums};
+use crate::literal::stop::{byte_at, Begun, Found};
 use crate::literal::suffix::{
     byte_after, byte_before, has_digit_at, has_word_byte, is_followed, is_stopped, kind_with, more_of, suffix_size,
     suffix_words, word_size,
 };
 use crate::literal::syntax::Syntax;
-use crate::literal::token::{is_float, is_one, Token, TokenError};
+use crate::literal::token::{is_float, is_one, larger, Token, TokenError};
 
 // The candidate of a form: the length of its literal, the lengths of its parts, and the index behind its suffix.
 #[derive(Clone, Copy)]
 pub(crate) struct Candidate {
     pub(crate) size: usize,
     pub(crate) counts: [usize; 9],
+    pub(crate) sums: Option<Sums>,
     pub(crate) end: usize,
 }
 
+// The longest candidate of the forms that have been asked, with the index of its form, and how far they go, but for a point that is given
+// back. Forms with no literal of more than `past` bytes may be passed over, and `clear` says that no word goes on behind the candidate.
+#[derive(Clone, Copy)]
+pub(crate) struct Longest {
+    pub(crate) best: Option<(usize, Candidate)>,
+    pub(crate) reach: usize,
+    pub(crate) past: usize,
+    pub(crate) clear: bool,
+}
+
 impl<'a> Forms<'a> {
-    // Returns the token that `text` begins with.
+    // Returns the token that `text` begins with, by all candidates.
     #[cold]
     #[inline(never)]
     pub(crate) const fn token_of<'t>(&self, tokens: &Tokens, text: &'t [u8]) -> Result<Token<'t>, TokenError> {
-        let back = tokens.gives_points_back;
-        let plain = best_of(self.forms, back, false, text);
-        let suffixed = best_of(tokens.forms, back, true, text);
-        let Some((form, it, candidate)) = self.choose(tokens, text, plain, suffixed) else {
-            return Err(self.fail(tokens, text));
-        };
-        let Candidate { size, end, .. } = candidate;
-        let (_, rest) = text.split_at(end);
-        if !is_followed(tokens.following, rest) {
-            if is_one_ahead(self.forms, back, text, end) {
-                return Err(self.fail(tokens, text));
-            }
-            if it.is_stopped(tokens, text, end) {
-                if has_digit(text, size, end) {
-                    return Err(self.fail(tokens, text));
-                }
-                return Err(stopped(it, text, form, candidate));
-            }
-        }
-        Ok(it.made(text, form, candidate))
+        self.end_of(tokens, text, self.longest(tokens, text, 0))
     }
 
-    // Returns the longest of the candidates of the list and of the forms that need a suffix, with its form.
-    const fn choose<'f>(
-        &'f self,
-        tokens: &'f Tokens,
-        _text: &[u8],
-        plain: Option<(usize, Candidate)>,
-        suffixed: Option<(usize, Candidate)>,
-    ) -> Option<(usize, &'f Form, Candidate)> {
-        match suffixed {
-            None => match plain {
-                None => None,
-                Some((form, best)) => Some((form, &self.forms[form], best)),
-            },
-            Some((behind, other)) => match plain {
-                None => Some((self.forms.len() + behind, &tokens.forms[behind], other)),
-                Some((form, best)) => {
-                    if is_shorter(best, other) {
-                        Some((self.forms.len() + behind, &tokens.forms[behind], other))
-                    } else {
-                        Some((form, &self.forms[form], best))
-                    }
+    // Returns the longest candidate of the list and of the forms that need a suffix, of those with literals of more than `least` bytes.
+    #[cfg_attr(not(peltzivar_small), inline(always))]
+    pub(crate) const fn longest(&self, tokens: &Tokens, text: &[u8], least: usize) -> Longest {
+        let mut found = Longest { best: None, reach: 0, past: least, clear: false };
+        let mut form = 0;
+        while form < self.forms.len() + tokens.forms.len() {
+            if !self.passes(tokens, text, found.past, form) {
+                found = self.ask(tokens, text, least, found, form);
+            }
+            form += 1;
+        }
+        found
+    }
+
+    // Returns whether it is known at once that no literal of the form with this index begins with more than the first `past` bytes of `text`.
+    #[cfg_attr(not(peltzivar_small), inline(always))]
+    const fn passes(&self, tokens: &Tokens, text: &[u8], past: usize, form: usize) -> bool {
+        let it = self.tried(tokens, form);
+        it.is_passed(text, past)
+    }
+
+    // Returns the longest candidate after one form more, which has the index `form`.
+    #[cfg_attr(not(peltzivar_small), inline(always))]
+    const fn ask(&self, tokens: &Tokens, text: &[u8], least: usize, found: Longest, form: usize) -> Longest {
+        let it = self.tried(tokens, form);
+        let needs = self.needs(form);
+        let asked = it.candidate(tokens.gives_points_back, needs, text);
+        self.longer(tokens, text, least, found, form, asked)
+    }
+
+    // Returns the form with this index. Those that need a suffix are behind the others.
+    #[cfg_attr(not(peltzivar_small), inline(always))]
+    const fn tried<'f>(&'f self, tokens: &'f Tokens, form: usize) -> &'f Form {
+        if self.needs(form) {
+            &tokens.forms[form - self.forms.len()]
+        } else {
+            &self.forms[form]
+        }
+    }
+
+    // Returns whether the form with this index needs a suffix.
+    #[cfg_attr(not(peltzivar_small), inline(always))]
+    const fn needs(&self, form: usize) -> bool {
+        self.forms.len() <= form
+    }
+
+    // Returns the longest candidate after one form more, which has the index `form`, and of which this is known.
+    #[cfg_attr(not(peltzivar_small), inline(always))]
+    const fn longer(
+        &self,
+        tokens: &Tokens,
+        text: &[u8],
+        least: usize,
+        found: Longest,
+        form: usize,
+        asked: (usize, Option<Candidate>),
+    ) -> Longest {
+        let (reach, candidate) = asked;
+        let reach = larger(found.reach, reach);
+        match candidate {
+            None => Longest { reach, ..found },
+            Some(candidate) => {
+                if candidate.size <= least || !is_longer(found.best, candidate) {
+                    return Longest { reach, ..found };
                 }
-            },
+                let clear = self.is_clear(tokens, text, candidate.end);
+                Longest {
+                    best: Some((form, candidate)),
+                    reach,
+                    past: past_of(found.past, clear, candidate.size),
+                    clear,
+                }
+            }
+        }
+    }
+
+    // Returns whether no word of a form goes on behind `end`.
+    #[cfg_attr(not(peltzivar_small), inline(always))]
+    const fn is_clear(&self, tokens: &Tokens, text: &[u8], end: usize) -> bool {
+        !has_word_byte(text, end) && !self.go_on_with(tokens, byte_at(text, end))
+    }
+
+    // Returns the token of the longest candidate, or why there is none.
+    #[cfg_attr(not(peltzivar_small), inline(always))]
+    pub(crate) const fn end_of<'t>(
+        &self,
+        tokens: &Tokens,
+        text: &'t [u8],
+        found: Longest,
+    ) -> Result<Token<'t>, TokenError> {
+        let Some((form, candidate)) = found.best else {
+            return Err(self.fail(tokens, text));
+        };
+        let it = self.tried(tokens, form);
+        let goes_on = candidate.end < found.reach;
+        match self.fault_of(tokens, text, it, form, candidate, goes_on) {
+            Some(error) => Err(error),
+            None => Ok(it.made(text, form, candidate)),
+        }
+    }
+
+    // Returns why the candidate of a form is not a token, if it is none. Literals of the list may go on behind it if `goes_on` is true.
+    #[cfg_attr(not(peltzivar_small), inline(always))]
+    const fn fault_of(
+        &self,
+        tokens: &Tokens,
+        text: &[u8],
+        it: &Form,
+        form: usize,
+        candidate: Candidate,
+        goes_on: bool,
+    ) -> Option<TokenError> {
+        if goes_on || it.is_stopped(tokens, text, candidate.end) {
+            self.cut(tokens, text, it, form, candidate, goes_on)
+        } else {
+            None
+        }
+    }
+
+    // Returns whether a literal of a form of the list goes on behind `end`, where one may if `goes_on` is true.
+    const fn is_ahead(&self, tokens: &Tokens, text: &[u8], end: usize, goes_on: bool) -> bool {
+        goes_on && is_one_ahead(self.forms, tokens.gives_points_back, text, end)
+    }
+
+    // Returns the same by asking the forms again.
+    #[cold]
+    #[inline(never)]
+    const fn cut(
+        &self,
+        tokens: &Tokens,
+        text: &[u8],
+        it: &Form,
+        form: usize,
+        candidate: Candidate,
+        goes_on: bool,
+    ) -> Option<TokenError> {
+        let Candidate { size, end, .. } = candidate;
+        let (_, rest) = text.split_at(end);
+        if is_followed(tokens.following, rest) {
+            return None;
+        }
+        if self.is_ahead(tokens, text, end, goes_on) {
+            return Some(self.fail(tokens, text));
+        }
+        if !it.is_stopped(tokens, text, end) {
+            return None;
+        }
+        if has_digit(text, size, end) {
+            Some(self.fail(tokens, text))
+        } else {
+            Some(stopped(it, text, form, candidate))
         }
     }
 
     // Returns why `text` does not begin with a token.
     #[cold]
     const fn fail(&self, _tokens: &Tokens, text: &[u8]) -> TokenError {
-        let size = furthest_stop(self.forms, text);
-        let (_, rest) = text.split_at(size);
-        let end = size + word_size(&[], rest);
+        let end = part_size(text, furthest_stop(self.forms, text));
         let (word, _) = text.split_at(end);
         if cfg!(peltzivar_small) {
-            return self.fault(word, end);
+            return self.fault(text, end);
         }
         match self.find_literal(word, None) {
-            Err(furthest) => TokenError::Literal(self.error_at(word, furthest)),
+            Err(furthest) => TokenError::Literal(self.error_at(word, furthest).before(end < text.len())),
             Ok(_) => TokenError::NotAToken { end },
         }
     }
 }
 
 impl Form {
-    // Returns the candidate of the form, if there is one.
+    // Returns how far the form goes, but for a point that is given back, and its candidate, if there is one.
     #[cfg_attr(not(peltzivar_small), inline(always))]
-    const fn candidate(&self, back: PointsBack, needs: bool, text: &[u8]) -> Option<Candidate> {
-        match self.front_past(text, 0) {
-            None => None,
+    const fn candidate(&self, back: PointsBack, needs: bool, text: &[u8]) -> (usize, Option<Candidate>) {
+        let opened = self.opening.opened(text);
+        if opened < self.opening.size() {
+            return (opened, None);
+        }
+        let (_, inside) = text.split_at(opened);
+        let begun = self.syntax.begin_small(inside, true);
+        let size = opened + begun.at.size;
+        if begun.complete
+            && is_over(self.syntax.as_grammar(), inside, begun.at.size)
+            && !self.gives_back(back, text, size)
+        {
+            let Begun { counts, sums, .. } = begun;
+            return (size, self.suffixed(needs, text, Found { size, counts }, Some(sums)));
+        }
+        self.any_candidate(back, needs, text)
+    }
+
+    // Returns the same by all of the form's fronts.
+    #[cold]
+    #[inline(never)]
+    const fn any_candidate(&self, back: PointsBack, needs: bool, text: &[u8]) -> (usize, Option<Candidate>) {
+        let (stop, found) = self.front(text);
+        let reach = self.reach_of(back, text, stop);
+        match found {
+            None => (reach, None),
             Some(found) => match self.own(back, text, found) {
-                None => None,
-                Some(own) => self.suffixed(needs, text, own),
+                None => (reach, None),
+                Some(own) => (reach, self.suffixed(needs, text, own, None)),
             },
+        }
+    }
+
+    // Returns how far the form goes that stops at `stop`, but for a point before it that does not go on.
+    const fn reach_of(&self, back: PointsBack, text: &[u8], stop: usize) -> usize {
+        match back {
+            PointsBack::ToWords if is_one(self.syntax, byte_before(text, stop)) => stop - 1,
+            _ => stop,
         }
     }
 
@@ -116,7 +267,7 @@ impl Form {
 
     // Returns the candidate with the literal `own`, if there is a suffix or none is needed.
     #[cfg_attr(not(peltzivar_small), inline(always))]
-    const fn suffixed(&self, needs: bool, text: &[u8], own: Found) -> Option<Candidate> {
+    const fn suffixed(&self, needs: bool, text: &[u8], own: Found, sums: Option<Sums>) -> Option<Candidate> {
         let Found { size, counts } = own;
         let (_, rest) = text.split_at(size);
         let more = suffix_size(self.suffixes, is_float(counts), rest);
@@ -124,7 +275,7 @@ impl Form {
             None
         } else {
             let end = size + more;
-            Some(Candidate { size, counts, end })
+            Some(Candidate { size, counts, sums, end })
         }
     }
 
@@ -134,44 +285,45 @@ impl Form {
         is_stopped(words, self.suffixes, text, end)
     }
 
+    // Returns the literal with these parts, and with their sums if they are known.
+    #[cfg_attr(not(peltzivar_small), inline(always))]
+    const fn literal_of<'t>(&self, text: &'t [u8], counts: [usize; 9], sums: Option<Sums>) -> Literal<'t> {
+        match sums {
+            None => self.syntax.summed(text, counts),
+            Some(sums) => self.syntax.literal(text, counts, sums),
+        }
+    }
+
     // Returns the token with this candidate.
     #[cfg_attr(not(peltzivar_small), inline(always))]
     const fn made<'t>(&self, text: &'t [u8], form: usize, candidate: Candidate) -> Token<'t> {
-        let Candidate { size, counts, end } = candidate;
+        let Candidate { size, counts, sums, end } = candidate;
         let (front, behind) = text.split_at(size);
         let (suffix, _) = behind.split_at(end - size);
         let (_, rest) = text.split_at(end);
         let kind = kind_with(self.suffixes, suffix, self.kind);
         let (_, inside) = front.split_at(self.opening.size());
-        let literal = self.syntax.summed(inside, counts);
+        let literal = self.literal_of(inside, counts, sums);
         Token { literal: literal.with_kind(kind).behind(self.opening.size), form, suffix, rest }
     }
 }
 
-// Returns the longest candidate of the forms, the first of equals, with the index of its form.
-const fn best_of(forms: &[Form], back: PointsBack, needs: bool, text: &[u8]) -> Option<(usize, Candidate)> {
-    let mut best = None;
-    let mut form = 0;
-    while form < forms.len() {
-        best = better(best, form, forms[form].candidate(back, needs, text));
-        form += 1;
+// Returns whether a candidate is longer than the best one, if there is one.
+#[cfg_attr(not(peltzivar_small), inline(always))]
+const fn is_longer(best: Option<(usize, Candidate)>, candidate: Candidate) -> bool {
+    match best {
+        None => true,
+        Some((_, other)) => is_shorter(other, candidate),
     }
-    best
 }
 
-// Returns the longer of two candidates, the first of equals.
+// Returns the larger of two sizes, of which the second one counts only behind a candidate that is clear.
 #[cfg_attr(not(peltzivar_small), inline(always))]
-const fn better(
-    best: Option<(usize, Candidate)>,
-    form: usize,
-    candidate: Option<Candidate>,
-) -> Option<(usize, Candidate)> {
-    match candidate {
-        None => best,
-        Some(candidate) => match best {
-            Some((_, other)) if !is_shorter(other, candidate) => best,
-            _ => Some((form, candidate)),
-        },
+const fn past_of(past: usize, clear: bool, size: usize) -> usize {
+    if clear && past < size {
+        size
+    } else {
+        past
     }
 }
 
@@ -192,6 +344,17 @@ const fn furthest_stop(forms: &[Form], text: &[u8]) -> usize {
     match furthest {
         Some((_, size)) => size,
         None => 0,
+    }
+}
+
+// Returns the number of bytes up to the end of the word at `stop`, and at least 1 unless `text` is empty.
+const fn part_size(text: &[u8], stop: usize) -> usize {
+    let (_, rest) = text.split_at(stop);
+    let end = stop + word_size(&[], rest);
+    if end == 0 && text.len() > 0 {
+        1
+    } else {
+        end
     }
 }
 
@@ -263,7 +426,7 @@ const fn has_digit(text: &[u8], size: usize, end: usize) -> bool {
 
 // Returns why what is behind the number with this candidate may not follow it: a word, or otherwise a byte that a stop names.
 const fn stopped(it: &Form, text: &[u8], form: usize, candidate: Candidate) -> TokenError {
-    let Candidate { size, counts, end } = candidate;
+    let Candidate { size, counts, end, .. } = candidate;
     let behind = stop_end(more_of(it.suffixes), text, end);
     if has_word_byte(text, end) {
         TokenError::UnknownSuffix {

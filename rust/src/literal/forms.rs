@@ -49,12 +49,13 @@ impl<'a> Forms<'a> {
         }
     }
 
-    // Returns why `word`, up to `end`, is not a token, as the library for C reads all texts.
+    // Returns why `text`, up to `end`, is not a token, as the library for C reads all texts.
     #[cold]
-    pub(crate) const fn fault(&self, word: &[u8], end: usize) -> TokenError {
+    pub(crate) const fn fault(&self, text: &[u8], end: usize) -> TokenError {
         let specials = Specials { nan: None, inf: None, infinity: None };
+        let (word, rest) = text.split_at(end);
         match self.with_specials(specials).read_behind(word, None) {
-            Err(error) => TokenError::Literal(error),
+            Err(error) => TokenError::Literal(error.before(!rest.is_empty())),
             Ok(_) => TokenError::NotAToken { end },
         }
     }
@@ -135,32 +136,33 @@ impl<'a> Forms<'a> {
     // Returns what `parse` returns, where the first form stops at `stop`, if it has been asked.
     #[inline(never)]
     fn parse_behind<T: FromLiteral>(&self, text: &[u8], stop: Option<Stopped>) -> Result<T, ParseError> {
-        let (error, kind) = match self.find_literal(text, stop) {
-            Ok((_, literal)) => match T::from_literal(literal) {
-                Ok(value) => return Ok(value),
-                Err(error) => (error, literal.integer_kind()),
-            },
+        let (value, kind) = match self.find_behind(text, stop) {
+            Ok((_, literal)) => (T::from_literal(literal), literal.integer_kind()),
             Err(furthest) => match self.special(text) {
-                None => return self.refuse(text, furthest),
-                Some(special) => match T::from_special(special) {
-                    Ok(value) => return Ok(value),
-                    Err(error) => (error, IntegerKind::Exact),
-                },
+                Some(special) => (T::from_special(special), IntegerKind::Exact),
+                None => return Err(self.refuse(text, furthest)),
             },
         };
-        Err(ParseError::Value(ValueError::of::<T>(error, text.len(), kind)))
+        value.map_err(|error| ParseError::Value(ValueError::of::<T>(error, text.len(), kind)))
+    }
+
+    // Returns what `find_literal` returns. All types share this code.
+    #[inline(never)]
+    fn find_behind<'t>(&self, text: &'t [u8], stop: Option<Stopped>) -> Result<(usize, Literal<'t>), Furthest> {
+        self.find_literal(text, stop)
     }
 
     // Returns the error of the form that goes furthest, made in its place.
     #[cold]
-    fn refuse<T>(&self, text: &[u8], furthest: Furthest) -> Result<T, ParseError> {
+    #[inline(never)]
+    fn refuse(&self, text: &[u8], furthest: Furthest) -> ParseError {
         let Furthest { form, stop, .. } = furthest;
         let Form { name, ref syntax, ref opening, .. } = self.forms[form];
         if cfg!(peltzivar_small) || !opening.is_empty() {
-            return Err(ParseError::Read(self.error_at(text, furthest)));
+            return ParseError::Read(self.error_at(text, furthest));
         }
         let suffix = self.suffix_at(text, form, stop);
-        Err(ParseError::Read(FormError { form, name, opened: 0, suffix, error: Ok(stop.error(syntax, text)) }))
+        ParseError::Read(FormError { form, name, opened: 0, suffix, error: Ok(stop.error(syntax, text)) })
     }
 
     /// Returns the value of the longest literal of any form that `text` begins with, and the rest of `text`, as
@@ -284,6 +286,9 @@ impl fmt::Display for Special {
     }
 }
 
+// The bit of an error's opening which says that it is of a part of a text, and that more follows.
+const MORE: u8 = 1 << 7;
+
 impl FormError {
     /// Returns the error of a single syntax.
     #[doc(hidden)]
@@ -292,12 +297,25 @@ impl FormError {
         FormError { form: 0, name: "", opened: 0, suffix: [0; 7], error: Ok(error) }
     }
 
+    // Returns the same error, of a part of a text, where more of the text follows if `more` is true.
+    pub(crate) const fn before(mut self, more: bool) -> FormError {
+        if more {
+            self.opened |= MORE;
+        }
+        self
+    }
+
+    // Returns the number of bytes of the opening, or of those that are right where it is not there.
+    const fn opened(&self) -> usize {
+        (self.opened & !MORE) as usize
+    }
+
     /// Returns why what is behind the [opening][Form::with_opening] is not a literal of the syntax, or `None` if the opening
     /// is not there. All indexes count from the beginning of the text.
     #[must_use]
     pub const fn error(&self) -> Option<ReadError> {
         match &self.error {
-            Ok(error) => Some(error.behind(self.opened as usize)),
+            Ok(error) => Some(error.behind(self.opened())),
             Err(_) => None,
         }
     }
@@ -313,7 +331,7 @@ impl FormError {
                 0..first_character(&[*byte, tail[0], tail[1], tail[2]]).len()
             }
         };
-        let opened = self.opened as usize;
+        let opened = self.opened();
         opened + start..opened + end
     }
 
@@ -326,10 +344,18 @@ impl FormError {
         }
     }
 
-    /// Returns whether bytes are missing, as [`ReadError::is_incomplete`] does.
+    /// Returns whether bytes are missing, as [`ReadError::is_incomplete`] does. An error of a [`token`][Forms::token] is
+    /// complete if more of the text follows.
+    ///
+    /// ```
+    /// use peltzivar::literal::{Language, TokenError};
+    ///
+    /// let is_incomplete = |text| matches!(Language::RUST.token(text), Err(TokenError::Literal(it)) if it.is_incomplete());
+    /// assert!(is_incomplete("0x") && !is_incomplete("0x;") && !is_incomplete("-1"));
+    /// ```
     #[must_use]
     pub const fn is_incomplete(&self) -> bool {
-        self.byte().is_none()
+        self.opened & MORE == 0 && self.byte().is_none()
     }
 
     /// Returns the byte that cannot follow, or `None` if bytes are missing, as [`ReadError::byte`] does.
@@ -354,8 +380,8 @@ impl FormError {
     #[must_use]
     pub const fn valid_up_to(&self) -> usize {
         match &self.error {
-            Ok(error) => self.opened as usize + error.valid_up_to(),
-            Err(_) => self.opened as usize,
+            Ok(error) => self.opened() + error.valid_up_to(),
+            Err(_) => self.opened(),
         }
     }
 }
@@ -365,11 +391,14 @@ impl FormError {
 impl fmt::Display for FormError {
     fn fmt(&self, f: &mut fmt::Formatter<'_>) -> fmt::Result {
         match &self.error {
-            Ok(error) if self.suffix[0] != 0 => {
-                let text = if f.alternate() { error.full_text() } else { error.text() };
-                let suffix = str::from_utf8(&self.suffix).unwrap_or_default().trim_end_matches('\0');
-                f.pad(text.and("; `").and(suffix).and("` is a suffix, which `token` reads").as_str())
-            }
+            Ok(error) if self.suffix[0] != 0 => match str::from_utf8(&self.suffix) {
+                Ok(suffix) => {
+                    let text = if f.alternate() { error.full_text() } else { error.text() };
+                    let suffix = suffix.trim_end_matches('\0');
+                    f.pad(text.and("; `").and(suffix).and("` is a suffix, which `token` reads").as_str())
+                }
+                Err(_) => error.fmt(f),
+            },
             Ok(error) => error.fmt(f),
             Err(Unopened { opening, .. }) => {
                 write!(f, "expected the opening `{}`", str::from_utf8(opening.as_bytes()).unwrap_or_default())

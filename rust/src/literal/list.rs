@@ -82,8 +82,6 @@ pub struct Forms<'a> {
     pub(crate) forms: &'a [Form],
     specials: Specials<'a>,
     pub(crate) tokens: Option<&'a Tokens>,
-    // Whether a form, or one of the tokens, may have an opening.
-    pub(crate) opened: bool,
     // Whether words behind a form may have other bytes than those of any word.
     pub(crate) wide: bool,
 }
@@ -164,7 +162,7 @@ impl<'a> Forms<'a> {
             return None;
         }
         let specials = Specials { nan: None, inf: None, infinity: None };
-        Some(Forms { forms, specials, tokens: None, opened: have_openings(forms), wide: are_wide(forms) })
+        Some(Forms { forms, specials, tokens: None, wide: are_wide(forms) })
     }
 
     /// Returns the same forms with these special values. The format of the first form decides what flags say of them.
@@ -185,8 +183,7 @@ impl<'a> Forms<'a> {
     /// Returns the same forms with rules for tokens, without which there are none.
     #[must_use]
     pub const fn with_tokens(self, tokens: &'a Tokens) -> Forms<'a> {
-        let opened = have_openings(self.forms) || have_openings(tokens.forms);
-        Forms { tokens: Some(tokens), opened, ..self }
+        Forms { tokens: Some(tokens), ..self }
     }
 
     /// Returns the forms.
@@ -385,18 +382,6 @@ impl<'a> Forms<'a> {
         let Furthest { form, stop, .. } = furthest;
         self.with_suffix(text, self.as_slice()[form].refuse(text, form, stop))
     }
-}
-
-// Returns whether a form has an opening.
-const fn have_openings(forms: &[Form]) -> bool {
-    let mut form = 0;
-    while form < forms.len() {
-        if forms[form].has_opening() {
-            return true;
-        }
-        form += 1;
-    }
-    false
 }
 
 // Returns whether words behind one of the forms may have other bytes than those of any word.

@@ -145,13 +145,6 @@ impl Stopped {
         }
     }
 
-    // Returns whether the front of `text` up to here is a literal.
-    #[inline(always)]
-    pub(crate) const fn is_literal(self, syntax: &Syntax, text: &[u8]) -> bool {
-        let group = self.group(syntax, text);
-        self.may_end(syntax.as_grammar(), group)
-    }
-
     // Returns whether what has been read, with the last group `group`, is a literal.
     #[inline(always)]
     const fn may_end(self, grammar: &Grammar, group: Group) -> bool {

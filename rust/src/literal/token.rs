@@ -2,13 +2,13 @@
 
 //! Tokens: numbers in the middle of a text, each with its suffix.
 
-use crate::literal::exclude::{has_letter_behind_zero, is_over, lacks_longer, sign_size};
+use crate::literal::exclude::{has_letter_behind_zero, sign_size};
 use crate::literal::form::Form;
 use crate::literal::list::{FormError, Forms, PointsBack, Tokens};
 use crate::literal::literal::Literal;
 use crate::literal::step::is_point;
-use crate::literal::stop::{byte_at, Begun, Stopped};
-use crate::literal::suffix::{byte_before, has_byte, is_stopped, is_word_byte, kind_with, more_of, suffix_size};
+use crate::literal::stop::byte_at;
+use crate::literal::suffix::{byte_before, has_byte, is_word_byte, more_of};
 use crate::literal::syntax::Syntax;
 
 /// A number that a text begins with, and what follows it.
@@ -88,132 +88,23 @@ impl<'a> Forms<'a> {
         let Some(tokens) = self.tokens else {
             return Err(TokenError::NoTokens);
         };
-        if self.opened {
-            return self.token_of(tokens, text);
-        }
-        let sign = sign_size(text);
-        if !cfg!(peltzivar_small) && has_letter_behind_zero(text) {
-            if let Some(token) = self.leading(tokens, text, sign + 1) {
-                return Ok(token);
-            }
-        }
-        let start = if cfg!(peltzivar_small) && has_letter_behind_zero(text) { sign + 1 } else { sign };
-        match self.leading(tokens, text, start) {
-            Some(token) => Ok(token),
-            None => self.token_of(tokens, text),
-        }
-    }
-
-    // Returns the token that `text` begins with, if its literal has more than `start` bytes, and reading the forms of the list once
-    // tells it.
-    const fn leading<'t>(&self, tokens: &Tokens, text: &'t [u8], start: usize) -> Option<Token<'t>> {
-        let back = tokens.gives_points_back;
-        let mut reached = start;
-        let mut from = 0;
-        let mut form = 0;
-        while form < self.forms.len() {
-            let it = &self.forms[form];
-            if !lacks_longer(it.syntax.as_grammar(), text, reached) {
-                let begun = it.syntax.begin_small(text, true);
-                let size = begun.at.size;
-                if begun.complete
-                    && reached < size
-                    && it.is_longest(back, text, begun)
-                    && are_past(self.forms, from, form, back, text, size)
-                    && are_past(tokens.forms, 0, tokens.forms.len(), back, text, size)
-                {
-                    return self.token_at(tokens, text, it, form, begun);
-                }
-                let stop = begun.stop(&it.syntax, text);
-                if it.gives_back(back, text, stop.size) {
-                    return self.before_point(tokens, text, it, form, stop, reached);
-                }
-                reached = larger(reached, it.bound(text, stop));
-            } else if from == form && sign_size(text) < reached {
-                from = form + 1;
-            }
-            form += 1;
-        }
-        None
-    }
-
-    // Returns the token of the form with this index that stops at `stop`, behind a point that is given back. The forms before have
-    // no literal of more than `reached` bytes.
-    #[inline(never)]
-    const fn before_point<'t>(
-        &self,
-        tokens: &Tokens,
-        text: &'t [u8],
-        it: &Form,
-        form: usize,
-        stop: Stopped,
-        reached: usize,
-    ) -> Option<Token<'t>> {
-        let back = tokens.gives_points_back;
-        let size = stop.size - 1;
-        let (front, _) = text.split_at(size);
-        let begun = it.syntax.begin_small(front, true);
-        if begun.complete
-            && begun.at.size == size
-            && reached < size
-            && !it.gives_back(back, text, size)
-            && are_past(self.forms, 0, form, back, text, size)
-            && are_past(tokens.forms, 0, tokens.forms.len(), back, text, size)
-        {
-            self.token_at(tokens, text, it, form, begun)
+        let least = if has_letter_behind_zero(text) { sign_size(text) + 1 } else { 0 };
+        let found = self.longest(tokens, text, least);
+        if found.clear || least == 0 {
+            self.end_of(tokens, text, found)
         } else {
-            None
+            self.token_of(tokens, text)
         }
     }
 
     // Returns whether `byte` is one that words of one of the forms, of the list or of the tokens, have besides.
     #[cfg_attr(not(peltzivar_small), inline(always))]
-    const fn go_on_with(&self, tokens: &Tokens, byte: Option<u8>) -> bool {
+    pub(crate) const fn go_on_with(&self, tokens: &Tokens, byte: Option<u8>) -> bool {
         match byte {
             None => false,
             Some(byte) => (self.wide && have_byte(self.forms, byte)) || have_byte(tokens.forms, byte),
         }
     }
-
-    // Returns the token of which `begun` is the literal, of the form with this index, if nothing follows that may not.
-    #[cfg_attr(not(peltzivar_small), inline(always))]
-    const fn token_at<'t>(
-        &self,
-        tokens: &Tokens,
-        text: &'t [u8],
-        it: &Form,
-        form: usize,
-        begun: Begun,
-    ) -> Option<Token<'t>> {
-        let Begun { at, counts, sums, .. } = begun;
-        let (front, rest) = text.split_at(at.size);
-        let more = suffix_size(it.suffixes, is_float(counts), rest);
-        let end = at.size + more;
-        if is_stopped(false, it.suffixes, text, end) {
-            return None;
-        }
-        if self.go_on_with(tokens, byte_at(text, end)) {
-            return None;
-        }
-        let (suffix, rest) = rest.split_at(more);
-        let kind = kind_with(it.suffixes, suffix, it.kind);
-        let literal = it.syntax.literal(front, counts, sums).with_kind(kind);
-        Some(Token { literal, form, suffix, rest })
-    }
-}
-
-// Returns whether no literal of the forms, but for the one with the index `but`, begins with more than the first `size` bytes of
-// `text`, which are more than a sign, or only with a point more that is given back. Of the forms before `from`, this is known.
-#[cfg_attr(not(peltzivar_small), inline(always))]
-const fn are_past(forms: &[Form], from: usize, but: usize, back: PointsBack, text: &[u8], size: usize) -> bool {
-    let mut form = from;
-    while form < forms.len() {
-        if form != but && !forms[form].is_past(back, text, size) {
-            return false;
-        }
-        form += 1;
-    }
-    true
 }
 
 // Returns whether `byte` is one that words of one of the forms have besides.
@@ -240,39 +131,6 @@ pub(crate) const fn larger(one: usize, other: usize) -> usize {
 }
 
 impl Form {
-    // Returns whether the front that has been read, which is a literal, is the longest, and does not end in a point that is given back.
-    #[cfg_attr(not(peltzivar_small), inline(always))]
-    const fn is_longest(&self, back: PointsBack, text: &[u8], begun: Begun) -> bool {
-        let size = begun.at.size;
-        (is_over(self.syntax.as_grammar(), text, size) || begun.stop(&self.syntax, text).size == size)
-            && !self.gives_back(back, text, size)
-    }
-
-    // Returns whether no literal begins with more than the first `size` bytes of `text`, which are more than a sign, or only with a
-    // point more that is given back.
-    #[cfg_attr(not(peltzivar_small), inline(always))]
-    const fn is_past(&self, back: PointsBack, text: &[u8], size: usize) -> bool {
-        lacks_longer(self.syntax.as_grammar(), text, size) || self.stops(back, text, size)
-    }
-
-    // Returns by reading whether no literal begins with more than the first `size` bytes of `text`, or only with a point more that is
-    // given back.
-    #[inline(never)]
-    const fn stops(&self, back: PointsBack, text: &[u8], size: usize) -> bool {
-        let stop = self.syntax.stop(text);
-        stop.size <= size || (stop.size == size + 1 && self.gives_back(back, text, size + 1))
-    }
-
-    // Returns a size that no front of `text` that is a literal exceeds, where reading stops at `stop`.
-    #[cfg_attr(not(peltzivar_small), inline(always))]
-    const fn bound(&self, text: &[u8], stop: Stopped) -> usize {
-        if stop.size == 0 || stop.is_literal(&self.syntax, text) {
-            stop.size
-        } else {
-            stop.size - 1
-        }
-    }
-
     // Returns whether the first `size` bytes of `text` end in a point that is given back.
     #[cfg_attr(not(peltzivar_small), inline(always))]
     pub(crate) const fn gives_back(&self, back: PointsBack, text: &[u8], size: usize) -> bool {

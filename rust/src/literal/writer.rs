@@ -250,7 +250,8 @@ impl<'a> Forms<'a> {
     ///
     /// Decimal forms are asked first, and then the others, each in the order of the list. The first is taken whose text is
     /// read, by all forms, as the same value: in C, 15 is not written as `17` of the octal form, which is decimal if it
-    /// begins with another digit than 0. Each form is asked without a word, and then with its [words][super::Suffixes::written].
+    /// begins with another digit than 0. Each form is asked without a word, and then with its
+    /// [words][super::Suffixes::written]: such a text, as Java's `3000000000L`, is read by [`token`][Self::token] alone.
     ///
     /// ```
     /// use peltzivar::literal::{Language, Style, WriteError};

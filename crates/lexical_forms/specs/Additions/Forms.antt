@@ -111,6 +111,10 @@ pub record IsInside (g : Form) (text part : List ℕ) : Type 0 where
   pub opened : IsOpened g.opening text
   pub is : part ≡ behind g text
 
+-- `GoesWithin text size g` holds if no literal of the form `g` begins with more than the first `size` bytes of `text`.
+abbrev pub GoesWithin : List ℕ → ℕ → Form → Type 0
+GoesWithin text size g = (more : ℕ) → size < more → more ≤ length text → BeginsBy (ReadsIn g) (take more text) → ⊥
+
 -- `IsLow text size g` holds if the form `g` goes up to `size` at most, and `IsPassed g text size` if `text` is not a literal of it, too, and no literal begins
 -- with more bytes.
 abbrev pub IsLow : List ℕ → ℕ → Form → Type 0
@@ -118,7 +122,7 @@ IsLow text size g = (n : ℕ) → Reaches text g n → n ≤ size
 
 pub record IsPassed (g : Form) (text : List ℕ) (size : ℕ) : Type 0 where
   pub none : NoneBy (ReadsIn g) text
-  pub within : (more : ℕ) → size < more → more ≤ length text → BeginsBy (ReadsIn g) (take more text) → ⊥
+  pub within : GoesWithin text size g
   pub low : IsLow text size g
 
 -- `ArePassed forms text asked limit` holds if each of the first `asked` forms is known to go less far than `limit`.

@@ -1,5 +1,5 @@
 -- What one pass over several forms finds of a token.
-use Rattle.std.specs.Prelude.{ℕ, ◌≡◌, ◌+◌, ◌-◌, ◌==◌, ◌&&◌, ◌||◌, not, Bool, if◌then◌else◌, nat_lt, List, Option, Some, None, All, IsSomeAnd}
+use Rattle.std.specs.Prelude.{ℕ, ◌≡◌, ◌+◌, ◌-◌, ◌==◌, ◌&&◌, ◌||◌, not, Bool, if◌then◌else◌, nat_lt, List, Option, Some, None, All, IsNone, IsSomeAnd, IsTrue}
 use Rattle.std.specs.Prelude.{◌≤◌, ◌<◌, ◌⊎◌, true, false, drop, get_or, length, slice_get, take}
 use Rattle.std.specs.Borrow.{Bor}
 use Rattle.std.specs.List.{list_any}
@@ -7,24 +7,26 @@ use Rattle.lexical_util.specs.Ascii.{ByteSet}
 use Rattle.lexical_literal.specs.Cause.{is_in}
 use Rattle.lexical_forms.specs.FormList.{FormList, have_openings}
 use Rattle.lexical_forms.specs.Forms.{Begins, ReadsIn}
-use Rattle.lexical_literal.specs.Front.{NoneBy, ReadsFront}
-use Rattle.lexical_forms.specs.Suffix.{is_word_byte, more_of, stop_end, suffix_size, suffix_words}
+use Rattle.lexical_literal.specs.Front.{NoneBy}
+use Rattle.lexical_literal.specs.Additions.Literal.{AreSums, cut}
+use Rattle.lexical_literal.specs.Additions.Step.{cuts_of}
+use Rattle.lexical_literal.specs.declared.literal.Sums.{Sums}
+use Rattle.lexical_util.specs.Record.{raw}
+use Rattle.std.specs.Option.{ForSome}
+use Rattle.lexical_forms.specs.Suffix.{is_stopped, is_word_byte, more_of, stop_end, suffix_size, suffix_words}
 use Rattle.lexical_forms.specs.declared.suffix.Suffixes.{Suffixes}
-use Rattle.lexical_forms.specs.Token.{IsBest, IsCandidate, IsChosen, NoCandidate, gives_back, is_alone, is_shorter}
+use Rattle.lexical_forms.specs.Token.{HasNone, IsAhead, IsCandidate, IsChosen, IsFollowed, IsOver, gives_back, is_alone, is_shorter, lets_words, tried}
 use Rattle.lexical_forms.specs.declared.list.PointsBack.{PointsBack}
 use Rattle.lexical_forms.specs.declared.list.Tokens.{Tokens}
-use Rattle.lexical_literal.specs.Additions.Stop.{IsMeasured, IsWithin}
+use Rattle.lexical_literal.specs.Additions.Stop.{IsMeasured}
 use Rattle.lexical_literal.specs.Literal.{Literal, Reads}
 use Rattle.lexical_literal.specs.declared.stop.Found.{Found}
 use Rattle.lexical_literal.specs.Notation.{Notation, notation_of}
 use Rattle.lexical_forms.specs.declared.form.Form.{Form}
 use Rattle.lexical_forms.specs.declared.candidate.Candidate.{Candidate}
+use Rattle.lexical_forms.specs.declared.candidate.Longest.{Longest}
 use Rattle.lexical_forms.specs.declared.token.TokenError.{TokenError}
 use Rattle.lexical_forms.specs.declared.token.TokenError.TheVariants as errors
-
--- `HasFrontOfSyntax text form size` holds if the longest front of `text` that is a literal of the syntax of `form` has `size` bytes.
-abbrev pub HasFrontOfSyntax : List ℕ → Form → ℕ → Type 0
-HasFrontOfSyntax text form size = (l : Literal) × ReadsFront (notation_of form.syntax) l text size
 
 -- `has_float counts` is true if a literal with these lengths of its parts is a float.
 abbrev pub has_float : List ℕ → Bool
@@ -37,6 +39,11 @@ pub record IsCounted (form : Form) (text counts : List ℕ) : Type 0 where
   pub reads : Reads (notation_of form.syntax) literal (drop form.opening.size text)
   pub measured : IsMeasured (notation_of form.syntax) (drop form.opening.size text) counts
 
+-- `HasSumsOf form text counts sums` holds if `sums`, if there are any, are those of the literal `text` of `form` whose parts have these lengths.
+abbrev pub HasSumsOf : Form → List ℕ → List ℕ → Option Sums → Type 0
+HasSumsOf form text counts sums =
+    ForSome sums (AreSums (raw form.syntax.word) (cut (drop form.opening.size text) (cuts_of counts)))
+
 -- `is_in_word more byte` is true if `byte` is a byte of a word, or one of `more`, the bytes that words of a form have besides.
 abbrev pub is_in_word : List ℕ → ByteSet
 is_in_word more byte = list_any (λ it. it == byte) more || is_word_byte byte
@@ -45,17 +52,8 @@ is_in_word more byte = list_any (λ it. it == byte) more || is_word_byte byte
 pub record IsMade (back : PointsBack) (needs : Bool) (text : List ℕ) (form : Form) (c : Candidate) : Type 0 where
   pub candidate : IsCandidate back needs text form c.size c.end
   pub counted : IsCounted form (take c.size text) c.counts
+  pub sums : HasSumsOf form (take c.size text) c.counts c.sums
   pub within : c.end ≤ length text
-
--- `IsBestOf back needs forms text best` holds if `best` is the index of the first of `forms` with the longest candidate, and this
--- candidate, or `None` if there is none.
-pub record IsBestMade (back : PointsBack) (needs : Bool) (forms : List Form) (text : List ℕ) (index : ℕ) (c : Candidate) : Type 0 where
-  pub best : IsBest back needs forms text index c.size c.end
-  pub made : IsSomeAnd (slice_get forms index) (λ form. IsMade back needs text form c)
-
-abbrev pub IsBestOf : PointsBack → Bool → List Form → List ℕ → Option (ℕ × Candidate) → Type 0
-IsBestOf back needs forms text None = All (NoCandidate back needs text) forms
-IsBestOf back needs forms text (Some best) = IsBestMade back needs forms text best.0 best.1
 
 -- `IsOwn back form text longest own` holds if `own` has the lengths of the longest front, of `longest` bytes, or of this without its point if
 -- that is given back. `NoOwn` holds if there is no such literal.
@@ -67,12 +65,6 @@ pub record IsOwn (back : PointsBack) (form : Form) (text : List ℕ) (longest : 
 abbrev pub NoOwn : PointsBack → Form → List ℕ → ℕ → Type 0
 NoOwn back form text longest = NoneBy (ReadsIn form) (take (if gives_back back form text longest then longest - 1 else longest) text)
 
--- `better best form candidate` is `best`, or the candidate of the form with the index `form` if that is longer.
-abbrev pub better : Option (ℕ × Candidate) → ℕ → Option Candidate → Option (ℕ × Candidate)
-better best form None = best
-better None form (Some c) = Some (form, c)
-better (Some best) form (Some c) = if is_shorter best.1.size best.1.end c.size c.end then Some (form, c) else Some best
-
 -- `goes_on back m text end stop` is true if a literal that goes up to `stop` goes on behind `end`, and not only with a point that is given back.
 abbrev pub goes_on : PointsBack → Notation → List ℕ → ℕ → ℕ → Bool
 goes_on back m text end stop = nat_lt end stop && not (is_alone back text end stop && is_in m.point (slice_get text end))
@@ -81,8 +73,16 @@ goes_on back m text end stop = nat_lt end stop && not (is_alone back text end st
 pub record IsPicked (list : FormList) (t : Tokens) (text : List ℕ) (index : ℕ) (form : Form) (c : Candidate) : Type 0 where
   pub chosen : IsChosen list t text index form c.size c.end
   pub counted : IsCounted form (take c.size text) c.counts
+  pub sums : HasSumsOf form (take c.size text) c.counts c.sums
   pub order : c.size ≤ c.end
   pub within : c.end ≤ length text
+
+-- `IsWinner list t text found` holds if `found` has the form with the longest candidate, if there is one, and if no literal goes on behind the
+-- candidate where the forms go no further.
+pub record IsWinner (list : FormList) (t : Tokens) (text : List ℕ) (found : Longest) : Type 0 where
+  pub none : found.best ≡ None → HasNone list t text
+  pub some : (best : ℕ × Candidate) → found.best ≡ Some best → (form : Form) × IsPicked list t text best.0 form best.1
+  pub over : (best : ℕ × Candidate) → found.best ≡ Some best → found.reach ≤ best.1.end → IsOver list t text best.1.end
 
 -- `IsEnd form text index c error` holds if `error` says what follows the candidate `c` of `form`, which has this index: a word, with the suffixes of
 -- the form, or another byte.
@@ -109,41 +109,83 @@ abbrev pub whole : Option Found → ℕ → Option Found
 whole None size = None
 whole (Some found) size = if found.size == size then Some found else None
 
--- `suffixed suffixes needs text own` is the candidate with the literal `own`, or `None` if a suffix is needed and there is none.
-abbrev pub suffixed : Option (Bor Suffixes) → Bool → List ℕ → Found → Option Candidate
-suffixed suffixes needs text own =
+-- `suffixed suffixes needs text own sums` is the candidate with the literal `own` and its sums, or `None` if a suffix is needed and there is none.
+abbrev pub suffixed : Option (Bor Suffixes) → Bool → List ℕ → Found → Option Sums → Option Candidate
+suffixed suffixes needs text own sums =
     if needs && (suffix_size suffixes (has_float own.counts) (drop own.size text) == 0) then None
-    else Some (record { size = own.size; counts = own.counts; end = own.size + suffix_size suffixes (has_float own.counts) (drop own.size text) })
+    else Some (record {
+      size = own.size;
+      counts = own.counts;
+      sums = sums;
+      end = own.size + suffix_size suffixes (has_float own.counts) (drop own.size text);
+    })
 
--- `IsNear back form text size` holds if no literal of `form` begins with more than the first `size` bytes of `text`, or only with a point more that is given back. `AreNear back forms but text size` holds if this holds of each of `forms`, but for the one with the
--- index `but`. `FrontsWithin text size form` holds if each front of `text` that is a literal has at most `size` bytes.
-abbrev pub IsNear : PointsBack → Form → List ℕ → ℕ → Type 0
-IsNear back form text size = IsWithin (notation_of form.syntax) text size
-    ⊎ (IsWithin (notation_of form.syntax) text (size + 1) × (gives_back back form text (size + 1) ≡ true))
+-- `IsOverFrom back text reach form` holds if no literal of `form` goes on behind `reach` bytes or more.
+abbrev pub IsOverFrom : PointsBack → List ℕ → ℕ → Form → Type 0
+IsOverFrom back text reach form = (end : ℕ) → reach ≤ end → IsAhead back text end form → ⊥
 
-abbrev pub AreNear : PointsBack → List Form → ℕ → List ℕ → ℕ → Type 0
-AreNear back forms but text size =
-    (i : ℕ) (form : Form) → i < length forms → (i ≡ but → ⊥) → IsNear back (get_or forms i form) text size
+-- `NoCandidate back needs text form` holds if `form` has no candidate.
+abbrev pub NoCandidate : PointsBack → Bool → List ℕ → Form → Type 0
+NoCandidate back needs text form = (s e : ℕ) → IsCandidate back needs text form s e → ⊥
 
-abbrev pub FrontsWithin : List ℕ → ℕ → Form → Type 0
-FrontsWithin text size form = (longest : ℕ) → HasFrontOfSyntax text form longest → longest ≤ size
+-- `HasNoWord text end form` holds if no byte of a word of `form` is at `end`.
+abbrev pub HasNoWord : List ℕ → ℕ → Form → Type 0
+HasNoWord text end form = is_in (is_in_word (more_of form.suffixes)) (slice_get text end) ≡ false
+
+-- `IsAsked back text it reach candidate` holds if the form of `it` has this candidate, or none, and goes up to `reach` at most.
+pub record IsAsked (back : PointsBack) (text : List ℕ) (it : Form × Bool) (reach : ℕ) (candidate : Option Candidate) : Type 0 where
+  pub some : ForSome candidate (IsMade back it.1 text it.0)
+  pub none : IsNone candidate → NoCandidate back it.1 text it.0
+  pub over : IsOverFrom back text reach it.0
+
+-- `is_longer best c` is true if `c` is longer than the best candidate, or if there is none.
+abbrev pub is_longer : Option (ℕ × Candidate) → Candidate → Bool
+is_longer None c = true
+is_longer (Some best) c = is_shorter best.1.size best.1.end c.size c.end
+
+-- What is known of the first forms. Candidates of at most `least` bytes do not count.
+module _ (list : FormList) (t : Tokens) (text : List ℕ) (least : ℕ) where
+  -- `Counts it s e` holds if the form of `it` has this candidate, and it counts.
+  abbrev pub Counts : Form × Bool → ℕ → ℕ → Type 0
+  Counts it s e = (least < s) × IsCandidate t.gives_points_back it.1 text it.0 s e
+
+  -- `IsBestYet i best` holds if `best` is the first with the longest candidate of the first `i` forms, or if it is `None`, and they have none.
+  pub record IsFirstYet (i index : ℕ) (c : Candidate) : Type 0 where
+    pub here : IsSomeAnd (slice_get (tried list t) index) (λ it. IsMade t.gives_points_back it.1 text it.0 c)
+    pub long : least < c.size
+    pub before : All (λ it. (s e : ℕ) → Counts it s e → is_shorter s e c.size c.end ≡ true) (take index (tried list t))
+    pub others : All (λ it. (s e : ℕ) → Counts it s e → is_shorter c.size c.end s e ≡ false) (take i (tried list t))
+
+  abbrev pub IsBestYet : ℕ → Option (ℕ × Candidate) → Type 0
+  IsBestYet i None = All (λ it. (s e : ℕ) → Counts it s e → ⊥) (take i (tried list t))
+  IsBestYet i (Some best) = IsFirstYet i best.0 best.1
+
+  -- `NoneLonger best past it` holds if no candidate of `it` with at most `past` bytes is longer than `best`, and `IsLowPast best past` if `best` ends
+  -- behind `past` bytes or more.
+  abbrev pub NoneLonger : Option (ℕ × Candidate) → ℕ → Form × Bool → Type 0
+  NoneLonger None past it = (s e : ℕ) → Counts it s e → s ≤ past → ⊥
+  NoneLonger (Some best) past it = (s e : ℕ) → Counts it s e → s ≤ past → is_shorter best.1.size best.1.end s e ≡ false
+
+  abbrev pub IsLowPast : Option (ℕ × Candidate) → ℕ → Type 0
+  IsLowPast None past = past ≤ least
+  IsLowPast (Some best) past = past ≤ best.1.end
+
+  -- `IsYet i found` holds if `found` is what is known of the first `i` forms.
+  pub record IsYet (i : ℕ) (found : Longest) : Type 0 where
+    pub best : IsBestYet i found.best
+    pub passed : All (NoneLonger found.best found.past) (tried list t)
+    pub low : IsLowPast found.best found.past
+    pub over : All (λ it. (end : ℕ) → found.reach ≤ end → found.past ≤ end → IsAhead t.gives_points_back text end it.0 → ⊥) (take i (tried list t))
+    pub clear : IsTrue found.clear → (best : ℕ × Candidate) × (found.best ≡ Some best) × All (λ it. HasNoWord text best.1.end it.0) (tried list t)
+
+-- `IsEnded list t text form end` holds if a word that may follow is behind `end`, or if no literal goes on, and nothing follows that may not.
+abbrev pub IsEnded : FormList → Tokens → List ℕ → Form → ℕ → Type 0
+IsEnded list t text form end = IsFollowed list t text end
+    ⊎ (IsOver list t text end × (is_stopped (lets_words t form text end) form.suffixes text end ≡ false))
 
 -- `AreBare list t` holds if no form of the list, and none that needs a suffix, has an opening.
 abbrev pub AreBare : FormList → Tokens → Type 0
 AreBare list t = (have_openings list.forms ≡ false) × (have_openings t.forms.now ≡ false)
-
--- `IsLeading list t text index form size` holds if `form`, with this index, is the first of the list whose longest front of `text`, without its point
--- if that is given back, has `size` bytes, and if no literal of a form goes on behind them, or only with a point that is given back.
-pub record IsLeading (list : FormList) (t : Tokens) (text : List ℕ) (index : ℕ) (form : Form) (size : ℕ) : Type 0 where
-  pub at : slice_get list.forms index ≡ Some form
-  pub longest : ℕ
-  pub front : HasFrontOfSyntax text form longest
-  pub size_is : size ≡ (if gives_back t.gives_points_back form text longest then longest - 1 else longest)
-  pub own : IsNear t.gives_points_back form text size
-  pub plain : AreNear t.gives_points_back list.forms index text size
-  pub suffixed : AreNear t.gives_points_back t.forms.now (length t.forms.now) text size
-  pub before : (reached : ℕ) × (reached < size) × All (FrontsWithin text reached) (take index list.forms)
-  pub bare : AreBare list t
 
 -- `has_prefix m text index` is true if a zero and a base prefix are at `index`.
 abbrev pub has_prefix : Notation → List ℕ → ℕ → Bool

@@ -81,7 +81,7 @@ const fn decimal(builder: NumberFormatBuilder) -> Syntax {
     numbers(b'e', b'.', builder).with_conditions_or_panic(UNSIGNED)
 }
 
-/// Returns the syntax of integers of a radix, which stand behind decimal ones: `017`.
+/// Returns the syntax of integers of a radix, which stand after decimal ones: `017`.
 const fn integers(radix: u8, builder: NumberFormatBuilder, conditions: Conditions) -> Syntax {
     let builder = builder.fraction_digit_separator_flags(false).exponent_digit_separator_flags(false);
     Syntax::integers(builder.mantissa_radix(radix).build_format_or_panic()).with_conditions_or_panic(conditions)
@@ -164,7 +164,7 @@ const fn closed(suffix: u8, builder: NumberFormatBuilder) -> Syntax {
     numbers(b'^', b'.', builder.base_suffix(NonZeroU8::new(suffix))).with_conditions_or_panic(SUFFIXED)
 }
 
-/// Digits of Raku behind a prefix.
+/// Digits of Raku after a prefix.
 const RAKU_PREFIXED: NumberFormatBuilder = GO_PREFIXED.case_sensitive_base_prefix(true); // rejects `0X1F`
 
 /// Digits of Ruby, which are separated by one `_`, after a sign.
@@ -179,10 +179,10 @@ const C: NumberFormatBuilder = separated(b'\''); // accepts `1'000`, not `1''0`
 /// Digits of C#, Java and Kotlin.
 const JAVA: NumberFormatBuilder = separated(b'_').consecutive_digit_separator(true); // accepts `1__0`
 
-/// Digits of Visual Basic behind a prefix.
+/// Digits of Visual Basic after a prefix.
 const VISUAL_BASIC: NumberFormatBuilder = JAVA.integer_leading_digit_separator(true); // accepts `&H_1F`
 
-/// Digits of Go and Python behind a prefix.
+/// Digits of Go and Python after a prefix.
 const GO_PREFIXED: NumberFormatBuilder = separated(b'_').integer_leading_digit_separator(true); // accepts `0x_1F`
 
 /// Digits of OCaml, Rust and Swift.
@@ -191,10 +191,10 @@ const RUST: NumberFormatBuilder = JAVA.trailing_digit_separator(true); // accept
 /// Digits of YAML 1.1, after a sign.
 const YAML_1_1: NumberFormatBuilder = RUST.no_positive_mantissa_sign(false); // accepts `+1`
 
-/// Digits of D behind a prefix.
+/// Digits of D after a prefix.
 const D_PREFIXED: NumberFormatBuilder = RUST.integer_leading_digit_separator(true); // accepts `0x_1F`
 
-/// Digits of Rust behind a prefix.
+/// Digits of Rust after a prefix.
 const RUST_PREFIXED: NumberFormatBuilder = D_PREFIXED.case_sensitive_base_prefix(true); // rejects `0X1F`
 
 /// Digits of Julia, which has no separator in an exponent.
@@ -206,14 +206,14 @@ const SPREADSHEET: NumberFormatBuilder = without_zeros(TOKENS)
     .no_exponent_notation(true) // rejects `1.5e3`
     .integer_internal_digit_separator(true); // accepts `1,234.50`, not `0.123,4`
 
-/// Digits of NASM, in which `_` may be anywhere behind the first one.
+/// Digits of NASM, in which `_` may be anywhere after the first one.
 const NASM: NumberFormatBuilder = separated(b'_')
     .trailing_digit_separator(true) // accepts `1_h`
     .consecutive_digit_separator(true) // accepts `1__0h`
     .fraction_leading_digit_separator(true) // accepts `1._5`
     .exponent_leading_digit_separator(true); // accepts `1.e_5`
 
-/// Digits of NASM behind a prefix.
+/// Digits of NASM after a prefix.
 const NASM_PREFIXED: NumberFormatBuilder = NASM.integer_leading_digit_separator(true); // accepts `0x_1`
 
 /// Integers of a kind, and floats that are the nearest ones.
@@ -296,12 +296,12 @@ const CLOJURE_WORDS: Suffixes = Suffixes::new(&[], &[], CLOJURE_STOPS);
 const LISP_WORDS: Suffixes = Suffixes::new(&[], &[], &[Stop::new(b"", b"!#$%&*+-./:<=>?@[\\]^{|}~", b"")]);
 const SCHEME_WORDS: Suffixes = Suffixes::new(&[], &[], &[Stop::new(b"", b"!#$%&'*+,-./:<=>?@\\^`{|}~", b"")]);
 
-/// Words behind integers and floats, in this case.
+/// Words after integers and floats, in this case.
 const fn words(integers: &'static [&'static [u8]], floats: &'static [&'static [u8]]) -> Suffixes {
     Suffixes::new(integers, floats, &[])
 }
 
-/// A digit behind a decimal point.
+/// A digit after a decimal point.
 const POINT_AND_DIGIT: &[Stop] = &[Stop::new(b"", b".", b"0123456789")];
 
 /// Suffixes of integers of C: `1u`, `1LL`, `1ul` and `1wb`. Decimal floats, such as `1.5dd`, are not hexadecimal.
@@ -312,7 +312,7 @@ const C_DECIMAL_FLOATS: &[&[u8]] = list![f F l L df dd dl DF DD DL];
 
 /// What goes on a preprocessing number of C: `1.2.3`, `1'`, `1$x`, `1\u00E9` and `0xe+1`.
 const C_STOPS: &[Stop] = &[Stop::new(b"", b".'$", b""), Stop::new(b"", b"\\", b"uU"), Stop::new(b"eEpP", b"+-", b"")];
-/// Those of decimal integers alone have kinds of their own, behind the first twelve.
+/// Those of decimal integers alone have kinds of their own, after the first twelve.
 const C_WORDS: Suffixes = Suffixes::new(C_INTEGERS, C_FLOATS, C_STOPS).with_kinds(C_KINDS.split_at(12).0);
 const C_DECIMALS: Suffixes =
     Suffixes::new(C_INTEGERS, C_DECIMAL_FLOATS, C_STOPS).with_kinds(C_KINDS).with_written(&[b"ULL"]);
@@ -410,7 +410,7 @@ const KOTLIN_WORDS: Suffixes = words(KOTLIN_INTEGERS, &[]).with_kinds(KOTLIN_KIN
 const KOTLIN_KINDS: &[(&[u8], Kind)] = kinds! { UNSIGNED_64 => u U uL UL; SINGLE => f F; };
 const KOTLIN_FLOATS: Suffixes = words(&[b"f", b"F"], &[]).with_kinds(FLOAT);
 
-/// Suffixes of Nim, in either case, also behind `'`. Any other word behind `'`, as in `1'x`, is refused, and so is a second point.
+/// Suffixes of Nim, in either case, also after `'`. Any other word after `'`, as in `1'x`, is refused, and so is a second point.
 const NIM_STOPS: &[Stop] = &[Stop::new(b"", b"'", b""), Stop::new(b"", b".", b"0123456789")];
 const NIM_INTEGERS: Suffixes =
     Suffixes::new(list![i8 i16 i32 i64 u u8 u16 u32 u64 'i8 'i16 'i32 'i64 'u 'u8 'u16 'u32 'u64], &[], NIM_STOPS)
@@ -614,7 +614,7 @@ languages! {
     } radixes "#" "r" { integers(2, LISP, Conditions::NONE) => LISP_WORDS } => Tokens::new(&[], &[]);
 
     /// CSS's numbers, with signs (CSS Syntax Module Level 3, 4.3.12). The suffix of a token is its unit, a word that
-    /// may have `-` behind its first byte. A unit that begins with `-` or has an escape is refused, and so is `1e+x`. A
+    /// may have `-` after its first byte. A unit that begins with `-` or has an escape is refused, and so is `1e+x`. A
     /// token ends before `%`.
     CSS: "CSS" = { "decimal": numbers(b'e', b'.', NumberFormatBuilder::new()
         .no_special(true) // rejects `NaN` and `inf`
@@ -719,7 +719,7 @@ languages! {
     } => Tokens::new(&[], &[]).gives_points_to_letters();
 
     /// Integers and floats of the GNU assembler (Using as 2.40, 3.6.2 Number Constants). A float has a point, an
-    /// exponent, or a letter behind a zero: `0e5` is 5, and `0f-1.5` has a sign. Some directives, such as `.double`,
+    /// exponent, or a letter after a zero: `0e5` is 5, and `0f-1.5` has a sign. Some directives, such as `.double`,
     /// read integers as decimal floats, also `017`. Local labels, such as `1f` and `1b`, are refused here.
     GNU_ASSEMBLER: "GNU assembler" = {
         "decimal": integers(10, TOKENS.no_integer_leading_zeros(true), UNSIGNED); UNSIGNED_128, // rejects `08`

@@ -16,7 +16,7 @@ use crate::literal::value::number::numeral::Magnitude;
 use crate::literal::writer::float::{format_float, is_integer};
 use crate::literal::writer::float_digits::FloatDigits;
 use crate::literal::writer::integer::WrittenInteger;
-use crate::literal::writer::layout::{Layout, Style, WriteError};
+use crate::literal::writer::layout::{is_whole, Layout, Style, WriteError};
 use crate::literal::writer::literal::format_literal;
 
 /// Which forms of a list a number asks first.
@@ -120,7 +120,7 @@ impl<F: Float> Writable for Real<F> {
     }
 
     fn is_plain(&self, syntax: &Syntax, kind: Kind, style: Style, float: bool) -> bool {
-        if !has_floats(syntax) {
+        if !supports_floats(syntax.format().view()) {
             return false;
         }
         is_nearest(kind, float) && is_within(self.value, style.decimals, kind.limits())
@@ -179,7 +179,7 @@ impl Writable for Literal<'_> {
     }
 
     fn is_plain(&self, _syntax: &Syntax, kind: Kind, _: Style, float: bool) -> bool {
-        is_exact(self.kind()) & is_exact(kind) & (self.is_float() | !float)
+        is_exact(self.kind()) && is_exact(kind) && (self.is_float() || !float)
     }
 
     fn is_read_as(&self, style: Style, _: &Literal, literal: &Literal) -> bool {
@@ -204,16 +204,13 @@ fn is_same_whole(own: &Literal, literal: &Literal) -> bool {
 
 // Returns whether two literals are worth the same integer, by the same digits.
 fn is_same_integer(own: &Literal, literal: &Literal) -> bool {
-    match (own_numeral(own), own_numeral(literal)) {
-        (Ok(own), Ok(numeral)) => own.negative == numeral.negative && is_same_size(own.magnitude, numeral.magnitude),
-        _ => false,
-    }
-}
-
-// Returns whether two numbers have the same digits.
-fn is_same_size(own: Magnitude, magnitude: Magnitude) -> bool {
-    match (own, magnitude) {
-        (Magnitude::Digits(bytes, radix), Magnitude::Digits(digits, base)) => radix == base && bytes == digits,
+    let (Ok(own), Ok(numeral)) = (own_numeral(own), own_numeral(literal)) else {
+        return false;
+    };
+    match (own.magnitude, numeral.magnitude) {
+        (Magnitude::Digits(bytes, radix), Magnitude::Digits(digits, base)) => {
+            own.negative == numeral.negative && radix == base && bytes == digits
+        }
         _ => false,
     }
 }
@@ -223,11 +220,6 @@ fn is_same_size(own: Magnitude, magnitude: Magnitude) -> bool {
 fn put(layout: &Layout, buffer: &mut [u8]) -> (usize, bool) {
     let float = layout.point.is_some() | layout.exponent_character.is_some();
     (layout.write(buffer), float)
-}
-
-// Returns whether literals of a syntax have floats.
-fn has_floats(syntax: &Syntax) -> bool {
-    supports_floats(syntax.format().view())
 }
 
 // Returns whether literals of a kind, with a decimal point or an exponent or without, are worth the nearest float.
@@ -374,28 +366,14 @@ const fn unasked(own: Own) -> WriteError {
 // Returns whether a form is asked in a step.
 #[inline(always)]
 fn is_asked(own: Own, step: u8, form: &Form) -> bool {
-    is_turn(step, is_own(own, &form.syntax())) & !form.is_only_read()
-}
-
-// Returns whether a step is that of a number's own forms, or of the others.
-#[inline(always)]
-const fn is_turn(step: u8, own: bool) -> bool {
-    match step {
-        0 => own,
-        _ => !own,
-    }
+    let here = is_own(own, &form.syntax());
+    (if step == 0 { here } else { !here }) & !form.is_only_read()
 }
 
 // Returns whether a form with a syntax is one of a number's own.
 #[inline(always)]
 fn is_own(own: Own, syntax: &Syntax) -> bool {
-    (syntax.format().view().mantissa_radix() == own.radix) & takes(own.integer, syntax)
-}
-
-// Returns whether a syntax has floats, or the number is an integer.
-#[inline(always)]
-fn takes(integer: bool, syntax: &Syntax) -> bool {
-    integer || syntax.options().is_some()
+    (syntax.format().view().mantissa_radix() == own.radix) & (own.integer | !is_whole(syntax))
 }
 
 /// Returns how the first form of a list writes an integer, if this form is asked first, and its text is known to be read back.
@@ -415,7 +393,8 @@ pub fn lay_out_first(forms: &Forms, number: &Whole, style: Style) -> Option<Writ
     Some(integer)
 }
 
-// Writes a number by one form, without a word or else with one, or returns why it is not used.
+// Writes a number by one form, without a word or else, if it is an integer, with the first of the form's words that makes its token this
+// integer, or returns why the form is not used.
 fn write_form<N: Writable + ?Sized>(
     forms: &Forms,
     index: usize,
@@ -431,38 +410,24 @@ fn write_form<N: Writable + ?Sized>(
     if is_short(error) {
         return Err(error);
     }
-    if !number.own(style).integer {
-        return Err(error);
-    }
-    match write_words(forms, index, form, number, style, buffer) {
-        Ok(chosen) => Ok(chosen),
-        Err(other) if is_short(other) => Err(other),
-        Err(_) => Err(error),
-    }
-}
-
-// Writes an integer by one form with the first of its words that makes its token this integer, or returns why there is none.
-#[cold]
-fn write_words<N: Writable + ?Sized>(
-    forms: &Forms,
-    index: usize,
-    form: &Form,
-    number: &N,
-    style: Style,
-    buffer: &mut [u8],
-) -> Result<Chosen, WriteError> {
-    let Some(suffixes) = form.suffixes() else {
-        return Err(WriteError::ReadBack);
-    };
-    let words = suffixes.written();
+    let words = words_in(number.own(style).integer, form);
     for word in words {
         match write_by(forms, index, form, number, style, Some(word), buffer) {
             Ok(length) => return Ok(Chosen { form: index, word: Some(word), length }),
-            Err(error) if is_short(error) => return Err(error),
+            Err(other) if is_short(other) => return Err(other),
             Err(_) => {}
         }
     }
-    Err(WriteError::ReadBack)
+    Err(error)
+}
+
+// Returns the words with which a form writes a number.
+#[cold]
+const fn words_in(integer: bool, form: &Form) -> &'static [&'static [u8]] {
+    match form.suffixes() {
+        Some(suffixes) if integer => suffixes.written(),
+        _ => &[],
+    }
 }
 
 // Writes a number by one form with its opening, and a word behind it if there is one, and returns the length of the text, or
@@ -501,10 +466,11 @@ fn put_text<N: Writable + ?Sized>(
     let opening = form.opening();
     let start = put_at(buffer, 0, opening.as_bytes());
     let (end, float) = put_number(&form.syntax(), number, style, start, buffer)?;
-    Ok(match word {
-        Some(word) => (put_at(buffer, end, word), float),
-        None => (end, float),
-    })
+    let word: &[u8] = match word {
+        Some(word) => word,
+        None => &[],
+    };
+    Ok((put_at(buffer, end, word), float))
 }
 
 // Writes a number as a literal of a syntax to a buffer from an index on, as far as it has room, and returns the index behind it,

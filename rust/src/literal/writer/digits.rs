@@ -150,8 +150,7 @@ fn put_padded<S: Sink>(sink: &mut S, padded: &Padded, run: &Run) {
     let missing = run.least.saturating_sub(count);
     let zeros = missing + padded.before as u128;
     let left = put_zeros(sink, zeros, missing + count, run);
-    let left = put_digits(sink, padded.first, left, run);
-    let left = put_digits(sink, padded.second, left, run);
+    let left = put_digits(sink, padded.digits, left, run);
     put_zeros(sink, padded.after as u128, left, run);
 }
 
@@ -208,10 +207,8 @@ impl<'a> Padded<'a> {
     fn begins_decimal(&self, radix: u32) -> bool {
         if self.before > 0 {
             true
-        } else if count(self.first, radix) > 0 {
-            begins_decimal(self.first, radix)
-        } else if count(self.second, radix) > 0 {
-            begins_decimal(self.second, radix)
+        } else if count(self.digits, radix) > 0 {
+            begins_decimal(self.digits, radix)
         } else {
             self.after > 0
         }
@@ -220,23 +217,19 @@ impl<'a> Padded<'a> {
     // Returns the digits among bytes, without zeros around them.
     #[inline(always)]
     pub(crate) const fn of(bytes: &'a [u8]) -> Padded<'a> {
-        Padded { before: 0, first: bytes, second: &[], after: 0 }
+        Padded { before: 0, digits: bytes, after: 0 }
     }
 
     // Returns the number of digits.
     pub(crate) fn count(&self, radix: u32) -> u128 {
-        self.before as u128 + count(self.first, radix) as u128 + count(self.second, radix) as u128 + self.after as u128
+        self.before as u128 + count(self.digits, radix) as u128 + self.after as u128
     }
 
     // Returns the digits without the zeros that they begin with.
     pub(crate) fn lean(&self, radix: u32) -> Padded<'a> {
-        let first = without_zeros(self.first, radix);
-        if count(first, radix) > 0 {
-            return Padded { before: 0, first, second: self.second, after: self.after };
-        }
-        let second = without_zeros(self.second, radix);
-        let some = count(second, radix) > 0;
-        Padded { before: 0, first: &[], second, after: if some { self.after } else { 0 } }
+        let digits = without_zeros(self.digits, radix);
+        let some = count(digits, radix) > 0;
+        Padded { before: 0, digits, after: if some { self.after } else { 0 } }
     }
 }
 

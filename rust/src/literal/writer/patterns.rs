@@ -20,8 +20,10 @@ pub(crate) const fn integer_pattern(format: FormatView, conditions: Conditions, 
 // them.
 #[inline]
 pub(crate) fn fraction_pattern(format: FormatView, conditions: Conditions, style: Style, run: &Run) -> Pattern {
-    let condition = conditions.number(Condition::FractionGroupSize);
-    let size = fraction_size(condition, style.group);
+    let size = match conditions.number(Condition::FractionGroupSize) {
+        0 => 0,
+        given => group_size(given, style.group),
+    };
     let last = if size == 0 { 0 } else { (run.length().saturating_sub(1) % size as u128) as usize + 1 };
     let allowed = format.fraction_internal_digit_separator();
     pattern_of(format, allowed, last, size, style.lowercase)
@@ -47,14 +49,6 @@ const fn group_size(size: u8, group: Grouping) -> usize {
         Grouping::AsSyntax => size as usize,
         Grouping::None | Grouping::Of(0) => 0,
         Grouping::Of(other) => either(size, other),
-    }
-}
-
-// Returns how many digits a group of a fraction has, where a condition requires `size` digits, or 0 for digits without groups.
-const fn fraction_size(size: u8, group: Grouping) -> usize {
-    match group {
-        Grouping::None | Grouping::Of(0) => 0,
-        Grouping::AsSyntax | Grouping::Of(_) => size as usize,
     }
 }
 

@@ -15,15 +15,13 @@ pub enum Source<'a> {
     Padded(Padded<'a>),
 }
 
-/// Digits among two pieces of bytes, one after the other, with zeros around them.
+/// Digits among bytes, with zeros around them.
 #[derive(Debug, Clone, Copy, PartialEq, Eq)]
 pub struct Padded<'a> {
     /// The number of zeros before the digits.
     pub before: usize,
-    /// The first digits.
-    pub first: &'a [u8],
-    /// The digits behind them.
-    pub second: &'a [u8],
+    /// The digits.
+    pub digits: &'a [u8],
     /// The number of zeros behind the digits.
     pub after: usize,
 }

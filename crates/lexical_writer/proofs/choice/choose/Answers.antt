@@ -1,15 +1,9 @@
 -- Each form before is passed over.
-use Rattle.lexical_writer.proofs.Common.{Form, IsChosen, IsPassedOver, IsSearched, IsStopped, ap, arith, bytes_of_word, false≢true, inl, inr}
-use Rattle.lexical_writer.proofs.Common.{Some, WriteError, is_asked, length, refl, slice_get, slice_get_read, steps, subst, sym, take, unasked, unwrap_or, ℕ, ◌+◌, ◌<◌, ◌∙◌, ◌≡◌, ◌≤◌}
-use Rattle.lexical_writer.proofs.OrderLemmas.{searched_more, searched_next, searched_skip, searched_start}
+use Rattle.lexical_writer.proofs.Common.{Form, IsChosen, IsPassedOver, IsSearched, IsStopped, ap, arith, bytes_of_word, false≢true, inl}
+use Rattle.lexical_writer.proofs.Common.{Some, WriteError, is_asked, length, refl, slice_get, slice_get_read, steps, subst, sym, take, unwrap_or, ℕ, ◌+◌, ◌<◌, ◌∙◌, ◌≡◌, ◌≤◌}
+use Rattle.lexical_writer.proofs.OrderLemmas.{searched_more, searched_next, searched_skip}
 use Rattle.lexical_writer.proofs.choice.choose.Goals as goal
 use Rattle.lexical_writer.proofs.choice.choose.Goals.{then-is_asked+in-Err-2, else-is_asked}
-
-pub loop-step-init : goal.loop-step-init
-loop-step-init g c = record { most = omega arith; room = refl; searched = searched_start _ _ _ }
-
-pub loop-index-init : goal.loop-index-init
-loop-index-init g c = record { room = c.loop-step.invariant.room; searched = c.loop-step.invariant.searched }
 
 pub loop-index-preserved : goal.loop-index-preserved
 loop-index-preserved g c =
@@ -47,10 +41,6 @@ loop-step-preserved g c = record {
   searched = searched_next _ _ _ c.loop-step.step c.loop-index.index c.loop-index.error c.loop-index.invariant.searched
       (subst (λ forms. length forms ≤ c.loop-index.index) c.as_slice-list.ensures.list c.loop-index-test.false);
 }
-
-pub write_form-requires : goal.write_form-requires
-write_form-requires g c = rw (← c.as_slice-list.ensures.list)
-    (slice_get_read _ _ c.loop-index.index c.index-list-index.result refl c.loop-index-test.true c.index-list-index.is)
 
 pub returns-in-Ok-clause-text : goal.returns-in-Ok-clause-text
 returns-in-Ok-clause-text g c =
@@ -97,15 +87,4 @@ returns-in-Err-clause-error g c =
         subst (λ n. IsStopped task n c.args.forms.now index form c.in-Err.other) c.loop-index.invariant.room
             (c.in-Err.ensures.stopped (sym c.is_short.ensures ∙ c.if-is_short.true)),
       ),
-    )
-
-pub returns-clause-error : goal.returns-clause-error
-returns-clause-error g c =
-    let task = g.N.Writable.task c.args.number.now c.args.style in
-    let last : c.loop-step.step ≡ c.steps-end.result = omega (arith, c.loop-step-test.false, c.loop-step.invariant.most) in
-    inr (
-      c.loop-step.error,
-      subst (λ step. IsSearched (IsPassedOver task (length c.args.buffer.now) c.args.forms.now) (is_asked task.own) c.args.forms.now.forms step 0
-          c.loop-step.error) (last ∙ c.steps-end.ensures ∙ ap steps c.own-own.ensures) c.loop-step.invariant.searched,
-      c.unwrap_or-2.ensures ∙ ap (unwrap_or c.loop-step.error) (c.unasked.ensures ∙ ap unasked c.own-own.ensures),
     )

@@ -1,8 +1,6 @@
 -- The list reads the text as the number.
-use Rattle.lexical_writer.proofs.Common.{Bool, Grammar, IsSomeAnd, IsSyntax, Ok, Read, ReadsForm, Reads, ap, is_float, notation_of}
-use Rattle.lexical_writer.proofs.Common.{refl, rules, slice_get, true}
-use Rattle.lexical_writer.proofs.Common.{false, subst, sym, ◌&&◌, ◌==◌, ◌∙◌, ◌≡◌}
-use Rattle.lexical_writer.proofs.Common.{Some, eqb-true, false≢true}
+use Rattle.lexical_writer.proofs.Common.{Bool, Grammar, IsSomeAnd, IsSyntax, Ok, Read, ReadsForm, Reads, ap, is_float, notation_of, refl, rules, slice_get}
+use Rattle.lexical_writer.proofs.Common.{true, false, subst, sym, ◌&&◌, ◌==◌, ◌∙◌, ◌≡◌, Some, eqb-true, false≢true}
 use Rattle.lexical_forms.proofs.BehindLemmas.{plain_of}
 use Rattle.lexical_writer.proofs.ChoiceLemmas.{first_reads, none_at}
 use Rattle.lexical_writer.proofs.choice.read_written.Goals as goal

@@ -1,5 +1,5 @@
 -- The text is in the buffer, and the list reads it or does not.
-use Rattle.lexical_writer.proofs.Common.{IsMisread, IsNoToken, IsReadWith, IsRefused, IsWrittenBy, None, Some, ap, arith, bytes_of_word, inr, length}
+use Rattle.lexical_writer.proofs.Common.{IsMisread, IsNoToken, IsRefused, None, Some, ap, arith, bytes_of_word, inr, length}
 use Rattle.lexical_writer.proofs.Common.{length-take, subst, sym, take, text_by, ◌≡◌}
 use Rattle.lexical_writer.proofs.BufferLemmas.{put_whole}
 use Rattle.lexical_writer.proofs.FloatLemmas.{residual}
@@ -57,33 +57,3 @@ returns-in_err-read_token-in-Some-clause-error g c =
             (subst (IsNoToken task.keeps list word bytes) (sym same) c.in_err-read_token-in-Some.ensures.error),
       ),
     )))
-
-pub returns-in_ok-read_alone-in-None-clause-text : goal.returns-in_ok-read_alone-in-None-clause-text
-returns-in_ok-read_alone-in-None-clause-text g c =
-    subst (λ w. IsWrittenBy (g.N.Writable.task c.args.number.now c.args.style) c.args.forms.now c.args.form.now (bytes_of_word w)
-    (take c.in_ok-end.end c.put_text.new.buffer)) (sym c.in-None.is) c.in_ok-read_alone-in-None.ensures.value
-
-pub returns-in_ok-read_token-in-Some-clause-text : goal.returns-in_ok-read_token-in-Some-clause-text
-returns-in_ok-read_token-in-Some-clause-text g c =
-    let written = c.in_ok-end.ensures.text in
-    let form = c.args.form.now in
-    let text = take c.in_ok-end.end c.put_text.new.buffer in
-    let is = (g.N.Writable.task c.args.number.now c.args.style).is form.syntax written.0 in (
-      written.0,
-      written.2,
-      sym (put_whole _ _ c.in_ok-end.end written.4 c.if-end-buffer.false c.if-end.false),
-      subst (λ w. IsReadWith c.args.forms.now (bytes_of_word w) text is) (sym c.in-Some.is)
-          (c.in_ok-read_token-in-Some.ensures.value form.syntax written.0),
-    )
-
-pub read_alone-requires-clause-written : goal.read_alone-requires-clause-written
-read_alone-requires-clause-written g c =
-    let written = c.in_ok-end.ensures.text in
-    let bytes = take c.in_ok-end.end c.put_text.new.buffer in (
-      written.0,
-      written.1,
-      written.2,
-      written.3,
-      sym (subst (λ w. text_by c.args.form.now (bytes_of_word w) written.0 ≡ bytes) c.in-None.is
-          (put_whole _ _ c.in_ok-end.end written.4 c.if-end-buffer.false c.if-end.false)),
-    )

@@ -1,5 +1,6 @@
 -- A float is a number if the bits of its size are below those of infinity.
-use Rattle.lexical_writer.proofs.Common.{Bool, Grammar, IsFinite, Option, Some, ap, arith, float_error, format_of, nat_le, refl, subst, sym, with_minus, ℕ, ◌%◌, ◌*◌, ◌<◌, ◌∙◌, ◌≡◌, ◌≤◌}
+use Rattle.lexical_writer.proofs.Common.{Bool, Grammar, IsFinite, Option, Some, ap, arith, float_error, format_of, nat_le, refl, subst, sym, with_minus, ℕ, ◌%◌}
+use Rattle.lexical_writer.proofs.Common.{◌*◌, ◌<◌, ◌∙◌, ◌≡◌, ◌≤◌}
 use Rattle.std.specs.Prelude.{IfNone}
 use lib.Ieee.{hid, of_bits, ones, top}
 use Rattle.lexical_writer.proofs.FloatLemmas.{finite, not_number, of_sign, special, special_error}

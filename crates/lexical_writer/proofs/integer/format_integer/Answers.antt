@@ -34,9 +34,6 @@ integer g style negative n z is none (Ok it) out has =
     ap (λ exponent. false || (exponent && (raw g.word).flag layouts.no_exponent_without_fraction)) none in
     (ap is_float out ∙ float_if _ _ _ _ ∙ (λ i. point i || none i), sym is ∙ (λ i. with_sign (sym has.1.sign i) (sym has.1.integer i)))
 
-pub returns-clause-literal : goal.returns-clause-literal
-returns-clause-literal h c = IfOk-weaker c.of_size.result _ _ (λ it has. has.0) c.of_size.ensures.written
-
 pub returns-clause-parts : goal.returns-clause-parts
 returns-clause-parts h c =
     let same = amount_is _ _ _ c.sign_and_size-negative.ensures.value c.sign_and_size-negative.ensures.zero in
@@ -53,8 +50,3 @@ returns-clause-value h c =
     IfOk-weaker c.of_size.result _ _
     (λ it has. has_value c.args.syntax.now _ _ _ c.sign_and_size-negative.ensures.value c.of_size.ensures.lawful (integer_literal it) has.1)
     c.of_size.ensures.written
-
-pub returns-clause-integer : goal.returns-clause-integer
-returns-clause-integer h c none =
-    integer c.args.syntax.now c.args.style _ _ _ c.sign_and_size-negative.ensures.value none
-    c.of_size.result c.of_size.ensures.parts c.of_size.ensures.written

@@ -42,7 +42,7 @@ loop-form-preserved c =
           (w.further-furthest.ensures 0 (subst (λ (l : FormList). Leads l.forms text i 0 best) c.self.view_is c.loop-form.invariant)))
       | else-not-is_behind w ↦ subst (Leads forms text (i + 1) 0) (sym w.furthest-is) (left_out forms text i 0 best c.loop-form.invariant
           (at_index (IsLow text best.reach) forms forms c.index-self-form.result i refl c.loop-form-test.true
-          (c.is_behind.ensures w.if-not-is_behind.false)))
+          (c.is_behind.ensures.low w.if-not-is_behind.false)))
     ]
 
 pub returns : goal.returns

@@ -1,25 +1,10 @@
 -- The shape is that of the number, by its first bit.
-use Rattle.lexical_writer.proofs.Common.{Bool, IsShape, None, Some, ap, arith, false, if◌then◌else◌, nat_lt, not, one-le-pow, raw, refl, subst, sym, true, ℕ}
-use Rattle.lexical_writer.proofs.Common.{◌*◌, ◌/◌, ◌<◌, ◌^◌, ◌∙◌, ◌≡◌, ◌≤◌}
-use Rattle.std.proofs.Math.Nat.{div-mul-le_self}
-use mir.Val.{bool_byte}
+use Rattle.lexical_writer.proofs.Common.{IsShape, None, Some, ap, arith, false, if◌then◌else◌, nat_lt, not, one-le-pow, raw, refl, subst, sym, true, ℕ}
+use Rattle.lexical_writer.proofs.Common.{◌*◌, ◌/◌, ◌<◌, ◌^◌, ◌∙◌, ◌≡◌}
 use Rattle.lexical_util.specs.Layout as layouts
 use Rattle.lexical_writer.proofs.AmountLemmas.{size}
 use Rattle.lexical_writer.proofs.BinaryLemmas.{binary_plain, binary_shown, byte_is, far_in}
 use Rattle.lexical_writer.proofs.binary.Binary.digits.Goals as goal
-
-few : (b : Bool) → bool_byte b ≤ 1
-few true = omega arith
-few false = omega arith
-
-pub over-requires : goal.over-requires
-over-requires c = (few (not c.is_whole.result), omega arith, λ _. omega arith)
-
-pub over-requires-2 : goal.over-requires-2
-over-requires-2 c =
-    let it = c.args.self.now in
-    let least = div-mul-le_self c.top-top.result it.base_bits in
-    (omega arith, omega (arith, least, c.top-top.ensures.limit), λ none. omega (arith, least, c.top-top.ensures.zero none))
 
 pub returns-then-not-is_shown : goal.returns-then-not-is_shown
 returns-then-not-is_shown c =

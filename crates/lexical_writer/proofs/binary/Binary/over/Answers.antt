@@ -19,9 +19,6 @@ needed c =
     enough it.power it.bits c.args.low c.args.least c.div_ceil.result c.max-places.result it.radixes.0
     (c.div_ceil.ensures ∙ ap (λ a. div_ceil a it.bits) (omega (arith, c.saturating_sub.ensures))) c.max-places.ensures
 
-pub overflow_sub-up : goal.overflow_sub-up
-overflow_sub-up c = omega (arith, (needed c).0)
-
 pub returns-clause-exact : goal.returns-clause-exact
 returns-clause-exact c =
     let it = c.args.self.now in

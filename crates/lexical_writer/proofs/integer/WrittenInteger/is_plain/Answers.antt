@@ -1,9 +1,10 @@
 -- The text is a sign and decimal digits.
-use Rattle.lexical_writer.proofs.Common.{Bool, Grammar, None, Pattern, Record, Style, ap, append-nil, arith, at_least, digits_of, false, false≢true, grouped}
-use Rattle.lexical_writer.proofs.Common.{has, has_exponent, has_point, if◌then◌else◌, is_some, laid_out, max, nat_lt, nat_tests, no_groups, no_power, not}
-use Rattle.lexical_writer.proofs.Common.{number_of_size, only_if, option_to_list, raw, refl, sym, text_of, true, ℕ, ◌&&◌, ◌++◌, ◌==◌, ◌||◌, ◌∙◌, ◌≡◌, ◌≤◌}
-use Rattle.lexical_writer.specs.Layout.{after_zero, base_byte, either, exponent_text, fraction_text, group_size, integer_pattern, integer_text}
-use Rattle.lexical_writer.specs.Layout.{least_digits, led_digits, options_of, pattern_of, sign_of, takes_zeros}
+use Rattle.lexical_writer.proofs.Common.{Bool, Grammar, None, Pattern, Record, Style, ap, append-nil, arith, at_least, digits_of, effective_exponent_radix}
+use Rattle.lexical_writer.proofs.Common.{false, false≢true, grouped, has, has_exponent, has_point, if◌then◌else◌, is_some, laid_out, max, nat_lt, nat_tests}
+use Rattle.lexical_writer.proofs.Common.{no_groups, no_power, not, number_of_size, one_if, only_if, option_to_list, raw, refl, size_of, sym, text_of, true, ℕ}
+use Rattle.lexical_writer.proofs.Common.{◌&&◌, ◌++◌, ◌==◌, ◌||◌, ◌∙◌, ◌≡◌, ◌≤◌}
+use Rattle.lexical_writer.specs.Layout.{after_zero, base_byte, either, fraction_text, group_size, integer_pattern, integer_text, least_digits, led_digits}
+use Rattle.lexical_writer.specs.Layout.{options_of, pattern_of, sign_of}
 use Rattle.lexical_literal.specs.Notation.{number_of}
 use Rattle.lexical_util.specs.Layout as layout
 use Rattle.lexical_literal.specs.declared.syntax.Condition.TheVariants as conditions
@@ -50,14 +51,15 @@ plain g style negative n none radix prefix suffix groups leads most =
     let pattern = pattern_is r (r.flag layout.integer_internal_digit_separator) style.lowercase last
     (either (number_of c conditions.HigherGroupSize) last) groups in
     let least : least_digits r c style false false amount ≡ 1 =
-    one (led_digits c false (digits_of (r.byte layout.mantissa_radix) n)) style.min_digits (takes_zeros r false)
+    one (led_digits c false (digits_of (r.byte layout.mantissa_radix) n)) style.min_digits (not (r.flag layout.no_integer_leading_zeros))
     (unled (has c conditions.LeadingZero) (has c conditions.DecimalFirstDigit) _ _ leads) most in
     let integer : l.integer ≡ grouped (no_groups style.lowercase) (at_least 1 (digits_of 10 n)) =
     (λ i. integer_text r c style (is_some (before i)) (point i || none i) amount)
     ∙ (λ i. grouped (pattern i) (at_least (least i) (digits_of (radix i) n))) in
     (λ i. l.sign ++ (after_zero (before i) ++ (integer i ++ (option_to_list (only_if (point i) (options_of g).point)
     ++ (fraction_text r c style (point i) amount ++ (option_to_list (only_if (none i) (options_of g).exponent)
-    ++ (option_to_list (sign_of false (none i && r.flag layout.required_exponent_sign)) ++ (exponent_text r style (none i) no_power.source
+    ++ (option_to_list (sign_of false (none i && r.flag layout.required_exponent_sign)) ++ (grouped (no_groups style.lowercase)
+    (at_least (one_if (none i)) (digits_of (effective_exponent_radix r) (size_of (effective_exponent_radix r) no_power.source)))
     ++ option_to_list (behind i)))))))))
     ∙ ap (λ text. l.sign ++ text) (append-nil (grouped (no_groups style.lowercase) (at_least 1 (digits_of 10 n))))
 

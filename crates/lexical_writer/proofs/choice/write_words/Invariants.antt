@@ -1,9 +1,0 @@
-use Rattle.lexical_writer.proofs.Common.{ArePassed, length, ◌+◌, ◌≡◌}
-use Rattle.lexical_writer.proofs.choice.write_words.Given as goal
-
--- The number is not written in a way before.
-abbrev pub invariant-loop-word : goal.invariant-loop-word
-invariant-loop-word g l = record {
-  room : length l.buffer ≡ length l.initial.buffer;
-  passed : ArePassed (g.N.Writable.task l.number l.fn.style) (length l.initial.buffer) l.forms l.index l.form (l.word-index + 1);
-}
