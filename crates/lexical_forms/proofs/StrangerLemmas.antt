@@ -1,5 +1,5 @@
 -- A stranger: a byte that plays no role behind the base prefix, and its other case neither.
-use Rattle.lexical_forms.proofs.Common.{All, All-get_or, AreFalse, Bool, Grammar, IsExcluded, IsFront, IsSilentAt, IsSpare}
+use Rattle.lexical_forms.proofs.Common.{All, All-get_or, AreFalse, Bool, ByteSet, Grammar, IsExcluded, IsFront, IsSilentAt, IsSpare}
 use Rattle.lexical_forms.proofs.Common.{IsStranger, IsTrue, IsWithin, LacksLetter, LacksZero, Reads, take_all}
 use Rattle.lexical_forms.proofs.Common.{IsValidUpTo, List, NoLiteral, Notation, PlaysNoRole, Role, [], ap}
 use Rattle.lexical_forms.proofs.Common.{arith, cases_lt, false, false≢true, get_or, if◌then◌else◌, inl, inr, is_in, is_none_or_one, is_other_prefix, not, ◌&&◌}
@@ -180,6 +180,16 @@ cased_apart counts own b one other = (
   not_cased counts own (other_case b) (λ is. other (sym is))
       (λ is. one (sym (sym (other_case-twice b) ∙ ap other_case is ∙ other_case-twice own))),
 )
+
+-- A byte that is not `own` in either case is not the decimal point `own`.
+pub no_point : (own c : ℕ) → cased true own c ≡ false → ((c == own) && not (c == 0)) ≡ false
+unfolding cased
+no_point own c none = grind (arith, nat_tests)
+
+-- If a test is false where another is, then it is false of a byte and its other case where the other is.
+pub are_false : {own test other : ByteSet} (b : ℕ) → ((c : ℕ) → own c ≡ false → test c ≡ false) → ((c : ℕ) → test c ≡ other c)
+    → AreFalse own b → AreFalse other b
+are_false b from same none = (sym (same b) ∙ from b none.0, sym (same (other_case b)) ∙ from (other_case b) none.1)
 
 -- A byte is spare if the tests of all roles but the prefix are false of it, and silent if that of the prefix is, too.
 module _ (g : Grammar) (b : ℕ) where
