@@ -3,7 +3,7 @@ use Rattle.lexical_literal.proofs.Common.{IsUsual, None, Some, Condition, Condit
 use Rattle.lexical_literal.proofs.Common.{AreSums, Cuts, IsCut, IsSmall, IsTrue, List, Option, allowed_ascii, cut, number, places, summed_in}
 use Rattle.lexical_literal.proofs.Common.{Bool, Flag, Part, Record, ap, arith, bit, bit_and, effective_exponent_radix, exponent_character_of, false}
 use Rattle.lexical_literal.proofs.Common.{false≢true, if◌then◌else◌, inl, inr, lacks_options, length, mod-lt, nat_tests, not, notation_of, point_of, radix_of}
-use Rattle.lexical_literal.proofs.Common.{raw, refl, subst, sym, true, used_separator, ℕ, ◌%◌, ◌&&◌, ◌+◌, ◌*◌, ◌<◌, ◌==◌, ◌^◌, ◌∙◌, ◌≡◌, ◌⊎◌}
+use Rattle.lexical_literal.proofs.Common.{raw, refl, subst, sym, true, used_separator, ℕ, ◌%◌, ◌&&◌, ◌<◌, ◌==◌, ◌^◌, ◌∙◌, ◌≡◌}
 use Rattle.lexical_flags.proofs.FlagBits.{flag_test, mask_test}
 use Rattle.lexical_flags.proofs.Packing.{low_flag, raw-fields, word-fields}
 use Rattle.lexical_flags.proofs.RecordLemmas.{record_same}
@@ -11,7 +11,7 @@ use Rattle.lexical_util.specs.Layout.{Byte}
 use Rattle.lexical_util.specs.Layout as layout
 use Rattle.lexical_util.specs.declared.format_flags.Part.TheVariants as parts
 use Rattle.lexical_util.specs.NormalForm.{IsNormal}
-use Rattle.lexical_util.specs.Record.{SeparatorAllowedOrAbsent, bytes_of, effective, effective_exponent_base, record_of, separator_allowed, word_from}
+use Rattle.lexical_util.specs.Record.{SeparatorAllowedOrAbsent, bytes_of, effective, effective_exponent_base, record_of, word_from}
 use Rattle.lexical_util.specs.Unfoldable.{cased}
 use Rattle.lexical_literal.specs.Additions.Fields.{AreFields, byte_of, options_if, worded}
 use Rattle.lexical_literal.specs.Additions.Scan.{IsDecimal, are_usual}

@@ -1,5 +1,5 @@
 -- All tests of roles but that of the prefix are false.
-use Rattle.lexical_forms.proofs.Common.{AreFalse, Bool, ap, arith, false, false≢true, nat_tests, not, raw, subst, sym, true, ◌∙◌, ◌≡◌}
+use Rattle.lexical_forms.proofs.Common.{AreFalse, Bool, arith, false, false≢true, nat_tests, not, raw, subst, sym, true, ◌∙◌, ◌≡◌}
 use Rattle.lexical_util.specs.Layout as layout
 use Rattle.lexical_util.specs.Roles.{cased}
 use Rattle.lexical_literal.proofs.FieldLemmas.{byte_is, exponent_is, point_is}

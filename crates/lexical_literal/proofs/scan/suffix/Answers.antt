@@ -1,5 +1,5 @@
 -- The suffix is read, or the byte that follows is refused.
-use Rattle.lexical_literal.proofs.Common.{IsAt, List, Notation, Reading, Stopped, arith, counts_of, cuts_of, false, false≢true, get_or, raw, refl, steps_of}
+use Rattle.lexical_literal.proofs.Common.{IsAt, List, Notation, Reading, Stopped, arith, counts_of, cuts_of, false, false≢true, get_or, refl, steps_of}
 use Rattle.lexical_literal.proofs.Common.{subst, suffix, sym, takes}
 use Rattle.lexical_literal.proofs.Common.{true, ℕ, ◌∙◌, ◌≡◌}
 use Rattle.lexical_util.specs.declared.feature_format.roles.Role.TheVariants as roles

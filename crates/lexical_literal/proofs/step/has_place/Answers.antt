@@ -1,5 +1,5 @@
 -- The separator flags of a part are in the order of the parts.
-use Rattle.lexical_literal.proofs.Common.{Part, ap, bit, separators_in, sym, ℕ, ◌+◌, ◌∙◌}
+use Rattle.lexical_literal.proofs.Common.{Part, ap, bit, separators_in, sym, ◌+◌, ◌∙◌}
 use Rattle.lexical_literal.proofs.FieldLemmas.{place_is}
 use Rattle.lexical_literal.proofs.step.has_place.Goals.{in-Integer, in-Fraction, in-Exponent}
 use Rattle.lexical_literal.proofs.step.has_place.Goals as goal

@@ -1,6 +1,5 @@
 -- The leading digits and the exponent make the value.
-use Rattle.lexical_value.proofs.Common.{IsNearestBits, ap, exponent, format_of, mantissa, raw, refl, sym, ◌∙◌}
-use Rattle.lexical_util.specs.Layout as layout
+use Rattle.lexical_value.proofs.Common.{IsNearestBits, exponent, format_of, mantissa, raw, refl, sym, ◌∙◌}
 use Rattle.lexical_value.proofs.FloatLemmas.{by_bits, of_value}
 use Rattle.lexical_value.proofs.float.long_binary_size.Goals as goal
 

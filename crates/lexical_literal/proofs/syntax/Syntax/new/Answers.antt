@@ -1,5 +1,5 @@
 -- Options that fit are not 0, and a syntax has no conditions yet.
-use Rattle.lexical_literal.proofs.Common.{Grammar, Some, ap, subst, sym, ℕ, ◌∙◌, ◌≡◌}
+use Rattle.lexical_literal.proofs.Common.{Some, ap, subst, sym, ℕ, ◌∙◌, ◌≡◌}
 use Rattle.lexical_util.specs.Options.{OptionsFit}
 use Rattle.lexical_literal.specs.Additions.Fields.{options_if}
 use Rattle.lexical_literal.specs.Notation.{no_conditions}

@@ -1,5 +1,5 @@
 -- A usual syntax has the fields that are given to it.
-use Rattle.lexical_literal.proofs.Common.{Grammar, HasSizes, IsReady, IsUsual, ap, notation_of, steps_of, subst, sym, ◌∙◌}
+use Rattle.lexical_literal.proofs.Common.{Grammar, HasSizes, IsReady, ap, notation_of, steps_of, subst, sym, ◌∙◌}
 use Rattle.lexical_literal.specs.Additions.Fields.{AreFields, worded}
 use Rattle.lexical_literal.proofs.FieldLemmas.{usual_fields}
 use Rattle.lexical_literal.proofs.RoleLemmas.{has_sizes_of, ready}
