@@ -1,5 +1,6 @@
 mod Common
 pub mod FloatLemmas
 pub mod KindLemmas
+pub mod ReadLemmas
 pub mod ScaledLemmas
 mod ValueLemmas
