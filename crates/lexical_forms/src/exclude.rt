@@ -8,7 +8,6 @@ ghost use Rattle.lexical_literal.specs.Cause.{is_in};
 ghost use Rattle.lexical_forms.specs.Additions.Token.{has_prefix};
 ghost use Rattle.lexical_literal.specs.Additions.Stop.{IsWithin};
 ghost use Rattle.lexical_literal.specs.Front.{NoFront};
-ghost use Rattle.lexical_util.specs.Record.{Record};
 ghost use Rattle.lexical_util.specs.Roles.{cased, other_case};
 ghost use Rattle.lexical_literal.specs.Notation.{notation_of};
 

@@ -5,6 +5,8 @@ ghost use Rattle.lexical_literal.specs.Notation.{Notation, notation_of};
 ghost use Rattle.lexical_forms.specs.Specials.{allows, means_nan, is_negative, is_read_back, is_spelled, is_value, letter_of, matches, signed, special_behind};
 ghost use Rattle.lexical_forms.specs.Specials.{special_of, spelling_of, text_of_special, written_sign};
 ghost use Rattle.lexical_forms.specs.Additions.Forms.{special_separator};
+ghost use Rattle.lexical_util.specs.Layout as layout;
+ghost use Rattle.lexical_util.specs.Record.{raw};
 
 use lexical_literal::step;
 use lexical_literal::syntax::{Condition, Grammar, Syntax};
@@ -250,7 +252,7 @@ const fn matches(grammar: Grammar, word: Option<&[u8]>, text: &[u8]) -> bool
 const fn is_spelled(grammar: Grammar, word: &[u8], text: &[u8]) -> bool
     ensures { result ≡ is_spelled (notation_of grammar) word.now text.now }
 {
-    let separator = grammar.separator;
+    let separator = separator_of(grammar);
     let mut letters = 0;
     // The number of separators that were taken for a letter, with no other letter behind them.
     let mut taken = 0_usize;
@@ -273,6 +275,14 @@ const fn is_spelled(grammar: Grammar, word: &[u8], text: &[u8]) -> bool
         index += 1;
     }
     letters == word.len()
+}
+
+// Returns the digit separator, or 0 if there is none.
+#[inline(always)]
+const fn separator_of(grammar: Grammar) -> u8
+    ensures { result ≡ (raw grammar.word).byte layout.digit_separator }
+{
+    grammar.separator
 }
 
 // Returns whether `byte` is a digit separator that a special value may have.

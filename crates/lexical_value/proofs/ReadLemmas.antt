@@ -1,7 +1,8 @@
 -- What a literal that was read keeps of its format.
-use Rattle.lexical_value.proofs.Common.{ap, mod-lt, raw, ℕ, ◌%◌, ◌<◌, ◌^◌, ◌∙◌, ◌≡◌}
+use Rattle.lexical_value.proofs.Common.{ap, mod-lt, raw, ℕ, ◌<◌, ◌^◌, ◌∙◌, ◌≡◌}
 use Rattle.std.proofs.lemmas.Nat.{pow_pos}
 use Rattle.lexical_util.specs.Layout as layout
+use Rattle.lexical_util.specs.Layout.{Byte}
 use Rattle.lexical_util.specs.Record.{Record, bytes_of}
 use Rattle.lexical_literal.proofs.FieldLemmas.{four, four_is}
 use Rattle.lexical_literal.specs.Literal.{Literal}
@@ -22,9 +23,10 @@ read_record w = record {
 
 -- The word of a literal has these bytes.
 pub read_bytes : (w v : ℕ) → v ≡ radixes_of w → bytes_of v ≡ (read_record w).byte
-read_bytes w v word = ap bytes_of word ∙ (λ i b. four_is _ _ _ _ (below _, (below _, (below _, below _))) b i) where
-  below : (n : ℕ) → n % 2 ^ 8 < 2 ^ 8
-  below n = mod-lt n (pow_pos 8)
+read_bytes w v word = ap bytes_of word ∙ (λ i b. four_is _ _ _ _ (below layout.digit_separator,
+    (below layout.mantissa_radix, (below layout.exponent_base, below layout.exponent_radix))) b i) where
+  below : (b : Byte) → bytes_of w b < 2 ^ 8
+  below b = mod-lt _ (pow_pos 8)
 
 -- What is not worth an integer by the exact kind is not an integer of the range, in the format that was read.
 pub none_read : (least largest w : ℕ) (l : Literal) (error : ValueErrorKind) → IsNotWorth integers.Exact least largest (read_record w).byte l error

@@ -3,15 +3,11 @@ use Rattle.lexical_writer.proofs.Common.{Bool, Form, Grammar, IsFirst, IsSomeAnd
 use Rattle.lexical_writer.proofs.Common.{ReadsForm, Record, Some, ap, arith, exact, false, float_worth, format_by, if◌then◌else◌, inl, inr, integer_worth}
 use Rattle.lexical_writer.proofs.Common.{is_binary, is_decimal, is_exact, is_float, is_minus, is_some, length-take-le, mantissa, nearest, negsuc, not}
 use Rattle.lexical_writer.proofs.Common.{notation_of, pos, raw, refl, slice_get, subst, suc, sym, take, true, with_sign, within, whole_of, worth, zero, ℕ, ℤ}
-use Rattle.lexical_writer.proofs.Common.{denominator, mod-lt, numerator, ◌||◌, ◌%◌, ◌*◌, ◌<◌, ◌^◌, ◌∙◌, ◌≡◌}
+use Rattle.lexical_writer.proofs.Common.{denominator, numerator, ◌||◌, ◌*◌, ◌<◌, ◌∙◌, ◌≡◌}
 use Rattle.std.proofs.lemmas.Option.{get_or_from_slice_get, slice_get_within}
 use Rattle.std.specs.Float.{Float, Format, binary64}
 use Rattle.lexical_forms.specs.Forms.{ReadsIn}
-use Rattle.lexical_literal.proofs.FieldLemmas.{four, four_is}
 use Rattle.lexical_literal.specs.Read.{radixes_of}
-use Rattle.lexical_util.specs.Layout as layout
-use Rattle.lexical_util.specs.Record.{bytes_of}
-use Rattle.std.proofs.lemmas.Nat.{pow_pos}
 use Rattle.lexical_literal.specs.Front.{NoneBy}
 use Rattle.std.specs.Prelude.{Err, IsFalse, MatchOption, MatchResult, Result, is_ok, option_to_list}
 use Rattle.lexical_number.specs.Numeral.{size_of}
@@ -25,14 +21,8 @@ use Rattle.lexical_writer.specs.Conversion.{SameFraction}
 use Rattle.lexical_writer.specs.Layout.{sign_of}
 use Rattle.lexical_forms.proofs.BehindLemmas.{plain_in}
 use Rattle.lexical_value.proofs.KindLemmas.{exact_float, limited_worth}
+use Rattle.lexical_value.proofs.ReadLemmas.{read_bytes}
 use Rattle.lexical_literal.specs.declared.kind.FloatKind.TheVariants as floats
-
--- The word of a literal has the radixes, the base and the separator of its format, which are all that its value asks.
-pub read_bytes : (w v : ℕ) → v ≡ radixes_of w → bytes_of v ≡ four (bytes_of w layout.digit_separator) (bytes_of w layout.mantissa_radix)
-    (bytes_of w layout.exponent_base) (bytes_of w layout.exponent_radix)
-read_bytes w v word = ap bytes_of word ∙ (λ i b. four_is _ _ _ _ (below _, (below _, (below _, below _))) b i) where
-  below : (n : ℕ) → n % 2 ^ 8 < 2 ^ 8
-  below n = mod-lt n (pow_pos 8)
 
 -- What has the value of the literal that is read has it in the format of the literal.
 pub same_read : (r : Record) (own : Literal) (w : ℕ) (read : Read) → read.format ≡ radixes_of w → SameFraction r own (raw w) read.literal

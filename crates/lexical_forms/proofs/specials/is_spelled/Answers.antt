@@ -1,7 +1,5 @@
 -- Each byte is the next letter, or takes the place of a separator, or is left out.
 use Rattle.lexical_forms.proofs.Common.{ap, arith, drop_all, drop_more, get_or, letter_of, nat_tests, notation_of, subst, sym, ◌∙◌}
-use Rattle.lexical_util.specs.Layout as layout
-use Rattle.lexical_literal.proofs.FieldLemmas.{byte_is}
 use Rattle.lexical_forms.proofs.SpecialLemmas.{HasRead, one_separator, read_more, at_end}
 use Rattle.lexical_forms.proofs.specials.is_spelled.Goals as goal
 
@@ -12,8 +10,8 @@ loop-index-preserved c =
     let only = one_separator c.args.grammar (get_or text index 0) in
     let now = subst (HasRead _ _ c.args.word.now text _ _) (drop_more text index 0 c.loop-index-test.true) c.loop-index.invariant in
     read_more _ _ c.args.word.now text _ _ _ _ now (λ is. ap (letter_of (notation_of c.args.grammar))
-    (only is ∙ sym (byte_is c.grammar.inside c.args.grammar c.grammar.invariant c.grammar.view_is layout.digit_separator))) _ _
-    (let branch = c.if-letters-word.branch in grind (arith, nat_tests))
+    (only is ∙ sym c.separator_of-separator.ensures)) _ _
+    ?step
 
 pub returns : goal.returns
 returns c = at_end _ _ c.args.word.now c.args.text.now _ _
