@@ -1,5 +1,6 @@
 -- Each byte is the next letter, or takes the place of a separator, or is left out.
-use Rattle.lexical_forms.proofs.Common.{ap, arith, drop_all, drop_more, get_or, inl, inr, letter_of, nat_tests, notation_of, subst, sym, ◌∙◌}
+use Rattle.lexical_forms.proofs.Common.{Bool, ap, arith, drop_all, drop_more, false, get_or, if◌then◌else◌, inl, inr, letter_of, nat_lt, nat_tests, notation_of, subst, sym}
+use Rattle.lexical_forms.proofs.Common.{true, ℕ, ◌&&◌, ◌+◌, ◌-◌, ◌<◌, ◌==◌, ◌∙◌, ◌≡◌, ◌≤◌}
 use Rattle.lexical_forms.proofs.SpecialLemmas.{HasRead, Moves, at_end, fails, one_separator, read_more}
 use Rattle.lexical_forms.proofs.specials.is_spelled.Goals as goal
 use Rattle.lexical_forms.proofs.specials.is_spelled.Goals.{else-letters-word-via-then-letters-word+else-is_letter, else-letters-word-via-else-letters-word}
@@ -9,45 +10,72 @@ use Rattle.lexical_forms.proofs.specials.is_spelled.Goals.{then-letters-word+the
 use Rattle.lexical_forms.proofs.specials.is_spelled.Goals.{then-letters-word+then-is_letter+else-is_separator+then-not-is_letter}
 use Rattle.lexical_forms.proofs.specials.is_spelled.Goals.{then-taken-eq0-via-then-taken-eq0, then-taken-eq0-via-else-taken-eq0+then-not-is_letter-2}
 
+-- Whether the byte is the next letter, of which `a` and `b` are compared.
+fit : (n size a b : ℕ) (test : Bool) → n < size → test ≡ (a == b) → test ≡ true → (nat_lt n size && (a == b)) ≡ true
+fit n size a b test inside same on = grind (arith, nat_tests)
+
+unfit : (n size a b : ℕ) (test : Bool) → test ≡ (a == b) → test ≡ false → (nat_lt n size && (a == b)) ≡ false
+unfit n size a b test same off = grind (arith, nat_tests)
+
+past : (n size : ℕ) (same : Bool) → size ≤ n → (nat_lt n size && same) ≡ false
+past n size same off = grind (arith, nat_tests)
+
+equal : (a b : ℕ) (test : Bool) → test ≡ (a == b) → test ≡ true → a ≡ b
+equal a b test same on = grind (arith, nat_tests)
+
+-- How many separators are taken then.
+more : (next taken : ℕ) (kept test same : Bool) → next ≡ taken + 1 → test ≡ kept → test ≡ true
+    → next ≡ (if kept then taken + 1 else (if same then taken else 0))
+more next taken kept test same is sep on = grind arith
+
+none : (next taken : ℕ) (kept test same letter : Bool) → next ≡ 0 → test ≡ kept → test ≡ false → letter ≡ same → letter ≡ false
+    → next ≡ (if kept then taken + 1 else (if same then taken else 0))
+none next taken kept test same letter is sep off by other = grind arith
+
+as_many : (next taken : ℕ) (kept test same letter : Bool) → next ≡ taken → test ≡ kept → test ≡ false → letter ≡ same → letter ≡ true
+    → next ≡ (if kept then taken + 1 else (if same then taken else 0))
+as_many next taken kept test same letter is sep off by on = grind arith
+
+less : (next taken : ℕ) → next ≡ taken - 1 → (taken ≡ 0 → ⊥) → taken ≡ next + 1
+less next taken is some = grind arith
+
 -- What the branches do with the letter.
 moves : (c : goal.Joined-letters-word) → Moves (notation_of c.args.grammar) c.separator_of-separator.result c.args.word.now c.loop-index.taken
     c.loop-index.letters (get_or c.args.text.now c.loop-index.index 0) c.if-letters-word.taken c.if-letters-word.letters
 moves c = elim c.if-letters-word.branch [
   | then-letters-word+then-is_letter+then-is_separator w ↦ inl (
-      (let inside = w.if-letters-word.true in let same = w.is_letter.ensures in let on = w.if-is_letter.true in grind (arith, nat_tests)),
+      fit _ _ _ _ _ w.if-letters-word.true w.is_letter.ensures w.if-is_letter.true,
       (let is = w.letters-is in omega (arith, is)),
-      (let is = w.taken-is in let kept = w.is_separator.ensures in let on = w.if-is_separator.true in grind (arith, nat_tests)),
+      more _ _ _ _ _ (let is = w.taken-is in omega (arith, is)) w.is_separator.ensures w.if-is_separator.true,
     )
   | then-letters-word+then-is_letter+else-is_separator+then-not-is_letter w ↦ inl (
-      (let inside = w.if-letters-word.true in let same = w.is_letter.ensures in let on = w.if-is_letter.true in grind (arith, nat_tests)),
+      fit _ _ _ _ _ w.if-letters-word.true w.is_letter.ensures w.if-is_letter.true,
       (let is = w.letters-is in omega (arith, is)),
-      (let is = w.taken-is in let kept = w.is_separator.ensures in let off = w.if-is_separator.false in
-      let letter = w.is_letter-else-is_separator.ensures in let other = w.if-not-is_letter.true in grind (arith, nat_tests)),
+      none _ _ _ _ _ _ (let is = w.taken-is in omega (arith, is)) w.is_separator.ensures w.if-is_separator.false
+          w.is_letter-else-is_separator.ensures w.if-not-is_letter.true,
     )
   | then-letters-word+then-is_letter+else-is_separator+else-not-is_letter w ↦ inl (
-      (let inside = w.if-letters-word.true in let same = w.is_letter.ensures in let on = w.if-is_letter.true in grind (arith, nat_tests)),
+      fit _ _ _ _ _ w.if-letters-word.true w.is_letter.ensures w.if-is_letter.true,
       (let is = w.letters-is in omega (arith, is)),
-      (let is = w.taken-is in let kept = w.is_separator.ensures in let off = w.if-is_separator.false in
-      let letter = w.is_letter-else-is_separator.ensures in let other = w.if-not-is_letter.false in grind (arith, nat_tests)),
+      as_many _ _ _ _ _ _ (let is = w.taken-is in omega (arith, is)) w.is_separator.ensures w.if-is_separator.false
+          w.is_letter-else-is_separator.ensures w.if-not-is_letter.false,
     )
   | else-letters-word+then-not-is_separator+else-taken-eq0+else-not-is_letter-2 w ↦ inr (
       (elim w.else-letters-word.branch [
-        | else-letters-word-via-then-letters-word+else-is_letter w' ↦
-            (let same = w'.is_letter.ensures in let none = w'.if-is_letter.false in grind (arith, nat_tests))
-        | else-letters-word-via-else-letters-word w' ↦ (let past = w'.if-letters-word.false in grind (arith, nat_tests))
+        | else-letters-word-via-then-letters-word+else-is_letter w' ↦ unfit _ _ _ _ _ w'.is_letter.ensures w'.if-is_letter.false
+        | else-letters-word-via-else-letters-word w' ↦ past _ _ _ w'.if-letters-word.false
       ]),
       (let is = w.letters-is in omega (arith, is)),
       inr (
         sym w.is_separator-else-letters-word.ensures ∙ w.if-not-is_separator.true,
-        (let letter = w.is_letter-else-taken-eq0.ensures in let on = w.if-not-is_letter-2.false in grind (arith, nat_tests)),
-        (let is = w.taken-is in let some = w.if-taken-eq0.false in grind (arith, nat_tests)),
+        equal _ _ _ w.is_letter-else-taken-eq0.ensures w.if-not-is_letter-2.false,
+        less _ _ (let is = w.taken-is in omega (arith, is)) w.if-taken-eq0.false,
       ),
     )
   | else-letters-word+else-not-is_separator w ↦ inr (
       (elim w.else-letters-word.branch [
-        | else-letters-word-via-then-letters-word+else-is_letter w' ↦
-            (let same = w'.is_letter.ensures in let none = w'.if-is_letter.false in grind (arith, nat_tests))
-        | else-letters-word-via-else-letters-word w' ↦ (let past = w'.if-letters-word.false in grind (arith, nat_tests))
+        | else-letters-word-via-then-letters-word+else-is_letter w' ↦ unfit _ _ _ _ _ w'.is_letter.ensures w'.if-is_letter.false
+        | else-letters-word-via-else-letters-word w' ↦ past _ _ _ w'.if-letters-word.false
       ]),
       (let is = w.letters-is in omega (arith, is)),
       inl (
