@@ -106,7 +106,7 @@ impl<'a> Specials<'a> {
     pub const fn spell(&self, syntax: &Syntax, special: Special) -> Option<SpecialText<'a>>
         ensures { result ≡ text_of_special (notation_of syntax.now) self.now special }
     {
-        let sign = written_sign(syntax.grammar(), special);
+        let sign = written_sign(syntax, special);
         let (first, second) = match special.spelling {
             Spelling::Nan => (self.nan, None),
             Spelling::Inf | Spelling::Infinity => (self.inf, self.infinity),
@@ -128,7 +128,7 @@ impl<'a> Specials<'a> {
     const fn is_read_back(&self, syntax: &Syntax, special: Special, word: &'a [u8]) -> bool
         ensures { result ≡ is_read_back (notation_of syntax.now) self.now special word.entry }
     {
-        let sign = written_sign(syntax.grammar(), special);
+        let sign = written_sign(syntax, special);
         is_value(special, self.read_signed(syntax, sign, word))
     }
 
@@ -172,12 +172,12 @@ impl<'a> Specials<'a> {
 }
 
 // Returns the sign with which a special value is written.
-const fn written_sign(grammar: Grammar, special: Special) -> Option<Sign>
-    ensures { result ≡ written_sign (notation_of grammar) special }
+const fn written_sign(syntax: &Syntax, special: Special) -> Option<Sign>
+    ensures { result ≡ written_sign (notation_of syntax.now) special }
 {
     if is_negative(special.sign) {
         Some(Sign::Minus)
-    } else if grammar.has(REQUIRED_MANTISSA_SIGN) {
+    } else if syntax.grammar().has(REQUIRED_MANTISSA_SIGN) {
         Some(Sign::Plus)
     } else {
         None

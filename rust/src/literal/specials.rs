@@ -95,7 +95,7 @@ impl<'a> Specials<'a> {
     /// `special` may be written, and no sign for `+`.
     #[must_use]
     pub(crate) const fn spell(&self, syntax: &Syntax, special: Special) -> Option<SpecialText<'a>> {
-        let sign = written_sign(syntax.as_grammar(), special);
+        let sign = written_sign(syntax, special);
         let (first, second) = match special.spelling {
             Spelling::Nan => (self.nan, None),
             Spelling::Inf | Spelling::Infinity => (self.inf, self.infinity),
@@ -115,7 +115,7 @@ impl<'a> Specials<'a> {
 
     // Returns whether a spelling, with the sign of a special value, is read as this value.
     const fn is_read_back(&self, syntax: &Syntax, special: Special, word: &'a [u8]) -> bool {
-        let sign = written_sign(syntax.as_grammar(), special);
+        let sign = written_sign(syntax, special);
         is_value(special, self.read_signed(syntax, sign, word))
     }
 
@@ -153,10 +153,10 @@ impl<'a> Specials<'a> {
 }
 
 // Returns the sign with which a special value is written.
-const fn written_sign(grammar: &Grammar, special: Special) -> Option<Sign> {
+const fn written_sign(syntax: &Syntax, special: Special) -> Option<Sign> {
     if is_negative(special.sign) {
         Some(Sign::Minus)
-    } else if grammar.has(REQUIRED_MANTISSA_SIGN) {
+    } else if syntax.as_grammar().has(REQUIRED_MANTISSA_SIGN) {
         Some(Sign::Plus)
     } else {
         None
@@ -216,7 +216,7 @@ const fn matches(grammar: &Grammar, word: Option<&[u8]>, text: &[u8]) -> bool {
 // A separator that can be the next letter of `word` is taken for it at first. If a later byte does not fit then, but is
 // this letter in its other case, it takes the place of the separator, which is left out.
 const fn is_spelled(grammar: &Grammar, word: &[u8], text: &[u8]) -> bool {
-    let separator = grammar.separator;
+    let separator = separator_of(grammar);
     let mut letters = 0;
     // The number of separators that were taken for a letter, with no other letter behind them.
     let mut taken = 0_usize;
@@ -239,6 +239,12 @@ const fn is_spelled(grammar: &Grammar, word: &[u8], text: &[u8]) -> bool {
         index += 1;
     }
     letters == word.len()
+}
+
+// Returns the digit separator, or 0 if there is none.
+#[inline(always)]
+const fn separator_of(grammar: &Grammar) -> u8 {
+    grammar.separator
 }
 
 // Returns whether `byte` is a digit separator that a special value may have.
