@@ -399,6 +399,7 @@ impl Spot {
     }
 
     // Returns whether the syntax has a condition that alone refuses what cannot follow.
+    #[inline(always)]
     const fn is_unmet(&self, condition: Condition) -> bool
         ensures { result ≡ unmet (notation_of (grammar_at self.now)) self.now.read (group_at self.now) self.now.byte condition }
     {

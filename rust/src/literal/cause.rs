@@ -315,6 +315,7 @@ impl Spot {
     }
 
     // Returns whether the syntax has a condition that alone refuses what cannot follow.
+    #[inline(always)]
     const fn is_unmet(&self, condition: Condition) -> bool {
         let grammar = self.as_grammar();
         let conditions = grammar.conditions();
