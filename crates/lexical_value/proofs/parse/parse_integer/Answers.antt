@@ -1,6 +1,5 @@
 -- The radix is that of the syntax, and the kind is exact.
 use Rattle.lexical_value.proofs.Common.{subst}
-use Rattle.lexical_util.specs.Record.{bytes_of}
 use Rattle.lexical_literal.specs.declared.kind.Kind.{Kind}
 use Rattle.lexical_value.specs.Kind.{IsNotWorth, IsWorth}
 use Rattle.lexical_value.proofs.ReadLemmas.{none_read, read_bytes, read_record}
