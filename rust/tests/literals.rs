@@ -376,13 +376,14 @@ fn answers(syntax: Syntax) -> impl PartialEq + std::fmt::Debug {
 #[test]
 fn a_word_reads_and_writes_as_its_normal_form() {
     let reserved = Rule::ReservedBitsAreZero.mask();
-    for syntax in Language::ALL.iter().flat_map(Language::forms).map(Form::syntax) {
-        let (normal, options) = (syntax.format().word(), syntax.exponent().zip(syntax.point()));
+    for syntax in HashSet::<Syntax>::from_iter(Language::ALL.iter().flat_map(Language::forms).map(Form::syntax)) {
+        let (normal, options, wanted) =
+            (syntax.format().word(), syntax.exponent().zip(syntax.point()), answers(syntax));
         let changes = [0xFF << 112, 0xFF << 120, 0xFFFF << 112, 0xFF << 64, reserved, 1 << 31, 1 << 72].into_iter();
         let words = changes.flat_map(|mask| [normal & !mask, normal | mask, normal & !mask | 0x5F << 64]);
         for word in words.filter(|&word| edits::normal_form(word) == normal) {
             let same = Syntax::unchecked(word, options, syntax.conditions());
-            assert_eq!(answers(same), answers(syntax), "{syntax} {word:#034X}");
+            assert_eq!(answers(same), wanted, "{syntax} {word:#034X}");
         }
     }
 }
