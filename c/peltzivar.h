@@ -12,7 +12,7 @@
  *         return printf("%.2f\n", value) < 0; // 1234.50
  *     }
  *
- * Comments behind `//` show what an example prints. Other examples are lines of such a function. The sections are
+ * Comments after `//` show what an example prints. Other examples are lines of such a function. The sections are
  * LANGUAGES, VALUES OF TEXTS, COLUMNS, LITERALS, TOKENS, WRITING, FORMS OF YOUR OWN and ERRORS. FORMAT.md and
  * FORMS.md, which are installed in share/doc/peltzivar, describe formats, and tokens, kinds and writing.
  *
@@ -109,7 +109,7 @@ typedef struct peltzivar_syntax peltzivar_syntax;
  * whatever the case of ASCII letters is, or a null pointer if there is none. They last as long as the program.
  * LANGUAGES.md describes each, such as which C `C` is.
  *
- * Where `-` is an operator, as in C, numbers have no sign: the language refuses `-5`, so read what is behind it. */
+ * Where `-` is an operator, as in C, numbers have no sign: the language refuses `-5`, so read what is after it. */
 const peltzivar_forms *peltzivar_language(const char *name, size_t len);
 
 /* Return the forms of a language. A program that calls these alone has only the forms of these languages in it. */
@@ -288,7 +288,7 @@ typedef struct {
 /* A literal: its text, which must last as long as the literal is used, and its parts, in the order of the text. An
  * absent part is empty. The prefix includes the zero before it. The three parts with digits include digit separators.
  * `size` is the length of the text. A float has a point or an exponent character, or both. `form` is the index of one
- * of several forms, and otherwise 0. If the form has an opening, the text is what is behind it. A literal can be copied,
+ * of several forms, and otherwise 0. If the form has an opening, the text is what is after it. A literal can be copied,
  * as an error can. */
 typedef struct {
     PELTZIVAR_ALIGNED uint64_t magic;
@@ -310,8 +310,8 @@ PELTZIVAR_MUST_USE peltzivar_value_status peltzivar_forms_read(const peltzivar_f
 /* Reads the longest beginning of a text that is a literal of any form, writes it to *literal and returns
  * PELTZIVAR_VALUE_OK. What follows it may be anything: with the prefix `0x`, the literal of `0xG` is `0`. If there is
  * no literal, or if peltzivar_parse_f64 refuses the list or the length, writes where reading stopped to *error and
- * returns PELTZIVAR_VALUE_REFUSED. Reads no byte behind the first that cannot follow or, if it begins a character of
- * UTF-8, behind this character. */
+ * returns PELTZIVAR_VALUE_REFUSED. Reads no byte after the first that cannot follow or, if it begins a character of
+ * UTF-8, after this character. */
 PELTZIVAR_MUST_USE peltzivar_value_status peltzivar_forms_read_prefix(const peltzivar_forms *forms,
     const char *text, size_t len, peltzivar_literal *literal, peltzivar_read_error *error);
 
@@ -378,7 +378,7 @@ PELTZIVAR_MUST_USE peltzivar_value_status peltzivar_to_f32(const peltzivar_liter
  */
 
 /* A token: its literal, with the kind that its form and its suffix give it, the bytes of its suffix, which are none if
- * it has none, its length with the suffix, and what follows. Forms of peltzivar_tokens have the indices behind the
+ * it has none, its length with the suffix, and what follows. Forms of peltzivar_tokens have the indices after the
  * others. */
 typedef struct {
     peltzivar_literal literal;
@@ -391,14 +391,14 @@ typedef struct {
 /* Reads the number that a text of len bytes begins with, as a lexer does: the longest literal of a form with the
  * longest of its suffixes, as in `1..2`, `10L;` and `0x1F_u8`. FORMS.md defines tokens. A text is a number with a
  * suffix and nothing else if the `size` of its token is len. Special values are names, and no tokens. If there is a
- * token, writes it to *token and returns PELTZIVAR_VALUE_OK. If a form goes on behind the number without an end, as in
+ * token, writes it to *token and returns PELTZIVAR_VALUE_OK. If a form goes on after the number without an end, as in
  * `1e+x`, if what follows may not, as in `1abc`, or if there is no number, writes why to *error and returns
  * PELTZIVAR_VALUE_REFUSED. Also refuses what peltzivar_parse_f64 refuses, and lists without rules for tokens, as those
  * of SQL and of file formats. Then `valid_up_to` is 0. */
 PELTZIVAR_MUST_USE peltzivar_value_status peltzivar_forms_token(const peltzivar_forms *forms,
     const char *text, size_t len, peltzivar_token *token, peltzivar_read_error *error);
 
-/* Writes why peltzivar_forms_token refuses a text, as peltzivar_read_error_text does, and behind "unknown suffix" up to
+/* Writes why peltzivar_forms_token refuses a text, as peltzivar_read_error_text does, and after "unknown suffix" up to
  * six of the suffixes that the form has: "unknown suffix; known are f32, f64". Writes an empty string if it returns a
  * token. The buffer `to` has to_len bytes. */
 size_t peltzivar_token_error_text(const peltzivar_forms *forms, const char *text, size_t len, char *to, size_t to_len);
@@ -450,7 +450,7 @@ enum {
  * unless the syntax has a size. With 0, there are groups only where it has one. A fraction has only groups that the
  * syntax requires. `without_base` leaves out the base prefix and suffix. `lowercase` writes digits in lowercase.
  * `min_digits` is how many integer digits there are at least, with zeros before the others. With `has_decimals`, a
- * float is rounded in decimal floats to as many digits behind the point as `decimals`, to the nearest, or to the even
+ * float is rounded in decimal floats to as many digits after the point as `decimals`, to the nearest, or to the even
  * one if two are as near, and has no exponent that neither the syntax nor the style requires. In integers alone, and in
  * another radix than 10, it has no effect. */
 typedef struct {
@@ -478,7 +478,7 @@ PELTZIVAR_MUST_USE peltzivar_write_status peltzivar_forms_format_i64(const peltz
 PELTZIVAR_MUST_USE peltzivar_write_status peltzivar_forms_format_u64(const peltzivar_forms *forms, uint64_t value,
     const peltzivar_style *style, char *text, size_t len, size_t *needed);
 
-/* Writes an exact amount, `value` over 10 to the power of `places`, with as many digits behind the point: 1200 with 2 is
+/* Writes an exact amount, `value` over 10 to the power of `places`, with as many digits after the point: 1200 with 2 is
  * `12.00`. It is written as the literal with these digits is by peltzivar_forms_format_literal, and
  * peltzivar_parse_scaled_i64 reads it back. `has_decimals` has no effect. */
 PELTZIVAR_MUST_USE peltzivar_write_status peltzivar_forms_format_scaled_i64(const peltzivar_forms *forms, int64_t value,
@@ -547,7 +547,7 @@ typedef struct {
  * If both are 0, numbers are integers. The other members are conditions: that a number has the base prefix or the base
  * suffix, that its sign is not `-`, and that the digit separators of its integer or its fraction, if there are any,
  * make groups of 2 to 8 digits, as in `1,234`. Groups of the integer before the last have higher_group_size digits, if
- * this is not 0, as in `12,34,567`. The last two conditions are that a number begins, behind its sign, with `0`, as C's
+ * this is not 0, as in `12,34,567`. The last two conditions are that a number begins, after its sign, with `0`, as C's
  * `017`, or with a digit from `0` to `9`, as NASM's `0FFh`. Members that are 0 or false are no condition.
  * peltzivar_read_settings writes a syntax, and the forms of a language have some. Check your own with
  * peltzivar_check_syntax. */
@@ -644,14 +644,14 @@ typedef struct {
     uint8_t reserved[8];
 } peltzivar_stop;
 
-/* The suffixes of a form, which only peltzivar_forms_token reads: words directly behind integers and behind floats, in
- * this case or, with either_case, in either one. With whole_words, a suffix is the whole word behind a number, and `1if`
+/* The suffixes of a form, which only peltzivar_forms_token reads: words directly after integers and after floats, in
+ * this case or, with either_case, in either one. With whole_words, a suffix is the whole word after a number, and `1if`
  * has no suffix `i`. A string of words has spaces between them, as in "u8 u16". Words have letters, digits, `_`, bytes
  * from 128 up and those of the string `word_bytes`, such as "-" for `2n-1` of CSS, and others are never found. One that
- * begins with a digit of its form is found only where the literal cannot go on with it, as behind a base suffix. Any
+ * begins with a digit of its form is found only where the literal cannot go on with it, as after a base suffix. Any
  * word that begins with a byte of the string `any` is a suffix, too, as in `1_km`. A string may be null.
  *
- * The words of the string `written`, such as "L" for Java, may be written behind an integer that the forms do not have
+ * The words of the string `written`, such as "L" for Java, may be written after an integer that the forms do not have
  * without one: the first with which peltzivar_forms_token reads all of the text as the number. */
 typedef struct {
     const char *integers, *floats, *any, *written;
@@ -764,7 +764,7 @@ enum {
     PELTZIVAR_KIND_CASE = 3, /* A letter has the wrong case. */
     PELTZIVAR_KIND_BYTE = 4, /* A byte cannot follow the bytes before it. */
     PELTZIVAR_KIND_MISSING = 5, /* Digits are missing. */
-    PELTZIVAR_KIND_SUFFIX = 6, /* The word behind a number is not a suffix of its form. */
+    PELTZIVAR_KIND_SUFFIX = 6, /* The word after a number is not a suffix of its form. */
     PELTZIVAR_KIND_POINT = 7, /* The decimal point of a number belongs to what follows, and it is none without it. */
     PELTZIVAR_KIND_STOP = 8, /* A stop of the form refuses what follows the number. */
     PELTZIVAR_KIND_OPENING = 9 /* The opening of the form is not there. */

@@ -42,8 +42,8 @@ why the others refuse it. Without a text, it prints each form with its settings.
 NOTES = """
 ## Notes
 
-The grammar of each list, and how it differs from its tool. *Refused* are texts that only the tool reads, and *read* those that it
-refuses. That some tools make doubles of large integers, or round to the next float, is left out.
+The grammar of each list, and how it differs from its tool. *Refused* are texts that only the tool reads, and *read*
+those that it refuses. That some tools make doubles of large integers, or round to the next float, is left out.
 
 """
 READS = ("-5", "+5", ".5", "1.", "1e5", "017", "1_0", "1'0", "1,000", "1.000", "1__0", "1_", "0x_F")

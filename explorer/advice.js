@@ -2,7 +2,7 @@
 const PREFIXED = /^[+-]?(?:(?:[#&][hox]|\d+#|\d\dr|\d*'s?[hdob]|x')[\da-f]|[#\p{Sc}]\d*[a-f])[\da-f_]*['#]?(?:e[+-]?\d+)?$/iu;
 /* Texts that no format has: a pattern, and words. */
 const IMPOSSIBLE = [
-    [PREFIXED, "has a sign before an opening, or an exponent behind a suffix, which no format has: read its parts each by itself."],
+    [PREFIXED, "has a sign before an opening, or an exponent after a suffix, which no format has: read its parts each by itself."],
     [/^[+-]?(?!0h)\d+(?:[/\u2044]\d+|(?:[:h]\d+)+)$/, "is a ratio or a time, which no format has: read each number, and compute the value."],
     [/^[+-]?0(?:[by][01]*[2-9]|[oq][0-7]*[89])\d*$/i, "has a digit that its prefix does not allow: binary digits are 0 and 1, octal ones 0 to 7."],
     [/^(?!\d{1,3}(?:\.\d{3})+$)\d+(?:\.\d+){2,}$/, "has several numbers, as a version has: read each by itself."],

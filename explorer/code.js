@@ -70,7 +70,7 @@ class Code {
 
     sentence(forms) {
         const named = (name) => (forms[1] ? ` of the form ${name}` : "");
-        const placed = (opening) => opening && `, behind \`${opening}\`,`;
+        const placed = (opening) => opening && `, after \`${opening}\`,`;
         return forms.map(({ name, sentence, opening }) => `Numbers${named(name)}${placed(opening)} are ${sentence}.`).join("\n\n");
     }
 

@@ -16,8 +16,8 @@ const SECTIONS = [
     ["", "separator", /digit_separator/],
 ];
 const BYTES = {
-    digit_separator: "separates digits, such as the `_` in `1_000`", base_prefix: "behind a first zero, such as the `x` in `0x1F`",
-    base_suffix: "behind the digits, such as the `h` in `1Fh`", mantissa_radix: "of the integer and fraction digits",
+    digit_separator: "separates digits, such as the `_` in `1_000`", base_prefix: "after a first zero, such as the `x` in `0x1F`",
+    base_suffix: "after the digits, such as the `h` in `1Fh`", mantissa_radix: "of the integer and fraction digits",
     exponent_base: "what is raised to the exponent, such as the 2 in 1 \u00d7 2^3", exponent_radix: "of the exponent digits",
 };
 /* Texts of which each flag and each condition refuses or accepts one. */

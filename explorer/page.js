@@ -19,7 +19,7 @@ const [PAUSE, MOST_UNDONE] = [150, 30];
 const LINK = ["language", "forms", "at", "numbers", "compare", "tab"];
 const EXAMPLE = "1_000.5\n0x1F\n-2e-3\n!1__0";
 /* What is told of a link of a file, which others do not have, and how many characters of numbers a link has. */
-const OF_FILE = "Copied. Send this file with this link, which stands behind its address.";
+const OF_FILE = "Copied. Send this file with this link, which stands after its address.";
 const MOST_LINKED = 4000;
 const MOST_FORMS = 64; // As in C and Python.
 const TOO_MANY = `A list has up to ${MOST_FORMS} forms, and this would be more: remove a form first.`;

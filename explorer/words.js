@@ -1,7 +1,7 @@
 /* What changes of a form do, in words. */
 
 /* Where the flags of separators allow these, by the second word of their names. */
-const POSITIONS = { internal: "between digits", leading: "before digits", trailing: "behind digits", consecutive: "several in a row" };
+const POSITIONS = { internal: "between digits", leading: "before digits", trailing: "after digits", consecutive: "several in a row" };
 
 const radixWord = (radix) => RADIXES[radix] ?? `radix ${radix}`;
 
@@ -44,7 +44,7 @@ function changeWords(library, form, changes) {
         mantissa_radix: () => ([prefix, suffix, opening].some((it) => it?.value) ? "" : `read ${radix} digits`),
         exponent_base: ({ value }) => (hasRadix ? "" : `exponents of ${value || "the radix"}`),
         exponent_radix: ({ value }) => (hasRadix ? "" : `${radixWord(value || library.value(form, "mantissa_radix"))} exponents`),
-        exponent: ({ value }) => (!value ? "integers alone" : `an exponent behind \`${byteText(value)}\``),
+        exponent: ({ value }) => (!value ? "integers alone" : `an exponent after \`${byteText(value)}\``),
         point: ({ value }) => (value ? `\`${byteText(value)}\` is the decimal point` : ""),
     };
     const others = changes.filter((it) => !isSeparator(it)).map((it) => {
@@ -61,7 +61,7 @@ function changeWords(library, form, changes) {
 /* The words for parts of numbers, before their texts. */
 const PART_WORDS = {
     opening: "the opening", sign: "a sign", prefix: "the prefix", digits: "", point: "the point",
-    exponent_character: "an exponent behind", suffix: "the suffix",
+    exponent_character: "an exponent after", suffix: "the suffix",
 };
 
 /* Returns in words what numbers of a form are, by the parts that they have. A part is that of the first number with it. */
@@ -85,6 +85,6 @@ function separatorWords(mark, parts) {
     const digits = parts.filter(({ kind }) => DIGITS.includes(kind)).map(({ text }) => text);
     const isInside = digits.some((it) => it.split(mark).filter(Boolean).length > 1);
     const isOutside = digits.some((it) => it.startsWith(mark) || it.endsWith(mark));
-    const places = [[isInside, "between"], [isOutside, "before or behind"]].filter(([is]) => is).map(([, place]) => place).join(", ");
+    const places = [[isInside, "between"], [isOutside, "before or after"]].filter(([is]) => is).map(([, place]) => place).join(", ");
     return places && `\`${visible(mark)}\` ${places} digits${digits.some((it) => it.includes(mark + mark)) ? ", several in a row" : ""}`;
 }

@@ -138,7 +138,7 @@ class Parts(Generic[AnyStr], metaclass=_Class):
 
 class Literal(_Keyed, _peltzivar.Found, Generic[AnyStr]):
     """A text that is a literal of a syntax. `str(literal)` is the text, and `read` makes a literal. If its form has an
-    opening, it is what is behind it.
+    opening, it is what is after it.
 
     `int(literal)` is the value of an integer, and raises a ValueError for a float and, as for each text, for more than
     4300 digits, unless the radix is a power of two. `float(literal)` is the float that is nearest to the value, or
@@ -429,7 +429,7 @@ class _Reader(_peltzivar.Reader):
         syntax, if it has one. `without_base` leaves out the base prefix and suffix. `lowercase` writes digits in
         lowercase, and `min_digits` (0 to 255) at least so many integer digits. `exponent` is "never", for a value
         without one, or "always", for floats. `decimals` (0 to 255) rounds each number, a `Literal` by its `value`, to
-        so many digits behind the point, as `format(value, ".2f")` does: to the nearest, or to the even one if two are
+        so many digits after the point, as `format(value, ".2f")` does: to the nearest, or to the even one if two are
         as near. In integers alone, and in another radix than 10, it has no effect.
 
         Of several forms, as those of a Language, the first is taken whose text all of them read as the same integer, as
@@ -893,7 +893,7 @@ def _lines(settings: Iterable[Union[Edit, str]]) -> bytes:
 
 
 def _findings(text: bytes, wanted: Iterable[int]) -> Iterable[Tuple[str, int, Tuple[int, ...]]]:
-    """Returns the text, no mask and the indexes of problems of settings, behind which are the notes on them."""
+    """Returns the text, no mask and the indexes of problems of settings, and then of the notes on them."""
     for index in wanted:
         if not (sentence := _c.settings_text(text, index)):
             break

@@ -201,8 +201,8 @@ class Columns(unittest.TestCase):
         }
         plain, buffers, how = lambda: [float(it) for it in texts], (data, offsets), {"missing": ("", "-", "NA"), "strip": True}
         rows = {name: (*row, plain) for name, row in rows.items()}
-        rows["stripped"] = 1.2, lambda: json.column(texts, **how), rows["column"][1]
-        rows["stripped offsets"] = 1.2, lambda: json.column(buffers, **how), rows["offsets"][1]
+        rows["missing= and strip="] = 1.2, lambda: json.column(texts, **how), rows["column"][1]
+        rows["missing= and strip=, offsets"] = 1.2, lambda: json.column(buffers, **how), rows["offsets"][1]
         rows["validity"] = 1.2, lambda: json.column((*buffers, b"\xff" * 100)), rows["offsets"][1]
         for name, (limit, call, other) in rows.items():
             ratios = []

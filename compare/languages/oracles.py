@@ -201,7 +201,7 @@ LANGUAGES = [
               lambda ours, theirs: theirs == (0.0,) and abs(ours.single) < 2**-126), ROUNDED]),
     Language("GNU_ASSEMBLER", "as", "018.xebf-d", "", "0e5 0e-1.5 0E+1 0f1.5 0f-1.5e3 0d.5 0D5. 1f 1b 0f 08.5 017.5 1e400 1e-400 0e1e400 1u 0b1e", [
         Cause("+", "0[a-zA-Z].*", "a letter after a zero that the manual does not name"),
-        Cause("+", r"[\d.]+[eE][+-]?", "an exponent without digits"), Cause("+", r"0\d+", "a float with a zero in front"),
+        Cause("+", r"[\d.]+[eE][+-]?", "an exponent without digits"), Cause("+", r"0\d+", "a float with a leading zero"),
         Cause("+", r"\.?([eE].*)?", "no digits before an exponent"),
         Cause("+", "(?i)nan|inf|infinity", "a name"), Cause("+", ".*'.*", "a character"), suffix("[uUlL]+"),
         Cause("+", r"\d{39,}", "an integer of more than 128 bits"),
@@ -224,7 +224,7 @@ LANGUAGES = [
     Language("MATLAB", "octave", "018.xebds-i", "_", "1d3 1D-3 1i 1e3j 0xFFu8 0xFFs8 0xFFFu8 0b1s64 0xFu64 0x80s8 0x00000000000000001 1. 1.e5", [
         suffix("[iIjJ]|[us](8|16|32|64)"), Cause("+", ".*_.*", "a separator, of Octave alone"),
         Cause("+", r"\d+\.([eEdD][+-]?\d+)?[iIjJ]?", "a point without digits"),
-        Cause("-", r"0[xXbB]0\w{16,}", "zeros in front beyond 64 bits"), doubles(2**53)]),
+        Cause("-", r"0[xXbB]0\w{16,}", "leading zeros beyond 64 bits"), doubles(2**53)]),
     Language("NASM", "nasm", "01a._hxebd$", "_", "0c8h 0c8x 17q 17o 10d 10t 101b 101y 0h1F 0y1 0q7 0t9 $0c8 1h. 1x. 7q. 7o. 9d. 9t. 1b. 1y. $0FF $0f_f $9 $0 $0x1 $ff $0_", [
         Cause("+", r"\$(\D[\w$.]*|\w+\..*)?", "two prefixes, or an address"),
         Cause("+", r"0[a-zA-Z][_.]*([eEpP][+-]?[0-9_]*)?", "no digits after a prefix"),

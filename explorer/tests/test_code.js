@@ -12,7 +12,7 @@ function test_the_sentence_the_grammar_and_the_expression_are_those_of_all_forms
         const count = forms.length;
         const isShown = (form, at) => {
             const [told, { name }] = [library.explain(form), page.list.forms[at]];
-            const opening = form.opening && `, behind ${form.opening},`;
+            const opening = form.opening && `, after ${form.opening},`;
             const sentence = `Numbers${count > 1 ? ` of the form ${name}` : ""}${opening} are ${told.sentence.replaceAll("`", "")}.`;
             return grammar.includes(told.grammar) && (count < 2 || grammar.includes(`/* ${name} */\n`)) && sentences[at] === sentence;
         };

@@ -26,7 +26,7 @@ function test_separators_are_those_of_the_form_that_reads() {
 
 /* A clause for each form has the parts that its numbers have, no others, and the languages that read all of them. */
 function test_the_sentence_tells_what_the_numbers_are() {
-    const names = { float: " float", prefix: "the prefix", exponent_character: "an exponent behind", suffix: "the suffix", sign: "a sign", runs: " digits",
+    const names = { float: " float", prefix: "the prefix", exponent_character: "an exponent after", suffix: "the suffix", sign: "a sign", runs: " digits",
         opening: "the opening" };
     return page.data.languages.flatMap(({ name, title, forms, numbers }) => {
         show(forms, numbers.replace(/^!.*$/gm, ""), name);

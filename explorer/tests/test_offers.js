@@ -30,11 +30,11 @@ const WORDS = {
     single: "floats have 32 bits / not: floats have 32 bits",
     only_read: "numbers are written in other forms / not: numbers are written in other forms",
     opening: "read `$` as decimal / no opening",
-    exponent: "an exponent behind `p` / an exponent behind `e`", point: "`,` is the decimal point / `.` is the decimal point",
+    exponent: "an exponent after `p` / an exponent after `e`", point: "`,` is the decimal point / `.` is the decimal point",
     ...Object.fromEntries(Object.entries(REFUSED).map(([name, text]) => {
         return [name, `refuse \`${text}\`: ${name.replace("required", "require").replaceAll("_", " ")} / allow \`${text}\``];
     })),
-    ...Object.fromEntries(["between digits", "before digits", "behind digits", "several in a row"].flatMap((place, index) => {
+    ...Object.fromEntries(["between digits", "before digits", "after digits", "several in a row"].flatMap((place, index) => {
         const name = ["internal", "leading", "trailing", "consecutive"][index];
         return ["", " of the fraction", " of the exponent"].map((part) => {
             return [`${part.slice(8) || "integer"}_${name}_digit_separator`, `allow \`_\` ${place}${part} / refuse \`_\` ${place}${part}`];
@@ -70,7 +70,7 @@ const FIRST = [
     ["", "1.5em", "`em` is a suffix in CSS", /radix.36|allow/], ["C_PLUS_PLUS", "10_km", "`_km` is a suffix in C++", /radix.36/],
     ["FORTRAN", "1.5_dp", "`_dp` is a suffix in Fortran", /radix.36/], ["JAVA", "01F", "`F` is a suffix in Java", /radix.36/],
     ["JAVA", "010F", "`F` is a suffix in Java", /try/], ["C", "10ULL", "`ULL` is a suffix in C:", /currency/], ["C_SHARP", "1.5M", "`M` is a suffix", /try/],
-    ["", "0x1F\n1_000", "read `0x` as hexadecimal, an exponent behind `p`, as a form of its own", /one form/], ["JSON", "NaN", "The language", /change/],
+    ["", "0x1F\n1_000", "read `0x` as hexadecimal, an exponent after `p`, as a form of its own", /one form/], ["JSON", "NaN", "The language", /change/],
     ["", "5\n!1.5", "integers alone", /integer digits|mantissa sign/], ["", "0x1F\n5\n!1.5", "read `0x` as hexadecimal", /radix.36/],
     ["", "0.5\n!.5\n!5.", "refuse `.5`: require integer digits", /leading zero/], ["", "!5.", "refuse `5.`: require fraction digits", /leading zero/],
     ["", "17\n!017", "refuse `01`: no integer leading zeros", /mantissa sign/], ["", "!1e5", "refuse `1e5`: no exponent notation", /radix.36/],

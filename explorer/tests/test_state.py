@@ -100,7 +100,7 @@ class State(Walk):
         self.click("#undo")
         self.assertEqual(self.value(), STANDARD)
 
-    def test_a_copied_link_of_a_file_stands_behind_its_address(self):
+    def test_a_copied_link_of_a_file_stands_after_its_address(self):
         numbers = "\n".join(f"1_{index}" for index in range(2000))
         lines = numbers[:4001].count("\n")
         for language in ("RUST", ""):
@@ -109,7 +109,7 @@ class State(Walk):
                 page.change({ numbers: arguments[1] });
                 find("copy-link").click();""", language, numbers)
             self.wait(lambda: self.text("#copy-link") == "copied")
-            self.assertEqual(self.text("#told"), f"The link has the first {lines} lines alone. Copied. Send this file with this link, which stands behind its address.")
+            self.assertEqual(self.text("#told"), f"The link has the first {lines} lines alone. Copied. Send this file with this link, which stands after its address.")
             self.wait(lambda: self.text("#copy-link") == "Copy link")
             name, _, fragment = self.run_script("return window.copied").partition("#")
             self.assertEqual((name, len(fragment) < 6000), ("index.html", True))

@@ -5,7 +5,8 @@ use crate::list;
 use crate::literals::*;
 use crate::measure::Row;
 use crate::random::Random;
-use peltzivar::literal::{Language, Style, Syntax, WriteError, Written};
+use peltzivar::literal::{Forms, Language, Literal, Style, Syntax, WriteError, Written};
+use std::fmt::Write;
 use std::hint::black_box;
 
 calls! {
@@ -16,6 +17,10 @@ calls! {
     prefix: |group| { let it = syntax(group); move |text| black_box(it.read_prefix(text)).is_ok() };
     list_prefix: |group| { let it = group.language; move |text| black_box(it.read_prefix(text)).is_ok() };
     value_prefix: |group| { let it = group.language; move |text| black_box(it.parse_prefix::<i64>(text)).is_ok() };
+    made: |group| {
+        let forms = group.language.forms().as_slice().to_vec();
+        move |text| Forms::new(black_box(&forms)).is_some_and(|it| black_box(it.parse::<i64>(text)).is_ok())
+    };
     scaled: |group| {
         let it = group.language;
         move |text| it.read(text).is_ok_and(|it| it.literal().is_some_and(|it| black_box(it.to_scaled::<i64>(2)).is_ok()))
@@ -86,6 +91,7 @@ fn readers(random: &mut Random) -> Vec<Row> {
     let mut rows = of_languages! { random;
         "parse::<i64>, 1 to 9 digits, over Syntax::parse", [JSON 0 RUST 0 C 0 CSV_DE 0], list_value, value, |_it| integer(random, None);
         "parse::<i64>, 18 digits, over Syntax::parse", [JSON 0 RUST 0 C 0 CSV_DE 0], list_value, value, |_it| 1.to_string() + &fixed(random, 17);
+        "parse::<i64>, made list, over parse::<i64>", [JSON 0 RUST 0 C 0 CSV_DE 0], made, list_value, |_it| integer(random, None);
         "parse::<f64>, mixed, over Syntax::parse", [JSON 0 RUST 0 C 0 CSV_DE 0], list_float, float, |_it| mixed(random);
         "parse::<f64>, one shape, over Syntax::parse", [JSON 0 RUST 0 C 0 CSV_DE 0], list_float, float, |_it| shape(random);
         "parse::<f64>, money, over Syntax::parse", [JSON 0 RUST 0 C 0 CSV_DE 0], list_float, float, |_it| money(random);
@@ -121,17 +127,22 @@ fn readers(random: &mut Random) -> Vec<Row> {
     rows
 }
 
-fn size(written: Result<Written, WriteError>) -> u64 {
+fn size(written: Result<Written, WriteError>) -> usize {
     let written = written.expect("a number");
-    black_box(written.write_into(&mut [0; 400]).expect("400 bytes")).len() as u64
+    black_box(written.write_into(&mut [0; 400]).expect("400 bytes")).len()
 }
 
-/// Returns the rows of calls that write over those of the first form.
+/// Returns the rows of calls that write over those of the first form or, for integers with two places, over std.
 fn writers(random: &mut Random) -> Vec<Row> {
     let integers: &[i64] = list(random, 20_000, |random| (random.next() >> 1) as i64 >> random.below(63));
-    let floats: &[f64] = list(random, 20_000, |random| (random.below(100_000_000) * 100 + 1 + random.below(99)) as f64 / 100.0);
+    let floats: &[f64] =
+        list(random, 20_000, |random| (random.below(100_000_000) * 100 + 1 + random.below(99)) as f64 / 100.0);
+    let literals: &[&Literal] = list(random, 20_000, |random| {
+        let literal = Language::JSON.forms()[0].syntax().read(money(random).leak());
+        &*Box::leak(Box::new(literal.expect("a literal")))
+    });
     let mut rows = vec![];
-    for language in [Language::JSON, Language::RUST, Language::C] {
+    for language in [Language::JSON, Language::RUST, Language::C, Language::CSV_DE] {
         let (forms, syntax) = (language.forms(), language.forms()[0].syntax());
         let name = |call| &*[language.name(), call].concat().leak();
         macro_rules! push {
@@ -139,13 +150,19 @@ fn writers(random: &mut Random) -> Vec<Row> {
                 rows.push(Row {
                     name: name(concat!("::", stringify!($call), ", over Syntax::", stringify!($call))),
                     calls: $values.len(),
-                    ours: Box::new(move || $values.iter().map(|it| size(forms.$call(*it, Style::PLAIN))).sum()),
-                    theirs: Box::new(move || $values.iter().map(|it| size(syntax.$call(*it, Style::PLAIN))).sum()),
+                    ours: Box::new(move || $values.iter().map(|it| size(forms.$call(*it, Style::PLAIN)) as u64).sum()),
+                    theirs: Box::new(move || {
+                        $values.iter().map(|it| size(syntax.$call(*it, Style::PLAIN)) as u64).sum()
+                    }),
                 })
             };
         }
         push!(format_integer, integers);
         push!(format_float, floats);
+        push!(format_literal, literals);
+        let scaled = move |it| size(forms.format_scaled(it, 2, Style::PLAIN.group(0)));
+        let by_hand = |text: &mut String, it| write!(text, "{}.{:02}", it / 100, it % 100).expect("memory");
+        rows.push(written(name("::format_scaled, over by hand"), integers, scaled, by_hand));
     }
     rows
 }

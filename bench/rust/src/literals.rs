@@ -164,7 +164,7 @@ pub fn row<F: Fn(&str) -> bool, G: Fn(&str) -> bool>(
 }
 
 /// Returns a row of writers. Each loop returns the number of bytes that it writes. `theirs` writes a number by std.
-fn written<T: Copy>(
+pub fn written<T: Copy>(
     name: &'static str,
     values: &'static [T],
     write: impl Fn(T) -> usize + 'static,

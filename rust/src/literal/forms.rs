@@ -66,8 +66,8 @@ impl<'a> Forms<'a> {
         self.forms[0].opening.is_empty() && may_be_decimal(text)
     }
 
-    // Returns whether it is tried where one number is read. The library for C and the page, which set `peltzivar_small`,
-    // have no second copy of the reader for this.
+    // Returns whether it is tried where one number is read. The library for C and the explorer, which set
+    // `peltzivar_small`, have no second copy of the reader for this.
     #[inline(always)]
     fn asks_first(&self, text: &[u8]) -> bool {
         !cfg!(peltzivar_small) && self.may_be_first(text)

@@ -21,6 +21,7 @@ pub(super) const ALIASES: &[(&str, Language)] = &[
     ("hs", Language::HASKELL),
     ("js", Language::JAVASCRIPT),
     ("mysql", Language::SQL),
+    ("octave", Language::MATLAB),
     ("postgres", Language::SQL),
     ("racket", Language::SCHEME),
     ("rb", Language::RUBY),
