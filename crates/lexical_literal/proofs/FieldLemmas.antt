@@ -1,6 +1,6 @@
 -- What the fields of a grammar tell of the word of its format.
 use Rattle.lexical_literal.proofs.Common.{IsUsual, None, Some, Condition, Conditions, [], ◌∷◌, ◌-◌, ◌||◌, and_parts, eqb-true, has, is_same, kept, number_of}
-use Rattle.lexical_literal.proofs.Common.{AreSums, Cuts, IsCut, IsSmall, IsTrue, List, Option, allowed_ascii, cut, number, places, summed_in}
+use Rattle.lexical_literal.proofs.Common.{IsTrue, allowed_ascii, number}
 use Rattle.lexical_literal.proofs.Common.{Bool, Flag, Part, Record, ap, arith, bit, bit_and, effective_exponent_radix, exponent_character_of, false}
 use Rattle.lexical_literal.proofs.Common.{false≢true, if◌then◌else◌, inl, inr, lacks_options, length, mod-lt, nat_tests, not, notation_of, point_of, radix_of}
 use Rattle.lexical_literal.proofs.Common.{raw, refl, subst, sym, true, used_separator, ℕ, ◌%◌, ◌&&◌, ◌<◌, ◌==◌, ◌^◌, ◌∙◌, ◌≡◌}
@@ -12,12 +12,11 @@ use Rattle.lexical_util.specs.Layout as layout
 use Rattle.lexical_util.specs.declared.format_flags.Part.TheVariants as parts
 use Rattle.lexical_util.specs.NormalForm.{IsNormal}
 use Rattle.lexical_util.specs.Record.{SeparatorAllowedOrAbsent, bytes_of, effective, effective_exponent_base, record_of, word_from}
-use Rattle.lexical_util.specs.Unfoldable.{cased}
+use Rattle.lexical_util.specs.Unfoldable.{cased, IsPunctuation, Lawful}
 use Rattle.lexical_literal.specs.Additions.Fields.{AreFields, byte_of, options_if, worded}
 use Rattle.lexical_literal.specs.Additions.Scan.{IsDecimal, are_usual}
 use Rattle.lexical_util.specs.Rules.{IsRadix}
 use Rattle.lexical_util.specs.Options.{OptionsFit}
-use Rattle.lexical_util.specs.Unfoldable.{IsPunctuation, Lawful}
 use Rattle.lexical_literal.specs.Syntax.{IsSyntax, contradiction, fault}
 use Rattle.lexical_literal.specs.Notation.{no_conditions}
 use Rattle.lexical_literal.specs.Worded.{Worded}

@@ -267,16 +267,14 @@ impl Grammar {
                 text,
                 counts,
                 Part::Integer,
-                mantissa.digits,
-                mantissa.value,
+                mantissa,
             ),
             has_exponent: are_few(
                 radix_of(self, Part::Exponent),
                 text,
                 counts,
                 Part::Exponent,
-                exponent.digits,
-                exponent.value,
+                exponent,
             ),
             places,
             opened: 0,
@@ -387,20 +385,20 @@ fn sums_of(radix: u32, exponent_radix: u32, parts: &Parts) -> Sums
 }
 
 // Returns whether the digits of the exponent, or else of the integer and the fraction together, are so few behind their leading zeros that
-// `sum` is the number. There are `digits` of them, and `sum` is the number modulo `2 ^ 64`.
+// their sum is the number.
 #[inline(always)]
-fn are_few(radix: u32, text: &[u8], counts: [usize; 9], part: Part, digits: usize, sum: u64) -> bool
+fn are_few(radix: u32, text: &[u8], counts: [usize; 9], part: Part, sum: Sum) -> bool
     requires radix { IsRadix radix }
     requires cut { (m : Notation) × IsCut m text.now (cuts_of counts) }
-    requires sum { IsSum radix (summed_in part (cut text.now (cuts_of counts))) (record { digits = digits; value = sum }) }
-    ensures { IsSmall radix (number radix (summed_in part (cut text.now (cuts_of counts)))) (given result sum) }
+    requires sum { IsSum radix (summed_in part (cut text.now (cuts_of counts))) sum }
+    ensures { IsSmall radix (number radix (summed_in part (cut text.now (cuts_of counts)))) (given result sum.value) }
 {
-    if fits(radix, digits) {
+    if fits(radix, sum.digits) {
         return true;
     }
     let parts = parts_of(text, counts);
     match part {
-        Part::Exponent => is_small(radix, parts.exponent, &[], digits, sum),
-        _ => is_small(radix, parts.integer, parts.fraction, digits, sum),
+        Part::Exponent => is_small(radix, parts.exponent, &[], sum.digits),
+        _ => is_small(radix, parts.integer, parts.fraction, sum.digits),
     }
 }

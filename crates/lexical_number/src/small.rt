@@ -1,6 +1,6 @@
 //! Numbers of 64 bits, by the digits that represent them.
 
-ghost use Rattle.std.specs.Prelude.{None, Some, if◌then◌else◌, ◌≡◌, ◌↔◌, ◌%◌, ◌^◌, ◌≤◌, ◌++◌, ◌==◌, IsTrue, length};
+ghost use Rattle.std.specs.Prelude.{ℕ, None, Some, if◌then◌else◌, ◌≡◌, ◌↔◌, ◌%◌, ◌^◌, ◌≤◌, ◌++◌, ◌==◌, IsTrue, length};
 ghost use Rattle.lexical_number.specs.Number.{number_after, digits_in, number, places};
 ghost use Rattle.lexical_number.specs.Small.{IsSmall, leading_zeros};
 
@@ -92,21 +92,16 @@ const fn all_zeros(integer: &[u8], fraction: &[u8], radix: u32) -> usize
 }
 
 /// Returns whether the digits of `integer` and `fraction` are so few behind their leading zeros that each number of so many is below
-/// `2 ^ 64`. There are `digits` of them. `sum` is the number that they represent together, modulo `2 ^ 64`.
+/// `2 ^ 64`. There are `digits` of them.
 #[must_use]
 #[cold]
 #[tactic(auto, using(crate::proofs::SmallLemmas::sizes))]
-pub const fn is_small(
-    radix: u32,
-    integer: &[u8],
-    fraction: &[u8],
-    digits: usize,
-    sum: u64,
-) -> bool
+pub const fn is_small(radix: u32, integer: &[u8], fraction: &[u8], digits: usize) -> bool
     requires radix { (2 ≤ radix) × (radix ≤ 36) }
     requires digits { digits ≡ places radix (integer.now ++ fraction.now) }
-    requires sum { sum ≡ number radix (integer.now ++ fraction.now) % 2 ^ 64 }
-    ensures { IsSmall radix (number radix (integer.now ++ fraction.now)) (if result then Some sum else None) }
+    // The number is the sum of the digits modulo `2 ^ 64` then.
+    ensures { (sum : ℕ) → sum ≡ number radix (integer.now ++ fraction.now) % 2 ^ 64
+        → IsSmall radix (number radix (integer.now ++ fraction.now)) (if result then Some sum else None) }
 {
     fits(radix, digits - all_zeros(integer, fraction, radix))
 }

@@ -5,7 +5,7 @@
 use crate::literal::kind::Kind;
 use crate::literal::step::radix_of;
 use crate::literal::syntax::{Grammar, Syntax};
-use crate::literal::value::number::small::{add_all, count, fits, small};
+use crate::literal::value::number::small::{add_all, count, fits, is_small};
 use crate::word::{FormatView, Part};
 
 /// The parts of a literal, in the order of the text. An absent part has no bytes.
@@ -160,8 +160,8 @@ impl Grammar {
             view: self.view(),
             mantissa: mantissa.value,
             exponent: exponent.value,
-            has_mantissa: are_few(self.radix, text, counts, Part::Integer, mantissa.digits, mantissa.value),
-            has_exponent: are_few(self.exponent_radix, text, counts, Part::Exponent, exponent.digits, exponent.value),
+            has_mantissa: are_few(radix_of(&self, Part::Integer), text, counts, Part::Integer, mantissa),
+            has_exponent: are_few(radix_of(&self, Part::Exponent), text, counts, Part::Exponent, exponent),
             places,
             opened: 0,
             kind,
@@ -239,17 +239,15 @@ const fn sums_of(radix: u32, exponent_radix: u32, parts: &Parts) -> Sums {
 }
 
 // Returns whether the digits of the exponent, or else of the integer and the fraction together, are so few behind their leading zeros that
-// `sum` is the number. There are `digits` of them, and `sum` is the number modulo `2 ^ 64`.
+// their sum is the number.
 #[inline(always)]
-const fn are_few(radix: u8, text: &[u8], counts: [usize; 9], part: Part, digits: usize, sum: u64) -> bool {
-    let radix = radix as u32;
-    if fits(radix, digits) {
+const fn are_few(radix: u32, text: &[u8], counts: [usize; 9], part: Part, sum: Sum) -> bool {
+    if fits(radix, sum.digits) {
         return true;
     }
     let parts = parts_of(text, counts);
-    let number = match part {
-        Part::Exponent => small(radix, parts.exponent, &[], digits, sum),
-        _ => small(radix, parts.integer, parts.fraction, digits, sum),
-    };
-    matches!(number, Some(_))
+    match part {
+        Part::Exponent => is_small(radix, parts.exponent, &[], sum.digits),
+        _ => is_small(radix, parts.integer, parts.fraction, sum.digits),
+    }
 }

@@ -19,34 +19,27 @@ module _ (radix digits sum : ℕ) (bytes all : List ℕ) (same : bytes ≡ all) 
   summed is low = low ∙ is ∙ sym (ap (λ bytes. number radix bytes % 2 ^ 64) same)
 
 pub returns-then-fits : goal.returns-then-fits
-returns-then-fits c = fitting_word c.args.radix c.args.digits c.args.sum (summed_in c.args.part (cut c.args.text.now (cuts_of c.args.counts)))
-    (c.fits.ensures.0 c.if-fits.true) c.requires.sum.digits (omega (arith, c.requires.sum.value, c.ranges.sum.fits))
+returns-then-fits c = fitting_word c.args.radix c.args.sum.digits c.args.sum.value (summed_in c.args.part (cut c.args.text.now (cuts_of c.args.counts)))
+    (c.fits.ensures.0 c.if-fits.true) c.requires.sum.digits (omega (arith, c.requires.sum.value, c.well_formed))
 
 pub is_small-requires-clause-digits : goal.is_small-requires-clause-digits
 is_small-requires-clause-digits c = let is = c.requires.cut.1 in let k = cut c.args.text.now (cuts_of c.args.counts) in
-    counted c.args.radix c.args.digits c.args.sum _ _
+    counted c.args.radix c.args.sum.digits c.args.sum.value _ _
     (alone _ k c.args.part (c.parts_of-parts.ensures k is.reads.whole is.lengths) c.in-Exponent.is) c.requires.sum.digits
 
-pub is_small-requires-clause-sum : goal.is_small-requires-clause-sum
-is_small-requires-clause-sum c = let is = c.requires.cut.1 in let k = cut c.args.text.now (cuts_of c.args.counts) in
-    summed c.args.radix c.args.digits c.args.sum _ _
-    (alone _ k c.args.part (c.parts_of-parts.ensures k is.reads.whole is.lengths) c.in-Exponent.is) c.requires.sum.value
-    (omega (arith, c.ranges.sum.fits))
-
-pub is_small-requires-in_default : goal.is_small-requires-in_default
-is_small-requires-in_default c = let is = c.requires.cut.1 in let k = cut c.args.text.now (cuts_of c.args.counts) in
-    let same = joined _ k c.args.part (c.parts_of-parts.ensures k is.reads.whole is.lengths) c.in_default.not-Exponent in record {
-      radix = c.requires.radix;
-      digits = counted c.args.radix c.args.digits c.args.sum _ _ same c.requires.sum.digits;
-      sum = summed c.args.radix c.args.digits c.args.sum _ _ same c.requires.sum.value (omega (arith, c.ranges.sum.fits));
-    }
+pub is_small-requires-in_default-clause-digits : goal.is_small-requires-in_default-clause-digits
+is_small-requires-in_default-clause-digits c = let is = c.requires.cut.1 in let k = cut c.args.text.now (cuts_of c.args.counts) in
+    counted c.args.radix c.args.sum.digits c.args.sum.value _ _
+    (joined _ k c.args.part (c.parts_of-parts.ensures k is.reads.whole is.lengths) c.in_default.not-Exponent) c.requires.sum.digits
 
 pub returns-in-Exponent : goal.returns-in-Exponent
 returns-in-Exponent c = let is = c.requires.cut.1 in let k = cut c.args.text.now (cuts_of c.args.counts) in
-    subst (λ bytes. IsSmall c.args.radix (number c.args.radix bytes) (given c.is_small.result c.args.sum))
-    (alone _ k c.args.part (c.parts_of-parts.ensures k is.reads.whole is.lengths) c.in-Exponent.is) c.is_small.ensures
+    let same = alone _ k c.args.part (c.parts_of-parts.ensures k is.reads.whole is.lengths) c.in-Exponent.is in
+    subst (λ bytes. IsSmall c.args.radix (number c.args.radix bytes) (given c.is_small.result c.args.sum.value)) same (c.is_small.ensures _
+    (summed c.args.radix c.args.sum.digits c.args.sum.value _ _ same c.requires.sum.value (omega (arith, c.well_formed))))
 
 pub returns-in_default : goal.returns-in_default
 returns-in_default c = let is = c.requires.cut.1 in let k = cut c.args.text.now (cuts_of c.args.counts) in
-    subst (λ bytes. IsSmall c.args.radix (number c.args.radix bytes) (given c.is_small-in_default.result c.args.sum))
-    (joined _ k c.args.part (c.parts_of-parts.ensures k is.reads.whole is.lengths) c.in_default.not-Exponent) c.is_small-in_default.ensures
+    let same = joined _ k c.args.part (c.parts_of-parts.ensures k is.reads.whole is.lengths) c.in_default.not-Exponent in
+    subst (λ bytes. IsSmall c.args.radix (number c.args.radix bytes) (given c.is_small-in_default.result c.args.sum.value)) same
+    (c.is_small-in_default.ensures _ (summed c.args.radix c.args.sum.digits c.args.sum.value _ _ same c.requires.sum.value (omega (arith, c.well_formed))))
