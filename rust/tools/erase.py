@@ -88,6 +88,8 @@ REPLACED = [
     ("cause.rt", "self.goes_on(other) && self.group_goes_on(other)", "self.goes_on(&other) && self.group_goes_on(&other)"),
     ("span.rt", "        grammar,\n        read,", "        grammar: *grammar,\n        read,"),
     ("scan.rt", "scan(self.usual_grammar(),", "scan(&self.usual_grammar(),"),
+    ("lexical_literal/src/literal.rt", "radix_of(self, Part::Integer)", "radix_of(&self, Part::Integer)"),
+    ("lexical_literal/src/literal.rt", "radix_of(self, Part::Exponent)", "radix_of(&self, Part::Exponent)"),
 ]
 
 # Files in which each function is const in plain Rust. Rattle's `split_at` is not, nor is what calls it.

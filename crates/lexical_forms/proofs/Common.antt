@@ -34,7 +34,7 @@ pub use Rattle.lexical_literal.specs.Front.{BeginsBy, IsFront, IsValidBy, IsVali
 pub use Rattle.lexical_literal.specs.Literal.{Literal, Reads, begins_with, is_absent, is_float, is_none_or_one, is_none_or_prefix, is_present, may_begin}
 pub use Rattle.lexical_literal.specs.Literal.{text_of}
 pub use Rattle.lexical_literal.specs.Notation.{Notation, has, notation_of, radix_of, set_of_role}
-pub use Rattle.lexical_literal.specs.Read.{Read, radixes_of}
+pub use Rattle.lexical_literal.specs.Read.{Read}
 pub use Rattle.lexical_literal.specs.Readings.{AllIn, prefix_byte, run_byte}
 pub use Rattle.lexical_literal.specs.Syntax.{IsSyntax}
 pub use Rattle.lexical_literal.specs.declared.cause.ReadErrorKind.{ReadErrorKind}

@@ -8,7 +8,7 @@ use Rattle.lexical_forms.proofs.Common.{IsPicked, IsRefused, IsSomeAnd, IsToken,
 use Rattle.lexical_forms.proofs.Common.{None, NonePast, NoneBy, Option, PointsBack, Read, ReadsForm, ReadsIn, Some, [], ◌∷◌}
 use Rattle.lexical_forms.proofs.Common.{Token, Tokens, ap, arith, cuts_of, drop, false, gives_back, goes_on, has_float, if◌then◌else◌}
 use Rattle.lexical_forms.proofs.Common.{inl, inr, is_ascii_digit, is_float, is_in, is_shorter, is_stopped, is_word_byte, kind_with, length, length-take-le}
-use Rattle.lexical_forms.proofs.Common.{more_of, nat_tests, notation_of, radixes_of, refl, slice_get, stop_end, subst, suffix_size, suffix_words}
+use Rattle.lexical_forms.proofs.Common.{more_of, nat_tests, notation_of, refl, slice_get, stop_end, subst, suffix_size, suffix_words}
 use Rattle.lexical_forms.proofs.Common.{suffixed, sym, take, take_all, true, whole, ℕ, ◌&&◌, ◌+◌, ◌-◌, ◌<◌, ◌==◌, ◌||◌, ◌∙◌, ◌≡◌, ◌≤◌, ◌⊎◌}
 use Rattle.lexical_forms.specs.declared.token.TokenError.{TokenError}
 use Rattle.lexical_literal.specs.declared.literal.Sums.{Sums}
@@ -275,7 +275,7 @@ some_form forms text i read is none = go (slice_get forms i) refl is.reads where
 module _ (list : FormList) (t : Tokens) (text : List ℕ) where
   -- The token that was picked, or why there is none.
   module _ (index : ℕ) (form : Form) (c : Candidate) (is : IsPicked list t text index form c) where
-    pub token_is : (token : Token) → token.form ≡ index → (token.literal.format ≡ radixes_of form.syntax.word) × ReadsIn form token.literal.literal (take c.size text)
+    pub token_is : (token : Token) → token.form ≡ index → (token.literal.format ≡ form.syntax.word) × ReadsIn form token.literal.literal (take c.size text)
         → token.literal.kind ≡ kind_with form.suffixes token.suffix.now form.kind → token.literal.opened ≡ form.opening.size
         → token.suffix.now ≡ take (c.end - c.size) (drop c.size text) → token.rest.now ≡ drop c.end text
         → IsFollowed list t text c.end ⊎ (IsOver list t text c.end × (is_stopped (lets_words t form text c.end) form.suffixes text c.end ≡ false))

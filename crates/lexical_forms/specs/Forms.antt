@@ -7,7 +7,7 @@ use Rattle.lexical_literal.specs.Cause.{Explained, IsRefusal, is_in, tail_of}
 use Rattle.lexical_literal.specs.Front.{IsValidBy, NoFrontBy, NoneBy, ReadsFrontBy}
 use Rattle.lexical_literal.specs.Literal.{Literal, Reads}
 use Rattle.lexical_literal.specs.Notation.{Notation, notation_of}
-use Rattle.lexical_literal.specs.Read.{Read, radixes_of}
+use Rattle.lexical_literal.specs.Read.{Read}
 use Rattle.lexical_forms.specs.Specials.{special_of}
 use Rattle.lexical_forms.specs.FormList.{FormList}
 use Rattle.lexical_literal.specs.declared.cause.Refusal.{Refusal}
@@ -43,7 +43,7 @@ HasFront text form size = (l : Literal) × ReadsFrontBy (ReadsIn form) l text si
 
 -- `ReadsForm text read form` holds if `text` is the literal `read` of `form`, and has its kind.
 abbrev pub ReadsForm : List ℕ → Read → Form → Type 0
-ReadsForm text read form = (read.format ≡ radixes_of form.syntax.word) × (read.kind ≡ form.kind) × ReadsIn form read.literal text
+ReadsForm text read form = (read.format ≡ form.syntax.word) × (read.kind ≡ form.kind) × ReadsIn form read.literal text
 
 -- `NoForm forms text` holds if `text` is a literal of none of `forms`.
 abbrev pub NoForm : List Form → List ℕ → Type 0

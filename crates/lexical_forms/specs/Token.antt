@@ -10,7 +10,6 @@ use Rattle.lexical_forms.specs.Forms.{HasFront, IsFormError, IsGreatest, NoForm,
 use Rattle.lexical_literal.specs.Front.{IsValidBy}
 use Rattle.lexical_literal.specs.Literal.{Literal, is_float}
 use Rattle.lexical_literal.specs.Notation.{notation_of}
-use Rattle.lexical_literal.specs.Read.{radixes_of}
 use Rattle.lexical_forms.specs.Suffix.{byte_before, is_followed, is_stopped, is_word_byte, kind_with, more_of, stop_end}
 use Rattle.lexical_forms.specs.Suffix.{suffix_size, suffix_words, word_size}
 use Rattle.lexical_forms.specs.declared.form.Form.{Form}
@@ -105,7 +104,7 @@ module _ (list : FormList) (t : Tokens) (text : List ℕ) where
     pub size : ℕ
     pub end : ℕ
     pub chosen : IsChosen token.form form size end
-    pub literal : (token.literal.format ≡ radixes_of form.syntax.word) × ReadsIn form token.literal.literal (take size text)
+    pub literal : (token.literal.format ≡ form.syntax.word) × ReadsIn form token.literal.literal (take size text)
     pub kind : token.literal.kind ≡ kind_with form.suffixes token.suffix.now form.kind
     pub opened : token.literal.opened ≡ form.opening.size
     pub suffix : token.suffix.now ≡ take (end - size) (drop size text)

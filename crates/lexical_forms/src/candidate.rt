@@ -9,9 +9,9 @@ ghost use Rattle.lexical_forms.specs.Additions.Token.{HasNoWord, HasSumsOf, IsAs
 ghost use Rattle.lexical_forms.specs.Additions.Token.{IsWinner, IsYet, NoCandidate, NoOwn, goes_on, has_float, is_longer, suffixed, whole};
 ghost use Rattle.lexical_literal.specs.Cause.{is_in};
 ghost use Rattle.lexical_literal.specs.Additions.Literal.{AreSums, IsCut, cut};
+ghost use Rattle.lexical_literal.specs.Read.{exact};
 ghost use Rattle.lexical_literal.specs.Additions.Step.{cuts_of};
 ghost use Rattle.lexical_literal.specs.Notation.{notation_of};
-ghost use Rattle.lexical_literal.specs.Read.{exact, radixes_of};
 ghost use Rattle.lexical_forms.specs.Forms.{IsGreatest, ReadsIn};
 ghost use Rattle.lexical_forms.specs.Suffix.{is_stopped, kind_with, stop_end};
 ghost use Rattle.lexical_forms.specs.Token.{IsAhead, IsOver, IsReadByTokens, IsRefused, IsTokenError, is_alone, is_shorter, lets_words, part_size};
@@ -401,7 +401,7 @@ impl Form {
     fn literal_of<'t>(&self, text: &'t [u8], counts: [usize; 9], sums: Option<Sums>) -> Literal<'t>
         requires cut { IsCut (notation_of self.now.syntax) text.now (cuts_of counts) }
         requires sums { ForSome sums (AreSums (raw self.now.syntax.word) (cut text.now (cuts_of counts))) }
-        ensures { result ≡ record { format = radixes_of self.now.syntax.word; literal = cut text.now (cuts_of counts); kind = exact; opened = 0 } }
+        ensures { result ≡ record { format = self.now.syntax.word; literal = cut text.now (cuts_of counts); kind = exact; opened = 0 } }
     {
         match sums {
             None => self.syntax.summed(text, counts),
@@ -417,7 +417,7 @@ impl Form {
         requires order { candidate.size ≤ candidate.end }
         requires within { candidate.end ≤ length text.now }
         ensures form { result.form ≡ form }
-        ensures literal { (result.literal.format ≡ radixes_of self.now.syntax.word) × ReadsIn self.now result.literal.literal (take candidate.size text.now) }
+        ensures literal { (result.literal.format ≡ self.now.syntax.word) × ReadsIn self.now result.literal.literal (take candidate.size text.now) }
         ensures kind { result.literal.kind ≡ kind_with self.now.suffixes result.suffix.now self.now.kind }
         ensures opened { result.literal.opened ≡ self.now.opening.size }
         ensures suffix { result.suffix.now ≡ take (candidate.end - candidate.size) (drop candidate.size text.now) }

@@ -1,6 +1,6 @@
 -- What the fields of a grammar tell of the word of its format.
 use Rattle.lexical_literal.proofs.Common.{IsUsual, None, Some, Condition, Conditions, [], ◌∷◌, ◌-◌, ◌||◌, and_parts, eqb-true, has, is_same, kept, number_of}
-use Rattle.lexical_literal.proofs.Common.{AreSums, Cuts, IsCut, IsSmall, IsTrue, List, Option, allowed_ascii, cut, number, places, summed_in}
+use Rattle.lexical_literal.proofs.Common.{IsTrue, allowed_ascii, number}
 use Rattle.lexical_literal.proofs.Common.{Bool, Flag, Part, Record, ap, arith, bit, bit_and, effective_exponent_radix, exponent_character_of, false}
 use Rattle.lexical_literal.proofs.Common.{false≢true, if◌then◌else◌, inl, inr, lacks_options, length, mod-lt, nat_tests, not, notation_of, point_of, radix_of}
 use Rattle.lexical_literal.proofs.Common.{raw, refl, subst, sym, true, used_separator, ℕ, ◌%◌, ◌&&◌, ◌<◌, ◌==◌, ◌^◌, ◌∙◌, ◌≡◌}
@@ -12,17 +12,13 @@ use Rattle.lexical_util.specs.Layout as layout
 use Rattle.lexical_util.specs.declared.format_flags.Part.TheVariants as parts
 use Rattle.lexical_util.specs.NormalForm.{IsNormal}
 use Rattle.lexical_util.specs.Record.{SeparatorAllowedOrAbsent, bytes_of, effective, effective_exponent_base, record_of, word_from}
-use Rattle.lexical_util.specs.Unfoldable.{cased}
+use Rattle.lexical_util.specs.Unfoldable.{cased, IsPunctuation, Lawful}
 use Rattle.lexical_literal.specs.Additions.Fields.{AreFields, byte_of, options_if, worded}
 use Rattle.lexical_literal.specs.Additions.Scan.{IsDecimal, are_usual}
 use Rattle.lexical_util.specs.Rules.{IsRadix}
 use Rattle.lexical_util.specs.Options.{OptionsFit}
-use Rattle.lexical_util.specs.Unfoldable.{IsPunctuation, Lawful}
-use Rattle.lexical_literal.specs.Read.{radixes, radixes_of}
 use Rattle.lexical_literal.specs.Syntax.{IsSyntax, contradiction, fault}
-use Rattle.lexical_literal.specs.Additions.Literal.{AreBytes, IsMade}
 use Rattle.lexical_literal.specs.Notation.{no_conditions}
-use Rattle.lexical_literal.specs.declared.literal.Sums.{Sums}
 use Rattle.lexical_literal.specs.Worded.{Worded}
 use Rattle.lexical_literal.specs.declared.syntax.Condition.TheVariants as conditions
 use Rattle.lexical_literal.proofs.NumberLemmas.{is_kept, none_of_all}
@@ -93,10 +89,6 @@ module _ (a : Inside) (g : Worded) (h : AreFields a) (same : worded a ≡ g) whe
   pub radix_is : a.exponent_radix ≡ effective_exponent_radix (raw g.word)
   radix_is = sym h.radix ∙ ap effective_exponent_radix record_is
 
-  -- The base is filled.
-  pub base_is : a.exponent_base ≡ effective_exponent_base (raw g.word)
-  base_is = sym h.base ∙ ap effective_exponent_base record_is
-
   -- The separator is absent if no flag allows one.
   pub separator_is : (b : ℕ) → ((b == a.separator) && not (b == 0)) ≡ (notation_of g).separator b
   separator_is b = separator_by (record_of a.flags (byte_of a)) a.separator refl h.separator b ∙ ap (λ r. used_separator r b) record_is
@@ -113,23 +105,15 @@ module _ (a : Inside) (g : Worded) (h : AreFields a) (same : worded a ≡ g) whe
   pub point_is : (b : ℕ) → ((b == a.point) && not (b == 0)) ≡ point_of g.options b
   point_is b = point_by a.exponent a.point b ∙ ap (λ (g : Worded). point_of g.options b) same
 
-  -- The four bytes of which a literal has the format.
-  pub format_is : radixes a.separator a.radix a.exponent_base a.exponent_radix ≡ radixes_of g.word
-  format_is = λ i. radixes (byte_is layout.digit_separator i) (byte_is layout.mantissa_radix i) (byte_is layout.exponent_base i)
-      (byte_is layout.exponent_radix i)
-
-  -- The radixes of a syntax are between 2 and 36.
-  pub radix_fits : IsSyntax g → IsRadix a.radix
-  unfolding Lawful
-  radix_fits is = subst IsRadix (sym (byte_is layout.mantissa_radix)) is.lawful.mantissa_radix
-
-  pub exponent_fits : IsSyntax g → IsRadix a.exponent_radix
-  unfolding Lawful
-  exponent_fits is = subst IsRadix (sym radix_is) is.lawful.exponent_radix
-
   pub exponent_is : (b : ℕ)
       → cased ((raw g.word).flag layout.case_sensitive_exponent) a.exponent b ≡ exponent_character_of (raw g.word) g.options b
   exponent_is b = exponent_by (raw g.word) a.exponent a.point b h.exponent ∙ ap (λ (i : Worded). exponent_character_of (raw g.word) i.options b) same
+
+-- The radixes of a syntax are between 2 and 36.
+pub radix_fits : (g : Worded) (part : Part) (radix : ℕ) → radix ≡ radix_of (raw g.word) part → IsSyntax g → IsRadix radix
+unfolding Lawful
+radix_fits g parts.Exponent radix same is = subst IsRadix (sym same) is.lawful.exponent_radix
+radix_fits g _ radix same is = subst IsRadix (sym same) is.lawful.mantissa_radix
 
 -- An exponent byte that is not absent is effective.
 filled : (byte radix : ℕ) → (byte ≡ 0 → radix ≡ 0) → effective byte radix ≡ byte
@@ -161,67 +145,6 @@ module _ (a : Inside) (h : AreFields a) (w : ℕ) (k : Conditions) (eight : leng
 
   pub other_flag : (f : Flag) → (raw (worded other).word).flag f ≡ (raw w).flag f
   other_flag f = sym (flag_is other (worded other) other_fields refl f) ∙ low_flag w f
-
--- `four separator radix base exponent` has these bytes, and no others.
-abbrev pub four : ℕ → ℕ → ℕ → ℕ → Byte → ℕ
-four separator radix base exponent layout.digit_separator = separator
-four separator radix base exponent layout.mantissa_radix = radix
-four separator radix base exponent layout.exponent_base = base
-four separator radix base exponent layout.exponent_radix = exponent
-four separator radix base exponent layout.base_prefix = 0
-four separator radix base exponent layout.base_suffix = 0
-
--- The bytes of the word with four bytes.
-module _ (separator radix base exponent : ℕ) (are : AreBytes separator radix base exponent) where
-  four_fit : (b : Byte) → four separator radix base exponent b < 2 ^ 8
-  four_fit layout.digit_separator = are.0
-  four_fit layout.mantissa_radix = are.1.0
-  four_fit layout.exponent_base = are.1.1.0
-  four_fit layout.exponent_radix = are.1.1.1
-  four_fit layout.base_prefix = pow_pos 8
-  four_fit layout.base_suffix = pow_pos 8
-
-  packed : radixes separator radix base exponent ≡ word_from 0 (four separator radix base exponent)
-  packed = omega arith
-
-  pub four_is : (b : Byte) → bytes_of (radixes separator radix base exponent) b ≡ four separator radix base exponent b
-  four_is b = ap (λ (r : Record). r.byte b) (ap raw packed ∙ raw-fields 0 (four separator radix base exponent) (pow_pos 64) four_fit)
-
--- The bytes of the word `v` with the four bytes of a word in normal form.
-module _ (w v : ℕ) (same : radixes_of w ≡ v) where
-  four_of : (b : Byte) → bytes_of v b ≡ four (bytes_of w layout.digit_separator) (bytes_of w layout.mantissa_radix)
-      (bytes_of w layout.exponent_base) (bytes_of w layout.exponent_radix) b
-  four_of b = ap (λ n. bytes_of n b) (sym same) ∙ four_is _ _ _ _ (mod-lt _ (pow_pos 8), (mod-lt _ (pow_pos 8), (mod-lt _ (pow_pos 8), mod-lt _ (pow_pos 8)))) b
-
-  pub base_of : IsNormal w → effective_exponent_base (raw v) ≡ bytes_of v layout.exponent_base
-  base_of normal = (λ i. effective (four_of layout.exponent_base i) (four_of layout.mantissa_radix i))
-      ∙ filled _ _ normal.exponent_base ∙ sym (four_of layout.exponent_base)
-
-  pub exponent_of : IsNormal w → effective_exponent_radix (raw v) ≡ bytes_of v layout.exponent_radix
-  exponent_of normal = (λ i. effective (four_of layout.exponent_radix i) (four_of layout.mantissa_radix i))
-      ∙ filled _ _ normal.exponent_radix ∙ sym (four_of layout.exponent_radix)
-
-pub bytes_fit : (a : Inside) → AreFields a → AreBytes a.separator a.radix a.exponent_base a.exponent_radix
-bytes_fit a h = (h.bytes layout.digit_separator, (h.bytes layout.mantissa_radix, (h.bytes layout.exponent_base, h.bytes layout.exponent_radix)))
-
--- The literal of a grammar.
-module _ (a : Inside) (g : Worded) (h : AreFields a) (same : worded a ≡ g) (text : List ℕ) (c : Cuts) (sums : Sums) where
-  pub made_of : (m e : Option ℕ) → IsSyntax g → IsCut (notation_of g) text c → AreSums (raw g.word) (cut text c) sums
-      → IsSmall a.radix (number a.radix (summed_in parts.Integer (cut text c))) m
-      → IsSmall a.exponent_radix (number a.exponent_radix (summed_in parts.Exponent (cut text c))) e
-      → IsMade (radixes a.separator a.radix a.exponent_base a.exponent_radix) text c m sums.places e
-  made_of m e is cuts are M E =
-      let byte = four_is a.separator a.radix a.exponent_base a.exponent_radix (bytes_fit a h) in
-      let exponent = (λ i. effective (byte layout.exponent_radix i) (byte layout.mantissa_radix i)) ∙ h.radix in
-      let l = cut text c in record {
-        grammar = g;
-        syntax = is;
-        format = sym (format_is a g h same);
-        is_cut = cuts;
-        word_mantissa = subst (λ n. IsSmall n (number n (summed_in parts.Integer l)) m) (sym (byte layout.mantissa_radix)) M;
-        fraction_places = are.fraction ∙ ap (λ n. places n l.fraction) (sym (byte_is a g h same layout.mantissa_radix) ∙ sym (byte layout.mantissa_radix));
-        word_exponent = subst (λ n. IsSmall n (number n (summed_in parts.Exponent l)) e) (sym exponent) E;
-      }
 
 -- The options of a syntax that has any.
 pub none_zero : (w e p : ℕ) → OptionsFit w e p → p ≡ 0 → ⊥

@@ -1,7 +1,6 @@
 -- What the lengths of its parts tell of a literal, and what a syntax without conditions is.
 use Rattle.lexical_literal.proofs.Common.{Conditions, Grammar, IsUsual, List, and_parts, arith, false, has, has_sizes, is_absent, is_minus, is_present, length, nat_tests}
-use Rattle.lexical_literal.proofs.Common.{not, notation_of, take, true, ℕ, ◌==◌, ◌||◌, ◌≡◌, ◌≢◌}
-use Rattle.lexical_literal.proofs.Common.{raw}
+use Rattle.lexical_literal.proofs.Common.{not, notation_of, take, true, ℕ, ◌==◌, ◌||◌, ◌≡◌, ◌≢◌, raw}
 use Rattle.lexical_util.specs.Layout as layout
 use Rattle.lexical_util.specs.Record.{bytes_of}
 use Rattle.lexical_literal.specs.Additions.Scan.{are_usual}

@@ -1,5 +1,4 @@
 -- A literal is cut by the lengths of its parts.
-use Rattle.lexical_literal.specs.Read.{radixes_of}
 use Rattle.lexical_literal.proofs.Common.{Cuts, Grammar, HasLengths, IsCountedFront, IsCut, IsMeasured, IsRead, List, Literal, NoFront, NoLiteral, Notation, Ok}
 use Rattle.lexical_literal.proofs.Common.{Read, Reads, ReadsFront, [], ap, append_assoc, arith, cut, cuts_of, drop, exact, length, notation_of, refl, subst}
 use Rattle.lexical_literal.proofs.Common.{sym, take, take_all, text_of, ℕ, ◌++◌, ◌+◌, ◌∙◌, ◌≡◌}
@@ -50,13 +49,13 @@ is_cut m text c l reads has = let same = sym (cut_is text c l reads.whole has) i
 
 -- `read_as g text c` is `text` as a literal of `g` whose parts have the lengths `c`.
 abbrev pub read_as : Grammar → List ℕ → List ℕ → Read
-read_as g text counts = record { format = radixes_of g.word; literal = cut text (cuts_of counts); kind = exact; opened = 0 }
+read_as g text counts = record { format = g.word; literal = cut text (cuts_of counts); kind = exact; opened = 0 }
 
 module _ (g : Grammar) (text counts : List ℕ) (is : IsMeasured (notation_of g) text counts) where
   pub measured_cut : IsCut (notation_of g) text (cuts_of counts)
   measured_cut = let l = is.literal in is_cut (notation_of g) text (cuts_of counts) l.0 l.1 (is.counted l.0 l.1)
 
-  pub whole_read : (read : Read) → read ≡ read_as g text counts → (read.format ≡ radixes_of g.word) × Reads (notation_of g) read.literal text
+  pub whole_read : (read : Read) → read ≡ read_as g text counts → (read.format ≡ g.word) × Reads (notation_of g) read.literal text
   whole_read read same =
       let l = is.literal in
       let literal : read.literal ≡ l.0 = ap (λ (r : Read). r.literal) same ∙ cut_is text (cuts_of counts) l.0 l.1.whole (is.counted l.0 l.1) in
@@ -78,7 +77,7 @@ module _ (g : Grammar) (text front : List ℕ) (size : ℕ) (counts : List ℕ) 
       (is.counted is.literal is.reads.reads)
 
   pub front_read : (read : Read) → read ≡ read_as g front counts
-      → (read.format ≡ radixes_of g.word) × ReadsFront (notation_of g) read.literal text size
+      → (read.format ≡ g.word) × ReadsFront (notation_of g) read.literal text size
   front_read read same =
       let literal : read.literal ≡ is.literal = ap (λ (r : Read). r.literal) same
       ∙ cut_is front (cuts_of counts) is.literal (at ∙ is.reads.reads.whole) (is.counted is.literal is.reads.reads) in

@@ -2,7 +2,7 @@
 use Rattle.std.specs.Prelude.{ℕ, ◌≡◌, IfErr, IfOk, IsErr, IsOkAnd, List, Result}
 use Rattle.lexical_literal.specs.Cause.{Explained, IsRefusal}
 use Rattle.lexical_literal.specs.Front.{NoFrontBy, ReadsFrontBy}
-use Rattle.lexical_literal.specs.Read.{exact, radixes_of}
+use Rattle.lexical_literal.specs.Read.{exact}
 use Rattle.lexical_literal.specs.Literal.{Literal, Reads}
 use Rattle.lexical_literal.specs.Notation.{notation_of}
 use Rattle.lexical_literal.specs.Read.{Read}
@@ -27,7 +27,7 @@ literal_of parts = record {
 -- `IsRead g text result` holds if `result` is the literal `text`, with the format of `g` and its only parts, or the error if it is not a literal.
 pub record IsRead (g : Grammar) (text : List ℕ) (result : Result Read Explained) : Type 0 where
   -- The text is a literal with the parts that are returned.
-  pub found : IfOk result (λ read. (read.format ≡ radixes_of g.word) × Reads (notation_of g) read.literal text)
+  pub found : IfOk result (λ read. (read.format ≡ g.word) × Reads (notation_of g) read.literal text)
   -- It is worth the number that it represents, and no opening is before it.
   pub kind : IfOk result (λ read. read.kind ≡ exact)
   pub opened : IfOk result (λ read. read.opened ≡ 0)
@@ -40,7 +40,7 @@ pub record IsRead (g : Grammar) (text : List ℕ) (result : Result Read Explaine
 -- error of a text for which there is no such front.
 pub record IsReadPrefix (g : Grammar) (text : List ℕ) (result : Result Front Explained) : Type 0 where
   -- A front of the text is a literal with the parts that are returned, and no longer front is a literal.
-  pub found : IfOk result (λ front. (front.literal.format ≡ radixes_of g.word) × ReadsFrontBy (Reads (notation_of g)) front.literal.literal text front.size)
+  pub found : IfOk result (λ front. (front.literal.format ≡ g.word) × ReadsFrontBy (Reads (notation_of g)) front.literal.literal text front.size)
   pub kind : IfOk result (λ front. front.literal.kind ≡ exact)
   pub opened : IfOk result (λ front. front.literal.opened ≡ 0)
   -- If no front is a literal, an error says why the text is not one.

@@ -1,8 +1,8 @@
 -- A literal that was read.
-use Rattle.std.specs.Prelude.{ℕ, ◌+◌, ◌*◌, ◌^◌, ◌++◌}
+use Rattle.std.specs.Prelude.{ℕ, ◌++◌}
 use Rattle.lexical_util.specs.Layout.{Byte}
 use Rattle.lexical_util.specs.Layout as layout
-use Rattle.lexical_util.specs.Record.{bytes_of, effective}
+use Rattle.lexical_util.specs.Record.{effective}
 use Rattle.lexical_literal.specs.Literal.{Literal}
 use Rattle.lexical_literal.specs.declared.kind.FloatKind.TheVariants as floats
 use Rattle.lexical_literal.specs.declared.kind.FloatLimits.TheVariants as limits
@@ -10,15 +10,7 @@ use Rattle.lexical_literal.specs.declared.kind.IntegerKind.TheVariants as intege
 use Rattle.lexical_literal.specs.declared.kind.Kind.{Kind}
 use Rattle.lexical_number.specs.Number.{number}
 
--- `radixes separator radix base exponent_radix` is the word with these bytes and no others, and `radixes_of word` that with those of `word`.
-abbrev pub radixes : ℕ → ℕ → ℕ → ℕ → ℕ
-radixes separator radix base exponent_radix = separator * 2 ^ 64 + radix * 2 ^ 104 + base * 2 ^ 112 + exponent_radix * 2 ^ 120
-
-abbrev pub radixes_of : ℕ → ℕ
-radixes_of word = radixes (bytes_of word layout.digit_separator) (bytes_of word layout.mantissa_radix) (bytes_of word layout.exponent_base)
-    (bytes_of word layout.exponent_radix)
-
--- `Read` has the radixes, the base and the separator of the format by which a literal was read, as a word, its parts, its kind, and the number of bytes of the opening before it.
+-- `Read` has the word of the format by which a literal was read, its parts, its kind, and the number of bytes of the opening before it.
 pub record Read : Type 0 where
   pub format : ℕ
   pub literal : Literal

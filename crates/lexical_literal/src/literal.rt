@@ -3,9 +3,9 @@
 ghost use Rattle.std.specs.Prelude.{◌≡◌, ◌≤◌, ◌++◌, ◌%◌, ◌^◌, [], ℕ, IfSome, IsFalse, IsSome, List, length, take};
 ghost use Rattle.lexical_literal.specs.Additions.Literal.{AreSums, IsCut, IsSum, cut, given, summed_in};
 ghost use Rattle.lexical_literal.specs.Additions.Step.{HasLengths, cuts_of};
-ghost use Rattle.lexical_literal.specs.Read.{exact, radixes_of};
+ghost use Rattle.lexical_literal.specs.Read.{exact};
 ghost use Rattle.lexical_literal.specs.Literal.{Literal as Parted, Reads, is_float, is_minus, text_of};
-ghost use Rattle.lexical_literal.specs.Notation.{Notation, notation_of, radix_of};
+ghost use Rattle.lexical_literal.specs.Notation.{Notation, notation_of};
 ghost use Rattle.lexical_literal.specs.Parts.{literal_of};
 ghost use Rattle.lexical_literal.specs.Read.{exponent, mantissa};
 ghost use Rattle.lexical_literal.specs.Syntax.{IsSyntax};
@@ -13,15 +13,14 @@ ghost use Rattle.lexical_literal.specs.declared.syntax.Grammar.{Grammar};
 ghost use Rattle.lexical_number.specs.Number.{number, places};
 ghost use Rattle.lexical_number.specs.Small.{IsShort, IsSmall};
 ghost use Rattle.lexical_util.specs.Layout as layout;
-ghost use Rattle.lexical_util.specs.Record.{bytes_of, effective, effective_exponent_base, raw};
+ghost use Rattle.lexical_util.specs.Record.{bytes_of, effective, raw};
 ghost use Rattle.lexical_util.specs.Rules.{IsRadix};
 
 use crate::kind::Kind;
 use crate::step::radix_of;
-use crate::syntax::{BASE_SHIFT, EXPONENT_SHIFT, Grammar, RADIX_SHIFT, Syntax};
-use lexical_number::small::{add_all, count, fits, small};
+use crate::syntax::{Grammar, Syntax};
+use lexical_number::small::{add_all, count, fits, is_small};
 use lexical_util::format::{NumberFormat, Part};
-use lexical_util::format_flags::DIGIT_SEPARATOR_SHIFT;
 use std::marker::Model;
 
 /// The parts of a literal, in the order of the text. An absent part has no bytes.
@@ -76,11 +75,7 @@ pub(crate) const NOTHING: Sum = Sum {
 pub struct Literal<'a> {
     text: &'a [u8],
     counts: [usize; 9],
-    // The radixes and the base, and the separator, or 0.
-    radix: u8,
-    exponent_base: u8,
-    exponent_radix: u8,
-    separator: u8,
+    view: NumberFormat,
     // The numbers of the mantissa and the exponent, if there are few digits. Two `Option`s would have 14 bytes more.
     mantissa: u64,
     exponent: u64,
@@ -97,59 +92,23 @@ impl<'a> Model for Literal<'a> {
 
     ghost Value = { Read };
 
-    ghost use Rattle.lexical_literal.specs.Additions.Literal.{AreBytes, IsMade, cut, given};
-    ghost use Rattle.lexical_literal.specs.Read.{radixes};
+    ghost use Rattle.lexical_literal.specs.Additions.Literal.{IsMade, cut, given};
     ghost use Rattle.lexical_literal.specs.Additions.Step.{HasLengths, cuts_of};
 
-    ghost view = { λ it. record { format = radixes it.separator it.radix it.exponent_base it.exponent_radix; literal = cut it.text.now (cuts_of it.counts); kind = it.kind; opened = it.opened } };
+    ghost view = { λ it. record { format = it.view; literal = cut it.text.now (cuts_of it.counts); kind = it.kind; opened = it.opened } };
 
-    ghost invariant = { λ it. IsMade (radixes it.separator it.radix it.exponent_base it.exponent_radix) it.text.now (cuts_of it.counts)
-        (given it.has_mantissa it.mantissa) it.places (given it.has_exponent it.exponent)
-        × AreBytes it.separator it.radix it.exponent_base it.exponent_radix };
+    ghost invariant = { λ it. IsMade it.view it.text.now (cuts_of it.counts) (given it.has_mantissa it.mantissa) it.places
+        (given it.has_exponent it.exponent) };
 }
 
 impl<'a> Literal<'a> {
-    /// Returns the radixes, the base and the separator of the format by which the literal was read.
+    /// Returns the format by which the literal was read.
     #[must_use]
     #[inline(always)]
     pub const fn format(&self) -> NumberFormat
         ensures { result ≡ self.now.format }
     {
-        let upper = self.separator as u64
-            + ((self.radix as u64) << RADIX_SHIFT)
-            + ((self.exponent_base as u64) << BASE_SHIFT)
-            + ((self.exponent_radix as u64) << EXPONENT_SHIFT);
-        NumberFormat::new((upper as u128) << DIGIT_SEPARATOR_SHIFT)
-    }
-
-    // Returns the radix of the digits of `part`.
-    #[inline(always)]
-    #[doc(hidden)]
-    pub const fn radix_of(&self, part: Part) -> u32
-        ensures { result ≡ radix_of (raw self.now.format) part }
-    {
-        match part {
-            Part::Exponent => self.exponent_radix as u32,
-            _ => self.radix as u32,
-        }
-    }
-
-    // Returns the base of the exponent.
-    #[inline(always)]
-    #[doc(hidden)]
-    pub const fn exponent_base(&self) -> u32
-        ensures { result ≡ effective_exponent_base (raw self.now.format) }
-    {
-        self.exponent_base as u32
-    }
-
-    // Returns the separator, or 0 if there is none.
-    #[inline(always)]
-    #[doc(hidden)]
-    pub const fn separator(&self) -> u8
-        ensures { result ≡ bytes_of self.now.format layout.digit_separator }
-    {
-        self.separator
+        self.view
     }
 
     /// Returns the kind, which decides what the literal is worth.
@@ -192,7 +151,7 @@ impl<'a> Literal<'a> {
     pub fn cut(&self) -> Parts<'a>
         ensures parts { literal_of result ≡ self.now.literal }
         // They are those of a literal of a syntax with this format.
-        ensures literal { (g : Grammar) × IsSyntax g × (radixes_of g.word ≡ self.now.format) × (text : List ℕ) × Reads (notation_of g) self.now.literal text }
+        ensures literal { (g : Grammar) × IsSyntax g × (g.word ≡ self.now.format) × (text : List ℕ) × Reads (notation_of g) self.now.literal text }
     {
         parts_of(self.text, self.counts)
     }
@@ -290,7 +249,7 @@ impl Grammar {
         requires syntax { IsSyntax self }
         requires cut { IsCut (notation_of self) text.now (cuts_of counts) }
         requires sums { AreSums (raw self.word) (cut text.now (cuts_of counts)) sums }
-        ensures { result ≡ record { format = radixes_of self.word; literal = cut text.now (cuts_of counts); kind = kind; opened = 0 } }
+        ensures { result ≡ record { format = self.word; literal = cut text.now (cuts_of counts); kind = kind; opened = 0 } }
     {
         let Sums {
             mantissa,
@@ -300,27 +259,22 @@ impl Grammar {
         Literal {
             text,
             counts,
-            radix: self.radix,
-            exponent_base: self.exponent_base,
-            exponent_radix: self.exponent_radix,
-            separator: self.separator,
+            view: self.view(),
             mantissa: mantissa.value,
             exponent: exponent.value,
             has_mantissa: are_few(
-                self.radix,
+                radix_of(self, Part::Integer),
                 text,
                 counts,
                 Part::Integer,
-                mantissa.digits,
-                mantissa.value,
+                mantissa,
             ),
             has_exponent: are_few(
-                self.exponent_radix,
+                radix_of(self, Part::Exponent),
                 text,
                 counts,
                 Part::Exponent,
-                exponent.digits,
-                exponent.value,
+                exponent,
             ),
             places,
             opened: 0,
@@ -336,7 +290,7 @@ impl Syntax {
     pub fn literal<'a>(&self, text: &'a [u8], counts: [usize; 9], sums: Sums) -> Literal<'a>
         requires cut { IsCut (notation_of self.now) text.now (cuts_of counts) }
         requires sums { AreSums (raw self.now.word) (cut text.now (cuts_of counts)) sums }
-        ensures { result ≡ record { format = radixes_of self.now.word; literal = cut text.now (cuts_of counts); kind = exact; opened = 0 } }
+        ensures { result ≡ record { format = self.now.word; literal = cut text.now (cuts_of counts); kind = exact; opened = 0 } }
     {
         self.grammar().literal(text, counts, sums, Kind::EXACT)
     }
@@ -345,7 +299,7 @@ impl Syntax {
     #[cold]
     pub fn summed<'a>(&self, text: &'a [u8], counts: [usize; 9]) -> Literal<'a>
         requires { IsCut (notation_of self.now) text.now (cuts_of counts) }
-        ensures { result ≡ record { format = radixes_of self.now.word; literal = cut text.now (cuts_of counts); kind = exact; opened = 0 } }
+        ensures { result ≡ record { format = self.now.word; literal = cut text.now (cuts_of counts); kind = exact; opened = 0 } }
     {
         let grammar = self.grammar();
         let sums = sums_of(
@@ -431,22 +385,20 @@ fn sums_of(radix: u32, exponent_radix: u32, parts: &Parts) -> Sums
 }
 
 // Returns whether the digits of the exponent, or else of the integer and the fraction together, are so few behind their leading zeros that
-// `sum` is the number. There are `digits` of them, and `sum` is the number modulo `2 ^ 64`.
+// their sum is the number.
 #[inline(always)]
-fn are_few(radix: u8, text: &[u8], counts: [usize; 9], part: Part, digits: usize, sum: u64) -> bool
+fn are_few(radix: u32, text: &[u8], counts: [usize; 9], part: Part, sum: Sum) -> bool
     requires radix { IsRadix radix }
     requires cut { (m : Notation) × IsCut m text.now (cuts_of counts) }
-    requires sum { IsSum radix (summed_in part (cut text.now (cuts_of counts))) (record { digits = digits; value = sum }) }
-    ensures { IsSmall radix (number radix (summed_in part (cut text.now (cuts_of counts)))) (given result sum) }
+    requires sum { IsSum radix (summed_in part (cut text.now (cuts_of counts))) sum }
+    ensures { IsSmall radix (number radix (summed_in part (cut text.now (cuts_of counts)))) (given result sum.value) }
 {
-    let radix = radix as u32;
-    if fits(radix, digits) {
+    if fits(radix, sum.digits) {
         return true;
     }
     let parts = parts_of(text, counts);
-    let number = match part {
-        Part::Exponent => small(radix, parts.exponent, &[], digits, sum),
-        _ => small(radix, parts.integer, parts.fraction, digits, sum),
-    };
-    matches!(number, Some(_))
+    match part {
+        Part::Exponent => is_small(radix, parts.exponent, &[], sum.digits),
+        _ => is_small(radix, parts.integer, parts.fraction, sum.digits),
+    }
 }

@@ -177,12 +177,7 @@ pub(crate) const fn has_place(grammar: Grammar, part: Part, place: u32) -> bool
     ensures trailing { place ≡ 38 → result ≡ (raw grammar.word).flag (separators_in part).trailing }
     ensures consecutive { place ≡ 41 → result ≡ (raw grammar.word).flag (separators_in part).consecutive }
 {
-    let number = match part {
-        Part::Integer => place,
-        Part::Fraction => place + 1,
-        Part::Exponent => place + 2,
-    };
-    (grammar.flags >> number) & 1 != 0
+    (grammar.flags >> (place + part as u32)) & 1 != 0
 }
 
 // Returns whether a plus sign may be before the digits of `part`.

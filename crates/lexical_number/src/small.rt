@@ -1,6 +1,6 @@
 //! Numbers of 64 bits, by the digits that represent them.
 
-ghost use Rattle.std.specs.Prelude.{IfSome, ◌≡◌, ◌↔◌, ◌%◌, ◌^◌, ◌≤◌, ◌++◌, ◌==◌, IsTrue, length};
+ghost use Rattle.std.specs.Prelude.{ℕ, None, Some, if◌then◌else◌, ◌≡◌, ◌↔◌, ◌%◌, ◌^◌, ◌≤◌, ◌++◌, ◌==◌, IsTrue, length};
 ghost use Rattle.lexical_number.specs.Number.{number_after, digits_in, number, places};
 ghost use Rattle.lexical_number.specs.Small.{IsSmall, leading_zeros};
 
@@ -91,27 +91,17 @@ const fn all_zeros(integer: &[u8], fraction: &[u8], radix: u32) -> usize
     }
 }
 
-/// Returns the number that the digits of `integer` and `fraction` represent together, if they are so few behind their leading
-/// zeros that each number of so many is below `2 ^ 64`. There are `digits` of them, and `sum` is the number modulo `2 ^ 64`.
+/// Returns whether the digits of `integer` and `fraction` are so few behind their leading zeros that each number of so many is below
+/// `2 ^ 64`. There are `digits` of them.
 #[must_use]
 #[cold]
 #[tactic(auto, using(crate::proofs::SmallLemmas::sizes))]
-pub const fn small(
-    radix: u32,
-    integer: &[u8],
-    fraction: &[u8],
-    digits: usize,
-    sum: u64,
-) -> Option<u64>
+pub const fn is_small(radix: u32, integer: &[u8], fraction: &[u8], digits: usize) -> bool
     requires radix { (2 ≤ radix) × (radix ≤ 36) }
     requires digits { digits ≡ places radix (integer.now ++ fraction.now) }
-    requires sum { sum ≡ number radix (integer.now ++ fraction.now) % 2 ^ 64 }
-    ensures small { IsSmall radix (number radix (integer.now ++ fraction.now)) result }
-    ensures sum { IfSome result (λ m. m ≡ sum) }
+    // The number is the sum of the digits modulo `2 ^ 64` then.
+    ensures { (sum : ℕ) → sum ≡ number radix (integer.now ++ fraction.now) % 2 ^ 64
+        → IsSmall radix (number radix (integer.now ++ fraction.now)) (if result then Some sum else None) }
 {
-    if fits(radix, digits - all_zeros(integer, fraction, radix)) {
-        Some(sum)
-    } else {
-        None
-    }
+    fits(radix, digits - all_zeros(integer, fraction, radix))
 }

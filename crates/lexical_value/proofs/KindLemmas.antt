@@ -1,5 +1,5 @@
 -- The lowest bits of a number, and what literals of the exact kind are worth.
-use Rattle.lexical_value.proofs.Common.{Bool, Err, Kind, Literal, Ok, Record, Result, Some, ValueErrorKind, ap, arith, exact, false}
+use Rattle.lexical_value.proofs.Common.{Bool, Err, IsNoInteger, IsNotWorth, Kind, Literal, Ok, Record, Result, Some, ValueErrorKind, ap, arith, exact, false}
 use Rattle.lexical_value.proofs.Common.{float_worth, format_by, if◌then◌else◌, inl, inr, integer_size, integer_worth, is_binary, is_decimal, is_exact, is_float}
 use Rattle.lexical_value.proofs.Common.{is_minus, mantissa, mod-add-div', mod-eq_of_lt, mod-lt, nat_tests, nearest, not, pow-le-pow_right, refl, round, subst}
 use Rattle.lexical_value.proofs.Common.{sym, true, width, within, worth, wrapped, ℕ, ◌%◌, ◌*◌, ◌+◌, ◌-◌, ◌/◌, ◌<◌, ◌^◌, ◌||◌, ◌∙◌, ◌≡◌, ◌≤◌, ◌⊎◌}
@@ -99,6 +99,19 @@ wraps_by bits negative n some = go negative (nat_le (n % 2 ^ bits) (if negative 
   go false true low = (inl (n / 2 ^ bits, refl, parts), grind (arith, nat_tests))
   go true false high = (inr (n / 2 ^ bits + 1, refl, omega (arith, parts, next, small)), let double = twice in let less = small in grind (arith, nat_tests))
   go false false high = (inr (n / 2 ^ bits + 1, refl, omega (arith, parts, next, small)), let double = twice in let less = small in grind (arith, nat_tests))
+
+-- A literal of the exact kind is worth the number that it represents.
+pub exact_error : (least largest : ℕ) (r : Record) (l : Literal) (error : ValueErrorKind) → IsNotWorth integers.Exact least largest r.byte l error
+    → IsNoInteger least largest r.byte l error
+exact_error least largest r l kinds.Float is = is
+exact_error least largest r l kinds.TooLarge (whole, (sign, above)) = (whole, sign, above)
+exact_error least largest r l kinds.TooSmall (whole, (sign, below)) = (whole, sign, below)
+exact_error least largest r l kinds.Zero is = is
+exact_error least largest r l kinds.Vanishes is = is
+exact_error least largest r l kinds.UnsupportedRadix is = is
+exact_error least largest r l kinds.Special is = is
+exact_error least largest r l kinds.NotWhole is = is
+exact_error least largest r l kinds.TooLong is = is
 
 abbrev value_of : Float → Result Float ValueErrorKind → Float
 value_of x (Ok value) = value

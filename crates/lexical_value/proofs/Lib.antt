@@ -1,6 +1,5 @@
 mod Common
 pub mod FloatLemmas
 pub mod KindLemmas
-pub mod ReadLemmas
 pub mod ScaledLemmas
 mod ValueLemmas

@@ -24,7 +24,7 @@ use lexical_number::float::Float;
 use lexical_number::leading::{Leading, push_all, saturating};
 use lexical_number::numeral::Magnitude;
 use lexical_number::scaling::{bits_of, raised_bits, raised_word};
-use lexical_util::format::{NumberFormat, Part};
+use lexical_util::format::NumberFormat;
 
 /// Returns the value of a literal by its kind as a value of a float type: rounded once to the nearest float, or to the even one
 /// if two are as near. Unless its kind has limits, the value is infinite if it is that large. Its sign is that of the literal, also
@@ -119,7 +119,7 @@ fn has_digits(literal: &Literal) -> bool
     requires { IsTrue (is_decimal (bytes_of literal.now.format) || is_binary (bytes_of literal.now.format)) }
     ensures { result ≡ not (mantissa (bytes_of literal.now.format) literal.now.literal == 0) }
 {
-    leading_of(literal, literal.radix_of(Part::Integer)).digits != 0
+    leading_of(literal, literal.format().mantissa_radix()).digits != 0
 }
 
 // Returns the nearest `f32`, in one copy.
@@ -173,7 +173,7 @@ pub fn nearest_float<F: Float>(literal: &Literal) -> Result<F, ValueErrorKind>
     ensures value { IfOk result (λ value. F.value value ≡ nearest (format_of F.DOUBLE) (bytes_of literal.now.format) literal.now.literal) }
     ensures no_nan { IfOk result (λ value. NotNan (F.value value)) }
 {
-    let size = if has_decimal_floats(literal) {
+    let size = if has_decimal_floats(literal.format()) {
         decimal_size(literal)
     } else if let Some(bits) = binary_size(F::DOUBLE, literal) {
         F::from_magnitude(bits)
@@ -203,16 +203,15 @@ pub const fn supports_floats(format: NumberFormat) -> bool
         bits_of(format.mantissa_radix()),
         bits_of(format.exponent_base()),
     );
-    (format.mantissa_radix() == 10 && format.exponent_base() == 10)
-        || matches!(radixes, (Some(_), Some(_)))
+    has_decimal_floats(format) || matches!(radixes, (Some(_), Some(_)))
 }
 
-// Returns whether floats of the format of a literal are decimal.
+// Returns whether floats of `format` are decimal.
 #[inline(always)]
-pub(crate) const fn has_decimal_floats(literal: &Literal) -> bool
-    ensures { result ≡ is_decimal (bytes_of literal.now.format) }
+pub(crate) const fn has_decimal_floats(format: NumberFormat) -> bool
+    ensures { result ≡ is_decimal (bytes_of format) }
 {
-    literal.radix_of(Part::Integer) == 10 && literal.exponent_base() == 10
+    format.mantissa_radix() == 10 && format.exponent_base() == 10
 }
 
 // Returns the number that the exponent digits of a literal represent, or `2 ^ 90` if that is less.
@@ -222,7 +221,7 @@ pub(crate) fn exponent_of(literal: &Literal) -> u128
 {
     match literal.scale() {
         Some(exponent) => exponent as u128,
-        None => saturating(literal.cut().exponent, literal.radix_of(Part::Exponent)),
+        None => saturating(literal.cut().exponent, literal.format().exponent_radix()),
     }
 }
 
@@ -252,10 +251,11 @@ pub(crate) fn binary_size(double: bool, literal: &Literal) -> Option<u64>
     ensures value { IfSome result (λ bits. IsNearestBits (format_of double) (numerator (bytes_of literal.now.format) literal.now.literal)
         (denominator (bytes_of literal.now.format) literal.now.literal) bits) }
 {
-    let Some(radix_bits) = bits_of(literal.radix_of(Part::Integer)) else {
+    let format = literal.format();
+    let Some(radix_bits) = bits_of(format.mantissa_radix()) else {
         return None;
     };
-    let Some(base_bits) = bits_of(literal.exponent_base()) else {
+    let Some(base_bits) = bits_of(format.exponent_base()) else {
         return None;
     };
     let places = literal.places() as u64;
@@ -277,7 +277,7 @@ fn long_binary_size(double: bool, literal: &Literal, radix_bits: u32, base_bits:
     ensures { IsNearestBits (format_of double) (numerator (bytes_of literal.now.format) literal.now.literal)
         (denominator (bytes_of literal.now.format) literal.now.literal) result }
 {
-    let leading = leading_of(literal, literal.radix_of(Part::Integer));
+    let leading = leading_of(literal, literal.format().mantissa_radix());
     let places = literal.places() as u64;
     let negative = literal.has_negative_exponent();
     let exponent = exponent_of(literal);

@@ -16,7 +16,6 @@ use lexical_literal::kind::IntegerKind;
 use lexical_literal::literal::Literal;
 use lexical_number::integer::Integer;
 use lexical_number::numeral::{Magnitude, Numeral};
-use lexical_util::format::Part;
 
 /// Why a number has no value in a type.
 #[derive(Debug, Clone, Copy, PartialEq, Eq, Hash)]
@@ -113,7 +112,7 @@ pub fn integer_numeral<'a>(literal: &Literal<'a>) -> Option<Numeral<'a>>
     }
     let magnitude = match literal.mantissa() {
         Some(size) => Magnitude::Word(size),
-        None => Magnitude::Digits(literal.cut().integer, literal.radix_of(Part::Integer)),
+        None => Magnitude::Digits(literal.cut().integer, literal.format().mantissa_radix()),
     };
     Some(Numeral {
         negative: literal.is_negative(),

@@ -26,6 +26,7 @@ pub enum ParseError {
 /// # Errors
 ///
 /// If `text` is not a literal, or if it has no value in the type, returns why.
+#[tactic(auto, using(crate::proofs::KindLemmas::exact_error))]
 pub fn parse_integer<T: Integer>(syntax: &Syntax, text: &[u8]) -> Result<T, ParseError>
     ensures { IsParsed T.range syntax.now text.now result }
 {
@@ -43,6 +44,7 @@ pub fn parse_integer<T: Integer>(syntax: &Syntax, text: &[u8]) -> Result<T, Pars
 /// # Errors
 ///
 /// If `text` is not a literal, or if literals have no value in a float type, returns why.
+#[tactic(auto, using(crate::proofs::KindLemmas::exact_float, crate::proofs::KindLemmas::exact_radix))]
 pub fn parse_float<F: Float>(syntax: &Syntax, text: &[u8]) -> Result<F, ParseError>
     ensures value { IsParsedFloat (format_of F.DOUBLE) F.value syntax.now text.now result }
     ensures no_nan { IfOk result (λ value. NotNan (F.value value)) }

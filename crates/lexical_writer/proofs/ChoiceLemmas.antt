@@ -3,11 +3,10 @@ use Rattle.lexical_writer.proofs.Common.{Bool, Form, Grammar, IsFirst, IsSomeAnd
 use Rattle.lexical_writer.proofs.Common.{ReadsForm, Record, Some, ap, arith, exact, false, float_worth, format_by, if◌then◌else◌, inl, inr, integer_worth}
 use Rattle.lexical_writer.proofs.Common.{is_binary, is_decimal, is_exact, is_float, is_minus, is_some, length-take-le, mantissa, nearest, negsuc, not}
 use Rattle.lexical_writer.proofs.Common.{notation_of, pos, raw, refl, slice_get, subst, suc, sym, take, true, with_sign, within, whole_of, worth, zero, ℕ, ℤ}
-use Rattle.lexical_writer.proofs.Common.{denominator, numerator, ◌||◌, ◌*◌, ◌<◌, ◌∙◌, ◌≡◌}
+use Rattle.lexical_writer.proofs.Common.{◌||◌, ◌<◌, ◌∙◌, ◌≡◌}
 use Rattle.std.proofs.lemmas.Option.{get_or_from_slice_get, slice_get_within}
 use Rattle.std.specs.Float.{Float, Format, binary64}
 use Rattle.lexical_forms.specs.Forms.{ReadsIn}
-use Rattle.lexical_literal.specs.Read.{radixes_of}
 use Rattle.lexical_literal.specs.Front.{NoneBy}
 use Rattle.std.specs.Prelude.{Err, IsFalse, MatchOption, MatchResult, Result, is_ok, option_to_list}
 use Rattle.lexical_number.specs.Numeral.{size_of}
@@ -17,21 +16,10 @@ use Rattle.lexical_value.specs.Kind.{IsNotWorth}
 use Rattle.lexical_value.specs.declared.integer.ValueErrorKind.{ValueErrorKind}
 use Rattle.lexical_value.specs.declared.integer.ValueErrorKind.TheVariants as kinds
 use Rattle.lexical_writer.specs.Choice.{IsAmount, IsReal, has_floats, has_worth}
-use Rattle.lexical_writer.specs.Conversion.{SameFraction}
 use Rattle.lexical_writer.specs.Layout.{sign_of}
 use Rattle.lexical_forms.proofs.BehindLemmas.{plain_in}
 use Rattle.lexical_value.proofs.KindLemmas.{exact_float, limited_worth}
-use Rattle.lexical_value.proofs.ReadLemmas.{read_bytes}
 use Rattle.lexical_literal.specs.declared.kind.FloatKind.TheVariants as floats
-
--- What has the value of the literal that is read has it in the format of the literal.
-pub same_read : (r : Record) (own : Literal) (w : ℕ) (read : Read) → read.format ≡ radixes_of w → SameFraction r own (raw w) read.literal
-    → SameFraction r own (raw read.format) read.literal
-same_read r own w read word same = record {
-  sign = same.sign;
-  fraction = subst (λ b. numerator r.byte own * denominator b read.literal ≡ numerator b read.literal * denominator r.byte own)
-      (sym (read_bytes w _ word)) same.fraction;
-}
 
 -- A literal of the exact kind is worth the float that is nearest to it.
 nearest_is : (f : Format) (x : Float) (read : Read) → read.kind ≡ exact → IsReal f x read → x ≡ nearest f (raw read.format).byte read.literal
@@ -55,21 +43,21 @@ amount_is f x None g l read near worth = subst (λ y. IsReal f y read) (sym (nea
 amount_is f x (Some n) g l read near worth = worth
 
 -- If a literal is written for a float, and worth the nearest one, it is this float in the style.
-pub plain_real : (f : Format) (x : Float) (decimals : Option ℕ) (g : Grammar) (read : Read) → read.format ≡ radixes_of g.word
+pub plain_real : (f : Format) (x : Float) (decimals : Option ℕ) (g : Grammar) (read : Read) → read.format ≡ g.word
     → (is_decimal (raw g.word).byte || is_binary (raw g.word).byte) ≡ true → read.kind.floats ≡ floats.Nearest
     → ((negative : Bool) → (n : ℕ) → (y : Float) → (decimals ≡ None → x ≡ y) → within read.kind.limits negative n y ≡ Ok y)
     → (is_exact read.kind.integers || is_float read.literal) ≡ true → (decimals ≡ None → x ≡ nearest f (raw g.word).byte read.literal)
     → IsAmount f x decimals g read.literal read
 plain_real f x decimals g read word known near fits plain has = amount_is f x decimals g read.literal read has
-    (inl (subst (λ r. float_worth read.kind f r read.literal ≡ Ok (nearest f (raw g.word).byte read.literal)) (sym (read_bytes g.word _ word))
+    (inl (subst (λ w. float_worth read.kind f (raw w).byte read.literal ≡ Ok (nearest f (raw g.word).byte read.literal)) (sym word)
     (worth_nearest f read.kind (raw g.word) read.literal known near (fits _ _ _ has) plain)))
 
 -- What is worth the same float as a literal of the exact kind that is written for a float is this float in the style.
-pub same_real : (f : Format) (x : Float) (decimals : Option ℕ) (g : Grammar) (own read : Read) → own.kind ≡ exact → own.format ≡ radixes_of g.word
+pub same_real : (f : Format) (x : Float) (decimals : Option ℕ) (g : Grammar) (own read : Read) → own.kind ≡ exact → own.format ≡ g.word
     → (decimals ≡ None → x ≡ nearest f (raw g.word).byte own.literal) → (y : Float) → IsReal f y own → IsReal f y read
     → IsAmount f x decimals g own.literal read
 same_real f x decimals g own read kind word has y same real = amount_is f x decimals g own.literal read has
-    (subst (λ z. IsReal f z read) (subst (λ r. y ≡ nearest f r own.literal) (read_bytes g.word _ word) (nearest_is f y own kind same)) real)
+    (subst (λ z. IsReal f z read) (subst (λ w. y ≡ nearest f (raw w).byte own.literal) word (nearest_is f y own kind same)) real)
 
 abbrev size_without : ℤ → ℕ
 size_without (pos n) = n
@@ -85,14 +73,14 @@ pub minus : (negative required : Bool) → is_minus (option_to_list (sign_of neg
 minus negative required = grind arith
 
 -- An integer literal that is written for an integer is worth it by a kind that keeps its size.
-pub kept_whole : (negative : Bool) (size : ℕ) (g : Grammar) (read : Read) → read.format ≡ radixes_of g.word → is_float read.literal ≡ false
+pub kept_whole : (negative : Bool) (size : ℕ) (g : Grammar) (read : Read) → read.format ≡ g.word → is_float read.literal ≡ false
     → worth read.kind.integers negative size ≡ Some (negative, size)
     → is_minus read.literal.sign ≡ negative
     → with_sign negative size ≡ with_sign (is_minus read.literal.sign) (integer_size (raw g.word).byte read.literal)
     → IsWhole (with_sign negative size) read
 kept_whole negative size g read word whole kept sign has =
     let is : with_sign negative size ≡ with_sign (is_minus read.literal.sign) (integer_size (raw read.format).byte read.literal) =
-    subst (λ r. with_sign negative size ≡ with_sign (is_minus read.literal.sign) (integer_size r read.literal)) (sym (read_bytes g.word _ word)) has in
+    subst (λ w. with_sign negative size ≡ with_sign (is_minus read.literal.sign) (integer_size (raw w).byte read.literal)) (sym word) has in
     let same = sym (size_with negative size) ∙ ap size_without is ∙ size_with (is_minus read.literal.sign) (integer_size (raw read.format).byte read.literal) in
     inl (
       whole,
@@ -104,9 +92,9 @@ kept_whole negative size g read word whole kept sign has =
 -- What is written by the first form of a list is its first literal.
 pub first_reads : (forms : List Form) (form : Form) (text : List ℕ) (l : Literal) (index : ℕ) → slice_get forms index ≡ Some form → index ≡ 0
     → form.opening.size ≡ 0 → Reads (notation_of form.syntax) l text
-    → IsFirst forms text index (record { format = radixes_of form.syntax.word; literal = l; kind = form.kind; opened = 0 })
+    → IsFirst forms text index (record { format = form.syntax.word; literal = l; kind = form.kind; opened = 0 })
 first_reads forms form text l index here first none reads =
-    let read : Read = record { format = radixes_of form.syntax.word; literal = l; kind = form.kind; opened = 0 } in record {
+    let read : Read = record { format = form.syntax.word; literal = l; kind = form.kind; opened = 0 } in record {
       reads = subst (λ o. IsSomeAnd o (ReadsForm text read)) (sym here) (refl, refl, plain_in form text none l reads);
       before = subst (λ n. NoForm (take n forms) text) (sym first) (λ k d below. absurd (omega (arith, below, length-take-le 0 forms (omega arith))));
     }

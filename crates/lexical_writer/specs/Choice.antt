@@ -206,9 +206,8 @@ abbrev pub IsAmount : Format → Float → Option ℕ → Grammar → Literal �
 IsAmount f value None g l read = IsReal f value read
 IsAmount f value (Some n) g l read = IsReal f (nearest f (bytes_of g.word) l) read
 
--- `IsSameNumber a b` holds if `a` and `b` are worth the same integer or, if `a` has a decimal point or an exponent, the same `f64`, by their kinds.
--- Or they are of the exact kind, and have the same value as fractions with a sign, and `b` has neither a decimal point nor an exponent
--- unless `a` has one.
+-- `IsSameNumber a b` holds if `a` and `b` are worth the same integer or, if `a` has a decimal point or an exponent, the same `f64`, by their kinds. Or they are
+-- of the exact kind, and have the same value as fractions with a sign, and `b` has neither a decimal point nor an exponent unless `a` has one.
 abbrev pub IsSameNumber : Read → Read → Type 0
 IsSameNumber a b = ((z : ℤ) × IsWhole z a × IsWhole z b)
     ⊎ (((is_float a.literal ≡ true) × (value : Float) × IsReal binary64 value a × IsReal binary64 value b)

@@ -38,8 +38,7 @@ abbrev pub begins_decimal : List ℕ → Bool
 begins_decimal [] = false
 begins_decimal (digit ∷ digits) = nat_lt digit 10
 
--- `ends_group pattern left` is true if a group ends where `left` digits are left: those of the last group, and of whole groups
--- before it.
+-- `ends_group pattern left` is true if a group ends where `left` digits are left: those of the last group, and of whole groups before it.
 abbrev pub ends_group : Pattern → ℕ → Bool
 ends_group pattern left =
     nat_lt 0 left && (nat_lt 0 pattern.higher && (nat_le pattern.last left && (left - pattern.last) % pattern.higher == 0))
@@ -62,8 +61,7 @@ grouped pattern (digit ∷ digits) = character pattern.lowercase digit
 abbrev pub separated : Pattern → ℕ → List ℕ
 separated pattern left = option_to_list (only_if (ends_group pattern left) pattern.separator)
 
--- `grouped_front pattern left digits` has the characters of `digits`, which are the first of `left` digits, with a separator where a
--- group ends.
+-- `grouped_front pattern left digits` has the characters of `digits`, which are the first of `left` digits, with a separator where a group ends.
 abbrev pub grouped_front : Pattern → ℕ → List ℕ → List ℕ
 grouped_front pattern left [] = []
 grouped_front pattern left (digit ∷ digits) =

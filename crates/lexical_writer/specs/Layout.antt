@@ -86,8 +86,7 @@ pattern_of r allowed last higher lowercase =
     if last == 0 || not allowed || r.byte layout.digit_separator == 0 then no_groups lowercase
     else record { last = last; higher = higher; separator = r.byte layout.digit_separator; lowercase = lowercase }
 
--- `integer_pattern r c style` is the pattern of an integer. Its groups have the sizes that the conditions `c` require, or that of
--- `style`.
+-- `integer_pattern r c style` is the pattern of an integer. Its groups have the sizes that the conditions `c` require, or that of `style`.
 abbrev pub integer_pattern : Record → Conditions → Style → Pattern
 integer_pattern r c style =
     let last = group_size (number_of c conditions.IntegerGroupSize) style.group in
@@ -213,10 +212,6 @@ pub record HasValue (r : Record) (l : Literal) (z : ℤ) : Type 0 where
 -- `whole_refusal g z` is why the integer `z` cannot be written as a literal of `g`, or `None` if it can: `z` is below 0, and no literal is.
 abbrev pub whole_refusal : Grammar → ℤ → Option WriteError
 whole_refusal g z = if (whole z).negative && has g.conditions conditions.NegativeSign then Some errors.Negative else None
-
--- `IsWhole g style z l` holds if `l` is what is written for the integer `z`.
-abbrev pub IsWhole : Grammar → Style → ℤ → Literal → Type 0
-IsWhole g style z l = l ≡ laid_out g style (whole z)
 
 -- `integer_literal it` is the literal that is written for the integer `it`.
 abbrev pub integer_literal : WrittenInteger → Literal

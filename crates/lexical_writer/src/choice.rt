@@ -5,7 +5,7 @@ ghost use Rattle.std.specs.Prelude.{ℕ, ◌+◌, Err, List, IfErr, IfOk, IfSome
 ghost use Rattle.std.specs.Prelude.{[], unwrap_or, from_bits, is_some, length, slice_get, take, ℤ};
 ghost use Rattle.std.specs.Float.{Float as Value, float_is_infinite};
 ghost use Rattle.lexical_util.specs.Record.{bytes_of};
-ghost use Rattle.lexical_literal.specs.Read.{exact, radixes_of, Read};
+ghost use Rattle.lexical_literal.specs.Read.{exact, Read};
 ghost use Rattle.lexical_literal.specs.Literal.{Literal as Parts, Reads, is_float, text_of};
 ghost use Rattle.lexical_literal.specs.Notation.{lacks_options, notation_of};
 ghost use Rattle.lexical_number.specs.Float.{format_of, is_zero};
@@ -83,14 +83,14 @@ pub trait Writable {
     /// Returns whether a literal of a syntax and a kind, with a decimal point or an exponent or without, is the number if it is
     /// written for it in a style.
     fn is_plain(&self, syntax: &Syntax, kind: Kind, style: Style, float: bool) -> bool
-        ensures plain { result ≡ true → (read : Read) → read.kind ≡ kind → read.format ≡ radixes_of syntax.now.word → is_float read.literal ≡ float
+        ensures plain { result ≡ true → (read : Read) → read.kind ≡ kind → read.format ≡ syntax.now.word → is_float read.literal ≡ float
             → (task self.now style).writes syntax.now (Ok read.literal) → (task self.now style).is syntax.now read.literal read }
-        ensures kept { result ≡ false → (read : Read) → read.kind ≡ kind → read.format ≡ radixes_of syntax.now.word → is_float read.literal ≡ float
+        ensures kept { result ≡ false → (read : Read) → read.kind ≡ kind → read.format ≡ syntax.now.word → is_float read.literal ≡ float
             → (task self.now style).keeps true read → (task self.now style).keeps false read };
 
     /// Returns whether a literal is worth the number in a style, of which `own` is what its form alone reads.
     fn is_read_as(&self, style: Style, own: &Literal, literal: &Literal) -> bool
-        ensures same { result ≡ true → own.now.kind ≡ exact → (g : Grammar) → own.now.format ≡ radixes_of g.word
+        ensures same { result ≡ true → own.now.kind ≡ exact → (g : Grammar) → own.now.format ≡ g.word
             → (task self.now style).writes g (Ok own.now.literal) → (task self.now style).is g own.now.literal literal.now }
         ensures kept { result ≡ false → (task self.now style).keeps false literal.now → ⊥ };
 
@@ -306,7 +306,6 @@ impl Writable for Literal<'_> {
         Ok(put(&format_literal(self, syntax, style)?, buffer))
     }
 
-    #[tactic(auto, using(crate::proofs::ChoiceLemmas::same_read))]
     fn is_plain(&self, _syntax: &Syntax, kind: Kind, _: Style, float: bool) -> bool {
         is_exact(self.kind()) && is_exact(kind) && (self.is_float() || !float)
     }
@@ -855,7 +854,7 @@ fn has_worth(literal: &Literal) -> bool
 
 // Returns the literal of a syntax that a text is, by the calls that lists share.
 fn own_literal<'a>(syntax: &Syntax, text: &'a [u8]) -> Option<Literal<'a>>
-    ensures some { IfSome result (λ own. (own.kind ≡ exact) × (own.format ≡ radixes_of syntax.now.word) × Reads (notation_of syntax.now) own.literal text.now) }
+    ensures some { IfSome result (λ own. (own.kind ≡ exact) × (own.format ≡ syntax.now.word) × Reads (notation_of syntax.now) own.literal text.now) }
     ensures none { result ≡ None → (l : Parts) → Reads (notation_of syntax.now) l text.now → ⊥ }
 {
     let alone = [Form::new("", *syntax)];

@@ -7,7 +7,7 @@ ghost use Rattle.lexical_literal.specs.Notation.{notation_of};
 ghost use Rattle.lexical_literal.specs.Syntax.{IsSyntax};
 ghost use Rattle.lexical_value.specs.Integer.{IsInteger};
 ghost use Rattle.lexical_writer.specs.Buffer.{IsTaken};
-ghost use Rattle.lexical_writer.specs.Layout.{HasNumber, HasValue, IsWhole, integer_literal, laid_out, literal_of, number_of_size, plain_text, refusal};
+ghost use Rattle.lexical_writer.specs.Layout.{HasNumber, HasValue, integer_literal, laid_out, literal_of, number_of_size, plain_text, refusal, whole};
 ghost use Rattle.lexical_writer.specs.Layout.{needs_exponent, whole_refusal};
 
 use crate::digits::put_if_any;
@@ -46,7 +46,7 @@ pub fn format_integer<T: Integer>(
     // It has neither a decimal point nor an exponent, unless each literal has one.
     ensures integer { needs_exponent syntax.now ≡ false
         → IfOk result (λ it. IsInteger (bytes_of syntax.now.word) (integer_literal it) (T.range.value value)) }
-    ensures parts { IfOk result (λ it. IsWhole syntax.now style (T.range.value value) (integer_literal it)) }
+    ensures parts { IfOk result (λ it. integer_literal it ≡ laid_out syntax.now style (whole (T.range.value value))) }
     // Each integer can be written, unless it is below 0 and no literal is.
     ensures error { IfErr result (λ error. whole_refusal syntax.now (T.range.value value) ≡ Some error) }
 {

@@ -2,11 +2,10 @@
 
 //! Literals that were read, their parts, and the numbers that their digits represent.
 
-use crate::format_flags::DIGIT_SEPARATOR_SHIFT;
 use crate::literal::kind::Kind;
 use crate::literal::step::radix_of;
-use crate::literal::syntax::{Grammar, Syntax, BASE_SHIFT, EXPONENT_SHIFT, RADIX_SHIFT};
-use crate::literal::value::number::small::{add_all, count, fits, small};
+use crate::literal::syntax::{Grammar, Syntax};
+use crate::literal::value::number::small::{add_all, count, fits, is_small};
 use crate::word::{FormatView, Part};
 
 /// The parts of a literal, in the order of the text. An absent part has no bytes.
@@ -56,11 +55,7 @@ pub(crate) const NOTHING: Sum = Sum { digits: 0, value: 0 };
 pub struct Literal<'a> {
     pub(crate) text: &'a [u8],
     pub(crate) counts: [usize; 9],
-    // The radixes and the base, and the separator, or 0.
-    radix: u8,
-    exponent_base: u8,
-    exponent_radix: u8,
-    separator: u8,
+    view: FormatView,
     // The numbers of the mantissa and the exponent, if there are few digits. Two `Option`s would have 14 bytes more.
     mantissa: u64,
     exponent: u64,
@@ -73,36 +68,11 @@ pub struct Literal<'a> {
 }
 
 impl<'a> Literal<'a> {
-    /// Returns the radixes, the base and the separator of the format by which the literal was read.
+    /// Returns the format by which the literal was read.
     #[must_use]
     #[inline(always)]
     pub(crate) const fn format(&self) -> FormatView {
-        let upper = self.separator as u64
-            + ((self.radix as u64) << RADIX_SHIFT)
-            + ((self.exponent_base as u64) << BASE_SHIFT)
-            + ((self.exponent_radix as u64) << EXPONENT_SHIFT);
-        FormatView::new((upper as u128) << DIGIT_SEPARATOR_SHIFT)
-    }
-
-    // Returns the radix of the digits of `part`.
-    #[inline(always)]
-    pub(crate) const fn radix_of(&self, part: Part) -> u32 {
-        match part {
-            Part::Exponent => self.exponent_radix as u32,
-            _ => self.radix as u32,
-        }
-    }
-
-    // Returns the base of the exponent.
-    #[inline(always)]
-    pub(crate) const fn exponent_base(&self) -> u32 {
-        self.exponent_base as u32
-    }
-
-    // Returns the separator, or 0 if there is none.
-    #[inline(always)]
-    pub(crate) const fn separator(&self) -> u8 {
-        self.separator
+        self.view
     }
 
     /// Returns the kind, which decides what the literal is worth.
@@ -187,14 +157,11 @@ impl Grammar {
         Literal {
             text,
             counts,
-            radix: self.radix,
-            exponent_base: self.exponent_base,
-            exponent_radix: self.exponent_radix,
-            separator: self.separator,
+            view: self.view(),
             mantissa: mantissa.value,
             exponent: exponent.value,
-            has_mantissa: are_few(self.radix, text, counts, Part::Integer, mantissa.digits, mantissa.value),
-            has_exponent: are_few(self.exponent_radix, text, counts, Part::Exponent, exponent.digits, exponent.value),
+            has_mantissa: are_few(radix_of(&self, Part::Integer), text, counts, Part::Integer, mantissa),
+            has_exponent: are_few(radix_of(&self, Part::Exponent), text, counts, Part::Exponent, exponent),
             places,
             opened: 0,
             kind,
@@ -272,17 +239,15 @@ const fn sums_of(radix: u32, exponent_radix: u32, parts: &Parts) -> Sums {
 }
 
 // Returns whether the digits of the exponent, or else of the integer and the fraction together, are so few behind their leading zeros that
-// `sum` is the number. There are `digits` of them, and `sum` is the number modulo `2 ^ 64`.
+// their sum is the number.
 #[inline(always)]
-const fn are_few(radix: u8, text: &[u8], counts: [usize; 9], part: Part, digits: usize, sum: u64) -> bool {
-    let radix = radix as u32;
-    if fits(radix, digits) {
+const fn are_few(radix: u32, text: &[u8], counts: [usize; 9], part: Part, sum: Sum) -> bool {
+    if fits(radix, sum.digits) {
         return true;
     }
     let parts = parts_of(text, counts);
-    let number = match part {
-        Part::Exponent => small(radix, parts.exponent, &[], digits, sum),
-        _ => small(radix, parts.integer, parts.fraction, digits, sum),
-    };
-    matches!(number, Some(_))
+    match part {
+        Part::Exponent => is_small(radix, parts.exponent, &[], sum.digits),
+        _ => is_small(radix, parts.integer, parts.fraction, sum.digits),
+    }
 }

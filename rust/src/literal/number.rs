@@ -225,7 +225,10 @@ impl<'a> Literal<'a> {
     /// Returns the radix of the digits of a part, a number from 2 to 36.
     #[must_use]
     pub const fn radix(&self, part: Part) -> u32 {
-        self.radix_of(part)
+        match part {
+            Part::Integer | Part::Fraction => self.format().mantissa_radix(),
+            Part::Exponent => self.format().exponent_radix(),
+        }
     }
 
     /// Returns the values of the digits of a part, without digit separators. Each is below the [`radix`][Self::radix].
@@ -244,7 +247,9 @@ impl<'a> Literal<'a> {
             Part::Fraction => self.fraction(),
             Part::Exponent => self.exponent(),
         };
-        Digits { bytes: bytes.iter(), separator: self.separator() }
+        let (bytes, separator) = (bytes.iter(), self.format().digit_separator());
+        let separator = separator.map_or(0, |byte| byte.get());
+        Digits { bytes, separator }
     }
 }
 

@@ -128,12 +128,7 @@ pub(crate) const CONSECUTIVE: u32 = 41;
 // Returns whether a separator may be at a place in `part`.
 #[inline(always)]
 pub(crate) const fn has_place(grammar: &Grammar, part: Part, place: u32) -> bool {
-    let number = match part {
-        Part::Integer => place,
-        Part::Fraction => place + 1,
-        Part::Exponent => place + 2,
-    };
-    (grammar.flags >> number) & 1 != 0
+    (grammar.flags >> (place + part as u32)) & 1 != 0
 }
 
 // Returns whether a plus sign may be before the digits of `part`.

@@ -148,7 +148,7 @@ impl<'a> Literal<'a> {
     /// ```
     #[must_use]
     pub fn plain(&self) -> Option<Plain<'a>> {
-        let radixes = [self.radix_of(Part::Integer), self.exponent_base(), self.radix_of(Part::Exponent)];
+        let radixes = [self.format().mantissa_radix(), self.format().exponent_base(), self.format().exponent_radix()];
         (radixes == [10; 3] || !self.is_float()).then_some(Plain(*self))
     }
 }
@@ -327,7 +327,7 @@ impl Literal<'_> {
 
 /// Returns the bits of the float nearest to a literal, without its sign, or `None` if the radix and the base are not both 10.
 const fn decimal_size(double: bool, literal: &Literal) -> Option<u64> {
-    if !float::has_decimal_floats(literal) {
+    if !float::has_decimal_floats(literal.format()) {
         return None;
     }
     let negative = literal.has_negative_exponent();

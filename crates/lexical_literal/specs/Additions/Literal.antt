@@ -1,12 +1,12 @@
 -- The parts of a literal by their lengths, and the sums of their digits.
-use Rattle.std.specs.Prelude.{ℕ, ◌≡◌, ◌<◌, ◌+◌, ◌%◌, ◌^◌, ◌++◌, Bool, if◌then◌else◌, IsTrue, List, Option, Some, None, drop, take}
+use Rattle.std.specs.Prelude.{ℕ, ◌≡◌, ◌+◌, ◌%◌, ◌^◌, ◌++◌, Bool, if◌then◌else◌, IsTrue, List, Option, Some, None, drop, take}
 use Rattle.lexical_util.specs.Layout as layout
 use Rattle.lexical_util.specs.Record.{Record, bytes_of, effective_exponent_radix, raw}
 use Rattle.lexical_util.specs.declared.format_flags.Part.{Part}
 use Rattle.lexical_util.specs.declared.format_flags.Part.TheVariants as parts
 use Rattle.lexical_literal.specs.Literal.{Literal, Reads}
 use Rattle.lexical_literal.specs.Notation.{Notation, notation_of}
-use Rattle.lexical_literal.specs.Read.{exponent, mantissa, radixes_of}
+use Rattle.lexical_literal.specs.Read.{exponent, mantissa}
 use Rattle.lexical_literal.specs.Syntax.{IsSyntax}
 use Rattle.lexical_literal.specs.Additions.Step.{Cuts, HasLengths, cuts_of}
 use Rattle.lexical_literal.specs.declared.stop.Begun.{Begun}
@@ -88,17 +88,12 @@ pub record IsMantissa (r : Record) (text : List ℕ) (run : Reading) : Type 0 wh
 abbrev pub given : Bool → ℕ → Option ℕ
 given has n = if has then Some n else None
 
--- `AreBytes k l m n` holds if these numbers are below 256.
-abbrev pub AreBytes : ℕ → ℕ → ℕ → ℕ → Type 0
-AreBytes k l m n = (k < 2 ^ 8) × ((l < 2 ^ 8) × ((m < 2 ^ 8) × (n < 2 ^ 8)))
-
--- `IsMade word text c m n e` holds if `text` is a literal of a syntax whose format has the radixes, the base and the separator of `word`,
--- and no others, if its parts have the lengths `c`, and if `m` and `e` are its mantissa and its exponent if they are short, and `n` is the
--- number of its fraction digits.
+-- `IsMade word text c m n e` holds if `text` is a literal of a syntax with the format `word`, if its parts have the lengths `c`, and if
+-- `m` and `e` are its mantissa and its exponent if they are short, and `n` is the number of its fraction digits.
 pub record IsMade (word : ℕ) (text : List ℕ) (c : Cuts) (m : Option ℕ) (n : ℕ) (e : Option ℕ) : Type 0 where
   pub grammar : Grammar
   pub syntax : IsSyntax grammar
-  pub format : radixes_of grammar.word ≡ word
+  pub format : grammar.word ≡ word
   pub is_cut : IsCut (notation_of grammar) text c
   pub word_mantissa : IsSmall ((raw word).byte layout.mantissa_radix) (mantissa (bytes_of word) (cut text c)) m
   pub fraction_places : n ≡ places ((raw word).byte layout.mantissa_radix) (cut text c).fraction

@@ -10,7 +10,7 @@ use crate::literal::value::number::float::Float;
 use crate::literal::value::number::leading::{push_all, saturating, Leading};
 use crate::literal::value::number::numeral::Magnitude;
 use crate::literal::value::number::scaling::{bits_of, raised_bits, raised_word};
-use crate::word::{FormatView, Part};
+use crate::word::FormatView;
 
 /// Returns the value of a literal by its kind as a value of a float type: rounded once to the nearest float, or to the even one
 /// if two are as near. Unless its kind has limits, the value is infinite if it is that large. Its sign is that of the literal, also
@@ -81,7 +81,7 @@ pub(crate) const fn beyond(
 // Returns whether a digit of the mantissa is not 0.
 #[cold]
 const fn has_digits(literal: &Literal) -> bool {
-    leading_of(literal, literal.radix_of(Part::Integer)).digits != 0
+    leading_of(literal, literal.format().mantissa_radix()).digits != 0
 }
 
 // Returns the nearest `f32`, in one copy.
@@ -114,7 +114,7 @@ fn whole_float<F: Float>(literal: &Literal) -> Result<F, ValueErrorKind> {
 /// If the mantissa radix and the exponent base are neither both 10 nor both powers of two.
 #[inline(always)]
 pub fn nearest_float<F: Float>(literal: &Literal) -> Result<F, ValueErrorKind> {
-    let size = if has_decimal_floats(literal) {
+    let size = if has_decimal_floats(literal.format()) {
         decimal_size(literal)
     } else if let Some(bits) = binary_size(F::DOUBLE, &{ *literal }) {
         F::from_magnitude(bits)
@@ -140,13 +140,13 @@ pub fn signed<F: Float>(size: F, negative: bool) -> F {
 #[must_use]
 pub const fn supports_floats(format: FormatView) -> bool {
     let radixes = (bits_of(format.mantissa_radix()), bits_of(format.exponent_base()));
-    (format.mantissa_radix() == 10 && format.exponent_base() == 10) || matches!(radixes, (Some(_), Some(_)))
+    has_decimal_floats(format) || matches!(radixes, (Some(_), Some(_)))
 }
 
-// Returns whether floats of the format of a literal are decimal.
+// Returns whether floats of `format` are decimal.
 #[inline(always)]
-pub(crate) const fn has_decimal_floats(literal: &Literal) -> bool {
-    literal.radix_of(Part::Integer) == 10 && literal.exponent_base() == 10
+pub(crate) const fn has_decimal_floats(format: FormatView) -> bool {
+    format.mantissa_radix() == 10 && format.exponent_base() == 10
 }
 
 // Returns the number that the exponent digits of a literal represent, or `2 ^ 90` if that is less.
@@ -154,7 +154,7 @@ pub(crate) const fn has_decimal_floats(literal: &Literal) -> bool {
 pub(crate) const fn exponent_of(literal: &Literal) -> u128 {
     match literal.scale() {
         Some(exponent) => exponent as u128,
-        None => saturating(literal.cut().exponent, literal.radix_of(Part::Exponent)),
+        None => saturating(literal.cut().exponent, literal.format().exponent_radix()),
     }
 }
 
@@ -171,10 +171,11 @@ fn decimal_size<F: Float>(literal: &Literal) -> F {
 
 // Returns the bits of the float nearest to a literal, without its sign, or `None` if a radix is not a power of two.
 pub(crate) const fn binary_size(double: bool, literal: &Literal) -> Option<u64> {
-    let Some(radix_bits) = bits_of(literal.radix_of(Part::Integer)) else {
+    let format = literal.format();
+    let Some(radix_bits) = bits_of(format.mantissa_radix()) else {
         return None;
     };
-    let Some(base_bits) = bits_of(literal.exponent_base()) else {
+    let Some(base_bits) = bits_of(format.exponent_base()) else {
         return None;
     };
     let places = literal.places() as u64;
@@ -188,7 +189,7 @@ pub(crate) const fn binary_size(double: bool, literal: &Literal) -> Option<u64> 
 // Returns what `binary_size` returns, of a literal whose mantissa or exponent has many digits.
 #[cold]
 const fn long_binary_size(double: bool, literal: &Literal, radix_bits: u32, base_bits: u32) -> u64 {
-    let leading = leading_of(literal, literal.radix_of(Part::Integer));
+    let leading = leading_of(literal, literal.format().mantissa_radix());
     let places = literal.places() as u64;
     let negative = literal.has_negative_exponent();
     let exponent = exponent_of(literal);

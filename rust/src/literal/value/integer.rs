@@ -6,7 +6,6 @@ use crate::literal::kind::IntegerKind;
 use crate::literal::literal::Literal;
 use crate::literal::value::number::integer::Integer;
 use crate::literal::value::number::numeral::{Magnitude, Numeral};
-use crate::word::Part;
 
 /// Why a number has no value in a type.
 #[derive(Debug, Clone, Copy, PartialEq, Eq, Hash)]
@@ -89,7 +88,7 @@ pub(crate) const fn integer_numeral<'a>(literal: &Literal<'a>) -> Option<Numeral
     }
     let magnitude = match literal.mantissa() {
         Some(size) => Magnitude::Word(size),
-        None => Magnitude::Digits(literal.cut().integer, literal.radix_of(Part::Integer)),
+        None => Magnitude::Digits(literal.cut().integer, literal.format().mantissa_radix()),
     };
     Some(Numeral { negative: literal.is_negative(), magnitude })
 }

@@ -1,5 +1,4 @@
 -- The first form reads the text as the integer.
-use Rattle.lexical_literal.specs.Read.{radixes_of}
 use Rattle.lexical_writer.proofs.Common.{Form, Grammar, List, Read, Reads, Some, ap, get_or, integer_literal, laid_out, length, notation_of, number_of_size}
 use Rattle.lexical_writer.proofs.Common.{refl, slice_get, slice_get_read, subst, sym, text_of, is_own, with_sign, ◌<◌, ◌∙◌, ◌≡◌}
 use Rattle.lexical_forms.proofs.BehindLemmas.{no_size}
@@ -17,13 +16,13 @@ returns-clause-back c =
     let written = c.in-Ok.ensures.written in
     let here = first _ _ form c.as_slice.ensures.list c.as_slice.ensures.some c.index-as_slice-0.is in
     let none = no_size _ c.has_opening.result c.has_opening.ensures c.if-has_opening.false in
-    let own : Read = record { format = radixes_of form.syntax.word; literal = l; kind = form.kind; opened = 0 } in
+    let own : Read = record { format = form.syntax.word; literal = l; kind = form.kind; opened = 0 } in
     let read = first_reads c.args.forms.now.forms form (text_of l) l 0 here refl none
     (subst (λ (g : Grammar). Reads (notation_of g) l (text_of l)) c.syntax-syntax.ensures written.0) in (
       own,
       0,
       read,
-      c.is_plain.ensures.plain c.if-not-is_plain.false own (sym c.kind.ensures) (ap (λ (g : Grammar). radixes_of g.word) (sym c.syntax-syntax.ensures))
+      c.is_plain.ensures.plain c.if-not-is_plain.false own (sym c.kind.ensures) (ap (λ (g : Grammar). g.word) (sym c.syntax-syntax.ensures))
           (sym c.is_float.ensures ∙ c.if-is_float.false)
           (c.in-Ok.ensures.parts, λ i. with_sign (sym written.1.sign i) (sym written.1.integer i)),
     )

@@ -1,5 +1,4 @@
 -- The only form of the list reads the text.
-use Rattle.lexical_literal.specs.Read.{radixes_of}
 use Rattle.lexical_writer.proofs.Common.{Form, Grammar, IsSomeAnd, List, Reads, ReadsForm, [], ap, notation_of, refl, slice_get, subst, suc, sym, zero, ℕ, ◌∙◌}
 use Rattle.lexical_writer.proofs.Common.{◌∷◌, ◌≡◌}
 use Rattle.lexical_forms.specs.FormList.{FormList}
@@ -19,7 +18,7 @@ returns-in-Some-clause-some c =
     let by = only (ReadsForm c.args.text.now read) c.new.result index
     (subst (λ (forms : List Form). IsSomeAnd (slice_get forms index) (ReadsForm c.args.text.now read)) one c.in-Some.ensures.some.reads) in (
       by.1 ∙ c.new.ensures.kind,
-      by.0 ∙ ap (λ (g : Grammar). radixes_of g.word) c.new.ensures.syntax,
+      by.0 ∙ ap (λ (g : Grammar). g.word) c.new.ensures.syntax,
       subst (λ (g : Grammar). Reads (notation_of g) read.literal c.args.text.now) c.new.ensures.syntax
           (plain_of c.new.result c.args.text.now c.new.ensures.opening read.literal by.2),
     )

@@ -1,5 +1,4 @@
 -- The list reads the text as the number.
-use Rattle.lexical_literal.specs.Read.{radixes_of}
 use Rattle.lexical_writer.proofs.Common.{Bool, Grammar, IsSomeAnd, IsSyntax, Ok, Read, ReadsForm, Reads, ap, is_float, notation_of, refl, rules, slice_get}
 use Rattle.lexical_writer.proofs.Common.{true, false, subst, sym, ◌&&◌, ◌==◌, ◌∙◌, ◌≡◌, Some, eqb-true, false≢true}
 use Rattle.lexical_forms.proofs.BehindLemmas.{plain_of}
@@ -20,9 +19,9 @@ returns-then-index-eq0-clause-value g c =
     let form = c.args.form.now in
     let style = c.args.style in
     let syntax = c.syntax-syntax.ensures in
-    let read : Read = record { format = radixes_of form.syntax.word; literal = l; kind = form.kind; opened = 0 } in
+    let read : Read = record { format = form.syntax.word; literal = l; kind = form.kind; opened = 0 } in
     let first = first_reads c.args.forms.now.forms form c.args.text.now l c.args.index c.requires.form c.if-index-eq0.true c.requires.unopened reads in
-    let plain = c.is_plain-plain.ensures.plain c.if-plain.true read (sym c.kind.ensures) (ap (λ (g : Grammar). radixes_of g.word) (sym syntax)) (sym float)
+    let plain = c.is_plain-plain.ensures.plain c.if-plain.true read (sym c.kind.ensures) (ap (λ (g : Grammar). g.word) (sym syntax)) (sym float)
     (subst (λ s. (g.N.Writable.task c.args.number.now style).writes s (Ok l)) (sym syntax) has) in (
       l,
       has,
@@ -45,7 +44,7 @@ returns-then-plain-form-clause-value g c =
     let same : l ≡ literal.literal = c.literal_facts.ensures.one_reading form.syntax lawful l literal.literal text reads
     (plain_of form text c.requires.unopened literal.literal by.2) in
     let plain = c.is_plain-plain.ensures.plain (and_first _ _ c.if-plain-form.true) literal (by.1 ∙ sym c.kind.ensures)
-    (by.0 ∙ sym (ap (λ (g : Grammar). radixes_of g.word) syntax)) (ap is_float (sym same) ∙ sym float)
+    (by.0 ∙ sym (ap (λ (g : Grammar). g.word) syntax)) (ap is_float (sym same) ∙ sym float)
     (subst (λ l. (g.N.Writable.task c.args.number.now style).writes c.syntax-syntax.result (Ok l)) same
     (subst (λ s. (g.N.Writable.task c.args.number.now style).writes s (Ok l)) (sym syntax) has)) in (
       l,
@@ -116,7 +115,7 @@ returns-clause-error g c =
           (plain_of form text c.requires.unopened literal.literal by.2) in
           other (c.is_plain-plain.ensures.kept (and_left _ _ c.if-plain-form.false same) literal
           (by.1 ∙ sym c.kind.ensures)
-          (by.0 ∙ sym (ap (λ (g : Grammar). radixes_of g.word) c.syntax-syntax.ensures)) (ap is_float (sym one) ∙ sym float) kept)),
+          (by.0 ∙ sym (ap (λ (g : Grammar). g.word) c.syntax-syntax.ensures)) (ap is_float (sym one) ∙ sym float) kept)),
       c.mismatch.ensures,
     )
 

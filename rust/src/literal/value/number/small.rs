@@ -74,14 +74,10 @@ const fn all_zeros(integer: &[u8], fraction: &[u8], radix: u32) -> usize {
     }
 }
 
-/// Returns the number that the digits of `integer` and `fraction` represent together, if they are so few behind their leading
-/// zeros that each number of so many is below `2 ^ 64`. There are `digits` of them, and `sum` is the number modulo `2 ^ 64`.
+/// Returns whether the digits of `integer` and `fraction` are so few behind their leading zeros that each number of so many is below
+/// `2 ^ 64`. There are `digits` of them.
 #[must_use]
 #[cold]
-pub const fn small(radix: u32, integer: &[u8], fraction: &[u8], digits: usize, sum: u64) -> Option<u64> {
-    if fits(radix, digits - all_zeros(integer, fraction, radix)) {
-        Some(sum)
-    } else {
-        None
-    }
+pub const fn is_small(radix: u32, integer: &[u8], fraction: &[u8], digits: usize) -> bool {
+    fits(radix, digits - all_zeros(integer, fraction, radix))
 }

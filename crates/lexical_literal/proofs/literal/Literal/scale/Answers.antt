@@ -1,16 +1,8 @@
 -- The invariant has the number.
-use Rattle.lexical_literal.proofs.Common.{IfSome, IsShort, IsSome, Option, Read, cut, cuts_of, exponent, raw, subst, sym, ℕ, ◌≡◌}
-use Rattle.lexical_literal.proofs.Common.{effective_exponent_radix}
-use Rattle.lexical_literal.specs.Read.{radixes}
+use Rattle.lexical_literal.proofs.Common.{IfSome, Read, cut, cuts_of, exponent, raw, subst, sym, ◌≡◌}
 use Rattle.lexical_literal.proofs.literal.Literal.scale.Goals as goal
 
-pub returns-clause-some : goal.returns-clause-some
-returns-clause-some c = subst (λ (read : Read). IsShort (effective_exponent_radix (raw read.format)) (exponent (raw read.format).byte read.literal)
-    → IsSome c.given.result) c.self.view_is (λ short. subst (λ (m : Option ℕ). IsSome m) (sym c.given.ensures) (c.self.invariant.0.word_exponent.some short))
-
 pub returns-clause-value : goal.returns-clause-value
-returns-clause-value c =
-    let it = c.self.inside in
-    subst (λ (read : Read). IfSome c.given.result (λ m. m ≡ exponent (raw read.format).byte read.literal)) c.self.view_is
-    (subst (λ e. IfSome e (λ m. m ≡ exponent (raw (radixes it.separator it.radix it.exponent_base it.exponent_radix)).byte (cut it.text.now (cuts_of it.counts))))
-    (sym c.given.ensures) c.self.invariant.0.word_exponent.value)
+returns-clause-value c = subst (λ (read : Read). IfSome c.given.result (λ m. m ≡ exponent (raw read.format).byte read.literal)) c.self.view_is
+    (subst (λ e. IfSome e (λ m. m ≡ exponent (raw c.self.inside.view).byte (cut c.self.inside.text.now (cuts_of c.self.inside.counts))))
+    (sym c.given.ensures) c.self.invariant.word_exponent.value)
