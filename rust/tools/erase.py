@@ -224,6 +224,21 @@ REPLACED += [
     ("lawful.rt", "Eq)]\npub struct FormatError", "Eq, Hash)]\npub struct FormatError"),
 ]
 
+# Variables and parameters that contracts alone name, and the arguments.
+EVERYWHERE[:0] = [("let _syntax = self.syntax();", ""), ("let _grammar = self.grammar();", "")]
+EVERYWHERE += [("unfinished(grammar, text, ", "unfinished("), ("self.fail(tokens, text)", "self.fail(text)"), (".beginning(text)", ".beginning()")]
+REPLACED += [
+    ("lexical_literal/src/scan.rt", "fn unfinished(_grammar: &Grammar, _text: &[u8], ", "fn unfinished("),
+    ("lexical_literal/src/scan.rt", "unfinished(\n            grammar,\n            text,\n", "unfinished(\n\n\n"),
+    ("lexical_literal/src/scan.rt", "fn is_whole(self, _syntax: &Syntax, ", "fn is_whole(self, "),
+    ("behind.rt", "begun.is_whole(syntax, inside)", "begun.is_whole(inside)"),
+    ("behind.rt", "(&self, _text: &[u8], ", "(&self, "),
+    ("list.rt", "it.read(text, inside)", "it.read(inside)"),
+    ("lexical_literal/src/stop.rt", "fn beginning(&self, _text: &[u8])", "fn beginning(&self)"),
+    ("behind.rt", "fn beginning(&self, text: &[u8])", "fn beginning(&self)"),
+    ("candidate.rt", "fn fail(&self, _tokens: &Tokens, ", "fn fail(&self, "),
+]
+
 # Public items that may change in any version: those for `numfmt` or for one or two languages, and fields that have setters.
 MAY_CHANGE = {
     "source.rt": ["pub struct BuilderExpression("],

@@ -54,10 +54,10 @@ impl Form {
 
     // Returns the literal that `_text` is, where `inside` is behind the opening, or where the form stops.
     #[cfg_attr(not(peltzivar_small), inline(always))]
-    pub(crate) const fn read<'t>(&self, _text: &[u8], inside: &'t [u8]) -> Result<Literal<'t>, Stopped> {
+    pub(crate) const fn read<'t>(&self, inside: &'t [u8]) -> Result<Literal<'t>, Stopped> {
         let syntax = &self.syntax;
         let begun = syntax.begin_small(inside, false);
-        if begun.is_whole(syntax, inside) {
+        if begun.is_whole(inside) {
             let literal = syntax.literal(inside, begun.counts, begun.sums);
             return Ok(literal.with_kind(self.kind).behind(self.opening.size));
         }
@@ -98,7 +98,6 @@ impl Form {
     pub(crate) const fn front(&self, text: &[u8]) -> (usize, Option<Found>) {
         let opened = self.opening.opened(text);
         if opened < self.opening.size() {
-            let _syntax = self.syntax();
             return (opened, None);
         }
         let (_, inside) = text.split_at(opened);
@@ -120,7 +119,6 @@ impl Form {
     pub(crate) const fn stop(&self, text: &[u8]) -> Stopped {
         let opened = self.opening.opened(text);
         if opened < self.opening.size() {
-            let _syntax = self.syntax();
             return BEGIN.at(opened);
         }
         let (_, rest) = text.split_at(opened);
@@ -130,9 +128,9 @@ impl Form {
 
     // Returns where reading `text` stops, which no literal of the form begins with more than no byte of, if there is no opening.
     #[cfg_attr(not(peltzivar_small), inline(always))]
-    pub(crate) const fn beginning(&self, text: &[u8]) -> Option<Stopped> {
+    pub(crate) const fn beginning(&self) -> Option<Stopped> {
         if self.opening.is_empty() {
-            Some(self.syntax.beginning(text))
+            Some(self.syntax.beginning())
         } else {
             None
         }

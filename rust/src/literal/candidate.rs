@@ -132,7 +132,7 @@ impl<'a> Forms<'a> {
         found: Longest,
     ) -> Result<Token<'t>, TokenError> {
         let Some((form, candidate)) = found.best else {
-            return Err(self.fail(tokens, text));
+            return Err(self.fail(text));
         };
         let it = self.tried(tokens, form);
         let goes_on = candidate.end < found.reach;
@@ -183,13 +183,13 @@ impl<'a> Forms<'a> {
             return None;
         }
         if self.is_ahead(tokens, text, end, goes_on) {
-            return Some(self.fail(tokens, text));
+            return Some(self.fail(text));
         }
         if !it.is_stopped(tokens, text, end) {
             return None;
         }
         if has_digit(text, size, end) {
-            Some(self.fail(tokens, text))
+            Some(self.fail(text))
         } else {
             Some(stopped(it, text, form, candidate))
         }
@@ -197,7 +197,7 @@ impl<'a> Forms<'a> {
 
     // Returns why `text` does not begin with a token.
     #[cold]
-    const fn fail(&self, _tokens: &Tokens, text: &[u8]) -> TokenError {
+    const fn fail(&self, text: &[u8]) -> TokenError {
         let end = part_size(text, furthest_stop(self.forms, text));
         let (word, _) = text.split_at(end);
         if cfg!(peltzivar_small) {

@@ -82,7 +82,7 @@ impl<'a> Forms<'a> {
             return Err(None);
         }
         let begun = syntax.begin(true, text, false);
-        if begun.is_whole(&syntax, text) {
+        if begun.is_whole(text) {
             return Ok(syntax.usual_grammar().literal(text, begun.counts, begun.sums, kind));
         }
         let is_refused = begun.refused || begun.at.is_refused(&syntax, text);

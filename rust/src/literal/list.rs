@@ -278,7 +278,7 @@ impl<'a> Forms<'a> {
             let it = &self.forms[form];
             match it.begins(text, reach_of(furthest)) {
                 Err(size) => bound = larger(bound, size),
-                Ok(inside) => match it.read(text, inside) {
+                Ok(inside) => match it.read(inside) {
                     Ok(literal) => return Ok((form, literal)),
                     Err(stop) => furthest = Some(self.further(text, furthest, form, stop)),
                 },
@@ -295,7 +295,7 @@ impl<'a> Forms<'a> {
     // Returns the first form, where none goes beyond the beginning of `text`, which is no literal.
     #[inline(always)]
     const fn at_once(&self, text: &[u8]) -> Furthest {
-        match self.forms[0].beginning(text) {
+        match self.forms[0].beginning() {
             None => self.furthest(text),
             Some(stop) => Furthest { form: 0, stop, reach: 0 },
         }

@@ -41,7 +41,7 @@ const fn at_stage(size: usize, stage: Stage) -> Stopped {
 
 // Returns that the parts are read up to `at`, which no literal is said to end at.
 #[inline(always)]
-const fn unfinished(_grammar: &Grammar, _text: &[u8], at: Stopped, refused: bool) -> Begun {
+const fn unfinished(at: Stopped, refused: bool) -> Begun {
     Begun {
         at,
         counts: [0; 9],
@@ -152,7 +152,7 @@ const fn digits(grammar: &Grammar, decimal: bool, text: &[u8], part: Part, begun
 #[inline(always)]
 const fn scan(grammar: &Grammar, decimal: bool, text: &[u8], fronts: bool) -> Begun {
     let Some((sign, before)) = sign(grammar, text, Part::Integer, 0) else {
-        return unfinished(grammar, text, BEGIN, false);
+        return unfinished(BEGIN, false);
     };
     let Some((prefix, stage)) = open(grammar, decimal, text, sign, before) else {
         return without_prefix(grammar, text, sign, before);
@@ -161,7 +161,7 @@ const fn scan(grammar: &Grammar, decimal: bool, text: &[u8], fronts: bool) -> Be
     let begun = Reading { size: from, stage, sum: NOTHING, sign, prefix, integer: 0, point: 0, fraction: 0, places: 0 };
     let run = digits(grammar, decimal, text, Part::Integer, begun);
     if decimal && !has_digit(run.stage) {
-        return unfinished(grammar, text, at_stage(run.size, run.stage), false);
+        return unfinished(at_stage(run.size, run.stage), false);
     }
     let read = Reading { size: run.size, stage: run.stage, sum: run.sum, integer: run.size - from, ..begun };
     let at = at_stage(run.size, run.stage);
@@ -174,7 +174,7 @@ const fn scan(grammar: &Grammar, decimal: bool, text: &[u8], fronts: bool) -> Be
 impl Begun {
     // Returns whether the parts are those of all of `text`.
     #[inline(always)]
-    pub(crate) const fn is_whole(self, _syntax: &Syntax, text: &[u8]) -> bool {
+    pub(crate) const fn is_whole(self, text: &[u8]) -> bool {
         self.complete && self.at.size == text.len()
     }
 }
@@ -247,9 +247,9 @@ const fn misses_prefix(grammar: &Grammar, text: &[u8], size: usize) -> bool {
 #[inline(always)]
 const fn without_prefix(grammar: &Grammar, text: &[u8], sign: usize, stage: Stage) -> Begun {
     if sign < text.len() && text[sign] == b'0' {
-        unfinished(grammar, text, at_stage(sign + 1, Stage::Bare), misses_prefix(grammar, text, sign + 1))
+        unfinished(at_stage(sign + 1, Stage::Bare), misses_prefix(grammar, text, sign + 1))
     } else {
-        unfinished(grammar, text, at_stage(sign, stage), false)
+        unfinished(at_stage(sign, stage), false)
     }
 }
 
@@ -261,7 +261,7 @@ const fn fraction(grammar: &Grammar, decimal: bool, text: &[u8], fronts: bool, i
     let begun = Reading { size: from, stage, ..integer };
     let run = digits(grammar, decimal, text, Part::Fraction, begun);
     if decimal && !has_digit(run.stage) {
-        return unfinished(grammar, text, at_stage(run.size, run.stage), false);
+        return unfinished(at_stage(run.size, run.stage), false);
     }
     let read = Reading {
         size: run.size,
@@ -294,13 +294,13 @@ const fn behind_mantissa(grammar: &Grammar, decimal: bool, text: &[u8], fronts: 
 const fn exponent(grammar: &Grammar, decimal: bool, text: &[u8], fronts: bool, mantissa: Reading) -> Begun {
     let size = mantissa.size + 1;
     let Some((sign, stage)) = sign(grammar, text, Part::Exponent, size) else {
-        return unfinished(grammar, text, at_stage(size, Stage::Mark), false);
+        return unfinished(at_stage(size, Stage::Mark), false);
     };
     let from = size + sign;
     let begun = Reading { size: from, stage, sum: NOTHING, ..mantissa };
     let run = digits(grammar, decimal, text, Part::Exponent, begun);
     if decimal && !has_digit(run.stage) {
-        return unfinished(grammar, text, at_stage(run.size, run.stage), false);
+        return unfinished(at_stage(run.size, run.stage), false);
     }
     let at = at_stage(run.size, run.stage);
     let scale = [1, sign, run.size - from];
@@ -337,7 +337,7 @@ const fn suffix(
         suffix = 1;
     } else if !fronts && size < text.len() {
         let refused = is_passed(grammar, read.stage, text[size]);
-        return unfinished(grammar, text, at, refused);
+        return unfinished(at, refused);
     }
     Begun {
         at,

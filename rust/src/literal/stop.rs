@@ -179,8 +179,7 @@ impl Syntax {
 
     // Returns where reading `_text` stops if no literal begins with its first byte.
     #[inline(always)]
-    pub(crate) const fn beginning(&self, _text: &[u8]) -> Stopped {
-        let _grammar = self.as_grammar();
+    pub(crate) const fn beginning(&self) -> Stopped {
         BEGIN
     }
 
