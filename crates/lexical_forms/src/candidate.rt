@@ -171,7 +171,7 @@ impl<'a> Forms<'a> {
 
     // Returns whether no word of a form goes on behind `end`.
     #[inline(always)]
-    fn is_clear(&self, tokens: &Tokens, text: &[u8], end: usize) -> bool
+    pub(crate) fn is_clear(&self, tokens: &Tokens, text: &[u8], end: usize) -> bool
         ensures { IsTrue result → All (λ it. HasNoWord text.now end it.0) (tried self.now tokens.now) }
     {
         !has_word_byte(text, end) && !self.go_on_with(tokens, byte_at(text, end))
@@ -389,7 +389,8 @@ impl Form {
     }
 
     // Returns whether what is behind the number that ends at `end` may not follow it. No word may follow a decimal point.
-    fn is_stopped(&self, tokens: &Tokens, text: &[u8], end: usize) -> bool
+    #[inline(always)]
+    pub(crate) fn is_stopped(&self, tokens: &Tokens, text: &[u8], end: usize) -> bool
         ensures { result ≡ is_stopped (lets_words tokens.now self.now text.now end) self.now.suffixes text.now end }
     {
         let words = tokens.any_word_follows && !is_one(self.syntax, byte_before(text, end));

@@ -209,6 +209,35 @@ const fn has_prefix(grammar: Grammar, text: &[u8], index: usize) -> bool
     index + 1 < text.len() && text[index] == b'0' && is_prefix(grammar, text[index + 1])
 }
 
+// Returns whether `byte` ends a number, unless a form goes on with it: white space, an operator, or what closes or separates.
+#[inline(always)]
+const fn is_end(byte: u8) -> bool
+    ensures { result ≡ is_end byte }
+{
+    matches!(byte, 9..=10 | 13 | b' ' | b')'..=b'*' | b',' | b'/' | b';'..=b'=' | b']' | b'}')
+}
+
+// Returns whether `text` ends behind the first `size` bytes, or a byte follows that ends a number.
+#[inline(always)]
+pub(crate) const fn ends_at(text: &[u8], size: usize) -> bool
+    ensures { result ≡ ends_at text.now size }
+{
+    match byte_at(text, size) {
+        None => true,
+        Some(byte) => is_end(byte),
+    }
+}
+
+// Returns whether one of `bytes` ends a number.
+pub(crate) const fn have_end(bytes: &[u8]) -> bool
+    ensures { result ≡ list_any is_end bytes.now }
+{
+    match bytes {
+        [] => false,
+        [byte, rest @ ..] => is_end(*byte) || have_end(rest),
+    }
+}
+
 // Returns whether a zero and a letter are behind the sign.
 #[inline(always)]
 pub(crate) const fn has_letter_behind_zero(text: &[u8]) -> bool {

@@ -7,11 +7,11 @@ ghost use Rattle.lexical_forms.specs.Additions.Token.{IsNarrow};
 ghost use Rattle.lexical_forms.specs.Forms.{IsFormError, IsFrontByForms, IsReadByForms, NoForm, Reaches, special_by};
 ghost use Rattle.lexical_forms.specs.declared.list.PointsBack.TheVariants as points;
 
-use crate::exclude::{has_letter_behind_zero, sign_size};
+use crate::exclude::{ends_at, has_letter_behind_zero, have_end, sign_size};
 use crate::form::Form;
 use crate::opening::Opening;
 use crate::specials::{Special, Specials};
-use crate::suffix::is_wide;
+use crate::suffix::{is_wide, more_of};
 use crate::token::larger;
 use lexical_literal::cause::ReadError;
 use lexical_literal::literal::Literal;
@@ -121,6 +121,8 @@ pub struct Forms<'a> {
     pub(crate) tokens: Option<&'a Tokens>,
     // Whether words behind a form may have other bytes than those of any word.
     pub(crate) wide: bool,
+    // Whether no byte that ends a number plays a role in a form, of the list or of the tokens, or is in a word behind it.
+    pub(crate) ends: bool,
 }
 
 impl<'a> Model for Forms<'a> {
@@ -224,6 +226,7 @@ impl<'a> Forms<'a> {
             specials,
             tokens: None,
             wide: are_wide(forms),
+            ends: let_end(forms),
         })
     }
 
@@ -251,6 +254,7 @@ impl<'a> Forms<'a> {
     {
         Forms {
             tokens: Some(tokens),
+            ends: self.ends && let_end(tokens.forms),
             ..self
         }
     }
@@ -320,6 +324,17 @@ impl<'a> Forms<'a> {
     pub fn read_prefix<'t>(&self, text: &'t [u8]) -> Result<(Number<'t>, &'t [u8]), FormError>
         ensures { IsFrontByForms self.now text.now result }
     {
+        match self.ended(text) {
+            Some((literal, rest)) => Ok((Number::Literal { literal, form: 0 }, rest)),
+            None => self.read_front(text),
+        }
+    }
+
+    // Returns the same by all forms.
+    #[inline(never)]
+    fn read_front<'t>(&self, text: &'t [u8]) -> Result<(Number<'t>, &'t [u8]), FormError>
+        ensures { IsFrontByForms self.now text.now result }
+    {
         match self.find_front(text) {
             Ok((form, found)) => {
                 let Found { size, counts } = found;
@@ -331,6 +346,24 @@ impl<'a> Forms<'a> {
             }
             Err(error) => Err(error),
         }
+    }
+
+    // Returns the literal of the first form that `text` begins with, and the rest, if it is decimal, and no form goes on with what follows.
+    #[inline(always)]
+    pub(crate) fn ended<'t>(&self, text: &'t [u8]) -> Option<(Literal<'t>, &'t [u8])>
+    {
+        let it = &self.forms[0];
+        if !self.ends || !it.opening.is_empty() || !it.syntax.is_decimal() || has_letter_behind_zero(text) {
+            return None;
+        }
+        let begun = it.syntax.begin(true, text, true);
+        let size = begun.at.size;
+        if !begun.complete || !ends_at(text, size) {
+            return None;
+        }
+        let (front, rest) = text.split_at(size);
+        let literal = it.syntax.literal(front, begun.counts, begun.sums);
+        Some((literal.with_kind(it.kind), rest))
     }
 
     // Returns a literal with the kind of the form with the index `form`, behind its opening.
@@ -523,6 +556,25 @@ const fn are_wide(forms: &[Form]) -> bool
         [] => false,
         [form, rest @ ..] => is_wide(form.suffixes) || are_wide(rest),
     }
+}
+
+// Returns whether no byte that ends a number plays a role in one of the forms, or is in a word behind it.
+const fn let_end(forms: &[Form]) -> bool
+    ensures { IsTrue result → All LetsEnd forms.now }
+{
+    match forms {
+        [] => true,
+        [form, rest @ ..] => lets_end(form) && let_end(rest),
+    }
+}
+
+// Returns the same of one form.
+const fn lets_end(form: &Form) -> bool
+    ensures { IsTrue result → LetsEnd form.now }
+{
+    let grammar = form.syntax.grammar();
+    !have_end(&[grammar.separator, grammar.prefix, grammar.suffix, grammar.exponent, grammar.point])
+        && !have_end(more_of(form.suffixes))
 }
 
 // Returns how far the form goes that goes furthest, if there is one.

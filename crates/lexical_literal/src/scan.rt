@@ -584,7 +584,7 @@ const fn suffix(
     ensures summed { IsSummed (raw grammar.word) text.now result }
 {
     let Stopped { size, read } = at;
-    let (mut at, mut suffix) = (at, 0);
+    let (mut at, mut suffix, mut refused) = (at, 0, false);
     if size < text.len()
         && is_suffix(grammar, text[size])
         && takes(grammar, read, false, Role::Suffix)
@@ -597,9 +597,11 @@ const fn suffix(
             },
         };
         suffix = 1;
-    } else if !fronts && size < text.len() {
-        let refused = is_passed(grammar, read.stage, text[size]);
-        return unfinished(grammar, text, at, refused);
+    } else if size < text.len() {
+        refused = is_passed(grammar, read.stage, text[size]);
+        if !fronts {
+            return unfinished(grammar, text, at, refused);
+        }
     }
     Begun {
         at,
@@ -620,6 +622,6 @@ const fn suffix(
             exponent,
         },
         complete: is_complete(grammar, at.read),
-        refused: false,
+        refused,
     }
 }

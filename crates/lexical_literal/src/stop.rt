@@ -275,13 +275,14 @@ impl Syntax {
     pub fn front(&self, text: &[u8]) -> (Stopped, Option<Found>)
         ensures { IsFronted (notation_of self.now) text.now result.0 result.1 }
     {
+        let begun = self.begin(false, text, true);
         let Begun {
             at,
             counts,
             complete,
             ..
-        } = self.begin(false, text, true);
-        let stop = at.go_on(self, text);
+        } = begun;
+        let stop = begun.stop(self, text);
         if complete && stop.size == at.size {
             let size = stop.size;
             return (stop, Some(Found { size, counts }));

@@ -119,7 +119,7 @@ impl<'a> Forms<'a> {
 
     // Returns whether no word of a form goes on behind `end`.
     #[cfg_attr(not(peltzivar_small), inline(always))]
-    const fn is_clear(&self, tokens: &Tokens, text: &[u8], end: usize) -> bool {
+    pub(crate) const fn is_clear(&self, tokens: &Tokens, text: &[u8], end: usize) -> bool {
         !has_word_byte(text, end) && !self.go_on_with(tokens, byte_at(text, end))
     }
 
@@ -280,7 +280,8 @@ impl Form {
     }
 
     // Returns whether what is behind the number that ends at `end` may not follow it. No word may follow a decimal point.
-    const fn is_stopped(&self, tokens: &Tokens, text: &[u8], end: usize) -> bool {
+    #[cfg_attr(not(peltzivar_small), inline(always))]
+    pub(crate) const fn is_stopped(&self, tokens: &Tokens, text: &[u8], end: usize) -> bool {
         let words = tokens.any_word_follows && !is_one(self.syntax, byte_before(text, end));
         is_stopped(words, self.suffixes, text, end)
     }

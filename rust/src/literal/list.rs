@@ -3,13 +3,13 @@
 //! Numbers that have several forms, such as `10`, `0x1F` and `0b1`.
 
 use crate::literal::cause::ReadError;
-use crate::literal::exclude::{has_letter_behind_zero, sign_size};
+use crate::literal::exclude::{ends_at, has_letter_behind_zero, have_end, sign_size};
 use crate::literal::form::Form;
 use crate::literal::literal::Literal;
 use crate::literal::opening::Opening;
 use crate::literal::specials::{Special, Specials};
 use crate::literal::stop::{Found, Stopped};
-use crate::literal::suffix::is_wide;
+use crate::literal::suffix::{is_wide, more_of};
 use crate::literal::token::larger;
 
 // What a point at the end of a number is given back to: nothing, another point or a word, or a letter.
@@ -84,6 +84,8 @@ pub struct Forms<'a> {
     pub(crate) tokens: Option<&'a Tokens>,
     // Whether words behind a form may have other bytes than those of any word.
     pub(crate) wide: bool,
+    // Whether no byte that ends a number plays a role in a form, of the list or of the tokens, or is in a word behind it.
+    pub(crate) ends: bool,
 }
 
 /// A number that has one of several forms.
@@ -162,7 +164,7 @@ impl<'a> Forms<'a> {
             return None;
         }
         let specials = Specials { nan: None, inf: None, infinity: None };
-        Some(Forms { forms, specials, tokens: None, wide: are_wide(forms) })
+        Some(Forms { forms, specials, tokens: None, wide: are_wide(forms), ends: let_end(forms) })
     }
 
     /// Returns the same forms with these special values. The format of the first form decides what flags say of them.
@@ -183,7 +185,7 @@ impl<'a> Forms<'a> {
     /// Returns the same forms with rules for tokens, without which there are none.
     #[must_use]
     pub const fn with_tokens(self, tokens: &'a Tokens) -> Forms<'a> {
-        Forms { tokens: Some(tokens), ..self }
+        Forms { tokens: Some(tokens), ends: self.ends && let_end(tokens.forms), ..self }
     }
 
     /// Returns the forms.
@@ -233,6 +235,15 @@ impl<'a> Forms<'a> {
     ///
     /// If `text` does not begin with a literal, returns why it is not one.
     pub const fn read_prefix_bytes<'t>(&self, text: &'t [u8]) -> Result<(Number<'t>, &'t [u8]), FormError> {
+        match self.ended(text) {
+            Some((literal, rest)) => Ok((Number::Literal { literal, form: 0 }, rest)),
+            None => self.read_front(text),
+        }
+    }
+
+    // Returns the same by all forms.
+    #[inline(never)]
+    const fn read_front<'t>(&self, text: &'t [u8]) -> Result<(Number<'t>, &'t [u8]), FormError> {
         match self.find_front(text) {
             Ok((form, found)) => {
                 let Found { size, counts } = found;
@@ -244,6 +255,23 @@ impl<'a> Forms<'a> {
             }
             Err(error) => Err(error),
         }
+    }
+
+    // Returns the literal of the first form that `text` begins with, and the rest, if it is decimal, and no form goes on with what follows.
+    #[inline(always)]
+    pub(crate) const fn ended<'t>(&self, text: &'t [u8]) -> Option<(Literal<'t>, &'t [u8])> {
+        let it = &self.forms[0];
+        if !self.ends || !it.opening.is_empty() || !it.syntax.is_decimal() || has_letter_behind_zero(text) {
+            return None;
+        }
+        let begun = it.syntax.begin(true, text, true);
+        let size = begun.at.size;
+        if !begun.complete || !ends_at(text, size) {
+            return None;
+        }
+        let (front, rest) = text.split_at(size);
+        let literal = it.syntax.literal(front, begun.counts, begun.sums);
+        Some((literal.with_kind(it.kind), rest))
     }
 
     // Returns a literal with the kind of the form with the index `form`, behind its opening.
@@ -390,6 +418,21 @@ const fn are_wide(forms: &[Form]) -> bool {
         [] => false,
         [form, rest @ ..] => is_wide(form.suffixes) || are_wide(rest),
     }
+}
+
+// Returns whether no byte that ends a number plays a role in one of the forms, or is in a word behind it.
+const fn let_end(forms: &[Form]) -> bool {
+    match forms {
+        [] => true,
+        [form, rest @ ..] => lets_end(form) && let_end(rest),
+    }
+}
+
+// Returns the same of one form.
+const fn lets_end(form: &Form) -> bool {
+    let grammar = form.syntax.as_grammar();
+    !have_end(&[grammar.separator, grammar.prefix, grammar.suffix, grammar.exponent, grammar.point])
+        && !have_end(more_of(form.suffixes))
 }
 
 // Returns how far the form goes that goes furthest, if there is one.

@@ -331,13 +331,15 @@ const fn suffix(
     exponent: Sum,
 ) -> Begun {
     let Stopped { size, read } = at;
-    let (mut at, mut suffix) = (at, 0);
+    let (mut at, mut suffix, mut refused) = (at, 0, false);
     if size < text.len() && is_suffix(grammar, text[size]) && takes(grammar, read, false, Role::Suffix) {
         at = Stopped { size: size + 1, read: Summary { ended: true, ..read } };
         suffix = 1;
-    } else if !fronts && size < text.len() {
-        let refused = is_passed(grammar, read.stage, text[size]);
-        return unfinished(grammar, text, at, refused);
+    } else if size < text.len() {
+        refused = is_passed(grammar, read.stage, text[size]);
+        if !fronts {
+            return unfinished(grammar, text, at, refused);
+        }
     }
     Begun {
         at,
@@ -354,6 +356,6 @@ const fn suffix(
         ],
         sums: Sums { mantissa: mantissa.sum, places: mantissa.places, exponent },
         complete: is_complete(grammar, at.read),
-        refused: false,
+        refused,
     }
 }

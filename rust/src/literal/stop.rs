@@ -197,8 +197,9 @@ impl Syntax {
     // Returns where reading `text` stops, and the longest front that is a literal, if there is one.
     #[cfg_attr(not(peltzivar_small), inline(always))]
     pub(crate) const fn front(&self, text: &[u8]) -> (Stopped, Option<Found>) {
-        let Begun { at, counts, complete, .. } = self.begin_any(text, true);
-        let stop = at.go_on(self, text);
+        let begun = self.begin_any(text, true);
+        let Begun { at, counts, complete, .. } = begun;
+        let stop = begun.stop(self, text);
         if complete && stop.size == at.size {
             let size = stop.size;
             return (stop, Some(Found { size, counts }));

@@ -88,6 +88,13 @@ impl<'a> Forms<'a> {
         let Some(tokens) = self.tokens else {
             return Err(TokenError::NoTokens);
         };
+        if let Some((literal, rest)) = self.ended(text) {
+            let size = text.len() - rest.len();
+            if !self.forms[0].is_stopped(tokens, text, size) {
+                let (suffix, _) = rest.split_at(0);
+                return Ok(Token { literal, form: 0, suffix, rest });
+            }
+        }
         let least = if has_letter_behind_zero(text) { sign_size(text) + 1 } else { 0 };
         let found = self.longest(tokens, text, least);
         if found.clear || least == 0 {
