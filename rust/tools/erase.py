@@ -176,6 +176,7 @@ REPLACED += [
     # Programs have one copy of these.
     ("lexical_literal/src/stop.rt", "self.begin(false, text, false)", "self.begin_any(text, false)"),
     ("lexical_literal/src/stop.rt", "self.begin(false, text, true)", "self.begin_any(text, true)"),
+    ("lexical_literal/src/stop.rt", "self.begin(false, shorter, true)", "self.begin_any(shorter, true)"),
     ("candidate.rt", "self.syntax.begin(false, inside, true)", "self.syntax.begin_small(inside, true)"),
     # The library for C has one copy of these.
     ("candidate.rt", "match self.find_literal(word, None) {", "if cfg!(peltzivar_small) { return self.fault(text, end); } match self.find_literal(word, None) {"),

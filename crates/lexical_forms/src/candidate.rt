@@ -61,12 +61,18 @@ impl<'a> Forms<'a> {
     ) -> Result<Token<'t>, TokenError>
         ensures { IsReadByTokens self.now (Some tokens.entry) text.now result }
     {
-        self.end_of(tokens, text, self.longest(tokens, text, 0))
+        self.end_of(tokens, text, self.longest(tokens, text, 0, None))
     }
 
     // Returns the longest candidate of the list and of the forms that need a suffix, of those with literals of more than `least` bytes.
     #[inline(always)]
-    pub(crate) fn longest(&self, tokens: &Tokens, text: &[u8], least: usize) -> Longest
+    pub(crate) fn longest(
+        &self,
+        tokens: &Tokens,
+        text: &[u8],
+        least: usize,
+        first: Option<&(usize, Option<Candidate>)>,
+    ) -> Longest
         ensures { (IsTrue result.clear ⊎ (least ≡ 0)) → IsWinner self.now tokens.now text.now result }
     {
         let mut found = Longest {
@@ -76,6 +82,10 @@ impl<'a> Forms<'a> {
             clear: false,
         };
         let mut form = 0;
+        if let Some(asked) = first {
+            found = self.longer(tokens, text, least, found, 0, *asked);
+            form = 1;
+        }
         while form < self.forms.len() + tokens.forms.len() {
             if !self.passes(tokens, text, found.past, form) {
                 found = self.ask(tokens, text, least, found, form);
@@ -137,7 +147,7 @@ impl<'a> Forms<'a> {
 
     // Returns the longest candidate after one form more, which has the index `form`, and of which this is known.
     #[inline(always)]
-    fn longer(
+    pub(crate) fn longer(
         &self,
         tokens: &Tokens,
         text: &[u8],
@@ -295,18 +305,35 @@ impl Form {
         }
         let (_, inside) = text.split_at(opened);
         let begun = self.syntax.begin(false, inside, true);
+        self.candidate_of(back, needs, text, opened, inside, begun)
+    }
+
+    // Returns the same where `begun` has been read behind the opening.
+    #[inline(always)]
+    pub(crate) fn candidate_of(&self, back: PointsBack, needs: bool, text: &[u8], opened: usize, inside: &[u8], begun: Begun) -> (usize, Option<Candidate>)
+    {
         let size = opened + begun.at.size;
-        if begun.complete
-            && is_over(self.syntax.grammar(), inside, begun.at.size)
-            && !self.gives_back(back, text, size)
-        {
+        if begun.complete && (begun.refused || is_over(self.syntax.grammar(), inside, begun.at.size)) {
             let Begun { counts, sums, .. } = begun;
-            return (
-                size,
-                self.suffixed(needs, text, Found { size, counts }, Some(sums)),
-            );
+            let found = Found { size, counts };
+            if self.gives_back(back, text, size) {
+                (self.reach_of(back, text, size), self.without_point(back, needs, text, found))
+            } else {
+                (size, self.suffixed(needs, text, found, Some(sums)))
+            }
+        } else {
+            self.any_candidate(back, needs, text)
         }
-        self.any_candidate(back, needs, text)
+    }
+
+    // Returns the candidate with the front `found`, or without its point if that is given back.
+    #[cold]
+    #[inline(never)]
+    fn without_point(&self, back: PointsBack, needs: bool, text: &[u8], found: Found) -> Option<Candidate> {
+        match self.own(back, text, found) {
+            None => None,
+            Some(own) => self.suffixed(needs, text, own, None),
+        }
     }
 
     // Returns the same by all of the form's fronts.
@@ -326,10 +353,7 @@ impl Form {
         let reach = self.reach_of(back, text, stop);
         match found {
             None => (reach, None),
-            Some(found) => match self.own(back, text, found) {
-                None => (reach, None),
-                Some(own) => (reach, self.suffixed(needs, text, own, None)),
-            },
+            Some(found) => (reach, self.without_point(back, needs, text, found)),
         }
     }
 

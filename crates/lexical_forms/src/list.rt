@@ -15,7 +15,7 @@ use crate::suffix::{is_wide, more_of};
 use crate::token::larger;
 use lexical_literal::cause::ReadError;
 use lexical_literal::literal::Literal;
-use lexical_literal::stop::{Found, Stopped};
+use lexical_literal::stop::{Begun, Found, Stopped};
 use std::marker::Model;
 
 // What a point at the end of a number is given back to: nothing, another point or a word, or a letter.
@@ -324,10 +324,13 @@ impl<'a> Forms<'a> {
     pub fn read_prefix<'t>(&self, text: &'t [u8]) -> Result<(Number<'t>, &'t [u8]), FormError>
         ensures { IsFrontByForms self.now text.now result }
     {
-        match self.ended(text) {
-            Some((literal, rest)) => Ok((Number::Literal { literal, form: 0 }, rest)),
-            None => self.read_front(text),
+        if self.may_end(text) {
+            let begun = self.forms[0].syntax.begin(true, text, true);
+            if let Some((literal, rest)) = self.ended(text, begun) {
+                return Ok((Number::Literal { literal, form: 0 }, rest));
+            }
         }
+        self.read_front(text)
     }
 
     // Returns the same by all forms.
@@ -348,19 +351,23 @@ impl<'a> Forms<'a> {
         }
     }
 
-    // Returns the literal of the first form that `text` begins with, and the rest, if it is decimal, and no form goes on with what follows.
+    // Returns whether the first form is asked before the list is: it is decimal, and not all forms have to be asked behind it.
     #[inline(always)]
-    pub(crate) fn ended<'t>(&self, text: &'t [u8]) -> Option<(Literal<'t>, &'t [u8])>
+    pub(crate) fn may_end(&self, text: &[u8]) -> bool
     {
         let it = &self.forms[0];
-        if !self.ends || !it.opening.is_empty() || !it.syntax.is_decimal() || has_letter_behind_zero(text) {
-            return None;
-        }
-        let begun = it.syntax.begin(true, text, true);
+        self.ends && it.opening.is_empty() && it.syntax.is_decimal() && !has_letter_behind_zero(text)
+    }
+
+    // Returns the literal of the first form that `text` begins with, and the rest, if no form goes on with it, where `begun` has been read.
+    #[inline(always)]
+    pub(crate) fn ended<'t>(&self, text: &'t [u8], begun: Begun) -> Option<(Literal<'t>, &'t [u8])>
+    {
         let size = begun.at.size;
         if !begun.complete || !ends_at(text, size) {
             return None;
         }
+        let it = &self.forms[0];
         let (front, rest) = text.split_at(size);
         let literal = it.syntax.literal(front, begun.counts, begun.sums);
         Some((literal.with_kind(it.kind), rest))

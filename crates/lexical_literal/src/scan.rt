@@ -458,7 +458,7 @@ const fn fraction(
         ..integer
     };
     let run = digits(grammar, decimal, text, Part::Fraction, begun);
-    if decimal && !has_digit(run.stage) {
+    if decimal && !fronts && !has_digit(run.stage) {
         return unfinished(grammar, text, at_stage(run.size, run.stage), false);
     }
     let read = Reading {
@@ -554,6 +554,7 @@ const fn is_passed(grammar: Grammar, stage: Stage, byte: u8) -> bool
     }
     match stage {
         Stage::Bare => { !is_digit(grammar, Part::Integer, byte) && !is_prefix(grammar, byte) }
+        Stage::Point => !is_digit(grammar, Part::Fraction, byte),
         _ => is_run(stage),
     }
 }

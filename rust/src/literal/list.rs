@@ -8,7 +8,7 @@ use crate::literal::form::Form;
 use crate::literal::literal::Literal;
 use crate::literal::opening::Opening;
 use crate::literal::specials::{Special, Specials};
-use crate::literal::stop::{Found, Stopped};
+use crate::literal::stop::{Begun, Found, Stopped};
 use crate::literal::suffix::{is_wide, more_of};
 use crate::literal::token::larger;
 
@@ -235,10 +235,13 @@ impl<'a> Forms<'a> {
     ///
     /// If `text` does not begin with a literal, returns why it is not one.
     pub const fn read_prefix_bytes<'t>(&self, text: &'t [u8]) -> Result<(Number<'t>, &'t [u8]), FormError> {
-        match self.ended(text) {
-            Some((literal, rest)) => Ok((Number::Literal { literal, form: 0 }, rest)),
-            None => self.read_front(text),
+        if self.may_end(text) {
+            let begun = self.forms[0].syntax.begin(true, text, true);
+            if let Some((literal, rest)) = self.ended(text, begun) {
+                return Ok((Number::Literal { literal, form: 0 }, rest));
+            }
         }
+        self.read_front(text)
     }
 
     // Returns the same by all forms.
@@ -257,18 +260,21 @@ impl<'a> Forms<'a> {
         }
     }
 
-    // Returns the literal of the first form that `text` begins with, and the rest, if it is decimal, and no form goes on with what follows.
+    // Returns whether the first form is asked before the list is: it is decimal, and not all forms have to be asked behind it.
     #[inline(always)]
-    pub(crate) const fn ended<'t>(&self, text: &'t [u8]) -> Option<(Literal<'t>, &'t [u8])> {
+    pub(crate) const fn may_end(&self, text: &[u8]) -> bool {
         let it = &self.forms[0];
-        if !self.ends || !it.opening.is_empty() || !it.syntax.is_decimal() || has_letter_behind_zero(text) {
-            return None;
-        }
-        let begun = it.syntax.begin(true, text, true);
+        self.ends && it.opening.is_empty() && it.syntax.is_decimal() && !has_letter_behind_zero(text)
+    }
+
+    // Returns the literal of the first form that `text` begins with, and the rest, if no form goes on with it, where `begun` has been read.
+    #[inline(always)]
+    pub(crate) const fn ended<'t>(&self, text: &'t [u8], begun: Begun) -> Option<(Literal<'t>, &'t [u8])> {
         let size = begun.at.size;
         if !begun.complete || !ends_at(text, size) {
             return None;
         }
+        let it = &self.forms[0];
         let (front, rest) = text.split_at(size);
         let literal = it.syntax.literal(front, begun.counts, begun.sums);
         Some((literal.with_kind(it.kind), rest))

@@ -260,7 +260,7 @@ const fn fraction(grammar: &Grammar, decimal: bool, text: &[u8], fronts: bool, i
     let stage = after_point(integer.stage);
     let begun = Reading { size: from, stage, ..integer };
     let run = digits(grammar, decimal, text, Part::Fraction, begun);
-    if decimal && !has_digit(run.stage) {
+    if decimal && !fronts && !has_digit(run.stage) {
         return unfinished(grammar, text, at_stage(run.size, run.stage), false);
     }
     let read = Reading {
@@ -315,6 +315,7 @@ const fn is_passed(grammar: &Grammar, stage: Stage, byte: u8) -> bool {
     }
     match stage {
         Stage::Bare => !is_digit(grammar, Part::Integer, byte) && !is_prefix(grammar, byte),
+        Stage::Point => !is_digit(grammar, Part::Fraction, byte),
         _ => is_run(stage),
     }
 }

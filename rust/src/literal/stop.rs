@@ -20,7 +20,7 @@ pub struct Begun {
     pub counts: [usize; 9],
     pub sums: Sums,
     pub complete: bool,
-    pub(crate) refused: bool,
+    pub refused: bool,
 }
 
 // Where reading a text has stopped, part after part or for good: the number of bytes that have been read, and their summary.
@@ -203,6 +203,15 @@ impl Syntax {
         if complete && stop.size == at.size {
             let size = stop.size;
             return (stop, Some(Found { size, counts }));
+        }
+        if stop.size > 0 && !stop.may_end(self.as_grammar(), stop.group(self, text)) {
+            let shorter = front_of(text, stop.size - 1);
+            let begun = self.begin_any(shorter, true);
+            if begun.is_whole(self, shorter) {
+                let Begun { at, counts, .. } = begun;
+                let size = at.size;
+                return (stop, Some(Found { size, counts }));
+            }
         }
         (stop, self.longest(text))
     }
