@@ -353,79 +353,37 @@ fn sentences_on_syntaxes_state_each_difference() {
     assert_eq!(syntax_of(settings).sentence().to_string(), sentence);
 }
 
-/// Returns the words whose normal form is that of a syntax: with absent bytes of the exponent, and with a separator that no flag allows.
-fn equivalent_words(syntax: Syntax) -> impl Iterator<Item = u128> {
-    let word = syntax.format().word();
-    let [radix, base, exponent] = [104, 112, 120].map(|shift| word >> shift & 0xFF);
-    let without = move |bytes: [bool; 2]| {
-        let absent = [(base == radix && bytes[0], 0xFF << 112), (exponent == radix && bytes[1], 0xFF << 120)];
-        absent.into_iter().fold(word, |word, (is_absent, mask)| if is_absent { word & !mask } else { word })
+/// Returns what calls answer for texts, roles and numbers.
+fn answers(syntax: Syntax) -> impl PartialEq + std::fmt::Debug {
+    let texts =
+        "|0|007|1_000|1,5|1.5|1e5|1.5e-3|-12|+12|0x1F|1F|12z|1__0|1'0|e5|1.234.567,5|18446744073709551616|1.|.5|0b12";
+    let answer = |text| {
+        let read = syntax.read(text).map(|it| (it, it.is_float(), it.to_f64(), it.to_i64(), it.radix(Part::Exponent)));
+        let cause = read.err().map(|it| (it.span(), it.code(), it.mask(), it.conditions()));
+        let values = (syntax.parse::<i64>(text), syntax.parse::<u8>(text), syntax.parse::<f64>(text));
+        format!("{text} {read:?} {cause:?} {values:?} {:?}", syntax.read_prefix(text))
     };
-    let words = [[false, false], [false, true], [true, false], [true, true]].map(without);
-    let is_allowed = word & DIGIT_SEPARATOR_FLAG_MASK != 0;
-    let separators = b"\0_,'.5Ae+".iter().filter(move |&&byte| byte == 0 || !is_allowed);
-    separators.flat_map(move |&byte| words.map(|word| word | u128::from(byte) << 64))
+    let write = |number| {
+        let float = syntax.format_float(number as f64 / 8.0, Style::default()).map(|it| it.to_string());
+        (syntax.format_integer(number, Style::default()).map(|it| it.to_string()), float)
+    };
+    let roles = (0..=255).map(|byte| syntax.role_of(byte));
+    (Vec::from_iter(texts.split('|').map(answer)), Vec::from_iter(roles), [0, 1, -255, 1_234_567, i64::MIN].map(write))
 }
 
-/// Returns what calls answer for a text, all at once.
-fn answers(syntax: Syntax, text: &str) -> String {
-    let read = syntax
-        .read(text)
-        .map(|it| (present(it).concat(), it.is_float(), it.to_f64(), it.to_i64(), it.radix(Part::Exponent)));
-    let cause =
-        read.as_ref().map_err(|it| (it.to_string(), it.span(), it.code(), it.mask(), it.conditions())).map(|_| ());
-    let values =
-        (syntax.parse::<i64>(text), syntax.parse::<u8>(text), syntax.parse::<f64>(text), syntax.parse::<f32>(text));
-    let front = syntax.read_prefix(text).map(|(it, rest)| (it.as_bytes(), rest));
-    format!("{:?} {cause:?} {values:?} {front:?}", read.as_ref().map_err(|it| it.valid_up_to()))
-}
-
-/// A word that is not in normal form, which C can give, reads and writes what its normal form does.
+/// A word that is not in normal form, which C can give, reads and writes what its normal form does: with absent bytes
+/// of the exponent, with a separator that no flag allows, or with reserved bits.
 #[test]
 fn a_word_reads_and_writes_as_its_normal_form() {
-    const TEXTS: [&str; 24] = [
-        "",
-        "0",
-        "007",
-        "1_000",
-        "1,5",
-        "1.5",
-        "1e5",
-        "1.5e-3",
-        "-12",
-        "+12",
-        "0x1F",
-        "1F",
-        "1A",
-        "12z",
-        "1__0",
-        "1'0",
-        "5",
-        "e5",
-        "1.234.567,5",
-        "18446744073709551616",
-        "1.",
-        ".5",
-        "0b12",
-        "017",
-    ];
-    for syntax in Language::ALL.iter().flat_map(Language::forms).map(Form::syntax) {
-        let options = syntax.exponent().zip(syntax.point());
-        let wanted = TEXTS.map(|text| answers(syntax, text));
-        for word in equivalent_words(syntax) {
-            assert_eq!(edits::normal_form(word), syntax.format().word(), "{syntax} {word:#034X}");
+    let reserved = Rule::ReservedBitsAreZero.mask();
+    for syntax in HashSet::<Syntax>::from_iter(Language::ALL.iter().flat_map(Language::forms).map(Form::syntax)) {
+        let (normal, options, wanted) =
+            (syntax.format().word(), syntax.exponent().zip(syntax.point()), answers(syntax));
+        let changes = [0xFF << 112, 0xFF << 120, 0xFFFF << 112, 0xFF << 64, reserved, 1 << 31, 1 << 72].into_iter();
+        let words = changes.flat_map(|mask| [normal & !mask, normal | mask, normal & !mask | 0x5F << 64]);
+        for word in words.filter(|&word| edits::normal_form(word) == normal) {
             let same = Syntax::unchecked(word, options, syntax.conditions());
-            for (text, wanted) in TEXTS.iter().zip(&wanted) {
-                assert_eq!(&answers(same, text), wanted, "{syntax} {word:#034X} {text}");
-            }
-            assert!((0..=255).all(|byte| same.role_of(byte) == syntax.role_of(byte)), "{syntax} {word:#034X}");
-            for number in [0, 1, -1, 255, 1_234_567, i64::MIN] {
-                let written = [same, syntax].map(|it| {
-                    let float = it.format_float(number as f64 / 8.0, Style::default()).map(|it| it.to_string());
-                    (it.format_integer(number, Style::default()).map(|it| it.to_string()), float)
-                });
-                assert_eq!(written[0], written[1], "{syntax} {word:#034X} {number}");
-            }
+            assert_eq!(answers(same), wanted, "{syntax} {word:#034X}");
         }
     }
 }

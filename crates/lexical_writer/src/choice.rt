@@ -306,6 +306,7 @@ impl Writable for Literal<'_> {
         Ok(put(&format_literal(self, syntax, style)?, buffer))
     }
 
+    #[tactic(auto, using(crate::proofs::ChoiceLemmas::same_read))]
     fn is_plain(&self, _syntax: &Syntax, kind: Kind, _: Style, float: bool) -> bool {
         is_exact(self.kind()) && is_exact(kind) && (self.is_float() || !float)
     }

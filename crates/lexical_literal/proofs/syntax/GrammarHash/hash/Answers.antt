@@ -1,7 +1,7 @@
 -- The fields of what contracts see are the fields.
 use Rattle.lexical_literal.proofs.Common.{List, ap, length, subst, sym, ℕ, ◌∙◌, ◌∷◌, [], ◌≡◌}
 use Rattle.std.proofs.Common.{rules}
-use Rattle.core.specs.Hash.{le_bytes, u8}
+use Rattle.std.specs.Hash.{le_bytes, u8}
 use Rattle.std.specs.List.{flat_map, fold}
 use Rattle.lexical_literal.specs.Additions.Fields.{AreFields, fields_of, fields_same, worded}
 use Rattle.lexical_literal.specs.declared.syntax.Grammar.TheInside.{Inside}
