@@ -559,6 +559,19 @@ const fn is_passed(grammar: Grammar, stage: Stage, byte: u8) -> bool
     }
 }
 
+// Returns whether a byte follows that is refused, if it is known at once.
+#[inline(always)]
+const fn refuses(grammar: Grammar, text: &[u8], at: Stopped) -> bool
+    requires over { is_run at.read.stage ≡ true → at.size < length text.now
+        → (steps_of grammar).digit (part_of at.read.stage) (get_or text.now at.size 0) ≡ false }
+    requires point { IsPassed (steps_of grammar) text.now at Role.Point }
+    requires exponent { IsPassed (steps_of grammar) text.now at Role.Exponent }
+    requires suffix { IsPassed (steps_of grammar) text.now at Role.Suffix }
+    ensures { IsTrue result → IsRefused (steps_of grammar) text.now at }
+{
+    at.size < text.len() && is_passed(grammar, at.read.stage, text[at.size])
+}
+
 // Reads the suffix, if it follows.
 #[inline(always)]
 const fn suffix(
@@ -598,9 +611,9 @@ const fn suffix(
             },
         };
         suffix = 1;
-    } else if size < text.len() {
-        refused = is_passed(grammar, read.stage, text[size]);
-        if !fronts {
+    } else {
+        refused = refuses(grammar, text, at);
+        if !fronts && size < text.len() {
             return unfinished(grammar, text, at, refused);
         }
     }
