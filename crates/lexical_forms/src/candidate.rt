@@ -5,7 +5,7 @@ ghost use Rattle.std.specs.Prelude.{if◌then◌else◌, length, nat_le, nat_lt,
 ghost use Rattle.std.specs.Char.{is_ascii_alphabetic, is_ascii_digit};
 ghost use Rattle.std.specs.Option.{ForSome};
 ghost use Rattle.lexical_forms.specs.Additions.Forms.{GoesTo, GoesWithin, IsFrontIn, further};
-ghost use Rattle.lexical_forms.specs.Additions.Token.{HasNoWord, HasSumsOf, IsAsked, IsCounted, IsEnd, IsEnded, IsMade, IsOverFrom, IsOwn, IsPicked};
+ghost use Rattle.lexical_forms.specs.Additions.Token.{HasNoWord, HasSumsOf, IsAsked, IsCounted, IsEnd, IsEnded, IsEndedAt, IsMade, IsOverFrom, IsOwn, IsPicked};
 ghost use Rattle.lexical_forms.specs.Additions.Token.{IsWinner, IsYet, NoCandidate, NoOwn, goes_on, has_float, is_longer, suffixed, whole};
 ghost use Rattle.lexical_literal.specs.Cause.{is_in};
 ghost use Rattle.lexical_literal.specs.Additions.Literal.{AreSums, IsCut, cut};
@@ -19,7 +19,7 @@ ghost use Rattle.lexical_forms.specs.Token.{tried};
 ghost use Rattle.lexical_forms.specs.declared.form.Form.{Form};
 ghost use Rattle.lexical_util.specs.Record.{raw};
 
-use crate::exclude::is_over;
+use crate::exclude::{ends_at, has_letter_behind_zero, is_over};
 use crate::form::Form;
 use crate::list::{Forms, PointsBack, Tokens};
 use crate::suffix::{
@@ -61,18 +61,32 @@ impl<'a> Forms<'a> {
     ) -> Result<Token<'t>, TokenError>
         ensures { IsReadByTokens self.now (Some tokens.entry) text.now result }
     {
-        self.end_of(tokens, text, self.longest(tokens, text, 0, None))
+        self.end_of(tokens, text, self.longest(tokens, text, 0))
+    }
+
+    // Returns the literal of the first form that `text` begins with, without a suffix, if this form is decimal, and it is known at once that no
+    // form goes on.
+    #[inline(always)]
+    pub(crate) fn ended(&self, text: &[u8]) -> Option<Candidate>
+        ensures { ForSome result (IsEndedAt self.now text.now) }
+    {
+        let it = &self.forms[0];
+        if !self.ends || !it.opening.is_empty() || !it.syntax.is_decimal() || has_letter_behind_zero(text) {
+            return None;
+        }
+        let begun = it.syntax.begin(true, text, true);
+        let Begun { at, counts, sums, complete, .. } = begun;
+        let size = at.size;
+        if complete && ends_at(text, size) {
+            Some(Candidate { size, counts, sums: Some(sums), end: size })
+        } else {
+            None
+        }
     }
 
     // Returns the longest candidate of the list and of the forms that need a suffix, of those with literals of more than `least` bytes.
     #[inline(always)]
-    pub(crate) fn longest(
-        &self,
-        tokens: &Tokens,
-        text: &[u8],
-        least: usize,
-        first: Option<&(usize, Option<Candidate>)>,
-    ) -> Longest
+    pub(crate) fn longest(&self, tokens: &Tokens, text: &[u8], least: usize) -> Longest
         ensures { (IsTrue result.clear ⊎ (least ≡ 0)) → IsWinner self.now tokens.now text.now result }
     {
         let mut found = Longest {
@@ -82,10 +96,6 @@ impl<'a> Forms<'a> {
             clear: false,
         };
         let mut form = 0;
-        if let Some(asked) = first {
-            found = self.longer(tokens, text, least, found, 0, *asked);
-            form = 1;
-        }
         while form < self.forms.len() + tokens.forms.len() {
             if !self.passes(tokens, text, found.past, form) {
                 found = self.ask(tokens, text, least, found, form);
@@ -147,7 +157,7 @@ impl<'a> Forms<'a> {
 
     // Returns the longest candidate after one form more, which has the index `form`, and of which this is known.
     #[inline(always)]
-    pub(crate) fn longer(
+    fn longer(
         &self,
         tokens: &Tokens,
         text: &[u8],
@@ -181,7 +191,7 @@ impl<'a> Forms<'a> {
 
     // Returns whether no word of a form goes on behind `end`.
     #[inline(always)]
-    pub(crate) fn is_clear(&self, tokens: &Tokens, text: &[u8], end: usize) -> bool
+    fn is_clear(&self, tokens: &Tokens, text: &[u8], end: usize) -> bool
         ensures { IsTrue result → All (λ it. HasNoWord text.now end it.0) (tried self.now tokens.now) }
     {
         !has_word_byte(text, end) && !self.go_on_with(tokens, byte_at(text, end))
@@ -305,35 +315,18 @@ impl Form {
         }
         let (_, inside) = text.split_at(opened);
         let begun = self.syntax.begin(false, inside, true);
-        self.candidate_of(back, needs, text, opened, inside, begun)
-    }
-
-    // Returns the same where `begun` has been read behind the opening.
-    #[inline(always)]
-    pub(crate) fn candidate_of(&self, back: PointsBack, needs: bool, text: &[u8], opened: usize, inside: &[u8], begun: Begun) -> (usize, Option<Candidate>)
-    {
         let size = opened + begun.at.size;
-        if begun.complete && (begun.refused || is_over(self.syntax.grammar(), inside, begun.at.size)) {
+        if begun.complete
+            && is_over(self.syntax.grammar(), inside, begun.at.size)
+            && !self.gives_back(back, text, size)
+        {
             let Begun { counts, sums, .. } = begun;
-            let found = Found { size, counts };
-            if self.gives_back(back, text, size) {
-                (self.reach_of(back, text, size), self.without_point(back, needs, text, found))
-            } else {
-                (size, self.suffixed(needs, text, found, Some(sums)))
-            }
-        } else {
-            self.any_candidate(back, needs, text)
+            return (
+                size,
+                self.suffixed(needs, text, Found { size, counts }, Some(sums)),
+            );
         }
-    }
-
-    // Returns the candidate with the front `found`, or without its point if that is given back.
-    #[cold]
-    #[inline(never)]
-    fn without_point(&self, back: PointsBack, needs: bool, text: &[u8], found: Found) -> Option<Candidate> {
-        match self.own(back, text, found) {
-            None => None,
-            Some(own) => self.suffixed(needs, text, own, None),
-        }
+        self.any_candidate(back, needs, text)
     }
 
     // Returns the same by all of the form's fronts.
@@ -353,7 +346,10 @@ impl Form {
         let reach = self.reach_of(back, text, stop);
         match found {
             None => (reach, None),
-            Some(found) => (reach, self.without_point(back, needs, text, found)),
+            Some(found) => match self.own(back, text, found) {
+                None => (reach, None),
+                Some(own) => (reach, self.suffixed(needs, text, own, None)),
+            },
         }
     }
 
@@ -413,7 +409,6 @@ impl Form {
     }
 
     // Returns whether what is behind the number that ends at `end` may not follow it. No word may follow a decimal point.
-    #[inline(always)]
     pub(crate) fn is_stopped(&self, tokens: &Tokens, text: &[u8], end: usize) -> bool
         ensures { result ≡ is_stopped (lets_words tokens.now self.now text.now end) self.now.suffixes text.now end }
     {
@@ -436,7 +431,7 @@ impl Form {
 
     // Returns the token with this candidate.
     #[inline(always)]
-    fn made<'t>(&self, text: &'t [u8], form: usize, candidate: Candidate) -> Token<'t>
+    pub(crate) fn made<'t>(&self, text: &'t [u8], form: usize, candidate: Candidate) -> Token<'t>
         requires counted { IsCounted self.now (take candidate.size text.now) candidate.counts }
         requires sums { HasSumsOf self.now (take candidate.size text.now) candidate.counts candidate.sums }
         requires order { candidate.size ≤ candidate.end }

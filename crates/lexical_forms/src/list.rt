@@ -2,20 +2,21 @@
 
 ghost use Rattle.std.specs.Prelude.{ℕ, ◌≡◌, ◌<◌, ◌+◌, IfSome, IsSomeAnd, IsTrue, None, Some, SomeIff, false, if◌then◌else◌, length};
 ghost use Rattle.std.specs.Prelude.{slice_get};
-ghost use Rattle.lexical_forms.specs.Additions.Forms.{ArePassed, IsFoundForm, IsFoundFrontForm, IsLed, IsLongestPast, IsPast, IsRefusedAt, Leads};
+ghost use Rattle.std.specs.List.{AllByRecursion};
+ghost use Rattle.lexical_forms.specs.Additions.Forms.{ArePassed, IsFoundForm, IsFoundFrontForm, IsLed, IsLongestPast, IsPast, IsRefusedAt, Leads, LetsEnd};
 ghost use Rattle.lexical_forms.specs.Additions.Token.{IsNarrow};
 ghost use Rattle.lexical_forms.specs.Forms.{IsFormError, IsFrontByForms, IsReadByForms, NoForm, Reaches, special_by};
 ghost use Rattle.lexical_forms.specs.declared.list.PointsBack.TheVariants as points;
 
-use crate::exclude::{ends_at, has_letter_behind_zero, have_end, sign_size};
+use crate::exclude::{has_letter_behind_zero, lets_end, sign_size};
 use crate::form::Form;
 use crate::opening::Opening;
 use crate::specials::{Special, Specials};
-use crate::suffix::{is_wide, more_of};
-use crate::token::larger;
+use crate::suffix::is_wide;
+use crate::token::{Token, larger};
 use lexical_literal::cause::ReadError;
 use lexical_literal::literal::Literal;
-use lexical_literal::stop::{Begun, Found, Stopped};
+use lexical_literal::stop::{Found, Stopped};
 use std::marker::Model;
 
 // What a point at the end of a number is given back to: nothing, another point or a word, or a letter.
@@ -121,12 +122,13 @@ pub struct Forms<'a> {
     pub(crate) tokens: Option<&'a Tokens>,
     // Whether words behind a form may have other bytes than those of any word.
     pub(crate) wide: bool,
-    // Whether no byte that ends a number plays a role in a form, of the list or of the tokens, or is in a word behind it.
+    // Whether no form, of the list or of the tokens, goes on with a byte that ends a number.
     pub(crate) ends: bool,
 }
 
 impl<'a> Model for Forms<'a> {
-    ghost use Rattle.std.specs.Prelude.{◌≡◌, ◌<◌, false, length};
+    ghost use Rattle.std.specs.Prelude.{◌≡◌, ◌<◌, IsTrue, false, length};
+    ghost use Rattle.lexical_forms.specs.Additions.Forms.{LetEnd};
     ghost use Rattle.lexical_forms.specs.Additions.Token.{IsNarrow};
     ghost use Rattle.lexical_forms.specs.FormList.{FormList};
 
@@ -134,7 +136,8 @@ impl<'a> Model for Forms<'a> {
 
     ghost view = { λ it. record { forms = it.forms.now; specials = it.specials; tokens = it.tokens } };
 
-    ghost invariant = { λ it. (0 < length it.forms.now) × (it.wide ≡ false → IsNarrow it.forms.now) };
+    ghost invariant = { λ it. (0 < length it.forms.now) × (it.wide ≡ false → IsNarrow it.forms.now)
+        × (IsTrue it.ends → LetEnd it.forms.now it.tokens) };
 }
 
 /// A number that has one of several forms.
@@ -252,9 +255,10 @@ impl<'a> Forms<'a> {
     pub const fn with_tokens(self, tokens: &'a Tokens) -> Forms<'a>
         ensures { result ≡ record self.entry { tokens = Some tokens.entry } }
     {
+        let ends = let_end(self.forms) && let_end(tokens.forms);
         Forms {
             tokens: Some(tokens),
-            ends: self.ends && let_end(tokens.forms),
+            ends,
             ..self
         }
     }
@@ -324,13 +328,14 @@ impl<'a> Forms<'a> {
     pub fn read_prefix<'t>(&self, text: &'t [u8]) -> Result<(Number<'t>, &'t [u8]), FormError>
         ensures { IsFrontByForms self.now text.now result }
     {
-        if self.may_end(text) {
-            let begun = self.forms[0].syntax.begin(true, text, true);
-            if let Some((literal, rest)) = self.ended(text, begun) {
-                return Ok((Number::Literal { literal, form: 0 }, rest));
+        match self.ended(text) {
+            None => self.read_front(text),
+            Some(candidate) => {
+                let it = &self.forms[0];
+                let Token { literal, rest, .. } = it.made(text, 0, candidate);
+                Ok((Number::Literal { literal, form: 0 }, rest))
             }
         }
-        self.read_front(text)
     }
 
     // Returns the same by all forms.
@@ -349,28 +354,6 @@ impl<'a> Forms<'a> {
             }
             Err(error) => Err(error),
         }
-    }
-
-    // Returns whether the first form is asked before the list is: it is decimal, and not all forms have to be asked behind it.
-    #[inline(always)]
-    pub(crate) fn may_end(&self, text: &[u8]) -> bool
-    {
-        let it = &self.forms[0];
-        self.ends && it.opening.is_empty() && it.syntax.is_decimal() && !has_letter_behind_zero(text)
-    }
-
-    // Returns the literal of the first form that `text` begins with, and the rest, if no form goes on with it, where `begun` has been read.
-    #[inline(always)]
-    pub(crate) fn ended<'t>(&self, text: &'t [u8], begun: Begun) -> Option<(Literal<'t>, &'t [u8])>
-    {
-        let size = begun.at.size;
-        if !begun.complete || !ends_at(text, size) {
-            return None;
-        }
-        let it = &self.forms[0];
-        let (front, rest) = text.split_at(size);
-        let literal = it.syntax.literal(front, begun.counts, begun.sums);
-        Some((literal.with_kind(it.kind), rest))
     }
 
     // Returns a literal with the kind of the form with the index `form`, behind its opening.
@@ -565,23 +548,14 @@ const fn are_wide(forms: &[Form]) -> bool
     }
 }
 
-// Returns whether no byte that ends a number plays a role in one of the forms, or is in a word behind it.
+// Returns whether none of the forms goes on with a byte that ends a number.
 const fn let_end(forms: &[Form]) -> bool
-    ensures { IsTrue result → All LetsEnd forms.now }
+    ensures { IsTrue result → AllByRecursion LetsEnd forms.now }
 {
     match forms {
         [] => true,
         [form, rest @ ..] => lets_end(form) && let_end(rest),
     }
-}
-
-// Returns the same of one form.
-const fn lets_end(form: &Form) -> bool
-    ensures { IsTrue result → LetsEnd form.now }
-{
-    let grammar = form.syntax.grammar();
-    !have_end(&[grammar.separator, grammar.prefix, grammar.suffix, grammar.exponent, grammar.point])
-        && !have_end(more_of(form.suffixes))
 }
 
 // Returns how far the form goes that goes furthest, if there is one.

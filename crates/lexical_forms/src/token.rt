@@ -1,6 +1,6 @@
 //! Tokens: numbers in the middle of a text, each with its suffix.
 
-ghost use Rattle.std.specs.Prelude.{◌≡◌, ◌≤◌, ◌||◌, ℕ};
+ghost use Rattle.std.specs.Prelude.{◌≡◌, ◌≤◌, ◌||◌, Some, ℕ};
 ghost use Rattle.std.specs.Char.{is_ascii_alphabetic};
 ghost use Rattle.std.specs.List.{list_any};
 ghost use Rattle.lexical_forms.specs.Additions.Token.{go_on_with, has_float, has_more};
@@ -14,7 +14,7 @@ use crate::list::{FormError, Forms, PointsBack, Tokens};
 use crate::suffix::{byte_before, has_byte, is_word_byte, more_of};
 use lexical_literal::literal::Literal;
 use lexical_literal::step::is_point;
-use lexical_literal::stop::{Begun, byte_at};
+use lexical_literal::stop::byte_at;
 use lexical_literal::syntax::Syntax;
 
 /// A number that a text begins with, and what follows it.
@@ -94,27 +94,18 @@ impl<'a> Forms<'a> {
         let Some(tokens) = self.tokens else {
             return Err(TokenError::NoTokens);
         };
-        if !self.may_end(text) {
-            return self.token_behind(tokens, text, None);
-        }
-        let begun = self.forms[0].syntax.begin(true, text, true);
-        match self.ended(text, begun) {
-            Some((literal, rest)) if !self.forms[0].is_stopped(tokens, text, begun.at.size) => {
-                let (suffix, _) = rest.split_at(0);
-                Ok(Token {
-                    literal,
-                    form: 0,
-                    suffix,
-                    rest,
-                })
+        let it = &self.forms[0];
+        match self.ended(text) {
+            Some(candidate) if !it.is_stopped(tokens, text, candidate.end) => {
+                Ok(it.made(text, 0, candidate))
             }
-            _ => self.token_behind(tokens, text, Some(begun)),
+            _ => self.token_behind(tokens, text),
         }
     }
 
-    // Returns the same by all forms, where `first` has been read of the first form, if it has been asked.
+    // Returns the same by all forms.
     #[inline(never)]
-    fn token_behind<'t>(&self, tokens: &Tokens, text: &'t [u8], first: Option<Begun>) -> Result<Token<'t>, TokenError>
+    fn token_behind<'t>(&self, tokens: &Tokens, text: &'t [u8]) -> Result<Token<'t>, TokenError>
         ensures { IsReadByTokens self.now (Some tokens.entry) text.now result }
     {
         let least = if has_letter_behind_zero(text) {
@@ -122,13 +113,7 @@ impl<'a> Forms<'a> {
         } else {
             0
         };
-        let found = match first {
-            Some(begun) if begun.complete => {
-                let asked = self.forms[0].candidate_of(tokens.gives_points_back, false, text, 0, text, begun);
-                self.longest(tokens, text, least, Some(&asked))
-            }
-            _ => self.longest(tokens, text, least, None),
-        };
+        let found = self.longest(tokens, text, least);
         if found.clear || least == 0 {
             self.end_of(tokens, text, found)
         } else {

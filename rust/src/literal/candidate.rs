@@ -2,7 +2,7 @@
 
 //! The candidates of forms for a token, and the token that the longest of them makes.
 
-use crate::literal::exclude::is_over;
+use crate::literal::exclude::{ends_at, has_letter_behind_zero, is_over};
 use crate::literal::form::Form;
 use crate::literal::list::{Forms, PointsBack, Tokens};
 use crate::literal::literal::{Literal, Sums};
@@ -38,24 +38,32 @@ impl<'a> Forms<'a> {
     #[cold]
     #[inline(never)]
     pub(crate) const fn token_of<'t>(&self, tokens: &Tokens, text: &'t [u8]) -> Result<Token<'t>, TokenError> {
-        self.end_of(tokens, text, self.longest(tokens, text, 0, None))
+        self.end_of(tokens, text, self.longest(tokens, text, 0))
+    }
+
+    // Returns the literal of the first form that `text` begins with, without a suffix, if this form is decimal, and it is known at once that no
+    // form goes on.
+    #[cfg_attr(not(peltzivar_small), inline(always))]
+    pub(crate) const fn ended(&self, text: &[u8]) -> Option<Candidate> {
+        let it = &self.forms[0];
+        if !self.ends || !it.opening.is_empty() || !it.syntax.is_decimal() || has_letter_behind_zero(text) {
+            return None;
+        }
+        let begun = it.syntax.begin(true, text, true);
+        let Begun { at, counts, sums, complete, .. } = begun;
+        let size = at.size;
+        if complete && ends_at(text, size) {
+            Some(Candidate { size, counts, sums: Some(sums), end: size })
+        } else {
+            None
+        }
     }
 
     // Returns the longest candidate of the list and of the forms that need a suffix, of those with literals of more than `least` bytes.
     #[cfg_attr(not(peltzivar_small), inline(never))]
-    pub(crate) const fn longest(
-        &self,
-        tokens: &Tokens,
-        text: &[u8],
-        least: usize,
-        first: Option<&(usize, Option<Candidate>)>,
-    ) -> Longest {
+    pub(crate) const fn longest(&self, tokens: &Tokens, text: &[u8], least: usize) -> Longest {
         let mut found = Longest { best: None, reach: 0, past: least, clear: false };
         let mut form = 0;
-        if let Some(asked) = first {
-            found = self.longer(tokens, text, least, found, 0, *asked);
-            form = 1;
-        }
         while form < self.forms.len() + tokens.forms.len() {
             if !self.passes(tokens, text, found.past, form) {
                 found = self.ask(tokens, text, least, found, form);
@@ -99,7 +107,7 @@ impl<'a> Forms<'a> {
 
     // Returns the longest candidate after one form more, which has the index `form`, and of which this is known.
     #[cfg_attr(not(peltzivar_small), inline(always))]
-    pub(crate) const fn longer(
+    const fn longer(
         &self,
         tokens: &Tokens,
         text: &[u8],
@@ -129,7 +137,7 @@ impl<'a> Forms<'a> {
 
     // Returns whether no word of a form goes on behind `end`.
     #[cfg_attr(not(peltzivar_small), inline(always))]
-    pub(crate) const fn is_clear(&self, tokens: &Tokens, text: &[u8], end: usize) -> bool {
+    const fn is_clear(&self, tokens: &Tokens, text: &[u8], end: usize) -> bool {
         !has_word_byte(text, end) && !self.go_on_with(tokens, byte_at(text, end))
     }
 
@@ -230,42 +238,15 @@ impl Form {
         }
         let (_, inside) = text.split_at(opened);
         let begun = self.syntax.begin_small(inside, true);
-        self.candidate_of(back, needs, text, opened, inside, begun)
-    }
-
-    // Returns the same where `begun` has been read behind the opening.
-    #[cfg_attr(not(peltzivar_small), inline(always))]
-    pub(crate) const fn candidate_of(
-        &self,
-        back: PointsBack,
-        needs: bool,
-        text: &[u8],
-        opened: usize,
-        inside: &[u8],
-        begun: Begun,
-    ) -> (usize, Option<Candidate>) {
         let size = opened + begun.at.size;
-        if begun.complete && (begun.refused || is_over(self.syntax.as_grammar(), inside, begun.at.size)) {
+        if begun.complete
+            && is_over(self.syntax.as_grammar(), inside, begun.at.size)
+            && !self.gives_back(back, text, size)
+        {
             let Begun { counts, sums, .. } = begun;
-            let found = Found { size, counts };
-            if self.gives_back(back, text, size) {
-                (self.reach_of(back, text, size), self.without_point(back, needs, text, found))
-            } else {
-                (size, self.suffixed(needs, text, found, Some(sums)))
-            }
-        } else {
-            self.any_candidate(back, needs, text)
+            return (size, self.suffixed(needs, text, Found { size, counts }, Some(sums)));
         }
-    }
-
-    // Returns the candidate with the front `found`, or without its point if that is given back.
-    #[cold]
-    #[inline(never)]
-    const fn without_point(&self, back: PointsBack, needs: bool, text: &[u8], found: Found) -> Option<Candidate> {
-        match self.own(back, text, found) {
-            None => None,
-            Some(own) => self.suffixed(needs, text, own, None),
-        }
+        self.any_candidate(back, needs, text)
     }
 
     // Returns the same by all of the form's fronts.
@@ -276,7 +257,10 @@ impl Form {
         let reach = self.reach_of(back, text, stop);
         match found {
             None => (reach, None),
-            Some(found) => (reach, self.without_point(back, needs, text, found)),
+            Some(found) => match self.own(back, text, found) {
+                None => (reach, None),
+                Some(own) => (reach, self.suffixed(needs, text, own, None)),
+            },
         }
     }
 
@@ -314,7 +298,6 @@ impl Form {
     }
 
     // Returns whether what is behind the number that ends at `end` may not follow it. No word may follow a decimal point.
-    #[cfg_attr(not(peltzivar_small), inline(always))]
     pub(crate) const fn is_stopped(&self, tokens: &Tokens, text: &[u8], end: usize) -> bool {
         let words = tokens.any_word_follows && !is_one(self.syntax, byte_before(text, end));
         is_stopped(words, self.suffixes, text, end)
@@ -331,7 +314,7 @@ impl Form {
 
     // Returns the token with this candidate.
     #[cfg_attr(not(peltzivar_small), inline(always))]
-    const fn made<'t>(&self, text: &'t [u8], form: usize, candidate: Candidate) -> Token<'t> {
+    pub(crate) const fn made<'t>(&self, text: &'t [u8], form: usize, candidate: Candidate) -> Token<'t> {
         let Candidate { size, counts, sums, end } = candidate;
         let (front, behind) = text.split_at(size);
         let (suffix, _) = behind.split_at(end - size);

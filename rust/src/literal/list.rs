@@ -3,14 +3,14 @@
 //! Numbers that have several forms, such as `10`, `0x1F` and `0b1`.
 
 use crate::literal::cause::ReadError;
-use crate::literal::exclude::{ends_at, has_letter_behind_zero, have_end, sign_size};
+use crate::literal::exclude::{has_letter_behind_zero, lets_end, sign_size};
 use crate::literal::form::Form;
 use crate::literal::literal::Literal;
 use crate::literal::opening::Opening;
 use crate::literal::specials::{Special, Specials};
-use crate::literal::stop::{Begun, Found, Stopped};
-use crate::literal::suffix::{is_wide, more_of};
-use crate::literal::token::larger;
+use crate::literal::stop::{Found, Stopped};
+use crate::literal::suffix::is_wide;
+use crate::literal::token::{larger, Token};
 
 // What a point at the end of a number is given back to: nothing, another point or a word, or a letter.
 #[derive(Debug, Clone, Copy, PartialEq, Eq, Hash)]
@@ -84,7 +84,7 @@ pub struct Forms<'a> {
     pub(crate) tokens: Option<&'a Tokens>,
     // Whether words behind a form may have other bytes than those of any word.
     pub(crate) wide: bool,
-    // Whether no byte that ends a number plays a role in a form, of the list or of the tokens, or is in a word behind it.
+    // Whether no form, of the list or of the tokens, goes on with a byte that ends a number.
     pub(crate) ends: bool,
 }
 
@@ -185,7 +185,8 @@ impl<'a> Forms<'a> {
     /// Returns the same forms with rules for tokens, without which there are none.
     #[must_use]
     pub const fn with_tokens(self, tokens: &'a Tokens) -> Forms<'a> {
-        Forms { tokens: Some(tokens), ends: self.ends && let_end(tokens.forms), ..self }
+        let ends = let_end(self.forms) && let_end(tokens.forms);
+        Forms { tokens: Some(tokens), ends, ..self }
     }
 
     /// Returns the forms.
@@ -235,13 +236,13 @@ impl<'a> Forms<'a> {
     ///
     /// If `text` does not begin with a literal, returns why it is not one.
     pub const fn read_prefix_bytes<'t>(&self, text: &'t [u8]) -> Result<(Number<'t>, &'t [u8]), FormError> {
-        if self.may_end(text) {
-            let begun = self.forms[0].syntax.begin(true, text, true);
-            if let Some((literal, rest)) = self.ended(text, begun) {
-                return Ok((Number::Literal { literal, form: 0 }, rest));
+        match self.ended(text) {
+            None => self.read_front(text),
+            Some(candidate) => {
+                let Token { literal, rest, .. } = self.as_slice()[0].made(text, 0, candidate);
+                Ok((Number::Literal { literal, form: 0 }, rest))
             }
         }
-        self.read_front(text)
     }
 
     // Returns the same by all forms.
@@ -258,26 +259,6 @@ impl<'a> Forms<'a> {
             }
             Err(error) => Err(error),
         }
-    }
-
-    // Returns whether the first form is asked before the list is: it is decimal, and not all forms have to be asked behind it.
-    #[inline(always)]
-    pub(crate) const fn may_end(&self, text: &[u8]) -> bool {
-        let it = &self.forms[0];
-        self.ends && it.opening.is_empty() && it.syntax.is_decimal() && !has_letter_behind_zero(text)
-    }
-
-    // Returns the literal of the first form that `text` begins with, and the rest, if no form goes on with it, where `begun` has been read.
-    #[inline(always)]
-    pub(crate) const fn ended<'t>(&self, text: &'t [u8], begun: Begun) -> Option<(Literal<'t>, &'t [u8])> {
-        let size = begun.at.size;
-        if !begun.complete || !ends_at(text, size) {
-            return None;
-        }
-        let it = &self.forms[0];
-        let (front, rest) = text.split_at(size);
-        let literal = it.syntax.literal(front, begun.counts, begun.sums);
-        Some((literal.with_kind(it.kind), rest))
     }
 
     // Returns a literal with the kind of the form with the index `form`, behind its opening.
@@ -426,19 +407,12 @@ const fn are_wide(forms: &[Form]) -> bool {
     }
 }
 
-// Returns whether no byte that ends a number plays a role in one of the forms, or is in a word behind it.
+// Returns whether none of the forms goes on with a byte that ends a number.
 const fn let_end(forms: &[Form]) -> bool {
     match forms {
         [] => true,
         [form, rest @ ..] => lets_end(form) && let_end(rest),
     }
-}
-
-// Returns the same of one form.
-const fn lets_end(form: &Form) -> bool {
-    let grammar = form.syntax.as_grammar();
-    !have_end(&[grammar.separator, grammar.prefix, grammar.suffix, grammar.exponent, grammar.point])
-        && !have_end(more_of(form.suffixes))
 }
 
 // Returns how far the form goes that goes furthest, if there is one.

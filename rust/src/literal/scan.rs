@@ -320,6 +320,12 @@ const fn is_passed(grammar: &Grammar, stage: Stage, byte: u8) -> bool {
     }
 }
 
+// Returns whether a byte follows that is refused, if it is known at once.
+#[inline(always)]
+const fn refuses(grammar: &Grammar, text: &[u8], at: Stopped) -> bool {
+    at.size < text.len() && is_passed(grammar, at.read.stage, text[at.size])
+}
+
 // Reads the suffix, if it follows.
 #[inline(always)]
 const fn suffix(
@@ -336,9 +342,9 @@ const fn suffix(
     if size < text.len() && is_suffix(grammar, text[size]) && takes(grammar, read, false, Role::Suffix) {
         at = Stopped { size: size + 1, read: Summary { ended: true, ..read } };
         suffix = 1;
-    } else if size < text.len() {
-        refused = is_passed(grammar, read.stage, text[size]);
-        if !fronts {
+    } else {
+        refused = refuses(grammar, text, at);
+        if !fronts && size < text.len() {
             return unfinished(grammar, text, at, refused);
         }
     }

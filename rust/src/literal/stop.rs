@@ -204,16 +204,28 @@ impl Syntax {
             let size = stop.size;
             return (stop, Some(Found { size, counts }));
         }
-        if stop.size > 0 && !stop.may_end(self.as_grammar(), stop.group(self, text)) {
-            let shorter = front_of(text, stop.size - 1);
-            let begun = self.begin_any(shorter, true);
-            if begun.is_whole(self, shorter) {
-                let Begun { at, counts, .. } = begun;
-                let size = at.size;
-                return (stop, Some(Found { size, counts }));
-            }
+        match self.all_but_last(text, stop) {
+            Some(found) => (stop, Some(found)),
+            None => (stop, self.longest(text)),
         }
-        (stop, self.longest(text))
+    }
+
+    // Returns all that was read but the last byte, if that is a literal, and what was read is none.
+    #[inline(always)]
+    const fn all_but_last(&self, text: &[u8], stop: Stopped) -> Option<Found> {
+        let group = stop.group(self, text);
+        if stop.size == 0 || stop.may_end(self.as_grammar(), group) {
+            return None;
+        }
+        let size = stop.size - 1;
+        let shorter = front_of(text, size);
+        let begun = self.begin_any(shorter, true);
+        if begun.is_whole(self, shorter) {
+            let Begun { counts, .. } = begun;
+            Some(Found { size, counts })
+        } else {
+            None
+        }
     }
 
     // Returns the longest front of `text` that is a literal, and the lengths of its parts, if there is one.

@@ -7,7 +7,7 @@ use crate::literal::form::Form;
 use crate::literal::list::{FormError, Forms, PointsBack, Tokens};
 use crate::literal::literal::Literal;
 use crate::literal::step::is_point;
-use crate::literal::stop::{byte_at, Begun};
+use crate::literal::stop::byte_at;
 use crate::literal::suffix::{byte_before, has_byte, is_word_byte, more_of};
 use crate::literal::syntax::Syntax;
 
@@ -88,35 +88,19 @@ impl<'a> Forms<'a> {
         let Some(tokens) = self.tokens else {
             return Err(TokenError::NoTokens);
         };
-        if !self.may_end(text) {
-            return self.token_behind(tokens, text, None);
-        }
-        let begun = self.forms[0].syntax.begin(true, text, true);
-        match self.ended(text, begun) {
-            Some((literal, rest)) if !self.forms[0].is_stopped(tokens, text, begun.at.size) => {
-                let (suffix, _) = rest.split_at(0);
-                Ok(Token { literal, form: 0, suffix, rest })
+        match self.ended(text) {
+            Some(candidate) if !self.forms[0].is_stopped(tokens, text, candidate.end) => {
+                Ok(self.forms[0].made(text, 0, candidate))
             }
-            _ => self.token_behind(tokens, text, Some(begun)),
+            _ => self.token_behind(tokens, text),
         }
     }
 
-    // Returns the same by all forms, where `first` has been read of the first form, if it has been asked.
+    // Returns the same by all forms.
     #[inline(never)]
-    const fn token_behind<'t>(
-        &self,
-        tokens: &Tokens,
-        text: &'t [u8],
-        first: Option<Begun>,
-    ) -> Result<Token<'t>, TokenError> {
+    const fn token_behind<'t>(&self, tokens: &Tokens, text: &'t [u8]) -> Result<Token<'t>, TokenError> {
         let least = if has_letter_behind_zero(text) { sign_size(text) + 1 } else { 0 };
-        let found = match first {
-            Some(begun) if begun.complete => {
-                let asked = self.forms[0].candidate_of(tokens.gives_points_back, false, text, 0, text, begun);
-                self.longest(tokens, text, least, Some(&asked))
-            }
-            _ => self.longest(tokens, text, least, None),
-        };
+        let found = self.longest(tokens, text, least);
         if found.clear || least == 0 {
             self.end_of(tokens, text, found)
         } else {
