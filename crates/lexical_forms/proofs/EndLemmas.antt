@@ -2,7 +2,7 @@
 use Rattle.lexical_forms.proofs.Common.{All, All-from_recursion, BeginsBy, Bool, Bor, Candidate, Form, FormList, Found, GoesWithin, HasFront, HasNoWord, HasSumsOf, IsFrontIn}
 use Rattle.lexical_forms.proofs.Common.{IsGreatest, IsOver, IsPicked, map, slice_get_within, tried}
 use Rattle.lexical_forms.proofs.Common.{IsMade, IsOpenedTo, IsSomeAnd, IsTrue, IsWithin, List, None, Option, PlaysNoRole, PointsBack, Reads, ReadsIn, Some, Tokens, [], ap, arith, behind}
-use Rattle.lexical_forms.proofs.Common.{byte_before, cases_lt, drop, false, false≢true, get_or, get_or-drop, gives_back, has_float, inl, inr, is_in, is_word_byte}
+use Rattle.lexical_forms.proofs.Common.{byte_before, cases_lt, drop, false, false≢true, get_or, get_or-drop, gives_back, has_float, inl, inr, is_in, is_word_byte, kind_with}
 use Rattle.lexical_forms.proofs.Common.{length, length-drop, list_any, more_of, nat_tests, not, notation_of, option_map, other_case, raw, refl, slice_get}
 use Rattle.lexical_forms.proofs.Common.{slice_get-get_or, spells, subst, suffix_size, sym, take, takes_point, true, unwrap_or, word_size, ℕ, ◌&&◌, ◌++◌, ◌+◌, ◌-◌}
 use Rattle.lexical_forms.proofs.Common.{◌<◌, ◌==◌, ◌||◌, ◌∙◌, ◌∷◌, ◌≡◌, ◌≤◌}
@@ -17,7 +17,8 @@ use Rattle.lexical_forms.proofs.OpeningLemmas.{begins_whole, front_behind, front
 use Rattle.lexical_forms.proofs.TokenLemmas.{for_some, kept, no_some, some_is, with_suffix}
 use Rattle.lexical_literal.specs.Additions.Literal.{IsSummed}
 use Rattle.lexical_literal.specs.Additions.Stop.{HasBegun}
-use Rattle.lexical_literal.specs.declared.literal.Sums.{Sums}
+use Rattle.lexical_forms.specs.declared.suffix.Suffixes.{Suffixes}
+use Rattle.lexical_literal.specs.declared.kind.Kind.{Kind}
 use Rattle.lexical_literal.specs.declared.stop.Begun.{Begun}
 use Rattle.std.specs.Char.{is_ascii_alphabetic}
 use Rattle.std.specs.List.{AllByRecursion}
@@ -206,3 +207,8 @@ module _ (list : FormList) (text : List ℕ) (c : Candidate) (e : IsEndedAt list
       | inr low ↦ low
     ];
   }
+
+-- Without a suffix, a number has the kind of its form.
+pub kind_ended : (suffixes : Option (Bor Suffixes)) (word : List ℕ) (kind : Kind) → word ≡ [] → kind_with suffixes word kind ≡ kind
+kind_ended None word kind none = refl
+kind_ended (Some it) word kind none = ap (λ w. kind_with (Some it) w kind) none
