@@ -87,7 +87,7 @@ module _ (text : List ℕ) (size : ℕ) (on : ends_at text size ≡ true) where
               (none_at form.opening.bytes byte size is.opening (omega (arith, short, opened)))) ∙ at))
           | inr low ↦ (let n = form.opening.size in
               let same : get_or (behind form text) (size - n) 0 ≡ byte = get_or-drop n text (size - n) 0
-                  ∙ ap (λ k. get_or text k 0) (let all : n + (size - n) ≡ size = omega (arith, low) in all) in
+              ∙ ap (λ k. get_or text k 0) (let all : n + (size - n) ≡ size = omega (arith, low) in all) in
               let rest : length (behind form text) ≡ length text - n = length-drop n text in
               over (notation_of form.syntax) (behind form text) (size - n) (omega (arith, rest, low, below))
               (subst (PlaysNoRole (notation_of form.syntax)) (sym same) is.role) (more - n) (omega (arith, past, low)) (omega (arith, rest, inside))
@@ -122,8 +122,11 @@ module _ (list : FormList) (text : List ℕ) (form : Form) (at : slice_get list.
   own = all_at (IsLast text size) list.forms 0 form at own_lasts
 
   opened : IsOpenedTo form.opening text 0
-  opened = record { inside = omega arith; begins = record { within = omega arith; each = λ index below. absurd (omega (arith, below)) };
-      differs = λ short. absurd (omega (arith, short, bare)) }
+  opened = record {
+    inside = omega arith;
+    begins = record { within = omega arith; each = λ index below. absurd (omega (arith, below)) };
+    differs = λ short. absurd (omega (arith, short, bare));
+  }
 
   over_own : IsWithin (notation_of form.syntax) text size
   over_own more past inside front =
@@ -149,7 +152,7 @@ module _ (list : FormList) (text : List ℕ) (form : Form) (at : slice_get list.
       let kept = kept back form text front_found is_front (not_given back form text size on) in
       let none = no_suffix form (has_float begun.counts) text size own.1 in
       let same : Some candidate ≡ Some (record { size = size; counts = begun.counts; sums = Some begun.sums; end = size + suffix_size form.suffixes (has_float begun.counts) (drop size text) }) =
-          ap (λ end. Some (record { size = size; counts = begun.counts; sums = Some begun.sums; end = end })) (sym none) in
+      ap (λ end. Some (record { size = size; counts = begun.counts; sums = Some begun.sums; end = end })) (sym none) in
       with_suffix back false text form front_found is_front front_found kept (Some begun.sums)
       (subst (λ n. HasSumsOf form (take n text) begun.counts (Some begun.sums)) all_of
       (read_sums form text text 0 opened (omega (arith, bare)) refl begun found complete over_own summed))

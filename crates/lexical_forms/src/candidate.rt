@@ -71,14 +71,29 @@ impl<'a> Forms<'a> {
         ensures { ForSome result (IsEndedAt self.now text.now) }
     {
         let it = &self.forms[0];
-        if !self.ends || !it.opening.is_empty() || !it.syntax.is_decimal() || has_letter_behind_zero(text) {
+        if !self.ends
+            || !it.opening.is_empty()
+            || !it.syntax.is_decimal()
+            || has_letter_behind_zero(text)
+        {
             return None;
         }
         let begun = it.syntax.begin(true, text, true);
-        let Begun { at, counts, sums, complete, .. } = begun;
+        let Begun {
+            at,
+            counts,
+            sums,
+            complete,
+            ..
+        } = begun;
         let size = at.size;
         if complete && ends_at(text, size) {
-            Some(Candidate { size, counts, sums: Some(sums), end: size })
+            Some(Candidate {
+                size,
+                counts,
+                sums: Some(sums),
+                end: size,
+            })
         } else {
             None
         }

@@ -213,7 +213,9 @@ const fn has_prefix(grammar: Grammar, text: &[u8], index: usize) -> bool
 }
 
 // The bytes that end a number unless a form goes on with them: white space, operators, and what closes or separates.
-const ENDS: [u8; 12] = [9, 10, 13, b' ', b')', b'*', b',', b'/', b';', b'=', b']', b'}'];
+const ENDS: [u8; 12] = [
+    9, 10, 13, b' ', b')', b'*', b',', b'/', b';', b'=', b']', b'}',
+];
 
 // Returns whether `text` ends behind the first `size` bytes, or a byte follows that ends a number.
 #[inline(always)]
@@ -231,7 +233,10 @@ pub(crate) const fn ends_at(text: &[u8], size: usize) -> bool
 const fn is_end(byte: u8) -> bool
     ensures { result ≡ is_end byte }
 {
-    matches!(byte, 9 | 10 | 13 | b' ' | b')' | b'*' | b',' | b'/' | b';' | b'=' | b']' | b'}')
+    matches!(
+        byte,
+        9 | 10 | 13 | b' ' | b')' | b'*' | b',' | b'/' | b';' | b'=' | b']' | b'}'
+    )
 }
 
 // Returns whether the form goes on with no byte that ends a number.

@@ -173,17 +173,19 @@ pub(crate) const fn lets_end(form: &Form) -> bool {
     lets_all_end(form, &ENDS)
 }
 
-// Returns whether the form goes on with none of `bytes`: they play no role in it, and are neither in its opening nor in a word behind it.
+// Returns whether the form goes on with none of `bytes`.
 const fn lets_all_end(form: &Form, bytes: &[u8]) -> bool {
     match bytes {
         [] => true,
-        [byte, rest @ ..] => {
-            has_no_role(form.syntax.as_grammar(), *byte)
-                && !has_byte(&form.opening.bytes, *byte)
-                && !has_byte(more_of(form.suffixes), *byte)
-                && lets_all_end(form, rest)
-        }
+        [byte, rest @ ..] => is_outside(form, *byte) && lets_all_end(form, rest),
     }
+}
+
+// Returns whether `byte` plays no role in the form, and is neither in its opening nor in a word behind it.
+const fn is_outside(form: &Form, byte: u8) -> bool {
+    has_no_role(form.syntax.as_grammar(), byte)
+        && !has_byte(&form.opening.bytes, byte)
+        && !has_byte(more_of(form.suffixes), byte)
 }
 
 // Returns whether a zero and a letter are behind the sign.

@@ -239,7 +239,8 @@ impl<'a> Forms<'a> {
         match self.ended(text) {
             None => self.read_front(text),
             Some(candidate) => {
-                let Token { literal, rest, .. } = self.as_slice()[0].made(text, 0, candidate);
+                let it = &self.forms[0];
+                let Token { literal, rest, .. } = it.made(text, 0, candidate);
                 Ok((Number::Literal { literal, form: 0 }, rest))
             }
         }

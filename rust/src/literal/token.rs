@@ -88,10 +88,9 @@ impl<'a> Forms<'a> {
         let Some(tokens) = self.tokens else {
             return Err(TokenError::NoTokens);
         };
+        let it = &self.forms[0];
         match self.ended(text) {
-            Some(candidate) if !self.forms[0].is_stopped(tokens, text, candidate.end) => {
-                Ok(self.forms[0].made(text, 0, candidate))
-            }
+            Some(candidate) if !it.is_stopped(tokens, text, candidate.end) => Ok(it.made(text, 0, candidate)),
             _ => self.token_behind(tokens, text),
         }
     }

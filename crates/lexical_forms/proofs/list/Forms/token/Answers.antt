@@ -35,5 +35,7 @@ returns-in-Some-ended c =
     subst (λ (l : FormList). IsReadByTokens l l.tokens text (Ok made.result)) c.self.view_is (subst (λ o. IsReadByTokens list o text (Ok made.result)) (sym c.in-Some.is)
     (token_is list t.now text 0 first candidate (subst (λ (g : Form). IsPicked list t.now text 0 g candidate) (first_is list text candidate e c.index-self-0.result)
     (picked_ended list text candidate e t c.in-Some.is)) made.result made.ensures.form made.ensures.literal made.ensures.kind made.ensures.opened
-    made.ensures.suffix made.ensures.rest (inr (over_ended list text candidate e t.now,
-    (let stopped = c.is_stopped.ensures in let on = c.if-not-is_stopped.true in grind arith)))))
+    made.ensures.suffix made.ensures.rest (inr (
+      over_ended list text candidate e t.now,
+      (let stopped = c.is_stopped.ensures in let on = c.if-not-is_stopped.true in grind arith),
+    ))))
