@@ -178,6 +178,7 @@ REPLACED += [
     # Programs have one copy of these.
     ("lexical_literal/src/stop.rt", "self.begin(false, text, false)", "self.begin_any(text, false)"),
     ("lexical_literal/src/stop.rt", "self.begin(false, text, true)", "self.begin_any(text, true)"),
+    ("lexical_literal/src/stop.rt", "self.begin(false, shorter, true)", "self.begin_any(shorter, true)"),
     ("candidate.rt", "self.syntax.begin(false, inside, true)", "self.syntax.begin_small(inside, true)"),
     # The library for C has one copy of these.
     ("candidate.rt", "match self.find_literal(word, None) {", "if cfg!(peltzivar_small) { return self.fault(text, end); } match self.find_literal(word, None) {"),
@@ -232,6 +233,7 @@ REPLACED += [
     ("lexical_literal/src/scan.rt", "unfinished(\n            grammar,\n            text,\n", "unfinished(\n\n\n"),
     ("lexical_literal/src/scan.rt", "fn is_whole(self, _syntax: &Syntax, ", "fn is_whole(self, "),
     ("behind.rt", "begun.is_whole(syntax, inside)", "begun.is_whole(inside)"),
+    ("lexical_literal/src/stop.rt", "begun.is_whole(self, shorter)", "begun.is_whole(shorter)"),
     ("behind.rt", "(&self, _text: &[u8], ", "(&self, "),
     ("list.rt", "it.read(text, inside)", "it.read(inside)"),
     ("lexical_literal/src/stop.rt", "fn beginning(&self, _text: &[u8])", "fn beginning(&self)"),

@@ -61,7 +61,7 @@ no_word_of_form (form ∷ forms) (Some byte) word none (ℕ.suc i) d inside =
 
 module _ (m : Notation) (text : List ℕ) where
   -- No literal goes on behind a byte that plays no role.
-  over : (size : ℕ) → size < length text → PlaysNoRole m (get_or text size 0) → IsWithin m text size
+  pub over : (size : ℕ) → size < length text → PlaysNoRole m (get_or text size 0) → IsWithin m text size
   over size inside none more below within front =
       let long : size < length (take more text ++ front.more) =
       omega (arith, below, length-append (take more text) front.more, length-take-le more text within) in

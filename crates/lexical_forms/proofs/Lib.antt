@@ -8,4 +8,5 @@ mod FormLemmas
 mod TokenLemmas
 mod LeadingLemmas
 mod LongestLemmas
+mod EndLemmas
 mod FactLemmas

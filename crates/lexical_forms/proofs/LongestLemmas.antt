@@ -207,14 +207,14 @@ module _ (list : FormList) (t : Tokens) (text : List ℕ) where
   HasIt it s e = IsCandidate t.gives_points_back it.1 text it.0 s e
 
   -- Where no word goes on, no candidate ends later.
-  end_within : (it : Form × Bool) (s e end : ℕ) → HasNoWord text end it.0 → s ≤ end → HasIt it s e → e ≤ end
+  pub end_within : (it : Form × Bool) (s e end : ℕ) → HasNoWord text end it.0 → s ≤ end → HasIt it s e → e ≤ end
   end_within it s e end none low other =
       let suffix = suffix_within it.0.suffixes (is_float other.literal) (drop s text) in
       let word = word_within (more_of it.0.suffixes) text s end low none in
       let is = other.end_is in omega (arith, suffix, word, is)
 
   -- A form that goes no further has no longer candidate.
-  size_within : (it : Form × Bool) (past s e : ℕ) → GoesWithin text past it.0 → HasIt it s e → s ≤ past
+  pub size_within : (it : Form × Bool) (past s e : ℕ) → GoesWithin text past it.0 → HasIt it s e → s ≤ past
   size_within it past s e within other = elim (cases_lt past other.longest) [
     | inl more ↦ absurd (within other.longest more other.front.1.within
         (begins_whole (ReadsIn it.0) (take other.longest text) other.front.0 other.front.1.reads))

@@ -5,7 +5,7 @@ ghost use Rattle.std.specs.Prelude.{if◌then◌else◌, length, nat_le, nat_lt,
 ghost use Rattle.std.specs.Char.{is_ascii_alphabetic, is_ascii_digit};
 ghost use Rattle.std.specs.Option.{ForSome};
 ghost use Rattle.lexical_forms.specs.Additions.Forms.{GoesTo, GoesWithin, IsFrontIn, further};
-ghost use Rattle.lexical_forms.specs.Additions.Token.{HasNoWord, HasSumsOf, IsAsked, IsCounted, IsEnd, IsEnded, IsMade, IsOverFrom, IsOwn, IsPicked};
+ghost use Rattle.lexical_forms.specs.Additions.Token.{HasNoWord, HasSumsOf, IsAsked, IsCounted, IsEnd, IsEnded, IsEndedAt, IsMade, IsOverFrom, IsOwn, IsPicked};
 ghost use Rattle.lexical_forms.specs.Additions.Token.{IsWinner, IsYet, NoCandidate, NoOwn, goes_on, has_float, is_longer, suffixed, whole};
 ghost use Rattle.lexical_literal.specs.Cause.{is_in};
 ghost use Rattle.lexical_literal.specs.Additions.Literal.{AreSums, IsCut, cut};
@@ -19,7 +19,7 @@ ghost use Rattle.lexical_forms.specs.Token.{tried};
 ghost use Rattle.lexical_forms.specs.declared.form.Form.{Form};
 ghost use Rattle.lexical_util.specs.Record.{raw};
 
-use crate::exclude::is_over;
+use crate::exclude::{ends_at, has_letter_behind_zero, is_over};
 use crate::form::Form;
 use crate::list::{Forms, PointsBack, Tokens};
 use crate::suffix::{
@@ -62,6 +62,41 @@ impl<'a> Forms<'a> {
         ensures { IsReadByTokens self.now (Some tokens.entry) text.now result }
     {
         self.end_of(tokens, text, self.longest(tokens, text, 0))
+    }
+
+    // Returns the literal of the first form that `text` begins with, without a suffix, if this form is decimal, and it is known at once that no
+    // form goes on.
+    #[inline(always)]
+    pub(crate) fn ended(&self, text: &[u8]) -> Option<Candidate>
+        ensures { ForSome result (IsEndedAt self.now text.now) }
+    {
+        let it = &self.forms[0];
+        if !self.ends
+            || !it.opening.is_empty()
+            || !it.syntax.is_decimal()
+            || has_letter_behind_zero(text)
+        {
+            return None;
+        }
+        let begun = it.syntax.begin(true, text, true);
+        let Begun {
+            at,
+            counts,
+            sums,
+            complete,
+            ..
+        } = begun;
+        let size = at.size;
+        if complete && ends_at(text, size) {
+            Some(Candidate {
+                size,
+                counts,
+                sums: Some(sums),
+                end: size,
+            })
+        } else {
+            None
+        }
     }
 
     // Returns the longest candidate of the list and of the forms that need a suffix, of those with literals of more than `least` bytes.
@@ -389,7 +424,7 @@ impl Form {
     }
 
     // Returns whether what is behind the number that ends at `end` may not follow it. No word may follow a decimal point.
-    fn is_stopped(&self, tokens: &Tokens, text: &[u8], end: usize) -> bool
+    pub(crate) fn is_stopped(&self, tokens: &Tokens, text: &[u8], end: usize) -> bool
         ensures { result ≡ is_stopped (lets_words tokens.now self.now text.now end) self.now.suffixes text.now end }
     {
         let words = tokens.any_word_follows && !is_one(self.syntax, byte_before(text, end));
@@ -411,7 +446,7 @@ impl Form {
 
     // Returns the token with this candidate.
     #[inline(always)]
-    fn made<'t>(&self, text: &'t [u8], form: usize, candidate: Candidate) -> Token<'t>
+    pub(crate) fn made<'t>(&self, text: &'t [u8], form: usize, candidate: Candidate) -> Token<'t>
         requires counted { IsCounted self.now (take candidate.size text.now) candidate.counts }
         requires sums { HasSumsOf self.now (take candidate.size text.now) candidate.counts candidate.sums }
         requires order { candidate.size ≤ candidate.end }

@@ -1,8 +1,9 @@
 //! What excludes that a text is a literal of a form: its first bytes, or a byte that plays no role in the form.
 
 ghost use Rattle.std.specs.Prelude.{◌≡◌, ◌+◌, ◌<◌, ◌≤◌, Bool, IfSome, IsTrue, get_or, length};
+ghost use Rattle.std.specs.List.{AllByRecursion};
 ghost use Rattle.lexical_forms.specs.Additions.Forms.{AreFalse, IsExcluded, IsSilentAt, IsStranger, LacksLetter, LacksZero};
-ghost use Rattle.lexical_forms.specs.Additions.Forms.{NoFrontPast, PlaysNoRole};
+ghost use Rattle.lexical_forms.specs.Additions.Forms.{IsOutside, LetsEnd, NoFrontPast, PlaysNoRole, ends_at, is_end};
 ghost use Rattle.lexical_forms.specs.Forms.{is_other_prefix, reach, sign_size};
 ghost use Rattle.lexical_literal.specs.Cause.{is_in};
 ghost use Rattle.lexical_forms.specs.Additions.Token.{has_prefix};
@@ -11,6 +12,8 @@ ghost use Rattle.lexical_literal.specs.Front.{NoFront};
 ghost use Rattle.lexical_util.specs.Roles.{cased, other_case};
 ghost use Rattle.lexical_literal.specs.Notation.{notation_of};
 
+use crate::form::Form;
+use crate::suffix::{has_byte, more_of};
 use lexical_literal::step::{is_digit, is_prefix, other_case, role_at};
 use lexical_literal::stop::byte_at;
 use lexical_literal::syntax::{Condition, Grammar};
@@ -207,6 +210,59 @@ const fn has_prefix(grammar: Grammar, text: &[u8], index: usize) -> bool
     ensures { result ≡ has_prefix (notation_of grammar) text.now index }
 {
     index + 1 < text.len() && text[index] == b'0' && is_prefix(grammar, text[index + 1])
+}
+
+// The bytes that end a number unless a form goes on with them: white space, operators, and what closes or separates.
+const ENDS: [u8; 12] = [
+    9, 10, 13, b' ', b')', b'*', b',', b'/', b';', b'=', b']', b'}',
+];
+
+// Returns whether `text` ends behind the first `size` bytes, or a byte follows that ends a number.
+#[inline(always)]
+pub(crate) const fn ends_at(text: &[u8], size: usize) -> bool
+    ensures { result ≡ ends_at text.now size }
+{
+    match byte_at(text, size) {
+        None => true,
+        Some(byte) => is_end(byte),
+    }
+}
+
+// Returns whether `byte` ends a number.
+#[inline(always)]
+const fn is_end(byte: u8) -> bool
+    ensures { result ≡ is_end byte }
+{
+    matches!(
+        byte,
+        9 | 10 | 13 | b' ' | b')' | b'*' | b',' | b'/' | b';' | b'=' | b']' | b'}'
+    )
+}
+
+// Returns whether the form goes on with no byte that ends a number.
+pub(crate) const fn lets_end(form: &Form) -> bool
+    ensures { IsTrue result → LetsEnd form.now }
+{
+    lets_all_end(form, &ENDS)
+}
+
+// Returns whether the form goes on with none of `bytes`.
+const fn lets_all_end(form: &Form, bytes: &[u8]) -> bool
+    ensures { IsTrue result → AllByRecursion (IsOutside form.now) bytes.now }
+{
+    match bytes {
+        [] => true,
+        [byte, rest @ ..] => is_outside(form, *byte) && lets_all_end(form, rest),
+    }
+}
+
+// Returns whether `byte` plays no role in the form, and is neither in its opening nor in a word behind it.
+const fn is_outside(form: &Form, byte: u8) -> bool
+    ensures { IsTrue result → IsOutside form.now byte }
+{
+    has_no_role(form.syntax.grammar(), byte)
+        && !has_byte(&form.opening.bytes, byte)
+        && !has_byte(more_of(form.suffixes), byte)
 }
 
 // Returns whether a zero and a letter are behind the sign.

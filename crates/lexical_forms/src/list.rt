@@ -2,17 +2,18 @@
 
 ghost use Rattle.std.specs.Prelude.{ℕ, ◌≡◌, ◌<◌, ◌+◌, IfSome, IsSomeAnd, IsTrue, None, Some, SomeIff, false, if◌then◌else◌, length};
 ghost use Rattle.std.specs.Prelude.{slice_get};
-ghost use Rattle.lexical_forms.specs.Additions.Forms.{ArePassed, IsFoundForm, IsFoundFrontForm, IsLed, IsLongestPast, IsPast, IsRefusedAt, Leads};
+ghost use Rattle.std.specs.List.{AllByRecursion};
+ghost use Rattle.lexical_forms.specs.Additions.Forms.{ArePassed, IsFoundForm, IsFoundFrontForm, IsLed, IsLongestPast, IsPast, IsRefusedAt, Leads, LetsEnd};
 ghost use Rattle.lexical_forms.specs.Additions.Token.{IsNarrow};
 ghost use Rattle.lexical_forms.specs.Forms.{IsFormError, IsFrontByForms, IsReadByForms, NoForm, Reaches, special_by};
 ghost use Rattle.lexical_forms.specs.declared.list.PointsBack.TheVariants as points;
 
-use crate::exclude::{has_letter_behind_zero, sign_size};
+use crate::exclude::{has_letter_behind_zero, lets_end, sign_size};
 use crate::form::Form;
 use crate::opening::Opening;
 use crate::specials::{Special, Specials};
 use crate::suffix::is_wide;
-use crate::token::larger;
+use crate::token::{Token, larger};
 use lexical_literal::cause::ReadError;
 use lexical_literal::literal::Literal;
 use lexical_literal::stop::{Found, Stopped};
@@ -121,10 +122,13 @@ pub struct Forms<'a> {
     pub(crate) tokens: Option<&'a Tokens>,
     // Whether words behind a form may have other bytes than those of any word.
     pub(crate) wide: bool,
+    // Whether no form, of the list or of the tokens, goes on with a byte that ends a number.
+    pub(crate) ends: bool,
 }
 
 impl<'a> Model for Forms<'a> {
-    ghost use Rattle.std.specs.Prelude.{◌≡◌, ◌<◌, false, length};
+    ghost use Rattle.std.specs.Prelude.{◌≡◌, ◌<◌, IsTrue, false, length};
+    ghost use Rattle.lexical_forms.specs.Additions.Forms.{LetEnd};
     ghost use Rattle.lexical_forms.specs.Additions.Token.{IsNarrow};
     ghost use Rattle.lexical_forms.specs.FormList.{FormList};
 
@@ -132,7 +136,8 @@ impl<'a> Model for Forms<'a> {
 
     ghost view = { λ it. record { forms = it.forms.now; specials = it.specials; tokens = it.tokens } };
 
-    ghost invariant = { λ it. (0 < length it.forms.now) × (it.wide ≡ false → IsNarrow it.forms.now) };
+    ghost invariant = { λ it. (0 < length it.forms.now) × (it.wide ≡ false → IsNarrow it.forms.now)
+        × (IsTrue it.ends → LetEnd it.forms.now it.tokens) };
 }
 
 /// A number that has one of several forms.
@@ -224,6 +229,7 @@ impl<'a> Forms<'a> {
             specials,
             tokens: None,
             wide: are_wide(forms),
+            ends: let_end(forms),
         })
     }
 
@@ -249,8 +255,10 @@ impl<'a> Forms<'a> {
     pub const fn with_tokens(self, tokens: &'a Tokens) -> Forms<'a>
         ensures { result ≡ record self.entry { tokens = Some tokens.entry } }
     {
+        let ends = let_end(self.forms) && let_end(tokens.forms);
         Forms {
             tokens: Some(tokens),
+            ends,
             ..self
         }
     }
@@ -318,6 +326,21 @@ impl<'a> Forms<'a> {
     ///
     /// If `text` does not begin with a literal, returns why it is not one.
     pub fn read_prefix<'t>(&self, text: &'t [u8]) -> Result<(Number<'t>, &'t [u8]), FormError>
+        ensures { IsFrontByForms self.now text.now result }
+    {
+        match self.ended(text) {
+            None => self.read_front(text),
+            Some(candidate) => {
+                let it = &self.forms[0];
+                let Token { literal, rest, .. } = it.made(text, 0, candidate);
+                Ok((Number::Literal { literal, form: 0 }, rest))
+            }
+        }
+    }
+
+    // Returns the same by all forms.
+    #[inline(never)]
+    fn read_front<'t>(&self, text: &'t [u8]) -> Result<(Number<'t>, &'t [u8]), FormError>
         ensures { IsFrontByForms self.now text.now result }
     {
         match self.find_front(text) {
@@ -522,6 +545,16 @@ const fn are_wide(forms: &[Form]) -> bool
     match forms {
         [] => false,
         [form, rest @ ..] => is_wide(form.suffixes) || are_wide(rest),
+    }
+}
+
+// Returns whether none of the forms goes on with a byte that ends a number.
+const fn let_end(forms: &[Form]) -> bool
+    ensures { IsTrue result → AllByRecursion LetsEnd forms.now }
+{
+    match forms {
+        [] => true,
+        [form, rest @ ..] => lets_end(form) && let_end(rest),
     }
 }
 

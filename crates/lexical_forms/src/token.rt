@@ -1,6 +1,6 @@
 //! Tokens: numbers in the middle of a text, each with its suffix.
 
-ghost use Rattle.std.specs.Prelude.{◌≡◌, ◌≤◌, ◌||◌, ℕ};
+ghost use Rattle.std.specs.Prelude.{◌≡◌, ◌≤◌, ◌||◌, Some, ℕ};
 ghost use Rattle.std.specs.Char.{is_ascii_alphabetic};
 ghost use Rattle.std.specs.List.{list_any};
 ghost use Rattle.lexical_forms.specs.Additions.Token.{go_on_with, has_float, has_more};
@@ -94,6 +94,20 @@ impl<'a> Forms<'a> {
         let Some(tokens) = self.tokens else {
             return Err(TokenError::NoTokens);
         };
+        let it = &self.forms[0];
+        match self.ended(text) {
+            Some(candidate) if !it.is_stopped(tokens, text, candidate.end) => {
+                Ok(it.made(text, 0, candidate))
+            }
+            _ => self.token_behind(tokens, text),
+        }
+    }
+
+    // Returns the same by all forms.
+    #[inline(never)]
+    fn token_behind<'t>(&self, tokens: &Tokens, text: &'t [u8]) -> Result<Token<'t>, TokenError>
+        ensures { IsReadByTokens self.now (Some tokens.entry) text.now result }
+    {
         let least = if has_letter_behind_zero(text) {
             sign_size(text) + 1
         } else {

@@ -1,6 +1,6 @@
 -- Fronts of a text, and where the loop is left.
 use Rattle.lexical_literal.proofs.Common.{Allows, Bool, Found, Group, HasBegun, HasFound, HasLengths, HasRoles, HasSizes, IsAt, IsCountedFront, IsFront}
-use Rattle.lexical_literal.proofs.Common.{IsFronted, IsLiteral, IsLongest, IsMeasured, IsNone, IsReady, IsRefused, IsStopped, IsUnderway, IsValidUpTo, IsWithin, List}
+use Rattle.lexical_literal.proofs.Common.{IsFronted, IsLiteral, IsLongest, IsMeasured, IsNone, IsReady, IsRefused, IsStopped, IsTrue, IsUnderway, IsValidUpTo, IsWithin, List}
 use Rattle.lexical_literal.proofs.Common.{Literal, NoFront, NoLiteral, None, Notation, Option, Reads, ReadsFront, Role, Some, Stopped, Summary, [], and_parts}
 use Rattle.lexical_literal.proofs.Common.{ap, append-nil, append_assoc, arith, cases_Bool, cases_lt, common_steps, count, cuts_of, drop, false}
 use Rattle.lexical_literal.proofs.Common.{false_from_ne_true, false≢true, first_group, get_or, goes, group_after, group_allows, grow, grown, has_sizes}
@@ -57,6 +57,21 @@ module _ (m : Notation) (text : List ℕ) where
     -- If what was read is a literal, then it is the longest front that is one.
     pub stop_literal : (l : Literal) → Reads m l (take stop.size text) → ReadsFront m l text stop.size
     stop_literal l reads = grind (arith, no_longer_than)
+
+    -- If what was read is not a literal, but is one without its last byte, then this is the longest front that is one.
+    pub front_before : (size : ℕ) (shorter counts : List ℕ) → stop.size ≡ size + 1 → goes m stop.read is.group None ≡ false
+        → shorter ≡ take size text → IsMeasured m shorter counts → IsCountedFront m text (record { size = size; counts = counts })
+    front_before size shorter counts last none same measured = let l = measured.literal in let all = is.valid.within in record {
+      literal = l.0;
+      reads = record {
+        within = omega (arith, last, all);
+        reads = subst (Reads m l.0) same l.1;
+        no_longer = λ more past below k reads.
+            let up = no_longer_than stop.size is.valid more below k reads in
+            let equal : more ≡ stop.size = omega (arith, up, past, last) in is.incomplete none k (subst (λ n. Reads m k (take n text)) equal reads);
+      };
+      counted = λ k reads. measured.counted k (subst (Reads m k) (sym same) reads);
+    }
 
     -- If what was read is not all of the text, or not a literal, then the text is not a literal.
     pub none_whole : (stop.size ≡ length text → goes m stop.read is.group None ≡ false) → NoLiteral m text
@@ -145,12 +160,12 @@ module _ (m : Notation) (ready : IsReady m) (text : List ℕ) where
 
   -- Where a literal may have been found.
   pub complete_at : (counted : Begun) → IsAt m text counted.at (cuts_of counted.counts) → counted.complete ≡ is_complete m counted.at.read
-      → counted.refused ≡ false → HasFound m text counted
-  complete_at counted is complete going = record {
+      → (IsTrue counted.refused → IsRefused m text counted.at) → HasFound m text counted
+  complete_at counted is complete refused = record {
     begun = is.begun;
     literal = λ yes. literal_from m ready.roles ready.no_sizes (take counted.at.size text) (ap (is_accepted m) is.begun.read ∙ sym complete ∙ yes);
     lengths = λ yes. has_counted counted.at.size counted.counts is.counted;
-    refused = λ yes. absurd (false≢true (sym going ∙ yes));
+    refused = refused;
   }
 
   -- A text has one reading.

@@ -458,7 +458,7 @@ const fn fraction(
         ..integer
     };
     let run = digits(grammar, decimal, text, Part::Fraction, begun);
-    if decimal && !has_digit(run.stage) {
+    if decimal && !fronts && !has_digit(run.stage) {
         return unfinished(grammar, text, at_stage(run.size, run.stage), false);
     }
     let read = Reading {
@@ -554,8 +554,22 @@ const fn is_passed(grammar: Grammar, stage: Stage, byte: u8) -> bool
     }
     match stage {
         Stage::Bare => { !is_digit(grammar, Part::Integer, byte) && !is_prefix(grammar, byte) }
+        Stage::Point => !is_digit(grammar, Part::Fraction, byte),
         _ => is_run(stage),
     }
+}
+
+// Returns whether a byte follows that is refused, if it is known at once.
+#[inline(always)]
+const fn refuses(grammar: Grammar, text: &[u8], at: Stopped) -> bool
+    requires over { is_run at.read.stage ≡ true → at.size < length text.now
+        → (steps_of grammar).digit (part_of at.read.stage) (get_or text.now at.size 0) ≡ false }
+    requires point { IsPassed (steps_of grammar) text.now at Role.Point }
+    requires exponent { IsPassed (steps_of grammar) text.now at Role.Exponent }
+    requires suffix { IsPassed (steps_of grammar) text.now at Role.Suffix }
+    ensures { IsTrue result → IsRefused (steps_of grammar) text.now at }
+{
+    at.size < text.len() && is_passed(grammar, at.read.stage, text[at.size])
 }
 
 // Reads the suffix, if it follows.
@@ -584,7 +598,7 @@ const fn suffix(
     ensures summed { IsSummed (raw grammar.word) text.now result }
 {
     let Stopped { size, read } = at;
-    let (mut at, mut suffix) = (at, 0);
+    let (mut at, mut suffix, mut refused) = (at, 0, false);
     if size < text.len()
         && is_suffix(grammar, text[size])
         && takes(grammar, read, false, Role::Suffix)
@@ -597,9 +611,11 @@ const fn suffix(
             },
         };
         suffix = 1;
-    } else if !fronts && size < text.len() {
-        let refused = is_passed(grammar, read.stage, text[size]);
-        return unfinished(grammar, text, at, refused);
+    } else {
+        refused = refuses(grammar, text, at);
+        if !fronts && size < text.len() {
+            return unfinished(grammar, text, at, refused);
+        }
     }
     Begun {
         at,
@@ -620,6 +636,6 @@ const fn suffix(
             exponent,
         },
         complete: is_complete(grammar, at.read),
-        refused: false,
+        refused,
     }
 }

@@ -2,9 +2,10 @@
 
 ghost use Rattle.std.specs.Prelude.{◌≡◌, ◌+◌, ◌<◌, ◌≤◌, ◌^◌, IfSome, Some, IsErrAnd, IsNone, IsTrue, None, ℕ, List, [], false, get_or, true};
 ghost use Rattle.std.specs.Prelude.{length, slice_get, take, IfErr, IfOk, IsErr};
+ghost use Rattle.std.specs.Option.{ForSome};
 ghost use Rattle.lexical_literal.specs.Additions.Explained.{grammar_at, refusal_of, tail_byte};
 ghost use Rattle.lexical_literal.specs.Additions.Scan.{IsReady};
-ghost use Rattle.lexical_literal.specs.Additions.Stop.{HasBegun, IsFronted, IsLongest, IsMeasured, IsStopped, IsUnderway, IsWithin};
+ghost use Rattle.lexical_literal.specs.Additions.Stop.{HasBegun, IsCountedFront, IsFronted, IsLongest, IsMeasured, IsStopped, IsUnderway, IsWithin};
 ghost use Rattle.lexical_literal.specs.Additions.GroupSize.{goes, steps_of};
 ghost use Rattle.lexical_literal.specs.Additions.Step.{HasLengths, count, cuts_of, part_of, role_at, start, step};
 ghost use Rattle.lexical_literal.specs.Cause.{IsRefusal, tail_of, tail_size};
@@ -33,7 +34,7 @@ pub struct Begun {
     pub counts: [usize; 9],
     pub sums: Sums,
     pub complete: bool,
-    pub(crate) refused: bool,
+    pub refused: bool,
 }
 
 // Where reading a text has stopped, part after part or for good: the number of bytes that have been read, and their summary.
@@ -275,18 +276,43 @@ impl Syntax {
     pub fn front(&self, text: &[u8]) -> (Stopped, Option<Found>)
         ensures { IsFronted (notation_of self.now) text.now result.0 result.1 }
     {
+        let begun = self.begin(false, text, true);
         let Begun {
             at,
             counts,
             complete,
             ..
-        } = self.begin(false, text, true);
-        let stop = at.go_on(self, text);
+        } = begun;
+        let stop = begun.stop(self, text);
         if complete && stop.size == at.size {
             let size = stop.size;
             return (stop, Some(Found { size, counts }));
         }
-        (stop, self.longest(text))
+        match self.all_but_last(text, stop) {
+            Some(found) => (stop, Some(found)),
+            None => (stop, self.longest(text)),
+        }
+    }
+
+    // Returns all that was read but the last byte, if that is a literal, and what was read is none.
+    #[inline(always)]
+    fn all_but_last(&self, text: &[u8], stop: Stopped) -> Option<Found>
+        requires { IsStopped (notation_of self.now) text.now stop }
+        ensures { ForSome result (IsCountedFront (notation_of self.now) text.now) }
+    {
+        let group = stop.group(self, text);
+        if stop.size == 0 || stop.may_end(self.grammar(), group) {
+            return None;
+        }
+        let size = stop.size - 1;
+        let shorter = front_of(text, size);
+        let begun = self.begin(false, shorter, true);
+        if begun.is_whole(self, shorter) {
+            let Begun { counts, .. } = begun;
+            Some(Found { size, counts })
+        } else {
+            None
+        }
     }
 
     // Returns the longest front of `text` that is a literal, and the lengths of its parts, if there is one.

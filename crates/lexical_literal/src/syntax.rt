@@ -554,7 +554,8 @@ impl Syntax {
 
     // Returns whether all digits are decimal, no base prefix is read, and the syntax is a usual one.
     #[inline(always)]
-    pub(crate) const fn is_decimal(&self) -> bool
+    #[doc(hidden)]
+    pub const fn is_decimal(&self) -> bool
         ensures radix { IsTrue result → IsDecimal (raw self.now.word) }
         ensures usual { IsTrue result → IsUsual self.now }
     {

@@ -2,7 +2,7 @@
 
 //! The candidates of forms for a token, and the token that the longest of them makes.
 
-use crate::literal::exclude::is_over;
+use crate::literal::exclude::{ends_at, has_letter_behind_zero, is_over};
 use crate::literal::form::Form;
 use crate::literal::list::{Forms, PointsBack, Tokens};
 use crate::literal::literal::{Literal, Sums};
@@ -39,6 +39,24 @@ impl<'a> Forms<'a> {
     #[inline(never)]
     pub(crate) const fn token_of<'t>(&self, tokens: &Tokens, text: &'t [u8]) -> Result<Token<'t>, TokenError> {
         self.end_of(tokens, text, self.longest(tokens, text, 0))
+    }
+
+    // Returns the literal of the first form that `text` begins with, without a suffix, if this form is decimal, and it is known at once that no
+    // form goes on.
+    #[cfg_attr(not(peltzivar_small), inline(always))]
+    pub(crate) const fn ended(&self, text: &[u8]) -> Option<Candidate> {
+        let it = &self.forms[0];
+        if !self.ends || !it.opening.is_empty() || !it.syntax.is_decimal() || has_letter_behind_zero(text) {
+            return None;
+        }
+        let begun = it.syntax.begin(true, text, true);
+        let Begun { at, counts, sums, complete, .. } = begun;
+        let size = at.size;
+        if complete && ends_at(text, size) {
+            Some(Candidate { size, counts, sums: Some(sums), end: size })
+        } else {
+            None
+        }
     }
 
     // Returns the longest candidate of the list and of the forms that need a suffix, of those with literals of more than `least` bytes.
@@ -280,7 +298,7 @@ impl Form {
     }
 
     // Returns whether what is behind the number that ends at `end` may not follow it. No word may follow a decimal point.
-    const fn is_stopped(&self, tokens: &Tokens, text: &[u8], end: usize) -> bool {
+    pub(crate) const fn is_stopped(&self, tokens: &Tokens, text: &[u8], end: usize) -> bool {
         let words = tokens.any_word_follows && !is_one(self.syntax, byte_before(text, end));
         is_stopped(words, self.suffixes, text, end)
     }
@@ -296,7 +314,7 @@ impl Form {
 
     // Returns the token with this candidate.
     #[cfg_attr(not(peltzivar_small), inline(always))]
-    const fn made<'t>(&self, text: &'t [u8], form: usize, candidate: Candidate) -> Token<'t> {
+    pub(crate) const fn made<'t>(&self, text: &'t [u8], form: usize, candidate: Candidate) -> Token<'t> {
         let Candidate { size, counts, sums, end } = candidate;
         let (front, behind) = text.split_at(size);
         let (suffix, _) = behind.split_at(end - size);

@@ -2,8 +2,10 @@
 
 //! What excludes that a text is a literal of a form: its first bytes, or a byte that plays no role in the form.
 
+use crate::literal::form::Form;
 use crate::literal::step::{is_digit, is_prefix, other_case, role_at};
 use crate::literal::stop::byte_at;
+use crate::literal::suffix::{has_byte, more_of};
 use crate::literal::syntax::{Condition, Grammar};
 use crate::word::Part;
 
@@ -146,6 +148,44 @@ const fn lacks_prefix(grammar: &Grammar, text: &[u8]) -> bool {
 #[inline(always)]
 const fn has_prefix(grammar: &Grammar, text: &[u8], index: usize) -> bool {
     index + 1 < text.len() && text[index] == b'0' && is_prefix(grammar, text[index + 1])
+}
+
+// The bytes that end a number unless a form goes on with them: white space, operators, and what closes or separates.
+const ENDS: [u8; 12] = [9, 10, 13, b' ', b')', b'*', b',', b'/', b';', b'=', b']', b'}'];
+
+// Returns whether `text` ends behind the first `size` bytes, or a byte follows that ends a number.
+#[inline(always)]
+pub(crate) const fn ends_at(text: &[u8], size: usize) -> bool {
+    match byte_at(text, size) {
+        None => true,
+        Some(byte) => is_end(byte),
+    }
+}
+
+// Returns whether `byte` ends a number.
+#[inline(always)]
+const fn is_end(byte: u8) -> bool {
+    matches!(byte, 9 | 10 | 13 | b' ' | b')' | b'*' | b',' | b'/' | b';' | b'=' | b']' | b'}')
+}
+
+// Returns whether the form goes on with no byte that ends a number.
+pub(crate) const fn lets_end(form: &Form) -> bool {
+    lets_all_end(form, &ENDS)
+}
+
+// Returns whether the form goes on with none of `bytes`.
+const fn lets_all_end(form: &Form, bytes: &[u8]) -> bool {
+    match bytes {
+        [] => true,
+        [byte, rest @ ..] => is_outside(form, *byte) && lets_all_end(form, rest),
+    }
+}
+
+// Returns whether `byte` plays no role in the form, and is neither in its opening nor in a word behind it.
+const fn is_outside(form: &Form, byte: u8) -> bool {
+    has_no_role(form.syntax.as_grammar(), byte)
+        && !has_byte(&form.opening.bytes, byte)
+        && !has_byte(more_of(form.suffixes), byte)
 }
 
 // Returns whether a zero and a letter are behind the sign.

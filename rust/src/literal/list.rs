@@ -3,14 +3,14 @@
 //! Numbers that have several forms, such as `10`, `0x1F` and `0b1`.
 
 use crate::literal::cause::ReadError;
-use crate::literal::exclude::{has_letter_behind_zero, sign_size};
+use crate::literal::exclude::{has_letter_behind_zero, lets_end, sign_size};
 use crate::literal::form::Form;
 use crate::literal::literal::Literal;
 use crate::literal::opening::Opening;
 use crate::literal::specials::{Special, Specials};
 use crate::literal::stop::{Found, Stopped};
 use crate::literal::suffix::is_wide;
-use crate::literal::token::larger;
+use crate::literal::token::{larger, Token};
 
 // What a point at the end of a number is given back to: nothing, another point or a word, or a letter.
 #[derive(Debug, Clone, Copy, PartialEq, Eq, Hash)]
@@ -84,6 +84,8 @@ pub struct Forms<'a> {
     pub(crate) tokens: Option<&'a Tokens>,
     // Whether words behind a form may have other bytes than those of any word.
     pub(crate) wide: bool,
+    // Whether no form, of the list or of the tokens, goes on with a byte that ends a number.
+    pub(crate) ends: bool,
 }
 
 /// A number that has one of several forms.
@@ -162,7 +164,7 @@ impl<'a> Forms<'a> {
             return None;
         }
         let specials = Specials { nan: None, inf: None, infinity: None };
-        Some(Forms { forms, specials, tokens: None, wide: are_wide(forms) })
+        Some(Forms { forms, specials, tokens: None, wide: are_wide(forms), ends: let_end(forms) })
     }
 
     /// Returns the same forms with these special values. The format of the first form decides what flags say of them.
@@ -183,7 +185,8 @@ impl<'a> Forms<'a> {
     /// Returns the same forms with rules for tokens, without which there are none.
     #[must_use]
     pub const fn with_tokens(self, tokens: &'a Tokens) -> Forms<'a> {
-        Forms { tokens: Some(tokens), ..self }
+        let ends = let_end(self.forms) && let_end(tokens.forms);
+        Forms { tokens: Some(tokens), ends, ..self }
     }
 
     /// Returns the forms.
@@ -233,6 +236,19 @@ impl<'a> Forms<'a> {
     ///
     /// If `text` does not begin with a literal, returns why it is not one.
     pub const fn read_prefix_bytes<'t>(&self, text: &'t [u8]) -> Result<(Number<'t>, &'t [u8]), FormError> {
+        match self.ended(text) {
+            None => self.read_front(text),
+            Some(candidate) => {
+                let it = &self.forms[0];
+                let Token { literal, rest, .. } = it.made(text, 0, candidate);
+                Ok((Number::Literal { literal, form: 0 }, rest))
+            }
+        }
+    }
+
+    // Returns the same by all forms.
+    #[inline(never)]
+    const fn read_front<'t>(&self, text: &'t [u8]) -> Result<(Number<'t>, &'t [u8]), FormError> {
         match self.find_front(text) {
             Ok((form, found)) => {
                 let Found { size, counts } = found;
@@ -389,6 +405,14 @@ const fn are_wide(forms: &[Form]) -> bool {
     match forms {
         [] => false,
         [form, rest @ ..] => is_wide(form.suffixes) || are_wide(rest),
+    }
+}
+
+// Returns whether none of the forms goes on with a byte that ends a number.
+const fn let_end(forms: &[Form]) -> bool {
+    match forms {
+        [] => true,
+        [form, rest @ ..] => lets_end(form) && let_end(rest),
     }
 }
 

@@ -156,6 +156,19 @@ impl Syntax {
 
     /// Returns what [`read_prefix`][Self::read_prefix] returns, of bytes, also in a constant.
     pub const fn read_prefix_bytes<'t>(&self, text: &'t [u8]) -> Result<(Literal<'t>, &'t [u8]), ReadError> {
+        if self.is_decimal() {
+            let begun = self.begin(true, text, true);
+            if begun.is_front(text) {
+                let (front, rest) = text.split_at(begun.at.size);
+                return Ok((self.usual_grammar().literal(front, begun.counts, begun.sums, Kind::EXACT), rest));
+            }
+        }
+        self.read_front(text)
+    }
+
+    // Returns what `read_prefix` returns for any syntax.
+    #[inline(never)]
+    const fn read_front<'t>(&self, text: &'t [u8]) -> Result<(Literal<'t>, &'t [u8]), ReadError> {
         match self.front(text) {
             (stop, None) => stop.refuse(self, text),
             (_, Some(Found { size, counts })) => {
@@ -163,6 +176,14 @@ impl Syntax {
                 Ok((self.summed(text, counts), rest))
             }
         }
+    }
+}
+
+impl Begun {
+    // Returns whether the parts are those of the longest literal that `text` begins with, and this is known at once.
+    #[inline(always)]
+    pub(crate) const fn is_front(&self, text: &[u8]) -> bool {
+        self.complete && (self.refused || self.at.size == text.len())
     }
 }
 

@@ -28,7 +28,7 @@ use crate::literal::step::other_case;
 /// ```
 #[derive(Debug, Clone, Copy, PartialEq, Eq, Hash)]
 pub struct Opening {
-    bytes: [u8; 8],
+    pub(crate) bytes: [u8; 8],
     pub(crate) size: u8,
     case_sensitive: bool,
 }

@@ -260,7 +260,7 @@ const fn fraction(grammar: &Grammar, decimal: bool, text: &[u8], fronts: bool, i
     let stage = after_point(integer.stage);
     let begun = Reading { size: from, stage, ..integer };
     let run = digits(grammar, decimal, text, Part::Fraction, begun);
-    if decimal && !has_digit(run.stage) {
+    if decimal && !fronts && !has_digit(run.stage) {
         return unfinished(at_stage(run.size, run.stage), false);
     }
     let read = Reading {
@@ -315,8 +315,15 @@ const fn is_passed(grammar: &Grammar, stage: Stage, byte: u8) -> bool {
     }
     match stage {
         Stage::Bare => !is_digit(grammar, Part::Integer, byte) && !is_prefix(grammar, byte),
+        Stage::Point => !is_digit(grammar, Part::Fraction, byte),
         _ => is_run(stage),
     }
+}
+
+// Returns whether a byte follows that is refused, if it is known at once.
+#[inline(always)]
+const fn refuses(grammar: &Grammar, text: &[u8], at: Stopped) -> bool {
+    at.size < text.len() && is_passed(grammar, at.read.stage, text[at.size])
 }
 
 // Reads the suffix, if it follows.
@@ -331,13 +338,15 @@ const fn suffix(
     exponent: Sum,
 ) -> Begun {
     let Stopped { size, read } = at;
-    let (mut at, mut suffix) = (at, 0);
+    let (mut at, mut suffix, mut refused) = (at, 0, false);
     if size < text.len() && is_suffix(grammar, text[size]) && takes(grammar, read, false, Role::Suffix) {
         at = Stopped { size: size + 1, read: Summary { ended: true, ..read } };
         suffix = 1;
-    } else if !fronts && size < text.len() {
-        let refused = is_passed(grammar, read.stage, text[size]);
-        return unfinished(at, refused);
+    } else {
+        refused = refuses(grammar, text, at);
+        if !fronts && size < text.len() {
+            return unfinished(at, refused);
+        }
     }
     Begun {
         at,
@@ -354,6 +363,6 @@ const fn suffix(
         ],
         sums: Sums { mantissa: mantissa.sum, places: mantissa.places, exponent },
         complete: is_complete(grammar, at.read),
-        refused: false,
+        refused,
     }
 }

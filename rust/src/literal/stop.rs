@@ -20,7 +20,7 @@ pub struct Begun {
     pub counts: [usize; 9],
     pub sums: Sums,
     pub complete: bool,
-    pub(crate) refused: bool,
+    pub refused: bool,
 }
 
 // Where reading a text has stopped, part after part or for good: the number of bytes that have been read, and their summary.
@@ -196,13 +196,35 @@ impl Syntax {
     // Returns where reading `text` stops, and the longest front that is a literal, if there is one.
     #[cfg_attr(not(peltzivar_small), inline(always))]
     pub(crate) const fn front(&self, text: &[u8]) -> (Stopped, Option<Found>) {
-        let Begun { at, counts, complete, .. } = self.begin_any(text, true);
-        let stop = at.go_on(self, text);
+        let begun = self.begin_any(text, true);
+        let Begun { at, counts, complete, .. } = begun;
+        let stop = begun.stop(self, text);
         if complete && stop.size == at.size {
             let size = stop.size;
             return (stop, Some(Found { size, counts }));
         }
-        (stop, self.longest(text))
+        match self.all_but_last(text, stop) {
+            Some(found) => (stop, Some(found)),
+            None => (stop, self.longest(text)),
+        }
+    }
+
+    // Returns all that was read but the last byte, if that is a literal, and what was read is none.
+    #[inline(always)]
+    const fn all_but_last(&self, text: &[u8], stop: Stopped) -> Option<Found> {
+        let group = stop.group(self, text);
+        if stop.size == 0 || stop.may_end(self.as_grammar(), group) {
+            return None;
+        }
+        let size = stop.size - 1;
+        let shorter = front_of(text, size);
+        let begun = self.begin_any(shorter, true);
+        if begun.is_whole(shorter) {
+            let Begun { counts, .. } = begun;
+            Some(Found { size, counts })
+        } else {
+            None
+        }
     }
 
     // Returns the longest front of `text` that is a literal, and the lengths of its parts, if there is one.

@@ -88,6 +88,16 @@ impl<'a> Forms<'a> {
         let Some(tokens) = self.tokens else {
             return Err(TokenError::NoTokens);
         };
+        let it = &self.forms[0];
+        match self.ended(text) {
+            Some(candidate) if !it.is_stopped(tokens, text, candidate.end) => Ok(it.made(text, 0, candidate)),
+            _ => self.token_behind(tokens, text),
+        }
+    }
+
+    // Returns the same by all forms.
+    #[inline(never)]
+    const fn token_behind<'t>(&self, tokens: &Tokens, text: &'t [u8]) -> Result<Token<'t>, TokenError> {
         let least = if has_letter_behind_zero(text) { sign_size(text) + 1 } else { 0 };
         let found = self.longest(tokens, text, least);
         if found.clear || least == 0 {

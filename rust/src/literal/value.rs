@@ -504,6 +504,22 @@ impl Syntax {
     ///
     /// Those of this call.
     pub fn parse_prefix_bytes<'t, T: FromLiteral>(&self, text: &'t [u8]) -> Result<(T, &'t [u8]), ParseError> {
+        if self.is_decimal() {
+            let begun = self.begin(true, text, true);
+            if begun.is_front(text) && begun.sums.mantissa.digits <= 19 && begun.sums.exponent.digits <= 19 {
+                let (front, rest) = text.split_at(begun.at.size);
+                let literal = self.usual_grammar().literal(front, begun.counts, begun.sums, Kind::EXACT);
+                if let Ok(value) = T::from_literal(literal) {
+                    return Ok((value, rest));
+                }
+            }
+        }
+        self.parse_front(text)
+    }
+
+    // Returns what `parse_prefix` returns for any text.
+    #[inline(never)]
+    fn parse_front<'t, T: FromLiteral>(&self, text: &'t [u8]) -> Result<(T, &'t [u8]), ParseError> {
         let (literal, rest) = self.read_prefix_bytes(text)?;
         Ok((Number::Literal { literal, form: 0 }.value()?, rest))
     }

@@ -1,6 +1,11 @@
 -- What one pass over several forms finds.
 use Rattle.std.specs.Prelude.{ℕ, ◌≡◌, ◌+◌, ◌-◌, ◌<◌, ◌≤◌, ◌⊎◌, false, if◌then◌else◌, nat_lt, IfErr, IfOk, IsErr, IsSomeAnd, IsTrue, List, Option}
-use Rattle.std.specs.Prelude.{◌==◌, ◌&&◌, ◌||◌, not, Bool, get_or, Some, None, Result, All, drop, length, slice_get, take}
+use Rattle.std.specs.Prelude.{◌==◌, ◌&&◌, ◌||◌, not, Bool, get_or, Some, None, Result, All, drop, length, slice_get, take, [], ◌∷◌, option_map, true, unwrap_or}
+use Rattle.std.specs.Borrow.{Bor}
+use Rattle.std.specs.List.{AllByRecursion, list_any}
+use Rattle.std.specs.Option.{ForSome}
+use Rattle.lexical_forms.specs.Suffix.{more_of}
+use Rattle.lexical_forms.specs.declared.list.Tokens.{Tokens}
 use Rattle.lexical_util.specs.Ascii.{ByteSet}
 use Rattle.lexical_util.specs.Layout as layout
 use Rattle.lexical_util.specs.Roles.{other_case}
@@ -55,6 +60,31 @@ further (Some best) form size = if nat_lt best.1 size then Some (form, size) els
 pub record PlaysNoRole (m : Notation) (byte : ℕ) : Type 0 where
   pub not_zero : byte ≡ 48 → ⊥
   pub none : (role : Role) → set_of_role m role byte ≡ false
+
+-- `is_end byte` is true if `byte` ends a number, unless a form goes on with it, and `ends_at text size` if `text` ends behind the first `size` bytes, or
+-- such a byte follows.
+abbrev pub ENDS : List ℕ
+ENDS = 9 ∷ 10 ∷ 13 ∷ 32 ∷ 41 ∷ 42 ∷ 44 ∷ 47 ∷ 59 ∷ 61 ∷ 93 ∷ 125 ∷ []
+
+abbrev pub is_end : ByteSet
+is_end byte = list_any (λ it. it == byte) ENDS
+
+abbrev pub ends_at : List ℕ → ℕ → Bool
+ends_at text size = unwrap_or (option_map is_end (slice_get text size)) true
+
+-- `IsOutside form byte` holds if `byte` plays no role in `form`, and is neither in its opening nor in a word behind it, `LetsEnd form` if no byte is that
+-- ends a number, and `LetEnd forms tokens` if this holds of all forms, of a list and of its tokens.
+pub record IsOutside (form : Form) (byte : ℕ) : Type 0 where
+  pub role : PlaysNoRole (notation_of form.syntax) byte
+  pub opening : list_any (λ it. it == byte) form.opening.bytes ≡ false
+  pub word : list_any (λ it. it == byte) (more_of form.suffixes) ≡ false
+
+abbrev pub LetsEnd : Form → Type 0
+LetsEnd form = AllByRecursion (IsOutside form) ENDS
+
+pub record LetEnd (forms : List Form) (tokens : Option (Bor Tokens)) : Type 0 where
+  pub own : AllByRecursion LetsEnd forms
+  pub needing : ForSome tokens (λ t. AllByRecursion LetsEnd t.now.forms.now)
 
 -- `IsSpare m byte` holds if `byte` plays no role, or is only the base prefix.
 abbrev pub IsSpare : Notation → ℕ → Type 0

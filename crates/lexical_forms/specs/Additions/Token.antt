@@ -6,7 +6,8 @@ use Rattle.std.specs.List.{list_any}
 use Rattle.lexical_util.specs.Ascii.{ByteSet}
 use Rattle.lexical_literal.specs.Cause.{is_in}
 use Rattle.lexical_forms.specs.FormList.{FormList, have_openings}
-use Rattle.lexical_forms.specs.Forms.{Begins, ReadsIn}
+use Rattle.lexical_forms.specs.Additions.Forms.{GoesWithin}
+use Rattle.lexical_forms.specs.Forms.{Begins, HasFront, ReadsIn}
 use Rattle.lexical_literal.specs.Front.{NoneBy}
 use Rattle.lexical_literal.specs.Additions.Literal.{AreSums, cut}
 use Rattle.lexical_literal.specs.Additions.Step.{cuts_of}
@@ -186,6 +187,20 @@ IsEnded list t text form end = IsFollowed list t text end
 -- `AreBare list t` holds if no form of the list, and none that needs a suffix, has an opening.
 abbrev pub AreBare : FormList → Tokens → Type 0
 AreBare list t = (have_openings list.forms ≡ false) × (have_openings t.forms.now ≡ false)
+
+-- `IsLast text size form` holds if no literal of `form` begins with more than the first `size` bytes of `text`, and no byte of a word is behind them.
+abbrev pub IsLast : List ℕ → ℕ → Form → Type 0
+IsLast text size form = GoesWithin text size form × HasNoWord text size form
+
+-- `IsEndedAt list text c` holds if the first form has the candidate `c`, without a suffix, and no form, of the list or of its tokens, goes on.
+pub record IsEndedAt (list : FormList) (text : List ℕ) (c : Candidate) : Type 0 where
+  pub form : Form
+  pub at : slice_get list.forms 0 ≡ Some form
+  pub end : c.end ≡ c.size
+  pub front : HasFront text form c.size
+  pub made : (back : PointsBack) → IsMade back false text form c
+  pub own : All (IsLast text c.size) list.forms
+  pub tokens : ForSome list.tokens (λ t. All (IsLast text c.size) t.now.forms.now)
 
 -- `has_prefix m text index` is true if a zero and a base prefix are at `index`.
 abbrev pub has_prefix : Notation → List ℕ → ℕ → Bool

@@ -1,10 +1,8 @@
 -- The suffix is read, or the byte that follows is refused.
-use Rattle.lexical_literal.proofs.Common.{IsAt, List, Notation, Reading, Stopped, arith, counts_of, cuts_of, false, false≢true, get_or, refl, steps_of}
-use Rattle.lexical_literal.proofs.Common.{subst, suffix, sym, takes}
-use Rattle.lexical_literal.proofs.Common.{true, ℕ, ◌∙◌, ◌≡◌}
-use Rattle.lexical_util.specs.declared.feature_format.roles.Role.TheVariants as roles
+use Rattle.lexical_literal.proofs.Common.{IsAt, IsRefused, List, Notation, Reading, Stopped, arith, counts_of, cuts_of, false≢true, steps_of}
+use Rattle.lexical_literal.proofs.Common.{subst, suffix, sym}
+use Rattle.lexical_literal.proofs.Common.{ℕ, ◌∙◌, ◌≡◌}
 use Rattle.lexical_literal.proofs.JoinLemmas.{suffix_at}
-use Rattle.lexical_literal.proofs.PassedLemmas.{passed}
 use Rattle.lexical_literal.proofs.StoppedLemmas.{complete_at}
 use Rattle.lexical_literal.proofs.scan.suffix.Goals as goal
 use Rattle.lexical_literal.proofs.scan.suffix.Goals.{then-size-text+then-is_suffix+then-takes, else-size-text+else-not-fronts}
@@ -16,32 +14,23 @@ placed : (m : Notation) (text : List ℕ) (s : Reading) (a b c : ℕ) (at next :
 placed m text s a b c at next n suffix same ends is = subst (λ (at : Stopped). IsAt m text at (cuts_of (counts_of s a b c suffix))) (sym same)
     (subst (λ n. IsAt m text at (cuts_of (counts_of s a b c n))) (sym ends) is)
 
+pub refuses-refused-requires-clause-suffix : goal.refuses-refused-requires-clause-suffix
+refuses-refused-requires-clause-suffix c inside is = elim c.else-size-text.branch [
+  | else-size-text-via-then-size-text+then-is_suffix+else-takes w ↦ sym w.takes.ensures ∙ w.if-takes.false
+  | else-size-text-via-then-size-text+else-is_suffix w ↦ absurd (false≢true (sym (sym w.is_suffix.ensures ∙ w.if-is_suffix.false) ∙ is))
+  | else-size-text-via-else-size-text w ↦ absurd (omega (arith, w.if-size-text.false, inside))
+]
+
 pub returns-clause-found : goal.returns-clause-found
 returns-clause-found c =
-    let m = steps_of c.args.grammar in
-    let text = c.args.text.now in
-    let at = c.args.at in
+    let m = steps_of c.args.grammar in let text = c.args.text.now in
     complete_at _ c.requires.ready _ _ (elim c.if-size-text.branch [
       | then-size-text+then-is_suffix+then-takes w ↦ placed m text c.args.mantissa _ _ _ _ _ _ _ w.at-is w.suffix-is
-          (suffix_at m text c.requires.ready.roles c.args.mantissa _ _ _ at w.if-size-text.true
+          (suffix_at m text c.requires.ready.roles c.args.mantissa _ _ _ c.args.at w.if-size-text.true
           (sym w.is_suffix.ensures ∙ w.if-is_suffix.true)
           c.requires.going (sym w.takes.ensures ∙ w.if-takes.true) c.requires.free c.requires.at)
       | else-size-text+else-not-fronts w ↦ placed m text c.args.mantissa _ _ _ _ _ _ _ w.at-is w.suffix-is c.requires.at
-    ]) c.is_complete.ensures refl
-
-pub unfinished-requires-clause-refused : goal.unfinished-requires-clause-refused
-unfinished-requires-clause-refused c holds =
-    let m = steps_of c.args.grammar in
-    let at = c.args.at in
-    let b = get_or c.args.text.now at.size 0 in
-    let inside = c.if-size-text-2.true in
-    let suffix_passed : m.suffix b ≡ true → takes m at.read false roles.Suffix ≡ false = λ is. elim c.else-size-text.branch [
-      | else-size-text-via-then-size-text+then-is_suffix+else-takes w ↦ sym w.takes.ensures ∙ w.if-takes.false
-      | else-size-text-via-then-size-text+else-is_suffix w ↦ absurd (false≢true
-          (sym (sym w.is_suffix.ensures ∙ w.if-is_suffix.false) ∙ is))
-      | else-size-text-via-else-size-text w ↦ absurd (omega (arith, w.if-size-text.false, inside))
-    ] in
-    let is = c.is_passed-refused.ensures in
-    let none = passed m at.read b (is.digit holds) (is.separator holds) (is.fresh holds) (is.prefix holds) (c.requires.point inside)
-    (c.requires.exponent inside) suffix_passed in
-    (inside, none)
+    ]) c.is_complete.ensures (λ yes. elim c.if-size-text.branch [
+      | then-size-text+then-is_suffix+then-takes w ↦ absurd (false≢true (sym w.refused-is ∙ yes))
+      | else-size-text+else-not-fronts w ↦ subst (IsRefused m text) (sym w.at-is) (w.refuses-refused.ensures (sym w.refused-is ∙ yes))
+    ])

@@ -1,52 +1,45 @@
--- The front has the parts that were counted.
-use Rattle.lexical_forms.proofs.Common.{Form, IsFrontIn, IsSomeAnd, ReadsForm, ReadsIn, Some, ap, arith, behind, front_cut, front_read}
-use Rattle.lexical_forms.proofs.Common.{List, drop, length, length-take-le, ℕ, slice_get, subst, sym, take, ◌-◌, ◌∙◌, ◌≡◌}
-use Rattle.lexical_forms.proofs.FormLemmas.{form_at, inside_of}
-use Rattle.lexical_forms.proofs.BehindLemmas.{front_in, inner_is, read_in}
+-- The literal of the first form, behind which no form goes on.
+use Rattle.lexical_forms.proofs.Common.{Form, FormList, HasFront, HasOpening, HasSumsOf, IsCounted, IsGreatest, IsSomeAnd, ReadsForm, arith, drop, get_or}
+use Rattle.lexical_forms.proofs.Common.{slice_get, slice_get-get_or, subst, sym, take, ℕ, ◌-◌, ◌∙◌, ◌≡◌, ap}
+use Rattle.lexical_forms.proofs.EndLemmas.{first_is, greatest_ended, kind_ended}
+use Rattle.lexical_forms.specs.Additions.Token.{IsEndedAt}
+use Rattle.lexical_forms.specs.declared.list.PointsBack.TheVariants as points
 use Rattle.lexical_forms.proofs.list.Forms.read_prefix.Goals as goal
 
--- What is behind as many bytes as the opening has.
-inside_of_front : (g : Form) (front inside : List ℕ) (size : ℕ) → inside ≡ drop size front → size ≡ g.opening.size → inside ≡ drop g.opening.size front
-inside_of_front g front inside size back same = back ∙ ap (λ k. drop k front) same
+pub made-literal-requires-clause-counted : goal.made-literal-requires-clause-counted
+made-literal-requires-clause-counted c =
+    let text = c.args.text.now in let candidate = c.in-Some.candidate in
+    let list : FormList = record { forms = c.self.inside.forms.now; specials = c.self.inside.specials; tokens = c.self.inside.tokens } in
+    let e = subst (λ (l : FormList). IsEndedAt l text candidate) (sym c.self.view_is) (c.ended.ensures candidate c.in-Some.is) in
+    subst (λ (g : Form). IsCounted g (take candidate.size text) candidate.counts) (first_is list text candidate e c.index-self-0.result) (e.made points.Never).counted
 
-pub split_at-requires-in-Ok : goal.split_at-requires-in-Ok
-split_at-requires-in-Ok c =
-    let found = c.in-Ok.found in let text = c.args.text.now in let g = c.index-as_slice-form.result in
-    let is = subst (λ (g : Form). IsFrontIn text found g) (sym c.index-as_slice-form.is) (form_at (IsFrontIn text found) c.args.self.now.forms
-    c.as_slice.result.now c.index-as_slice-form.result c.in-Ok.form c.as_slice.ensures.list c.in-Ok.ensures.found).1 in
-    let size = ap length c.split_at.ensures.front ∙ length-take-le found.size text (front_in g text found is).within in
-    let past = is.past in omega (arith, size, past, c.size.ensures)
+pub made-literal-requires-clause-sums : goal.made-literal-requires-clause-sums
+made-literal-requires-clause-sums c =
+    let text = c.args.text.now in let candidate = c.in-Some.candidate in
+    let list : FormList = record { forms = c.self.inside.forms.now; specials = c.self.inside.specials; tokens = c.self.inside.tokens } in
+    let e = subst (λ (l : FormList). IsEndedAt l text candidate) (sym c.self.view_is) (c.ended.ensures candidate c.in-Some.is) in
+    subst (λ (g : Form). HasSumsOf g (take candidate.size text) candidate.counts candidate.sums) (first_is list text candidate e c.index-self-0.result) (e.made points.Never).sums
 
-pub summed-requires : goal.summed-requires
-summed-requires c =
-    let found = c.in-Ok.found in let text = c.args.text.now in let g = c.index-as_slice-form.result in
-    let is = subst (λ (g : Form). IsFrontIn text found g) (sym c.index-as_slice-form.is) (form_at (IsFrontIn text found) c.args.self.now.forms
-    c.as_slice.result.now c.index-as_slice-form.result c.in-Ok.form c.as_slice.ensures.list c.in-Ok.ensures.found).1 in
-    front_cut g.syntax (behind g text) c.split_at-in-Ok.result.1.now (found.size - g.opening.size) found.counts
-    (inner_is g text found is c.split_at.result.0.now c.split_at-in-Ok.result.1.now c.split_at.ensures.front
-    (inside_of_front g _ _ _ c.split_at-in-Ok.ensures.back c.size.ensures)) is.front
+pub made-literal-requires-clause-order : goal.made-literal-requires-clause-order
+made-literal-requires-clause-order c = let end = (c.ended.ensures c.in-Some.candidate c.in-Some.is).end in omega (arith, end)
 
-pub of_form-literal-requires : goal.of_form-literal-requires
-of_form-literal-requires c = inside_of _ c.args.self.now.forms c.in-Ok.form c.in-Ok.ensures.found
+pub made-literal-requires-clause-within : goal.made-literal-requires-clause-within
+made-literal-requires-clause-within c = ((c.ended.ensures c.in-Some.candidate c.in-Some.is).made points.Never).within
 
-pub returns-in-Ok : goal.returns-in-Ok
-returns-in-Ok c =
-    let found = c.in-Ok.found in let text = c.args.text.now in let g = c.index-as_slice-form.result in let forms = c.args.self.now.forms in
-    let form = subst (λ (g : Form). (slice_get forms c.in-Ok.form ≡ Some g) × IsFrontIn text found g) (sym c.index-as_slice-form.is)
-    (form_at (IsFrontIn text found) forms c.as_slice.result.now g c.in-Ok.form c.as_slice.ensures.list c.in-Ok.ensures.found) in
-    let read = c.summed.result in
-    let is = front_read g.syntax (behind g text) c.split_at-in-Ok.result.1.now (found.size - g.opening.size) found.counts
-    (inner_is g text found form.1 c.split_at.result.0.now c.split_at-in-Ok.result.1.now c.split_at.ensures.front
-    (inside_of_front g _ _ _ c.split_at-in-Ok.ensures.back c.size.ensures)) form.1.front read
-    c.summed.ensures in
-    let own = c.of_form-literal.result in (
-      found.size,
-      c.in-Ok.ensures.longest,
-      subst (λ o. IsSomeAnd o (ReadsForm (take found.size text) own)) (sym form.0) (
-        c.of_form-literal.ensures.format ∙ is.0,
-        subst (λ o. IsSomeAnd o (λ (g : Form). own.kind ≡ g.kind)) form.0 c.of_form-literal.ensures.kind,
-        subst (λ l. ReadsIn g l (take found.size text)) (sym c.of_form-literal.ensures.literal) (read_in g text found read.literal form.1 is.1).reads,
-      ),
-      c.of_form-literal.ensures.opened,
-      c.split_at.ensures.back,
+pub returns-in-Some : goal.returns-in-Some
+returns-in-Some c =
+    let text = c.args.text.now in let candidate = c.in-Some.candidate in let size = candidate.size in let made = c.made-literal in let literal = made.result.literal in
+    let list : FormList = record { forms = c.self.inside.forms.now; specials = c.self.inside.specials; tokens = c.self.inside.tokens } in
+    let e = subst (λ (l : FormList). IsEndedAt l text candidate) (sym c.self.view_is) (c.ended.ensures candidate c.in-Some.is) in
+    let first = get_or list.forms 0 c.index-self-0.result in
+    let at = slice_get-get_or list.forms 0 c.index-self-0.result c.self.invariant.0 in let end = e.end in
+    let kind = kind_ended first.suffixes made.result.suffix.now first.kind
+    (made.ensures.suffix ∙ ap (λ n. take n (drop size text)) (let none : candidate.end - size ≡ 0 = omega (arith, end) in none)) in
+    subst (λ (l : FormList). (n : ℕ) × IsGreatest (HasFront text) l.forms 0 n × IsSomeAnd (slice_get l.forms 0) (ReadsForm (take n text) literal)
+    × HasOpening l.forms 0 literal × (made.result.rest.now ≡ drop n text)) c.self.view_is (
+      size,
+      greatest_ended list text candidate e,
+      subst (λ o. IsSomeAnd o (ReadsForm (take size text) literal)) (sym at) (made.ensures.literal.0, made.ensures.kind ∙ kind, made.ensures.literal.1),
+      subst (λ o. IsSomeAnd o (λ (form : Form). literal.opened ≡ form.opening.size)) (sym at) made.ensures.opened,
+      made.ensures.rest ∙ ap (λ n. drop n text) end,
     )

@@ -1,0 +1,41 @@
+-- The token of the first form, behind whose literal no form goes on.
+use Rattle.lexical_forms.proofs.Common.{Form, FormList, HasSumsOf, IsCounted, IsPicked, IsReadByTokens, Ok, arith, get_or, inr, subst, sym, take}
+use Rattle.lexical_forms.proofs.EndLemmas.{first_is, over_ended, picked_ended}
+use Rattle.lexical_forms.proofs.TokenLemmas.{token_is}
+use Rattle.lexical_forms.specs.Additions.Token.{IsEndedAt}
+use Rattle.lexical_forms.specs.declared.list.PointsBack.TheVariants as points
+use Rattle.lexical_forms.proofs.list.Forms.token.Goals as goal
+
+pub made-requires-clause-counted : goal.made-requires-clause-counted
+made-requires-clause-counted c =
+    let text = c.args.text.now in let candidate = c.in-Some-ended.candidate in
+    let list : FormList = record { forms = c.self.inside.forms.now; specials = c.self.inside.specials; tokens = c.self.inside.tokens } in
+    let e = subst (λ (l : FormList). IsEndedAt l text candidate) (sym c.self.view_is) (c.ended.ensures candidate c.in-Some-ended.is) in
+    subst (λ (g : Form). IsCounted g (take candidate.size text) candidate.counts) (first_is list text candidate e c.index-self-0.result) (e.made points.Never).counted
+
+pub made-requires-clause-sums : goal.made-requires-clause-sums
+made-requires-clause-sums c =
+    let text = c.args.text.now in let candidate = c.in-Some-ended.candidate in
+    let list : FormList = record { forms = c.self.inside.forms.now; specials = c.self.inside.specials; tokens = c.self.inside.tokens } in
+    let e = subst (λ (l : FormList). IsEndedAt l text candidate) (sym c.self.view_is) (c.ended.ensures candidate c.in-Some-ended.is) in
+    subst (λ (g : Form). HasSumsOf g (take candidate.size text) candidate.counts candidate.sums) (first_is list text candidate e c.index-self-0.result) (e.made points.Never).sums
+
+pub made-requires-clause-order : goal.made-requires-clause-order
+made-requires-clause-order c = let end = (c.ended.ensures c.in-Some-ended.candidate c.in-Some-ended.is).end in omega (arith, end)
+
+pub made-requires-clause-within : goal.made-requires-clause-within
+made-requires-clause-within c = ((c.ended.ensures c.in-Some-ended.candidate c.in-Some-ended.is).made points.Never).within
+
+pub returns-in-Some-ended : goal.returns-in-Some-ended
+returns-in-Some-ended c =
+    let text = c.args.text.now in let candidate = c.in-Some-ended.candidate in let t = c.in-Some.tokens in let made = c.made in
+    let list : FormList = record { forms = c.self.inside.forms.now; specials = c.self.inside.specials; tokens = c.self.inside.tokens } in
+    let e = subst (λ (l : FormList). IsEndedAt l text candidate) (sym c.self.view_is) (c.ended.ensures candidate c.in-Some-ended.is) in
+    let first = get_or list.forms 0 c.index-self-0.result in
+    subst (λ (l : FormList). IsReadByTokens l l.tokens text (Ok made.result)) c.self.view_is (subst (λ o. IsReadByTokens list o text (Ok made.result)) (sym c.in-Some.is)
+    (token_is list t.now text 0 first candidate (subst (λ (g : Form). IsPicked list t.now text 0 g candidate) (first_is list text candidate e c.index-self-0.result)
+    (picked_ended list text candidate e t c.in-Some.is)) made.result made.ensures.form made.ensures.literal made.ensures.kind made.ensures.opened
+    made.ensures.suffix made.ensures.rest (inr (
+      over_ended list text candidate e t.now,
+      (let stopped = c.is_stopped.ensures in let on = c.if-not-is_stopped.true in grind arith),
+    ))))
