@@ -30,6 +30,5 @@ tied a b is = (
 )
 
 -- Swapping two outcomes reverses the result of comparing them.
-pub reversed : (a b : Error) {order : Ordering} → order ≡ compare_outcomes a b
-    → compare_outcomes b a ≡ ordering_reverse order
+pub reversed : (a b : Error) {order : Ordering} → order ≡ compare_outcomes a b → compare_outcomes b a ≡ ordering_reverse order
 reversed a b is = total.antisymm b a ∙ ap ordering_reverse (sym is)

@@ -32,8 +32,7 @@ flags_in-mask layout.required_integer_digits = refl
 flags_in-mask _ = refl
 
 -- The two blocks of flags in a word, moved together and joined by `|`, are the flags of a builder.
-pub builder_blocks : (word : ℕ) → bit_or (bit_and word (2 ^ low - 1))
-    (bit_and word ((2 ^ high - 1) * 2 ^ 32) / 2 ^ 32 * 2 ^ low % 2 ^ 32) ≡ flags_in word
+pub builder_blocks : (word : ℕ) → bit_or (bit_and word (2 ^ low - 1)) (bit_and word ((2 ^ high - 1) * 2 ^ 32) / 2 ^ 32 * 2 ^ low % 2 ^ 32) ≡ flags_in word
 builder_blocks word =
     let first : bit_and word (2 ^ low - 1) ≡ part word 0 low = and_mask word low ∙ omega arith in
     let small : part word 32 high < 2 ^ high = mod-lt _ (pow_pos high) in
@@ -47,14 +46,12 @@ pub bit_value : (n value : ℕ) → n < 2 → (if n == 1 then value else 0) ≡ 
 bit_value n value l = grind (arith, nat_tests)
 
 -- The sum of the flags of a builder, at their bits in a word, is the two blocks of flags in the word.
-pub flags_as_blocks : (n : ℕ) → sum_by (λ f. if part n (builder_bit f) 1 == 1 then 2 ^ bit f else 0) flags
-    ≡ part n 0 low + part n low high * 2 ^ 32
+pub flags_as_blocks : (n : ℕ) → sum_by (λ f. if part n (builder_bit f) 1 == 1 then 2 ^ bit f else 0) flags ≡ part n 0 low + part n low high * 2 ^ 32
 flags_as_blocks n =
     let first = joined-segments 0 (map (λ _. 1) base_flags) n in
     let both = joined-segments low (map (λ _. 1) digit_separator_flags) n in
     let second = mod-pow-add n high low in
-    (λ i. sum_by (λ f. bit_value (part n (builder_bit f) 1) (2 ^ bit f) (bit-lt n (builder_bit f)) i) flags)
-    ∙ omega arith
+    (λ i. sum_by (λ f. bit_value (part n (builder_bit f) 1) (2 ^ bit f) (bit-lt n (builder_bit f)) i) flags) ∙ omega arith
 
 -- The two blocks of flags in a builder, moved apart and joined by `|`, are the two blocks of flags in a word.
 pub word_blocks : (n : ℕ) → n < 2 ^ length flags → bit_or (bit_and n (2 ^ low - 1))
@@ -65,12 +62,10 @@ word_blocks n l =
     let second : bit_and (n * 2 ^ (32 - low) % 2 ^ 128) ((2 ^ high - 1) * 2 ^ 32) ≡ part n low high * 2 ^ 32 =
     ap (λ m. bit_and m ((2 ^ high - 1) * 2 ^ 32)) moved ∙ and_high (n * 2 ^ (32 - low)) high 32 ∙ omega arith in
     let below : part n 0 low < 2 ^ 32 = omega arith in
-    (λ i. bit_or (first i) (second i)) ∙ or_comm (part n 0 low) (part n low high * 2 ^ 32)
-    ∙ or_shifted (part n low high) 32 (part n 0 low) below ∙ omega arith
+    (λ i. bit_or (first i) (second i)) ∙ or_comm (part n 0 low) (part n low high * 2 ^ 32) ∙ or_shifted (part n low high) 32 (part n 0 low) below ∙ omega arith
 
 -- If a bit is cleared where a mask is 1 and then set to a value, it has the value there, and is unchanged otherwise.
-set_bit : (a m : ℕ) (value : Bool) → a < 2 → m < 2 → (max (min a (1 - m)) (if value then m else 0) == 1)
-    ≡ (if m == 1 then value else (a == 1))
+set_bit : (a m : ℕ) (value : Bool) → a < 2 → m < 2 → (max (min a (1 - m)) (if value then m else 0) == 1) ≡ (if m == 1 then value else (a == 1))
 set_bit a m value l k = grind (arith, nat_tests)
 
 part-if : (value : Bool) (m i : ℕ) → part (if value then m else 0) i 1 ≡ (if value then part m i 1 else 0)
@@ -78,11 +73,9 @@ part-if true m i = refl
 part-if false m i = bit_at-zero i
 
 -- If the bits in a mask are cleared and then set to a value, they have the value, and all other bits are unchanged.
-pub replaced_test : (a m i : ℕ) (value : Bool) → m < 2 ^ 32 → i < 32
-    → (part (bit_or (bit_and a (2 ^ 32 - 1 - m)) (if value then m else 0)) i 1 == 1) ≡
+pub replaced_test : (a m i : ℕ) (value : Bool) → m < 2 ^ 32 → i < 32 → (part (bit_or (bit_and a (2 ^ 32 - 1 - m)) (if value then m else 0)) i 1 == 1) ≡
     (if part m i 1 == 1 then value else (part a i 1 == 1))
 replaced_test a m i value l k =
     let cleared = bit_at_and a (2 ^ 32 - 1 - m) i ∙ ap (λ n. min (part a i 1) n) (bit_at_not w32 m i l k) in
-    ap (λ n. n == 1) (bit_at_or (bit_and a (2 ^ 32 - 1 - m)) (if value then m else 0) i
-    ∙ (λ j. max (cleared j) (part-if value m i j)))
+    ap (λ n. n == 1) (bit_at_or (bit_and a (2 ^ 32 - 1 - m)) (if value then m else 0) i ∙ (λ j. max (cleared j) (part-if value m i j)))
     ∙ set_bit (part a i 1) (part m i 1) value (bit-lt a i) (bit-lt m i)

@@ -12,8 +12,7 @@ radix-bytes : (radix : ℕ) → radix < 256 → HasBytes (radix_record radix)
 radix-bytes radix fits = record { each = λ b. grind arith }
 
 raw-radix : (radix : ℕ) → radix < 256 → raw (pack (radix_record radix)) ≡ radix_record radix
-raw-radix radix fits = raw-pack (radix_record radix) (radix-bytes radix fits)
-    ∙ trim-same (radix_record radix) (inr refl)
+raw-radix radix fits = raw-pack (radix_record radix) (radix-bytes radix fits) ∙ trim-same (radix_record radix) (inr refl)
 
 -- If a radix is between 2 and 36, then its record satisfies each rule.
 radix-demands : (radix : ℕ) → IsRadix radix → (rule : Rule) → FieldsMeet (shape_of rule) (radix_record radix)

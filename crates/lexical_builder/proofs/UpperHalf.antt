@@ -13,10 +13,8 @@ upper_bits r b = r.byte b * 2 ^ (shift b - 64)
 
 -- `upper_of r` is the upper half of the word of `r`, as `build_unchecked` joins it.
 abbrev pub upper_of : Record → ℕ
-upper_of r =
-    bit_or (bit_or (bit_or (bit_or (bit_or (r.byte layout.base_prefix * 2 ^ 24) (r.byte layout.base_suffix * 2 ^ 32))
-    (r.byte layout.mantissa_radix * 2 ^ 40)) (r.byte layout.digit_separator))
-    (r.byte layout.exponent_base * 2 ^ 48)) (r.byte layout.exponent_radix * 2 ^ 56)
+upper_of r = bit_or (bit_or (bit_or (bit_or (bit_or (r.byte layout.base_prefix * 2 ^ 24) (r.byte layout.base_suffix * 2 ^ 32))
+    (r.byte layout.mantissa_radix * 2 ^ 40)) (r.byte layout.digit_separator)) (r.byte layout.exponent_base * 2 ^ 48)) (r.byte layout.exponent_radix * 2 ^ 56)
 
 -- The upper half is the sum of the bytes.
 upper_joined : (r : Record) → HasBytes r → upper_of r ≡ sum_by (upper_bits r) bytes
@@ -25,15 +23,13 @@ upper_joined r h =
     let separator : ℕ = r.byte layout.digit_separator in
     let middle : ℕ = r.byte layout.base_prefix + r.byte layout.base_suffix * 2 ^ 8 + r.byte layout.mantissa_radix * 2 ^ 16 in
     let first : r.byte layout.base_prefix * 2 ^ 24 < 2 ^ 32 = omega (arith, h.each layout.base_prefix) in
-    let three = or_all start r.byte 8 h.each (layout.base_suffix ∷ layout.mantissa_radix ∷ []) 32
-    (r.byte layout.base_prefix * 2 ^ 24) first refl in
+    let three = or_all start r.byte 8 h.each (layout.base_suffix ∷ layout.mantissa_radix ∷ []) 32 (r.byte layout.base_prefix * 2 ^ 24) first refl in
     let four = or_shifted middle 24 separator (omega (arith, h.each layout.digit_separator)) in
     let each = h.each in
     let fits : middle * 2 ^ 24 + separator < 2 ^ 48 = omega arith in
     ap (λ n. bit_or (bit_or n (r.byte layout.exponent_base * 2 ^ 48)) (r.byte layout.exponent_radix * 2 ^ 56))
     (ap (λ n. bit_or n separator) (three ∙ omega arith) ∙ four)
-    ∙ or_all start r.byte 8 h.each (layout.exponent_base ∷ layout.exponent_radix ∷ []) 48 (middle * 2 ^ 24 + separator) fits refl
-    ∙ omega arith
+    ∙ or_all start r.byte 8 h.each (layout.exponent_base ∷ layout.exponent_radix ∷ []) 48 (middle * 2 ^ 24 + separator) fits refl ∙ omega arith
 
 -- The upper half has 64 bits.
 pub upper-lt : (r : Record) → HasBytes r → upper_of r < 2 ^ 64

@@ -67,15 +67,13 @@ accepted_roles word e p lawful = (roles_from_accepted word e p lawful, accepted_
 is_other : ℕ → ℕ → ℕ → ℕ → Bool
 is_other n a b c = not ((n == a) || (n == b) || (n == c))
 
-is_other-told : (n a b c : ℕ) → ((is_other n a b c ≡ true) × (n ≢ a) × (n ≢ b) × (n ≢ c))
-    ⊎ ((is_other n a b c ≡ false) × ((n ≡ a) ⊎ ((n ≡ b) ⊎ (n ≡ c))))
+is_other-told : (n a b c : ℕ) → ((is_other n a b c ≡ true) × (n ≢ a) × (n ≢ b) × (n ≢ c)) ⊎ ((is_other n a b c ≡ false) × ((n ≡ a) ⊎ ((n ≡ b) ⊎ (n ≡ c))))
 unfolding is_other
 is_other-told n a b c = grind (arith, nat_tests)
 
 -- `free_from low a b c` is the first of the four numbers from `low` up that differs from `a`, `b` and `c`.
 free_from : ℕ → ℕ → ℕ → ℕ → ℕ
-free_from low a b c =
-    if is_other low a b c then low
+free_from low a b c = if is_other low a b c then low
     else if is_other (low + 1) a b c then low + 1
     else if is_other (low + 2) a b c then low + 2 else low + 3
 
@@ -87,15 +85,10 @@ free_from-is low a b c = grind (arith, is_other-told)
 -- The bytes from ! to ( are punctuation in every format.
 IsPunctuation-mark : (r : Record) (byte : ℕ) → 33 ≤ byte → byte ≤ 40 → IsPunctuation r byte
 unfolding IsPunctuation
-IsPunctuation-mark r byte low high = (
-  grind (arith, nat_tests),
-  no_digit r byte (omega arith),
-  (λ is_sign. grind (arith, nat_tests)),
-)
+IsPunctuation-mark r byte low high = (grind (arith, nat_tests), no_digit r byte (omega arith), (λ is_sign. grind (arith, nat_tests)))
 
 -- If a byte is from ! to (, then its role is disjoint from the role of any other byte.
-Disjoint-mark : (a : ℕ) (a_counts : Bool) (b : ℕ) (b_counts : Bool) → 33 ≤ a → a ≤ 40 → a ≢ b
-    → Disjoint (cased a_counts a) (cased b_counts b)
+Disjoint-mark : (a : ℕ) (a_counts : Bool) (b : ℕ) (b_counts : Bool) → 33 ≤ a → a ≤ 40 → a ≢ b → Disjoint (cased a_counts a) (cased b_counts b)
 unfolding cased
 Disjoint-mark a a_counts b b_counts low high differ = Disjoint-from _ _ (λ byte below is_a is_b. grind (arith, nat_tests))
 
@@ -134,6 +127,5 @@ pub one_options_error : (word e p : ℕ) (a b : Error) → IsOptionsError word e
 one_options_error word e p a b h k = grind arith
 
 -- The error of an exponent character and a decimal point is Success if and only if they are accepted.
-pub options_success : (word e p : ℕ) (error : Error) → IsOptionsError word e p error
-    → (error ≡ Success) ↔ OptionsFit word e p
+pub options_success : (word e p : ℕ) (error : Error) → IsOptionsError word e p error → (error ≡ Success) ↔ OptionsFit word e p
 options_success word e p error h = grind arith

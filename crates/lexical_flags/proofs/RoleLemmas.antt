@@ -21,19 +21,16 @@ Disjoint-cased A both_cases counts own out = Disjoint-from _ _ (λ byte below in
 
 -- If the set `A` and the role of `own` are disjoint, then `A` does not contain `own`, provided that `own` is not 0 and
 -- below 256.
-pub not_in : (A : ByteSet) (counts : Bool) (own : ℕ) → Disjoint A (cased counts own) → own < 256 → own ≢ 0
-    → IsTrue (A own) → ⊥
+pub not_in : (A : ByteSet) (counts : Bool) (own : ℕ) → Disjoint A (cased counts own) → own < 256 → own ≢ 0 → IsTrue (A own) → ⊥
 unfolding cased
 not_in A counts own apart below positive inside = Disjoint-at _ _ apart own below inside (grind (arith, nat_tests))
 
 -- If a byte is absent or not a digit, then the digits and its role are disjoint.
-pub Disjoint-digits-cased : (r : Record) (counts : Bool) (own : ℕ) → (own ≢ 0 → IsTrue (digits r own) → ⊥)
-    → Disjoint (digits r) (cased counts own)
+pub Disjoint-digits-cased : (r : Record) (counts : Bool) (own : ℕ) → (own ≢ 0 → IsTrue (digits r own) → ⊥) → Disjoint (digits r) (cased counts own)
 Disjoint-digits-cased r = Disjoint-cased (digits r) (digits-other_case r)
 
 -- If a byte is absent or not a sign, then the signs and its role are disjoint.
-pub Disjoint-signs-cased : (counts : Bool) (own : ℕ) → (own ≢ 0 → IsTrue (signs own) → ⊥)
-    → Disjoint signs (cased counts own)
+pub Disjoint-signs-cased : (counts : Bool) (own : ℕ) → (own ≢ 0 → IsTrue (signs own) → ⊥) → Disjoint signs (cased counts own)
 Disjoint-signs-cased = Disjoint-cased signs signs-other_case
 
 -- A byte below the character 0 has the value 255.

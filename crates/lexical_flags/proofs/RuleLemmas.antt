@@ -21,18 +21,16 @@ IsAbsentOrPunctuation-text r byte is = grind arith
 
 -- If a byte is absent or allowed ASCII, and its role is disjoint from the digits and the signs, then the byte is absent
 -- or punctuation.
-IsAbsentOrPunctuation-from : (r : Record) (counts : Bool) (byte : ℕ) → IsTextOrNone byte
-    → Disjoint (digits r) (cased counts byte)
+IsAbsentOrPunctuation-from : (r : Record) (counts : Bool) (byte : ℕ) → IsTextOrNone byte → Disjoint (digits r) (cased counts byte)
     → Disjoint signs (cased counts byte) → IsAbsentOrPunctuation r byte
 unfolding IsPunctuation
-IsAbsentOrPunctuation-from r counts byte text digits_apart signs_apart =
-    elim text [
-      | inl none ↦ inl none
-      | inr ascii ↦
-          let some : byte ≢ 0 = λ none. grind (arith, nat_tests) in
-          let small : byte < 256 = grind (arith, nat_tests) in
-          inr (ascii, not_in (digits r) counts byte digits_apart small some, not_in signs counts byte signs_apart small some)
-    ]
+IsAbsentOrPunctuation-from r counts byte text digits_apart signs_apart = elim text [
+  | inl none ↦ inl none
+  | inr ascii ↦
+      let some : byte ≢ 0 = λ none. grind (arith, nat_tests) in
+      let small : byte < 256 = grind (arith, nat_tests) in
+      inr (ascii, not_in (digits r) counts byte digits_apart small some, not_in signs counts byte signs_apart small some)
+]
 
 -- A lawful word satisfies every rule.
 pub Holds-from_lawful : (rule : Rule) (word : ℕ) → Lawful word → Holds rule word
@@ -94,8 +92,7 @@ unfolding IsErrorOf
 one_error word a b h k = grind arith
 
 -- Words that satisfy the same rules have the same error.
-pub IsErrorOf-same : (v w : ℕ) → ((rule : Rule) → Holds rule v ↔ Holds rule w) → (error : Error) → IsErrorOf v error
-    ↔ IsErrorOf w error
+pub IsErrorOf-same : (v w : ℕ) → ((rule : Rule) → Holds rule v ↔ Holds rule w) → (error : Error) → IsErrorOf v error ↔ IsErrorOf w error
 unfolding IsErrorOf
 IsErrorOf-same v w same error = grind arith
 

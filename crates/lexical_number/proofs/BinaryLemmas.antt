@@ -24,8 +24,7 @@ pub cut_at : {digits : ℕ} {more : Bool} (num den up down l d e : ℕ) → up +
     → IsCutTo (num * 2 ^ l * 2 ^ d) digits more (den * 2 ^ e)
 cut_at {digits = digits} {more = more} num den up down l d e places cut =
     let moved : num * 2 ^ down * (2 ^ l * 2 ^ d) ≡ num * 2 ^ l * 2 ^ d * 2 ^ down = grind arith in
-    unscaled (2 ^ down) (pow_pos down)
-    (subst (λ m. IsCutTo m digits more (den * 2 ^ e * 2 ^ down)) moved
+    unscaled (2 ^ down) (pow_pos down) (subst (λ m. IsCutTo m digits more (den * 2 ^ e * 2 ^ down)) moved
     (subst (IsCutTo (num * 2 ^ down * (2 ^ l * 2 ^ d)) digits more) (powers den up l d down e places)
     (scaled cut (2 ^ l * 2 ^ d) (mul-pos (pow_pos l) (pow_pos d)))))
 
@@ -142,14 +141,12 @@ pub without : {digits : ℕ} {more : Bool} (num den up down both : ℕ) → both
 without {digits = digits} {more = more} num den up down both U D cut =
     let split : (n k : ℕ) → both ≤ k → n * 2 ^ k ≡ n * 2 ^ (k - both) * 2 ^ both =
     λ n k le. ap (λ k. n * 2 ^ k) {x = k} {y = k - both + both} (omega arith) ∙ omega (arith, ap (λ p. n * p) (pow-add 2 (k - both) both)) in
-    unscaled (2 ^ both) (pow_pos both)
-    (subst (λ n. IsCutTo n digits more (den * 2 ^ (up - both) * 2 ^ both)) (split num down D)
+    unscaled (2 ^ both) (pow_pos both) (subst (λ n. IsCutTo n digits more (den * 2 ^ (up - both) * 2 ^ both)) (split num down D)
     (subst (IsCutTo (num * 2 ^ down) digits more) (split den up U) cut))
 
 -- A number of whole digits, by more digits.
 pub lifted : (digits p q z : ℕ) → IsCutTo (digits * 2 ^ p * 2 ^ (q + z)) (digits * 2 ^ z) false (2 ^ q * 2 ^ p)
 lifted digits p q z =
-    let same : digits * 2 ^ p * 2 ^ (q + z) ≡ digits * 2 ^ z * (2 ^ q * 2 ^ p) =
-    ap (λ t. digits * 2 ^ p * t) (pow-add 2 q z) ∙ grind arith in
+    let same : digits * 2 ^ p * 2 ^ (q + z) ≡ digits * 2 ^ z * (2 ^ q * 2 ^ p) = ap (λ t. digits * 2 ^ p * t) (pow-add 2 q z) ∙ grind arith in
     let unit : 0 < 2 ^ q * 2 ^ p = mul-pos (pow_pos q) (pow_pos p) in
     record { from = omega (arith, same); below = omega (arith, same, unit); some = grind (arith, nat_tests, same) }

@@ -27,6 +27,5 @@ number_after-append radix n xs ys = ap (number_from_digits_after radix n) (filte
 -- The number is not smaller than that of the digits up to one at the index `i`.
 pub too_large : (radix n i d : ℕ) (bytes : List ℕ) → i < length bytes → digit_of (get_or bytes i 0) radix ≡ Some d
     → n * radix + d ≤ number_after radix n (drop i bytes)
-too_large radix n i d bytes inside e =
-    subst (λ whole. n * radix + d ≤ whole) (sym (at radix n i bytes inside (Some d) e))
+too_large radix n i d bytes inside e = subst (λ whole. n * radix + d ≤ whole) (sym (at radix n i bytes inside (Some d) e))
     (grows radix (n * radix + d) (get_or bytes i 0) d (drop (i + 1) bytes) e)

@@ -63,8 +63,7 @@ left n k = omega arith
 -- Behind the leading zeros, there are as many digits as the number has.
 pub at_most : (radix : ℕ) (ds : List ℕ) → AllBelowBase radix ds → number_from_digits radix ds < radix ^ (length ds - leading_zeros ds)
 at_most radix [] all = let none : 0 - 0 ≡ 0 = omega arith in subst (λ n. 0 < n) (sym (ap (λ k. radix ^ k) none ∙ pow-zero radix)) (omega arith)
-at_most radix (zero ∷ ds) all =
-    subst (λ k. number_from_digits radix (zero ∷ ds) < radix ^ k) (sym (left (length ds) (leading_zeros ds)))
+at_most radix (zero ∷ ds) all = subst (λ k. number_from_digits radix (zero ∷ ds) < radix ^ k) (sym (left (length ds) (leading_zeros ds)))
     (subst (λ n. n < radix ^ (length ds - leading_zeros ds)) (sym (no_change radix ds)) (at_most radix ds all.1))
 at_most radix (suc d ∷ ds) all = let whole : suc (length ds) ≡ suc (length ds) - 0 = omega arith in
     subst (λ k. number_from_digits radix (suc d ∷ ds) < radix ^ k) whole (number_lt radix (suc d ∷ ds) all)
@@ -80,8 +79,7 @@ follows radix n (d ∷ ds) =
 
 pub at_least : (radix : ℕ) (ds : List ℕ) → leading_zeros ds < length ds → radix ^ (length ds - leading_zeros ds - 1) ≤ number_from_digits radix ds
 at_least radix [] less = absurd (omega (arith, less))
-at_least radix (zero ∷ ds) less =
-    subst (λ k. radix ^ (k - 1) ≤ number_from_digits radix (zero ∷ ds)) (sym (left (length ds) (leading_zeros ds)))
+at_least radix (zero ∷ ds) less = subst (λ k. radix ^ (k - 1) ≤ number_from_digits radix (zero ∷ ds)) (sym (left (length ds) (leading_zeros ds)))
     (subst (λ n. radix ^ (length ds - leading_zeros ds - 1) ≤ n) (sym (no_change radix ds)) (at_least radix ds (omega (arith, less))))
 at_least radix (suc d ∷ ds) less =
     let first : 0 * radix + suc d ≡ suc d = omega arith in

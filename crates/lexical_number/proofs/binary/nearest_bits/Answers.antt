@@ -17,8 +17,7 @@ module _ (num den up down digits : ℕ) (more : Bool) (D : 0 < den) (cut : IsCut
   led word z some leads = in_powers num den up down _ _ (leads _ _ (mul-pos D (pow_pos up)) cut)
 
 pub returns-then-down-up : goal.returns-then-down-up
-returns-then-down-up c num den D cut =
-    subst (IsNearestBits _ _ _) (sym c.infinity.ensures.value)
+returns-then-down-up c num den D cut = subst (IsNearestBits _ _ _) (sym c.infinity.ensures.value)
     (far_above (format_of c.args.double) num den _ _ _ D (led num den _ _ _ _ D cut _ _ _ c.leading_word-word.ensures.value)
     (omega (arith, c.leading_word-word.ensures.top)) (omega arith))
 
@@ -27,7 +26,6 @@ returns-then-up-down c num den D cut =
     far_below (format_of c.args.double) num den _ _ _ D (led num den _ _ _ _ D cut _ _ _ c.leading_word-word.ensures.value) (omega arith) (omega arith)
 
 pub returns : goal.returns
-returns c num den D cut =
-    c.nearest_to_word.ensures num den D
+returns c num den D cut = c.nearest_to_word.ensures num den D
     (without num den (c.args.up + 72) (c.args.down + c.leading_word-word.result.2) c.least-both.result (omega (arith, c.least-both.ensures))
     (omega (arith, c.least-both.ensures)) (led num den _ _ _ _ D cut _ _ _ c.leading_word-word.ensures.value))

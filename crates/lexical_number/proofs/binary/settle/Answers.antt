@@ -11,5 +11,4 @@ returns-then-dropped-gt64 c num den D near =
 pub returns : goal.returns
 returns c num den D near =
     let room : 2 ^ 2 ≤ 2 ^ c.args.dropped = pow_mono c.requires.dropped in
-    subst (IsNearestBits _ num den) (sym c.scaled_bits.ensures)
-    (rounded _ num den _ _ near c.requires.kept c.cut-kept.ensures D (omega arith) _ refl)
+    subst (IsNearestBits _ num den) (sym c.scaled_bits.ensures) (rounded _ num den _ _ near c.requires.kept c.cut-kept.ensures D (omega arith) _ refl)

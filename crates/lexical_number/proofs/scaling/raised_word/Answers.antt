@@ -34,18 +34,16 @@ power : (b : Bool) (x bits : ℕ) → x < 2 ^ 56 → bits ≤ 5 → ((if b then 
 power b x bits X B = sides b (x * bits) (2 ^ 56 * 5) (small x bits X B)
 
 pub overflow_add-down : goal.overflow_add-down
-overflow_add-down c =
-    omega (
-      arith,
-      c.scales-up.ensures.down,
-      small c.args.places c.args.radix_bits (omega arith) c.requires.radix.1,
-      (power c.args.negative c.args.exponent c.args.base_bits (omega arith) c.requires.base.1).1,
-      few c.args.digits (omega arith) (omega arith),
-    )
+overflow_add-down c = omega (
+  arith,
+  c.scales-up.ensures.down,
+  small c.args.places c.args.radix_bits (omega arith) c.requires.radix.1,
+  (power c.args.negative c.args.exponent c.args.base_bits (omega arith) c.requires.base.1).1,
+  few c.args.digits (omega arith) (omega arith),
+)
 
 pub nearest_to_word-requires-clause-top : goal.nearest_to_word-requires-clause-top
-nearest_to_word-requires-clause-top c =
-    omega (arith, kept c.args.digits (omega arith) (omega arith), shifted c.args.digits (omega arith) (omega arith))
+nearest_to_word-requires-clause-top c = omega (arith, kept c.args.digits (omega arith) (omega arith), shifted c.args.digits (omega arith) (omega arith))
 
 pub nearest_to_word-requires-clause-scale : goal.nearest_to_word-requires-clause-scale
 nearest_to_word-requires-clause-scale c =
@@ -61,11 +59,9 @@ returns c =
     let q = c.args.places * c.args.radix_bits + (if c.args.negative then c.args.exponent * c.args.base_bits else 0) in
     let zeros = count_leading_zeros 64 c.args.digits in
     in_radixes (λ num den. IsNearestBits (format_of c.args.double) num den c.nearest_to_word.result) c.args.digits c.args.radix_bits c.args.places
-    c.args.base_bits c.args.exponent c.args.negative
-    (c.nearest_to_word.ensures (c.args.digits * 2 ^ p) (2 ^ q) (pow_pos q)
+    c.args.base_bits c.args.exponent c.args.negative (c.nearest_to_word.ensures (c.args.digits * 2 ^ p) (2 ^ q) (pow_pos q)
     (subst (λ up. IsCutTo (c.args.digits * 2 ^ p * 2 ^ (c.scales-up.result.1 + zeros)) (c.args.digits * 2 ^ zeros % 2 ^ 64) false (2 ^ q * 2 ^ up))
     (sym (c.scales-up.ensures.up ∙ omega arith))
     (subst (λ down. IsCutTo (c.args.digits * 2 ^ p * 2 ^ (down + zeros)) (c.args.digits * 2 ^ zeros % 2 ^ 64) false (2 ^ q * 2 ^ p))
-    (sym c.scales-up.ensures.down)
-    (subst (λ word. IsCutTo (c.args.digits * 2 ^ p * 2 ^ (q + zeros)) word false (2 ^ q * 2 ^ p))
+    (sym c.scales-up.ensures.down) (subst (λ word. IsCutTo (c.args.digits * 2 ^ p * 2 ^ (q + zeros)) word false (2 ^ q * 2 ^ p))
     (sym (kept c.args.digits (omega arith) (omega arith))) (lifted c.args.digits p q zeros)))))

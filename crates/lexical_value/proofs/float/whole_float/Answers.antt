@@ -13,8 +13,7 @@ returns-in-Digits-clause-value g c =
     let r = raw c.args.literal.now.format in let l = c.args.literal.now.literal in
     let by = sym (c.integers.ensures ∙ ap (λ (k : Kind). k.integers) c.kind.ensures) in
     let same = c.in-Some-fewer.ensures.digits (ap is_word c.in-Digits.is) in
-    let kept = (λ i. worth (by i) (sym c.in-Some.ensures.negative i) (sym c.in-Some.ensures.size i))
-    ∙ sym c.in-Some-fewer.ensures.worth
+    let kept = (λ i. worth (by i) (sym c.in-Some.ensures.negative i) (sym c.in-Some.ensures.size i)) ∙ sym c.in-Some-fewer.ensures.worth
     ∙ (λ i. Some ((same.0 ∙ c.in-Some.ensures.negative) i, (same.1 ∙ c.in-Some.ensures.size) i)) in
     map_ok _ _ c.nearest_float.result (λ value near. kept_float (format_of g.F.Float.DOUBLE) c.args.literal.now.kind r l (g.F.Float.value value)
     (ap (λ w. is_decimal (raw w).byte || is_binary (raw w).byte) (sym c.format.ensures) ∙ sym c.supports_floats.ensures ∙ c.if-not-supports_floats.false)

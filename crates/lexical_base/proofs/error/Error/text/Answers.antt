@@ -24,8 +24,7 @@ returns-in-Some c =
     let description = c.description.result.now in
     let brief : length start ≤ 29 = rw c.start.ensures (begins c.class.result) in
     let first : c.of.result ≡ start = c.of.ensures (omega (arith, brief)) in
-    let second : c.and-text.result ≡ start ++ description =
-    c.and-text.ensures (omega (arith, brief, c.description.ensures.short, ap length first))
+    let second : c.and-text.result ≡ start ++ description = c.and-text.ensures (omega (arith, brief, c.description.ensures.short, ap length first))
     ∙ ap (λ front. front ++ description) first in
     let third : c.and.result ≡ (start ++ description) ++ codes " at index " =
     c.and.ensures (omega (arith, brief, c.description.ensures.short, ap length second, length-append start description))
@@ -37,8 +36,6 @@ returns-in-Some c =
       ap length third,
       length-append (start ++ description) (codes " at index "),
       length-append start description,
-    ))
-    ∙ ap (λ front. front ++ decimal index) third
-    ∙ append_assoc (start ++ description) (codes " at index ") (decimal index)
+    )) ∙ ap (λ front. front ++ decimal index) third ∙ append_assoc (start ++ description) (codes " at index ") (decimal index)
     ∙ append_assoc start description (codes " at index " ++ decimal index)
     ∙ whole c.args.self.now c.start.ensures c.class.ensures c.description.ensures.text c.in-Some.ensures.value

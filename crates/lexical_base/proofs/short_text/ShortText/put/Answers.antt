@@ -5,8 +5,7 @@ use Rattle.std.proofs.lemmas.List.{take_all}
 use Rattle.std.proofs.lemmas.Str.{IsUtf8-append}
 use Rattle.lexical_base.proofs.short_text.ShortText.put.Goals as goal
 
-appended : (start end : ℕ) (bytes front words : List ℕ)
-    → take (start + end) bytes ≡ front ++ take end words → length words ≤ end → end ≤ length words
+appended : (start end : ℕ) (bytes front words : List ℕ) → take (start + end) bytes ≡ front ++ take end words → length words ≤ end → end ≤ length words
     → take (start + length words) bytes ≡ front ++ words
 appended start end bytes front words is passed within =
     let done : end ≡ length words = omega arith in
@@ -16,8 +15,7 @@ pub invariant_of-self : goal.invariant_of-self
 invariant_of-self c =
     let loop = c.loop-index.invariant in (
       omega (arith, c.if-words-start.false, c.self.invariant.0),
-      subst IsUtf8 (sym (appended _ _ _ _ _ loop.0 c.loop-index-test.false loop.1))
-          (IsUtf8-append _ _ c.self.invariant.1 c.utf8.words),
+      subst IsUtf8 (sym (appended _ _ _ _ _ loop.0 c.loop-index-test.false loop.1)) (IsUtf8-append _ _ c.self.invariant.1 c.utf8.words),
     )
 
 pub returns : goal.returns

@@ -29,8 +29,7 @@ returns-clause-word c =
     let bytes : HasBytes r = record { each = λ b. grind arith } in
     let flags_joined : c.word_flags-flags.result ≡ sum_by (flag_bits r) flags = c.word_flags-flags.ensures in
     let kept : HasBytes (trim r) = HasBytes-trim r bytes in
-    let separator : c.kept_separator.result ≡ (trim r).byte layout.digit_separator =
-    c.kept_separator.ensures
+    let separator : c.kept_separator.result ≡ (trim r).byte layout.digit_separator = c.kept_separator.ensures
     ∙ ap (λ allowed. if allowed then r.byte layout.digit_separator else 0)
     (ap (λ word. separator_allowed (raw word)) flags_joined ∙ separator_allowed-flags r) in
     let same = ap pack c.self.view_is in

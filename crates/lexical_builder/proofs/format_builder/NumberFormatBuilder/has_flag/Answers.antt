@@ -7,8 +7,5 @@ use Rattle.lexical_builder.proofs.format_builder.NumberFormatBuilder.has_flag.Go
 pub returns : goal.returns
 returns c = λ (f : Flag) alone.
     let held : ℕ = c.self.inside.flags in
-    let mask : c.builder_flags.result ≡ 2 ^ builder_bit f = c.builder_flags.ensures ∙ ap flags_in (sym alone)
-    ∙ flags_in-mask f in
-    ap (λ m. not (bit_and held m == 0)) mask
-    ∙ flag_test held (builder_bit f)
-    ∙ ap (λ (r : Record). r.flag f) c.self.view_is
+    let mask : c.builder_flags.result ≡ 2 ^ builder_bit f = c.builder_flags.ensures ∙ ap flags_in (sym alone) ∙ flags_in-mask f in
+    ap (λ m. not (bit_and held m == 0)) mask ∙ flag_test held (builder_bit f) ∙ ap (λ (r : Record). r.flag f) c.self.view_is

@@ -4,5 +4,4 @@ use Rattle.lexical_flags.proofs.format_flags.rule.Rule.is_kept.Goals as goal
 
 pub returns-in-ReservedBitsAreZero : goal.returns-in-ReservedBitsAreZero
 unfolding Holds
-returns-in-ReservedBitsAreZero c =
-    subst (λ rule. IsTrue c.is_clean.result ↔ Holds rule c.args.format) (sym c.in-ReservedBitsAreZero.is) c.is_clean.ensures
+returns-in-ReservedBitsAreZero c = subst (λ rule. IsTrue c.is_clean.result ↔ Holds rule c.args.format) (sym c.in-ReservedBitsAreZero.is) c.is_clean.ensures
