@@ -1,11 +1,14 @@
 -- Lemmas on the flags of a builder: their bits, how they are moved to and from a word, and how they are written under a
 -- mask. One lemma is on the bytes of a word.
 use Rattle.lexical_builder.proofs.Common.{ℕ, ◌≡◌, ◌+◌, ◌-◌, ◌*◌, ◌/◌, ◌%◌, ◌^◌, ◌<◌, ◌==◌, Bool, true, false, if◌then◌else◌, length, sum_by, bit_and, bit_or}
-use Rattle.lexical_builder.proofs.Common.{refl, ap, ◌∙◌, arith, or_comm, or_shifted, pow_pos, nat_tests, part, Flag, bit, flags, builder_bit, flags_in}
+use Rattle.lexical_builder.proofs.Common.{refl, ap, ◌∙◌, arith, or_comm, or_shifted, pow_pos, nat_tests, part, Flag, bit, bytes_same, flags, builder_bit, flags_in}
+use Rattle.lexical_builder.proofs.Common.{record_same}
 use Rattle.std.proofs.Common.{min, max, map, w32, mod-lt}
-use Rattle.std.proofs.lemmas.Nat.{mod-pow-add, and_mask, shr-shr}
+use Rattle.std.proofs.lemmas.Bool.{cond_both}
+use Rattle.std.proofs.lemmas.Nat.{mod-pow-add, and_le_l, and_mask, or_lt, shr-shr}
 use Rattle.std.proofs.lemmas.Nat.Bits.{and_high, bit_at-zero, bit_at_or, bit_at_and, bit_at_not}
 use Rattle.lexical_flags.specs.Layout.{base_flags, digit_separator_flags}
+use Rattle.lexical_flags.proofs.FlagBits.{flag_test}
 use Rattle.lexical_flags.proofs.Packing.{low, high}
 use Rattle.lexical_flags.proofs.Segments.{joined-segments}
 use Rattle.lexical_flags.specs.Layout as layout
@@ -26,10 +29,16 @@ part-flags_in word _ = omega arith
 pub part-upper : (word s : ℕ) → part (word / 2 ^ 64) s 8 ≡ part word (64 + s) 8
 part-upper word s = ap (λ n. n % 2 ^ 8) (shr-shr word 64 s)
 
+-- `moved_fields` are what the proofs of `from_word` and `rebuild` need.
+pub ruleset moved_fields = (record_same, bytes_same, part-flags_in, part-upper)
+
 -- The mask of a flag in a word is moved to the mask of its bit in a builder.
 pub flags_in-mask : (f : Flag) → flags_in (2 ^ bit f) ≡ 2 ^ builder_bit f
 flags_in-mask layout.required_integer_digits = refl
 flags_in-mask _ = refl
+
+-- `masked_flag` is what the proof of `has_flag` needs.
+pub ruleset masked_flag = (flag_test, flags_in-mask)
 
 -- The two blocks of flags in a word, moved together and joined by `|`, are the flags of a builder.
 pub builder_blocks : (word : ℕ) → bit_or (bit_and word (2 ^ low - 1)) (bit_and word ((2 ^ high - 1) * 2 ^ 32) / 2 ^ 32 * 2 ^ low % 2 ^ 32) ≡ flags_in word
@@ -79,3 +88,6 @@ replaced_test a m i value l k =
     let cleared = bit_at_and a (2 ^ 32 - 1 - m) i ∙ ap (λ n. min (part a i 1) n) (bit_at_not w32 m i l k) in
     ap (λ n. n == 1) (bit_at_or (bit_and a (2 ^ 32 - 1 - m)) (if value then m else 0) i ∙ (λ j. max (cleared j) (part-if value m i j)))
     ∙ set_bit (part a i 1) (part m i 1) value (bit-lt a i) (bit-lt m i)
+
+-- `replaced` are what the proof of `replace_bits` needs.
+pub ruleset replaced = (replaced_test, or_lt, and_le_l, cond_both, pow_pos)
