@@ -17,15 +17,14 @@ use Rattle.lexical_value.specs.declared.integer.ValueErrorKind.TheVariants as ki
 abbrev pub read_record : ℕ → Record
 read_record w = record {
   flag = (raw w).flag;
-  byte = four (bytes_of w layout.digit_separator) (bytes_of w layout.mantissa_radix) (bytes_of w layout.exponent_base) (bytes_of w layout.exponent_radix);
+  byte = four (bytes_of w layout.digit_separator) (bytes_of w layout.mantissa_radix) (bytes_of w layout.exponent_base)
+      (bytes_of w layout.exponent_radix);
 }
 
 -- The word of a literal has these bytes.
 pub read_bytes : (w v : ℕ) → v ≡ radixes_of w → bytes_of v ≡ (read_record w).byte
-read_bytes w v word = ap bytes_of word ∙ (λ i b. four_is _ _ _ _ (
-  below layout.digit_separator,
-  (below layout.mantissa_radix, (below layout.exponent_base, below layout.exponent_radix)),
-) b i) where
+read_bytes w v word = ap bytes_of word ∙ (λ i b. four_is _ _ _ _ (below layout.digit_separator,
+    (below layout.mantissa_radix, (below layout.exponent_base, below layout.exponent_radix))) b i) where
   below : (b : Byte) → bytes_of w b < 2 ^ 8
   below b = mod-lt _ (pow_pos 8)
 

@@ -9,12 +9,9 @@ returns-in-Ok-to_float-clause-value g c =
     let read = c.in-Ok.ensures.found in
     let l = c.in-Ok.literal.literal in
     let f = format_of g.F.Float.DOUBLE in
-    let x = g.F.Float.value c.in-Ok-to_float.value in (
-      l,
-      read.1,
-      subst (λ b. x ≡ nearest f b l) (read_bytes _ _ read.0) (exact_float f (raw c.in-Ok.literal.format) l x
-          (subst (λ kind. float_worth kind f (raw c.in-Ok.literal.format).byte l ≡ Ok x) c.in-Ok.ensures.kind c.in-Ok-to_float.ensures.value)),
-    )
+    let x = g.F.Float.value c.in-Ok-to_float.value in
+    (l, read.1, subst (λ b. x ≡ nearest f b l) (read_bytes _ _ read.0) (exact_float f (raw c.in-Ok.literal.format) l x
+    (subst (λ kind. float_worth kind f (raw c.in-Ok.literal.format).byte l ≡ Ok x) c.in-Ok.ensures.kind c.in-Ok-to_float.ensures.value)))
 
 pub returns-in-Err-to_float-clause-value : goal.returns-in-Err-to_float-clause-value
 returns-in-Err-to_float-clause-value g c =
