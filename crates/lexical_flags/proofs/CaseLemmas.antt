@@ -1,4 +1,5 @@
 -- Lemmas on the two cases of a letter, and on the roles that they play.
+use Rattle.std.proofs.Common.{rules}
 use Rattle.lexical_flags.proofs.Common.{ℕ, [], ◌∷◌, ◌≡◌, ◌≢◌, ◌<◌, ◌⊎◌, ◌∙◌, ◌↔◌, ◌==◌, ◌||◌, ◌&&◌, Bool, true, false, not, IsTrue, bit_or, eqb-true, refl, ap}
 use Rattle.lexical_flags.proofs.Common.{sym, subst, arith, min, nat_lt, false≢true, agree_below_at, nat_tests, Record, effective_exponent_radix, AreDisjoint}
 use Rattle.lexical_flags.proofs.Common.{other_case, digits, signs, format_roles}
@@ -13,9 +14,7 @@ use Rattle.lexical_flags.proofs.DisjointLemmas.{Disjoint-at, Disjoint-from}
 -- The other case of a letter is the letter with the bit 0x20 flipped.
 pub flipped : (byte : ℕ) → byte < 256 → IsTrue (letters byte) → bit_xor byte 32 ≡ other_case byte
 flipped byte below is_letter =
-    let all : (not (letters byte) || (bit_xor byte 32 == other_case byte)) ≡ true =
-    agree_below_at (λ b. not (letters b) || (bit_xor b 32 == other_case b)) (λ _. true) 256 byte refl below in
-    eqb-true _ _ (subst (λ t. (not t || (bit_xor byte 32 == other_case byte)) ≡ true) is_letter all)
+    eqb-true _ _ (subst (λ t. (not t || (bit_xor byte 32 == other_case byte)) ≡ true) is_letter (agree_below_at (λ b. not (letters b) || (bit_xor b 32 == other_case b)) (λ _. true) 256 byte refl below))
 
 -- A byte that plays the role of `own` is `own` or its other case, and `own` is not absent.
 pub cased-cases : (counts : Bool) (own byte : ℕ) → IsTrue (cased counts own byte) → (own ≢ 0) × ((byte ≡ own) ⊎ (byte ≡ other_case own))
@@ -32,11 +31,7 @@ cases_met f twice a b n differ other of_a of_b = let one = twice a in let two = 
 -- If two bytes differ and are not the two cases of a letter, or if one is absent, then their roles are disjoint.
 present_apart : (a_counts : Bool) (a : ℕ) (b_counts : Bool) (b : ℕ) → (a ≢ 0 → b ≢ 0 → (a ≢ b) × (b ≢ other_case a))
     → Disjoint (cased a_counts a) (cased b_counts b)
-present_apart a_counts a b_counts b differ = Disjoint-from _ _ (λ byte below is_a is_b.
-    let of_a = cased-cases a_counts a byte is_a in
-    let of_b = cased-cases b_counts b byte is_b in
-    let apart = differ of_a.0 of_b.0 in
-    cases_met other_case other_case-twice a b byte apart.0 apart.1 of_a.1 of_b.1)
+present_apart a_counts a b_counts b differ = search (rules, Disjoint-from, cased-cases, cases_met, other_case, other_case-twice)
 
 pub differ_apart : (a_counts : Bool) (a : ℕ) (b_counts : Bool) (b : ℕ) → (a ≢ 0 → (a ≢ b) × (b ≢ other_case a)) → Disjoint (cased a_counts a) (cased b_counts b)
 differ_apart a_counts a b_counts b differ = present_apart a_counts a b_counts b (λ some _. differ some)
@@ -74,10 +69,9 @@ own_roles_apart r {a} {b} {c} {ab} {ac} {bc} a_is b_is c_is a_fits b_fits ab_tol
     let suffix = r.flag layout.case_sensitive_base_suffix in
     let front = or_parts (ab || ac) bc none in
     let first = or_parts ab ac front.0 in
-    let a_b = far_apart true a prefix b (omega arith) ab_told first.0 in
     let a_c = far_apart true a suffix c (omega arith) ac_told first.1 in
     let b_c = far_apart prefix b suffix c (omega arith) bc_told front.1 in
-    subst (λ X. X) (λ i. AreDisjoint (cased true (a_is i) ∷ cased prefix (b_is i) ∷ cased suffix (c_is i) ∷ [])) ((a_b, (a_c, tt)), ((b_c, tt), (tt, tt)))
+    subst (λ X. X) (λ i. AreDisjoint (cased true (a_is i) ∷ cased prefix (b_is i) ∷ cased suffix (c_is i) ∷ [])) (((far_apart true a prefix b (omega arith) ab_told first.0), (a_c, tt)), ((b_c, tt), (tt, tt)))
 
 -- Two different bytes have disjoint roles if both roles are case-sensitive.
 both_count : (a b : ℕ) → a ≢ b → Disjoint (cased true a) (cased true b)
@@ -108,8 +102,7 @@ byte_value-other_case byte = ap (λ k. unwrap_or (position (λ character. charac
 
 -- If the other case of a byte is a digit, then so is the byte.
 pub digits-other_case : (r : Record) (byte : ℕ) → IsTrue (digits r (other_case byte)) → IsTrue (digits r byte)
-digits-other_case r byte inside = subst (λ v. IsTrue (nat_lt v (min (r.byte layout.mantissa_radix) 36) || nat_lt v (min (effective_exponent_radix r) 36)))
-    (byte_value-other_case byte) inside
+digits-other_case r byte inside = search (rules, nat_lt, effective_exponent_radix, byte_value-other_case)
 
 -- If the other case of a byte is a sign, then so is the byte.
 pub signs-other_case : (byte : ℕ) → IsTrue (signs (other_case byte)) → IsTrue (signs byte)

@@ -1,4 +1,5 @@
 -- Lemmas that the bits that two words have in common are their `&`.
+use Rattle.std.proofs.Common.{rules}
 use Rattle.lexical_flags.proofs.Common.{ℕ, ◌≡◌, ◌<◌, ◌*◌, ◌/◌, ◌%◌, ◌^◌, ◌==◌, ◌&&◌, min, if◌then◌else◌, sum_by, bit_and, refl, ap, sym, ◌∙◌, arith}
 use Rattle.lexical_flags.proofs.Common.{range_with_len, mod-eq_of_lt, mod-lt, lt_of_le_of_lt, and_mask, and_le_r, pow_pos, nat_tests, part}
 use Rattle.std.proofs.Common.{ℤ, unsigned_abs, w32, SFits, of_z, to_z}
@@ -29,9 +30,7 @@ common_part v w z fits sfits = ap (λ s. bit_and (bit_and v w / 2 ^ unsigned_abs
 
 -- With the mask and the shift of an exponent byte, this number is the byte.
 pub common_base : (word : ℕ) → common word 0x00FF0000_00000000_00000000_00000000 / 2 ^ 112 % 2 ^ 32 ≡ part word 112 8
-common_base word = ap (λ n. n / 2 ^ 112 % 2 ^ 32) (common-bit_and word 0x00FF0000_00000000_00000000_00000000 (omega arith))
-    ∙ ap (λ n. n % 2 ^ 32) (exponent_base_part word) ∙ omega arith
+common_base word = search (rules, common-bit_and, exponent_base_part)
 
 pub common_radix : (word : ℕ) → common word 0xFF000000_00000000_00000000_00000000 / 2 ^ 120 % 2 ^ 32 ≡ part word 120 8
-common_radix word = ap (λ n. n / 2 ^ 120 % 2 ^ 32) (common-bit_and word 0xFF000000_00000000_00000000_00000000 (omega arith))
-    ∙ ap (λ n. n % 2 ^ 32) (exponent_radix_part word) ∙ omega arith
+common_radix word = search (rules, common-bit_and, exponent_radix_part)

@@ -1,4 +1,5 @@
 -- Lemmas on the flags of a word under a mask, and on the flags of a record joined by `|`.
+use Rattle.std.proofs.Common.{rules}
 use Rattle.lexical_flags.proofs.Common.{ℕ, ◌≡◌, ◌+◌, ◌*◌, ◌/◌, ◌%◌, ◌^◌, ◌<◌, ◌==◌, true, not, ◌||◌, List, [], ◌∷◌, sum_by, bit_and, bit_or, refl, ap, sym}
 use Rattle.lexical_flags.proofs.Common.{subst, ◌∙◌, arith, fold, mod-lt, pow_pos, nat_tests, part, Flag, bit, flags, Record, raw, separator_allowed, HasBytes}
 use Rattle.std.specs.List.{filter, list_any}
@@ -39,11 +40,7 @@ sum-set m n = grind (arith, nat_tests)
 -- The sum of the bits of some flags is not 0 if and only if one of the flags is set.
 sum_by-set : (fs : List Flag) (word : ℕ) → not (sum_by (λ f. part word (bit f) 1 * 2 ^ bit f) fs == 0) ≡ list_any (raw word).flag fs
 sum_by-set [] word = refl
-sum_by-set (f ∷ fs) word =
-    let here : not (part word (bit f) 1 * 2 ^ bit f == 0) ≡ (raw word).flag f =
-    moved_bit-set (part word (bit f) 1) (2 ^ bit f) (mod-lt _ (omega arith)) (pow_pos (bit f)) in
-    ap (λ n. not (n == 0)) (sum_by-cons (λ f. part word (bit f) 1 * 2 ^ bit f) f fs)
-    ∙ sum-set (part word (bit f) 1 * 2 ^ bit f) (sum_by (λ f. part word (bit f) 1 * 2 ^ bit f) fs) ∙ (λ i. here i || sum_by-set fs word i)
+sum_by-set (f ∷ fs) word = search (rules, sum_by-set fs word, part, bit, moved_bit-set, mod-lt, pow_pos, sum_by-cons, sum-set, sum_by)
 
 -- A word has a bit in common with the mask of some flags if and only if one of the flags is set.
 pub mask_test : (fs : List Flag) (word : ℕ) → ascends bit 1 0 fs ≡ true → not (bit_and word (mask_of fs) == 0) ≡ list_any (raw word).flag fs
@@ -57,12 +54,7 @@ flags_joined r = (λ i. fold (λ bits f. bit_or bits (flag_bits-value (r.flag f)
 
 -- The flags are below bit 64, where the bytes begin.
 pub flags-lt : (r : Record) → sum_by (flag_bits r) flags < 2 ^ 64
-flags-lt r =
-    let below : fold (λ bits f. bits + bit_value (r.flag f) * 2 ^ bit f) 0 flags < 2 ^ (32 + high) =
-    sum-below bit (λ f. bit_value (r.flag f)) 1 (λ f. bit_value-lt (r.flag f)) flags 0 0 (omega arith) refl in
-    let same : fold (λ bits f. bits + bit_value (r.flag f) * 2 ^ bit f) 0 flags ≡ sum_by (flag_bits r) flags =
-    sym (λ i. fold (λ bits f. bits + flag_bits-value (r.flag f) (bit f) i) 0 flags) in
-    omega arith
+flags-lt r = search (rules, bit_value, bit, flags, high, sum-below, bit_value-lt, sum_by, flag_bits-value)
 
 -- `flags_only r` is `r` with 0 as each byte.
 abbrev flags_only : Record → Record
@@ -75,5 +67,4 @@ word_of-flags_only r = omega arith
 -- The word of the flags of a record allows a digit separator if and only if the record does.
 pub separator_allowed-flags : (r : Record) → separator_allowed (raw (sum_by (flag_bits r) flags)) ≡ separator_allowed r
 separator_allowed-flags r =
-    let none : HasBytes (flags_only r) = record { each = λ b. omega arith } in
-    ap (λ word. separator_allowed (raw word)) (word_of-flags_only r) ∙ ap separator_allowed (raw-word_of (flags_only r) none)
+    ap (λ word. separator_allowed (raw word)) (word_of-flags_only r) ∙ ap separator_allowed (raw-word_of (flags_only r) (record { each = λ b. omega arith }))

@@ -47,11 +47,7 @@ Demands-bare rules.PunctuationDiffers r h = ((Disjoint-nothing (prefix r), (Disj
 Demands-bare _ r h = h
 
 pub Demands-trim : (rule : Rule) (r : Record) → FieldsMeet (shape_of rule) r → FieldsMeet (shape_of rule) (trim r)
-Demands-trim rule r h = elim (cases_Bool (separator_allowed r)) [
-  | inl on ↦ subst (FieldsMeet (shape_of rule)) (sym (trim-same r (inl on))) h
-  | inr off ↦ subst (λ n. FieldsMeet (shape_of rule) (set_byte r layout.digit_separator n))
-      (sym (cond-false (separator_allowed r) (r.byte layout.digit_separator) 0 off)) (Demands-bare rule r h)
-]
+Demands-trim rule r h = grind (arith, nat_tests, cases_Bool, separator_allowed, shape_of, trim-same, cond-false, Demands-bare)
 
 -- If a record satisfies a rule, then so does the filled and trimmed record.
 pub Demands-kept : (rule : Rule) (r : Record) → FieldsMeet (shape_of rule) r → FieldsMeet (shape_of rule) (trim (fill r))

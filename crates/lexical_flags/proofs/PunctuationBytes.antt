@@ -26,6 +26,5 @@ unfolding IsPunctuation limit
 free_below_limit word byte fits =
     let entry : slice_index_or LIMITS byte 0 ≡ limit byte = limit_entry byte fits in
     let cases : (byte_value byte < 36) ⊎ (byte_value byte ≡ 255) = byte_value-cases byte fits in
-    let mantissa_fits : (raw word).byte layout.mantissa_radix < 256 = mod-lt _ (pow_pos 8) in
     let exponent_fits : (raw word).byte layout.exponent_radix < 256 = mod-lt _ (pow_pos 8) in
     rw entry (grind (arith, nat_tests))

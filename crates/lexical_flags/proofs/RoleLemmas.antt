@@ -1,4 +1,5 @@
 -- Lemmas on disjoint roles: digits, signs, and the roles of single bytes.
+use Rattle.std.proofs.Common.{rules}
 use Rattle.lexical_flags.proofs.Common.{ℕ, ◌≡◌, ◌≢◌, ◌<◌, inl, inr, min, nat_lt, ◌||◌, Bool, IsTrue, subst, ◌∙◌, arith, nat_tests, ByteSet, Record}
 use Rattle.lexical_flags.proofs.Common.{effective_exponent_radix, other_case, digits, signs}
 use Rattle.lexical_base.specs.Digits.{byte_value}
@@ -12,12 +13,7 @@ use Rattle.lexical_flags.proofs.CaseLemmas.{cased-cases, digits-other_case, sign
 -- of `own` is disjoint from the set.
 Disjoint-cased : (A : ByteSet) → ((b : ℕ) → IsTrue (A (other_case b)) → IsTrue (A b)) →
     (counts : Bool) (own : ℕ) → (own ≢ 0 → IsTrue (A own) → ⊥) → Disjoint A (cased counts own)
-Disjoint-cased A both_cases counts own out = Disjoint-from _ _ (λ byte below inside is_own.
-    let found = cased-cases counts own byte is_own in
-    out found.0 (elim found.1 [
-      | inl same ↦ subst (λ b. IsTrue (A b)) same inside
-      | inr other ↦ both_cases own (subst (λ b. IsTrue (A b)) other inside)
-    ]))
+Disjoint-cased A both_cases counts own out = search (rules, Disjoint-from, cased-cases)
 
 -- If the set `A` and the role of `own` are disjoint, then `A` does not contain `own`, provided that `own` is not 0 and
 -- below 256.
@@ -46,6 +42,4 @@ no_digit r byte before = below_neither (byte_value byte) (r.byte layout.mantissa
 
 -- The digits and the signs are disjoint.
 pub Disjoint-digits-signs : (r : Record) → Disjoint (digits r) signs
-Disjoint-digits-signs r = Disjoint-from _ _ (λ byte below is_digit is_sign.
-    let before : byte < 48 = grind (arith, nat_tests) in
-    no_digit r byte before is_digit)
+Disjoint-digits-signs r = search (rules, Disjoint-from, no_digit)

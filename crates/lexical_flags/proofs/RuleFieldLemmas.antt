@@ -1,4 +1,6 @@
 -- Lemmas that a rule depends only on the bits that it reads.
+use Rattle.std.proofs.lemmas.Bool.Decides.{nat_tests}
+use Rattle.std.proofs.Common.{arith}
 use Rattle.lexical_flags.proofs.Common.{ℕ, ◌≡◌, ◌-◌, ◌*◌, ◌/◌, ◌^◌, ◌==◌, ◌⊎◌, ◌&&◌, ◌||◌, not, true, IsTrue, List, [], ◌∷◌, bit_and, refl, ap, sym, subst, ◌∙◌}
 use Rattle.lexical_flags.proofs.Common.{allowed_ascii, digits_of, Flag, Byte, part, bit, shift, Record, raw, effective, AreDisjoint, format_roles, signs}
 use Rattle.lexical_flags.proofs.Common.{IsRadix, IsAbsentOrPunctuation, shape_of, list_all, AllByRecursion, and_parts, Rule}
@@ -70,18 +72,13 @@ Meets-same v w (absent_or_punctuation byte) (flags, (b, (m, (e, none)))) = λ i.
 Meets-same v w roles_differ ((p, (s, none)), (separator, (prefix, (suffix, nothing)))) =
     λ i. AreDisjoint (cased true (separator i) ∷ cased (p i) (prefix i) ∷ cased (s i) (suffix i) ∷ [])
 Meets-same v w (not_both a b) ((on, (other, none)), bytes) = λ i. IsFalse (on i && other i)
-Meets-same v w (position_allowed part) ((between, (before, (after, (several, none)))), bytes) =
-    λ i. IsFalse (several i && not (between i || before i || after i))
+Meets-same v w (position_allowed part) ((between, (before, (after, (several, none)))), bytes) = grind (arith, nat_tests)
 Meets-same v w reserved_zero same = refl
 
 -- If two words agree in the bits that a rule reads, then the demands of the rule on both are equal.
 Demands-same : (rule : Rule) (v w : ℕ) → bit_and v (mask_read rule) ≡ bit_and w (mask_read rule)
     → FieldsMeet (shape_of rule) (raw v) ≡ FieldsMeet (shape_of rule) (raw w)
-Demands-same rules.MantissaRadixInRange v w same =
-    Meets-same v w (radix_in_range layout.mantissa_radix) (tt, bytes_agree v w _ same (bytes_read (shape_of rules.MantissaRadixInRange)) refl)
-Demands-same rules.ReservedBitsAreZero v w same = refl
-Demands-same rule v w same = Meets-same v w (shape_of rule)
-    (flags_agree v w _ same (flags_read (shape_of rule)) refl, bytes_agree v w _ same (bytes_read (shape_of rule)) refl)
+Demands-same rule v w same = grind (arith, nat_tests, Meets-same, bytes_agree, shape_of, flags_agree)
 
 -- If two words agree in the bits that a rule reads, and the first satisfies the rule, then so does the second.
 pub kept_alike : (rule : Rule) (v w : ℕ) → bit_and v (mask_read rule) ≡ bit_and w (mask_read rule) → Holds rule v → Holds rule w
