@@ -1,6 +1,6 @@
 -- Lemmas on the rules of a word with another mantissa radix, and of a word without its digit separator.
-use Rattle.lexical_builder.proofs.Common.{◌≡◌, ℕ, inl, inr, [], ◌∷◌, refl, sym, ap, subst, ◌∙◌, arith, nat_tests, Record, HasBytes, raw, pack}
-use Rattle.lexical_builder.proofs.Common.{trim, Rule, IsRadix, shape_of, raw-pack, pack-clean, trim-same, record_same, FieldsMeet}
+use Rattle.lexical_builder.proofs.Common.{◌≡◌, ℕ, inr, [], ◌∷◌, refl, sym, ap, subst, ◌∙◌, arith, nat_tests, Record, HasBytes, raw, pack, trim, Rule, IsRadix}
+use Rattle.lexical_builder.proofs.Common.{shape_of, raw-pack, pack-clean, trim-same, record_same, FieldsMeet}
 use Rattle.std.proofs.Common.{◌≤◌}
 use Rattle.lexical_base.specs.Digits.{byte_value}
 use Rattle.lexical_flags.specs.Record.{set_byte}
@@ -20,19 +20,11 @@ module _ (word radix : ℕ) (all : (rule : Rule) → Holds rule word) (in_range 
   -- A byte that is absent or punctuation, and not a digit of the new radix, stays absent or punctuation.
   still_free : (byte : ℕ) → radix ≤ byte_value byte → IsAbsentOrPunctuation (raw word) byte → IsAbsentOrPunctuation (changed word radix) byte
   unfolding after IsPunctuation
-  still_free byte above (inl none) = inl none
-  still_free byte above (inr free) = inr (free.0, λ digit. free.1 (grind (arith, nat_tests, above, digit)), free.2)
+  still_free byte above given = grind (arith, nat_tests)
 
   meets : (rule : Rule) → FieldsMeet (shape_of rule) (changed word radix)
   unfolding after Holds
-  meets rules.MantissaRadixInRange = grind (arith, nat_tests, in_range)
-  meets rules.ExponentBaseInRange = grind (arith, nat_tests, in_range, all rules.ExponentBaseInRange)
-  meets rules.ExponentRadixInRange = grind (arith, nat_tests, in_range, all rules.ExponentRadixInRange)
-  meets rules.DigitSeparatorIsPunctuation = still_free _ separator (all rules.DigitSeparatorIsPunctuation)
-  meets rules.BasePrefixIsPunctuation = still_free _ prefix (all rules.BasePrefixIsPunctuation)
-  meets rules.BaseSuffixIsPunctuation = still_free _ suffix (all rules.BaseSuffixIsPunctuation)
-  meets rules.ReservedBitsAreZero = tt
-  meets rule = all rule
+  meets rule = grind (arith, nat_tests, still_free)
 
   bytes : HasBytes (changed word radix)
   unfolding after

@@ -1,9 +1,8 @@
 -- Lemmas on the two cases of a letter, and on the roles that they play.
-use Rattle.std.proofs.Common.{rules}
+use Rattle.std.proofs.Common.{rules, bit_xor, position, unwrap_or}
 use Rattle.lexical_flags.proofs.Common.{ℕ, [], ◌∷◌, ◌≡◌, ◌≢◌, ◌<◌, ◌⊎◌, ◌∙◌, ◌↔◌, ◌==◌, ◌||◌, ◌&&◌, Bool, true, false, not, IsTrue, bit_or, eqb-true, refl, ap}
-use Rattle.lexical_flags.proofs.Common.{sym, subst, arith, min, nat_lt, false≢true, agree_below_at, nat_tests, Record, effective_exponent_radix, AreDisjoint}
+use Rattle.lexical_flags.proofs.Common.{sym, subst, arith, nat_lt, false≢true, agree_below_at, nat_tests, Record, effective_exponent_radix, AreDisjoint}
 use Rattle.lexical_flags.proofs.Common.{other_case, digits, signs, format_roles}
-use Rattle.std.proofs.Common.{bit_xor, position, unwrap_or}
 use Rattle.std.proofs.lemmas.Bool.{or_parts}
 use Rattle.lexical_base.specs.Ascii.{letters}
 use Rattle.lexical_base.specs.Digits.{byte_value, digit_characters, uppercase}

@@ -1,8 +1,7 @@
 -- Lemmas that the bits that two words have in common are their `&`.
-use Rattle.std.proofs.Common.{rules}
+use Rattle.std.proofs.Common.{rules, ℤ, unsigned_abs, w32, SFits, of_z, to_z}
 use Rattle.lexical_flags.proofs.Common.{ℕ, ◌≡◌, ◌<◌, ◌*◌, ◌/◌, ◌%◌, ◌^◌, ◌==◌, ◌&&◌, min, if◌then◌else◌, sum_by, bit_and, refl, ap, sym, ◌∙◌, arith}
 use Rattle.lexical_flags.proofs.Common.{range_with_len, mod-eq_of_lt, mod-lt, lt_of_le_of_lt, and_mask, and_le_r, pow_pos, nat_tests, part}
-use Rattle.std.proofs.Common.{ℤ, unsigned_abs, w32, SFits, of_z, to_z}
 use Rattle.std.proofs.lemmas.Int.{to_z-of_z}
 use Rattle.std.proofs.lemmas.Nat.Bits.{bit_at_and}
 use Rattle.lexical_flags.specs.Common.{common, common_at}

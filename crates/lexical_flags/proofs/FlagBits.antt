@@ -1,14 +1,14 @@
 -- Lemmas on the flags of a word under a mask, and on the flags of a record joined by `|`.
 use Rattle.std.proofs.Common.{rules}
-use Rattle.lexical_flags.proofs.Common.{ℕ, ◌≡◌, ◌+◌, ◌*◌, ◌/◌, ◌%◌, ◌^◌, ◌<◌, ◌==◌, true, not, ◌||◌, List, [], ◌∷◌, sum_by, bit_and, bit_or, refl, ap, sym}
-use Rattle.lexical_flags.proofs.Common.{subst, ◌∙◌, arith, fold, mod-lt, pow_pos, nat_tests, part, Flag, bit, flags, Record, raw, separator_allowed, HasBytes}
+use Rattle.lexical_flags.proofs.Common.{ℕ, ◌≡◌, ◌+◌, ◌*◌, ◌/◌, ◌%◌, ◌^◌, ◌<◌, ◌==◌, true, not, ◌||◌, List, [], ◌∷◌, sum_by, bit_and, refl, ap, sym, subst, ◌∙◌}
+use Rattle.lexical_flags.proofs.Common.{arith, mod-lt, pow_pos, nat_tests, part, Flag, bit, flags, Record, raw, separator_allowed}
 use Rattle.std.specs.List.{filter, list_any}
 use Rattle.std.proofs.lemmas.List.Sums.{sum_by-cons}
 use Rattle.std.proofs.lemmas.Nat.Bits.{and_pow}
 use Rattle.lexical_flags.specs.Record.{word_of, flag_bits}
 use Rattle.lexical_flags.specs.Additions.Masks.{mask_of}
 use Rattle.lexical_flags.proofs.Packing.{high, bit_value, bit_value-lt, flag_bits-value, raw-word_of}
-use Rattle.lexical_flags.proofs.Masks.{ascends, and_all, or_all, sum-below}
+use Rattle.lexical_flags.proofs.Masks.{ascends, and_all, sum-below}
 
 -- A bit times a power of two is 0 if and only if the bit is 0.
 moved_bit-set : (n p : ℕ) → n < 2 → 0 < p → not (n * p == 0) ≡ (n == 1)
@@ -45,12 +45,6 @@ sum_by-set (f ∷ fs) word = search (rules, sum_by-set fs word, part, bit, moved
 -- A word has a bit in common with the mask of some flags if and only if one of the flags is set.
 pub mask_test : (fs : List Flag) (word : ℕ) → ascends bit 1 0 fs ≡ true → not (bit_and word (mask_of fs) == 0) ≡ list_any (raw word).flag fs
 mask_test fs word up = ap (λ n. not (n == 0)) (and_all bit fs word up) ∙ sum_by-set fs word
-
--- The flags of a record joined by `|` are the sum of the flags.
-pub flags_joined : (r : Record) → fold (λ bits f. bit_or bits (flag_bits r f)) 0 flags ≡ sum_by (flag_bits r) flags
-flags_joined r = (λ i. fold (λ bits f. bit_or bits (flag_bits-value (r.flag f) (bit f) i)) 0 flags)
-    ∙ or_all bit (λ f. bit_value (r.flag f)) 1 (λ f. bit_value-lt (r.flag f)) flags 0 0 (omega arith) refl
-    ∙ sym (λ i. fold (λ bits f. bits + flag_bits-value (r.flag f) (bit f) i) 0 flags)
 
 -- The flags are below bit 64, where the bytes begin.
 pub flags-lt : (r : Record) → sum_by (flag_bits r) flags < 2 ^ 64

@@ -1,7 +1,7 @@
 -- Lemmas on the rules after filling and trimming. Filled fields satisfy the same rules. Trimmed fields satisfy all
 -- rules that they kept before, and so does a clean word with such fields.
-use Rattle.lexical_flags.proofs.Common.{◌≡◌, ℕ, ◌⊎◌, ◌↔◌, inl, inr, ◌||◌, true, IsTrue, refl, sym, ap, subst, arith, false≢true, nat_tests, ByteSet}
-use Rattle.lexical_flags.proofs.Common.{allowed_ascii, Error, IsClean, Record, raw, fill, trim, effective, separator_allowed, signs, digits_of, Rule, IsRadix}
+use Rattle.lexical_flags.proofs.Common.{◌≡◌, ℕ, ◌⊎◌, ◌↔◌, inl, ◌||◌, true, IsTrue, refl, sym, ap, subst, arith, false≢true, nat_tests, ByteSet, allowed_ascii}
+use Rattle.lexical_flags.proofs.Common.{Error, IsClean, Record, raw, fill, trim, effective, separator_allowed, signs, digits_of, Rule, IsRadix}
 use Rattle.lexical_flags.proofs.Common.{IsAbsentOrPunctuation, shape_of}
 use Rattle.std.proofs.lemmas.Bool.{cases_Bool, cond-false}
 use Rattle.lexical_flags.specs.Record.{set_byte, SeparatorAllowedOrAbsent}
@@ -10,9 +10,9 @@ use Rattle.lexical_flags.specs.Rules.{IsPunctuation, Holds, IsErrorOf, Lawful}
 use Rattle.lexical_flags.specs.Layout as layout
 use Rattle.lexical_flags.specs.declared.format_flags.rule.Rule.TheVariants as rules
 use Rattle.lexical_flags.proofs.DisjointLemmas.{Disjoint-from}
-use Rattle.lexical_flags.proofs.RuleFieldLemmas.{FieldsMeet}
+use Rattle.lexical_flags.proofs.RuleFieldLemmas.{FieldsMeet, kept_alike}
 use Rattle.lexical_flags.proofs.Packing.{trim-same}
-use Rattle.lexical_flags.proofs.RuleLemmas.{Holds-from_lawful, Lawful-from_all, IsErrorOf-same}
+use Rattle.lexical_flags.proofs.RuleLemmas.{Holds-from_lawful, Lawful-from_all, IsErrorOf-same, one_error}
 
 -- Filling twice is filling once.
 pub fill_once : (own radix : ℕ) → effective (effective own radix) radix ≡ effective own radix
@@ -78,3 +78,6 @@ module _ (word normal : ℕ) (clean : IsClean normal) (fields : raw normal ≡ t
   -- If nothing was dropped from `word`, then `word` and `normal` have the same error.
   pub IsErrorOf-kept : IsClean word → SeparatorAllowedOrAbsent (raw word) → (error : Error) → IsErrorOf word error ↔ IsErrorOf normal error
   IsErrorOf-kept whole used = IsErrorOf-same word normal (λ rule. (Holds-kept rule, Holds-back whole used rule))
+
+-- `rule_laws` are what `rule_facts` states.
+pub ruleset rule_laws = (Lawful-kept, IsErrorOf-kept, Holds-from_lawful, Lawful-from_all, kept_alike, one_error)

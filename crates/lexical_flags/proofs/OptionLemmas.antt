@@ -1,7 +1,7 @@
 -- Lemmas on an exponent character and a decimal point, in addition to the five roles of a word.
 use Rattle.std.proofs.Common.{rules}
 use Rattle.lexical_flags.proofs.Common.{ℕ, ◌≡◌, ◌+◌, ◌≤◌, ◌≢◌, ◌⊎◌, ◌==◌, ◌||◌, not, if◌then◌else◌, Bool, true, false, IsTrue, ◌↔◌, arith, AllByRecursion}
-use Rattle.lexical_flags.proofs.Common.{nat_tests, ByteSet, allowed_ascii, Record, raw, digits, signs, format_roles, five_roles, Error, Success}
+use Rattle.lexical_flags.proofs.Common.{nat_tests, allowed_ascii, Record, raw, digits, signs, format_roles, five_roles, Error, Success}
 use Rattle.lexical_flags.specs.Roles.{Disjoint, cased}
 use Rattle.lexical_flags.specs.Rules.{IsPunctuation, Lawful}
 use Rattle.lexical_flags.specs.Options.{OptionsFit, OptionsHaveOneRole, SomeOptionsHaveOneRole, IsOptionsError}
@@ -97,7 +97,7 @@ some_from_lawful word lawful =
     let p : ℕ = free_from 37 (r.byte layout.digit_separator) (r.byte layout.base_prefix) (r.byte layout.base_suffix) in
     let e_free = free_from-is 33 (r.byte layout.digit_separator) (r.byte layout.base_prefix) (r.byte layout.base_suffix) in
     let p_free = free_from-is 37 (r.byte layout.digit_separator) (r.byte layout.base_prefix) (r.byte layout.base_suffix) in
-    record { exponent_byte = e; point_byte = p; one_role = roles_from_accepted word e p lawful (record { exponent_is_punctuation = IsPunctuation-mark r e e_free.0 (omega arith); point_is_punctuation = IsPunctuation-mark r p (omega arith) p_free.1; apart = Disjoint-mark e (r.flag layout.case_sensitive_exponent) p true e_free.0 (omega arith) (omega arith); exponent_is_new = is_new r e (r.flag layout.case_sensitive_exponent) e_free.0 (omega arith) e_free.2 e_free.3 e_free.4; point_is_new = is_new r p true (omega arith) p_free.1 p_free.2 p_free.3 p_free.4; }) }
+    record { exponent_byte = e; point_byte = p; one_role = roles_from_accepted word e p lawful (record { exponent_is_punctuation = IsPunctuation-mark r e e_free.0 (omega arith); point_is_punctuation = IsPunctuation-mark r p (omega arith) p_free.1; apart = Disjoint-mark e (r.flag layout.case_sensitive_exponent) p true e_free.0 (omega arith) (omega arith); exponent_is_new = is_new r e (r.flag layout.case_sensitive_exponent) e_free.0 (omega arith) e_free.2 e_free.3 e_free.4; point_is_new = is_new r p true (omega arith) p_free.1 p_free.2 p_free.3 p_free.4 }) }
 
 -- An exponent character and a decimal point have at most one error.
 pub one_options_error : (word e p : ℕ) (a b : Error) → IsOptionsError word e p a → IsOptionsError word e p b → a ≡ b

@@ -1,8 +1,8 @@
 -- Lemmas on packing a record, and on the record of a word.
-use Rattle.lexical_flags.proofs.Common.{ℕ, ◌≡◌, ◌+◌, ◌*◌, ◌/◌, ◌%◌, ◌^◌, ◌<◌, ◌==◌, ◌⊎◌, ◌↔◌, Bool, ◌-◌, IsTrue, if◌then◌else◌, List, [], ◌∷◌, sum_by, refl, ap, sym, ◌∙◌}
-use Rattle.lexical_flags.proofs.Common.{subst, arith, mod-eq_of_lt, mod-lt, pow_pos, nat_tests, part, Flag, Byte, bit, flags, shift, IsClean, Record, raw, fill}
-use Rattle.lexical_flags.proofs.Common.{trim, separator_allowed, HasBytes}
-use Rattle.std.proofs.Common.{length, ◌++◌, map}
+use Rattle.std.proofs.Common.{rules, length, ◌++◌, map}
+use Rattle.lexical_flags.proofs.Common.{ℕ, ◌≡◌, ◌+◌, ◌*◌, ◌/◌, ◌%◌, ◌^◌, ◌<◌, ◌==◌, ◌⊎◌, ◌↔◌, Bool, ◌-◌, IsTrue, if◌then◌else◌, List, [], ◌∷◌, sum_by, refl, ap}
+use Rattle.lexical_flags.proofs.Common.{sym, ◌∙◌, subst, arith, mod-eq_of_lt, mod-lt, pow_pos, nat_tests, part, Flag, Byte, bit, flags, shift, IsClean, Record}
+use Rattle.lexical_flags.proofs.Common.{raw, fill, trim, separator_allowed, HasBytes}
 use Rattle.lexical_flags.specs.Layout.{bytes, base_flags, digit_separator_flags}
 use Rattle.lexical_flags.specs.Record.{pack, record_of, word_from, word_of, byte_bits, IsBuilt}
 use Rattle.lexical_flags.specs.Layout as layout
@@ -183,33 +183,7 @@ low-half flags byte fits = omega (arith, fits)
 
 -- The record of the word with these flags and bytes has them.
 pub raw-fields : (flags : ℕ) (byte : Byte → ℕ) → flags < 2 ^ 64 → ((b : Byte) → byte b < 2 ^ 8) → raw (word_from flags byte) ≡ record_of flags byte
-raw-fields flags byte fits small = record_same _ _
-    (λ f. sym (low_flag (word_from flags byte) f) ∙ ap (λ w. (raw w).flag f) (low-half flags byte fits)) on_byte where
-      on_byte : (b : Byte) → word_from flags byte / 2 ^ shift b % 2 ^ 8 ≡ byte b
-      on_byte layout.digit_separator = omega (arith, fits, small layout.digit_separator)
-      on_byte layout.base_prefix = omega (arith, fits, small layout.digit_separator, small layout.base_prefix)
-      on_byte layout.base_suffix = omega (arith, fits, small layout.digit_separator, small layout.base_prefix, small layout.base_suffix)
-      on_byte layout.mantissa_radix =
-          omega (arith, fits, small layout.digit_separator, small layout.base_prefix, small layout.base_suffix, small layout.mantissa_radix)
-      on_byte layout.exponent_base = omega (
-        arith,
-        fits,
-        small layout.digit_separator,
-        small layout.base_prefix,
-        small layout.base_suffix,
-        small layout.mantissa_radix,
-        small layout.exponent_base,
-      )
-      on_byte layout.exponent_radix = omega (
-        arith,
-        fits,
-        small layout.digit_separator,
-        small layout.base_prefix,
-        small layout.base_suffix,
-        small layout.mantissa_radix,
-        small layout.exponent_base,
-        small layout.exponent_radix,
-      )
+raw-fields flags byte fits small = search (rules, flags, record_same, low_flag, low-half, shift)
 
 -- The word with the lower half and the bytes of a word is that word, if the reserved bits between its bytes are 0.
 pub word-fields : (w : ℕ) → w < 2 ^ 128 → part w 72 16 ≡ 0 → word_from (w % 2 ^ 64) (raw w).byte ≡ w

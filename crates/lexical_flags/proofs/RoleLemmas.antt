@@ -1,7 +1,7 @@
 -- Lemmas on disjoint roles: digits, signs, and the roles of single bytes.
 use Rattle.std.proofs.Common.{rules}
-use Rattle.lexical_flags.proofs.Common.{ℕ, ◌≡◌, ◌≢◌, ◌<◌, inl, inr, min, nat_lt, ◌||◌, Bool, IsTrue, subst, ◌∙◌, arith, nat_tests, ByteSet, Record}
-use Rattle.lexical_flags.proofs.Common.{effective_exponent_radix, other_case, digits, signs}
+use Rattle.lexical_flags.proofs.Common.{ℕ, ◌≡◌, ◌≢◌, ◌<◌, min, nat_lt, ◌||◌, Bool, IsTrue, ◌∙◌, arith, nat_tests, ByteSet, Record, effective_exponent_radix}
+use Rattle.lexical_flags.proofs.Common.{other_case, digits, signs}
 use Rattle.lexical_base.specs.Digits.{byte_value}
 use Rattle.lexical_base.proofs.ValueLemmas.{value_is}
 use Rattle.lexical_flags.specs.Roles.{Disjoint, cased}

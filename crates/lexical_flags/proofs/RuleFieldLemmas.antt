@@ -1,10 +1,9 @@
 -- Lemmas that a rule depends only on the bits that it reads.
 use Rattle.std.proofs.lemmas.Bool.Decides.{nat_tests}
-use Rattle.std.proofs.Common.{arith}
+use Rattle.std.proofs.Common.{arith, IsFalse}
 use Rattle.lexical_flags.proofs.Common.{ℕ, ◌≡◌, ◌-◌, ◌*◌, ◌/◌, ◌^◌, ◌==◌, ◌⊎◌, ◌&&◌, ◌||◌, not, true, IsTrue, List, [], ◌∷◌, bit_and, refl, ap, sym, subst, ◌∙◌}
 use Rattle.lexical_flags.proofs.Common.{allowed_ascii, digits_of, Flag, Byte, part, bit, shift, Record, raw, effective, AreDisjoint, format_roles, signs}
 use Rattle.lexical_flags.proofs.Common.{IsRadix, IsAbsentOrPunctuation, shape_of, list_all, AllByRecursion, and_parts, Rule}
-use Rattle.std.proofs.Common.{IsFalse}
 use Rattle.std.proofs.lemmas.Nat.{and_assoc}
 use Rattle.lexical_flags.specs.Roles.{cased}
 use Rattle.lexical_flags.specs.Rules.{IsPunctuation, Shape, radix_in_range, absent_or_punctuation, roles_differ, not_both, position_allowed, reserved_zero}

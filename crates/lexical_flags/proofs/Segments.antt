@@ -1,7 +1,6 @@
 -- Lemmas on a number as segments that are one above the other, given by their widths from the lowest up.
-use Rattle.std.proofs.Common.{rules}
+use Rattle.std.proofs.Common.{rules, add_assoc, add_comm}
 use Rattle.lexical_flags.proofs.Common.{ℕ, ◌≡◌, ◌+◌, ◌*◌, ◌/◌, ◌%◌, ◌^◌, ◌<◌, List, [], ◌∷◌, refl, ap, sym, ◌∙◌, arith, mul-le-mul_left, pow-add, part}
-use Rattle.std.proofs.Common.{add_assoc, add_comm}
 use Rattle.std.proofs.lemmas.Nat.{shr_high, mod_low, mod-pow-add}
 
 -- `joined s widths values` is the sum of the values, each times the power of two of its segment. The first segment

@@ -1,5 +1,5 @@
 use Rattle.std.proofs.Common.{rules}
-use Rattle.lexical_flags.proofs.Common.{not, ap, mod-lt, pow_pos, raw}
+use Rattle.lexical_flags.proofs.Common.{mod-lt, pow_pos}
 use Rattle.lexical_flags.specs.Rules.{Holds}
 use Rattle.lexical_flags.proofs.CaseLemmas.{own_roles_apart}
 use Rattle.lexical_flags.proofs.format_flags.checks.is_valid_punctuation.Goals as goal
