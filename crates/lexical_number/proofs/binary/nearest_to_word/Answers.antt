@@ -8,8 +8,7 @@ top : (word : ℕ) → 2 ^ 55 ≤ word → word < 2 ^ 64 → (j : ℕ) × (j + 1
 top word from fits =
     let t = leading_top 64 word (omega (arith, from)) fits in
     let less : word < 2 ^ (t.0 + 1) = omega (arith, t.3, ap (λ k. 2 ^ k) {x = suc t.0} {y = t.0 + 1} (omega arith)) in
-    let far : 55 < t.0 + 1 = lt_of_not-le (λ (g : t.0 + 1 ≤ 55). omega (arith, pow_mono {i = t.0 + 1} {j = 55} g)) in
-    (t.0, omega (arith, t.1), t.2, less, omega (arith, far))
+    (t.0, omega (arith, t.1), t.2, less, omega (arith, (lt_of_not-le (λ (g : t.0 + 1 ≤ 55). omega (arith, pow_mono {i = t.0 + 1} {j = 55} g)))))
 
 pub overflow_sub-least-2 : goal.overflow_sub-least-2
 overflow_sub-least-2 c =
