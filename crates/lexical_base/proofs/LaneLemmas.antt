@@ -1,6 +1,6 @@
 -- Lemmas that a test of every byte of a slice is a test of its lanes and of the rest.
-use Rattle.std.proofs.Common.{◌≡◌, ℕ, zero, suc, ◌+◌, ◌-◌, ◌*◌, ◌^◌, ◌%◌, ◌≤◌, Bool, true, false, cond, eqb, leb, ◌&&◌, ◌||◌}
-use Rattle.std.proofs.Common.{List, [], ◌∷◌, map, length, replicate, take, drop, bit_and, bit_or, refl, sym, ap, ◌∙◌, arith, IsTrue, ◌↔◌}
+use Rattle.std.proofs.Common.{◌≡◌, ℕ, zero, suc, ◌+◌, ◌-◌, ◌*◌, ◌^◌, ◌%◌, ◌≤◌, Bool, true, false, cond, eqb, leb, ◌&&◌, ◌||◌, List, [], ◌∷◌, map, length}
+use Rattle.std.proofs.Common.{replicate, take, drop, bit_and, bit_or, refl, sym, ap, ◌∙◌, arith, IsTrue, ◌↔◌}
 use Rattle.std.proofs.Math.Bool.{and_assoc}
 use Rattle.std.proofs.Math.Pow.{suc_ones}
 use Rattle.std.specs.List.{list_all, AllPass}
@@ -14,15 +14,13 @@ use Rattle.std.proofs.lemmas.Simd.{mask_l-mod}
 use Rattle.lexical_base.specs.Private.{in_two_ranges}
 
 -- Every element of a list passes if and only if each of the first k chunks passes and the rest of the list passes.
-by_chunks : (p : ℕ → Bool) (n k : ℕ) (xs : List ℕ)
-    → list_all p xs ≡ (list_all (list_all p) (first_chunks n k xs) && list_all p (drop (k * n) xs))
+by_chunks : (p : ℕ → Bool) (n k : ℕ) (xs : List ℕ) → list_all p xs ≡ (list_all (list_all p) (first_chunks n k xs) && list_all p (drop (k * n) xs))
 by_chunks p n zero xs =
     let none : 0 * n ≡ 0 = omega arith in
     rw none refl
 by_chunks p n (suc k) xs =
     let next = drop n xs in
-    let further : drop (k * n) next ≡ drop (suc k * n) xs = drop-drop (k * n) n xs
-    ∙ ap (λ i. drop i xs) (let e : n + k * n ≡ suc k * n = omega arith in e) in
+    let further : drop (k * n) next ≡ drop (suc k * n) xs = drop-drop (k * n) n xs ∙ ap (λ i. drop i xs) (let e : n + k * n ≡ suc k * n = omega arith in e) in
     let split : list_all p xs ≡ (list_all p (take n xs) && list_all p next) =
     ap (list_all p) (sym (take-append-drop n xs)) ∙ list_all-append p (take n xs) next in
     split ∙ rw (by_chunks p n k next, further) (sym (and_assoc (list_all p (take n xs))
@@ -62,22 +60,19 @@ in_ranges first second n bytes =
     let inside = λ (range : ℕ × ℕ). zip2 bit_and (zip2 least (replicate n range.0) bytes) (zip2 least bytes (replicate n range.1)) in
     map (top 7) (zip2 bit_or (inside first) (inside second))
 
-lanes_tested : (first second : ℕ × ℕ) (bytes : List ℕ)
-    → in_ranges first second (length bytes) bytes ≡ map (in_two_ranges first second) bytes
+lanes_tested : (first second : ℕ × ℕ) (bytes : List ℕ) → in_ranges first second (length bytes) bytes ≡ map (in_two_ranges first second) bytes
 lanes_tested first second [] = refl
-lanes_tested first second (byte ∷ bytes) =
-    rw (
-      and_lanes (leb first.0 byte) (leb byte first.1),
-      and_lanes (leb second.0 byte) (leb byte second.1),
-      top_of_lanes (leb first.0 byte && leb byte first.1) (leb second.0 byte && leb byte second.1),
-      lanes_tested first second bytes,
-    ) refl
+lanes_tested first second (byte ∷ bytes) = rw (
+  and_lanes (leb first.0 byte) (leb byte first.1),
+  and_lanes (leb second.0 byte) (leb byte second.1),
+  top_of_lanes (leb first.0 byte && leb byte first.1) (leb second.0 byte && leb byte second.1),
+  lanes_tested first second bytes,
+) refl
 
 -- A mask has all its bits if and only if every lane passes.
 full_mask : (p : ℕ → Bool) (bytes : List ℕ) → eqb (mask_l (map p bytes)) (2 ^ length bytes - 1) ≡ list_all p bytes
 full_mask p [] = refl
-full_mask p (byte ∷ bytes) = one (p byte) (mask_l (map p bytes)) (length bytes)
-    ∙ ap (λ rest. p byte && rest) (full_mask p bytes)
+full_mask p (byte ∷ bytes) = one (p byte) (mask_l (map p bytes)) (length bytes) ∙ ap (λ rest. p byte && rest) (full_mask p bytes)
   where
     one : (b : Bool) (m n : ℕ) → eqb (cond b 1 0 + 2 * m) (2 ^ suc n - 1) ≡ (b && eqb m (2 ^ n - 1))
     one b m n = grind (arith, nat_tests, suc_ones n)

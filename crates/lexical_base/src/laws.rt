@@ -4,6 +4,7 @@ ghost use Rattle.std.specs.Prelude.{◌≡◌, ◌↔◌, ◌⊎◌, ℕ, ◌<�
 ghost use Rattle.lexical_base.specs.Digits.{byte_value, digit_of, digits_of};
 
 /// States which values bytes have, and which bytes are digits of a radix or of at least one of two radixes.
+#[tactic(auto, using(crate::proofs::ValueLemmas::digit_laws))]
 #[inline(always)]
 pub const fn digit_facts()
     // The value of a byte is either below 36 or 255.

@@ -1,6 +1,6 @@
 -- Lemmas on the rules of a word with another mantissa radix, and of a word without its digit separator.
-use Rattle.lexical_builder.proofs.Common.{◌≡◌, ℕ, inl, inr, [], ◌∷◌, refl, sym, ap, subst, ◌∙◌, arith, nat_tests, Record, HasBytes, raw, pack}
-use Rattle.lexical_builder.proofs.Common.{trim, Rule, IsRadix, shape_of, raw-pack, pack-clean, trim-same, record_same, FieldsMeet}
+use Rattle.lexical_builder.proofs.Common.{◌≡◌, ℕ, inr, [], ◌∷◌, refl, sym, ap, subst, ◌∙◌, arith, nat_tests, Record, HasBytes, raw, pack, trim, Rule, IsRadix}
+use Rattle.lexical_builder.proofs.Common.{shape_of, raw-pack, pack-clean, trim-same, record_same, FieldsMeet}
 use Rattle.std.proofs.Common.{◌≤◌}
 use Rattle.lexical_base.specs.Digits.{byte_value}
 use Rattle.lexical_flags.specs.Record.{set_byte}
@@ -15,26 +15,16 @@ abbrev changed : ℕ → ℕ → Record
 changed word radix = after (raw word) (write_byte layout.mantissa_radix radix ∷ [])
 
 module _ (word radix : ℕ) (all : (rule : Rule) → Holds rule word) (in_range : IsRadix radix)
-    (separator : radix ≤ byte_value ((raw word).byte layout.digit_separator))
-    (prefix : radix ≤ byte_value ((raw word).byte layout.base_prefix))
+    (separator : radix ≤ byte_value ((raw word).byte layout.digit_separator)) (prefix : radix ≤ byte_value ((raw word).byte layout.base_prefix))
     (suffix : radix ≤ byte_value ((raw word).byte layout.base_suffix)) where
   -- A byte that is absent or punctuation, and not a digit of the new radix, stays absent or punctuation.
-  still_free : (byte : ℕ) → radix ≤ byte_value byte → IsAbsentOrPunctuation (raw word) byte
-      → IsAbsentOrPunctuation (changed word radix) byte
+  still_free : (byte : ℕ) → radix ≤ byte_value byte → IsAbsentOrPunctuation (raw word) byte → IsAbsentOrPunctuation (changed word radix) byte
   unfolding after IsPunctuation
-  still_free byte above (inl none) = inl none
-  still_free byte above (inr free) = inr (free.0, λ digit. free.1 (grind (arith, nat_tests, above, digit)), free.2)
+  still_free byte above given = grind (arith, nat_tests)
 
   meets : (rule : Rule) → FieldsMeet (shape_of rule) (changed word radix)
   unfolding after Holds
-  meets rules.MantissaRadixInRange = grind (arith, nat_tests, in_range)
-  meets rules.ExponentBaseInRange = grind (arith, nat_tests, in_range, all rules.ExponentBaseInRange)
-  meets rules.ExponentRadixInRange = grind (arith, nat_tests, in_range, all rules.ExponentRadixInRange)
-  meets rules.DigitSeparatorIsPunctuation = still_free _ separator (all rules.DigitSeparatorIsPunctuation)
-  meets rules.BasePrefixIsPunctuation = still_free _ prefix (all rules.BasePrefixIsPunctuation)
-  meets rules.BaseSuffixIsPunctuation = still_free _ suffix (all rules.BaseSuffixIsPunctuation)
-  meets rules.ReservedBitsAreZero = tt
-  meets rule = all rule
+  meets rule = grind (arith, nat_tests, still_free)
 
   bytes : HasBytes (changed word radix)
   unfolding after
@@ -56,13 +46,11 @@ unfolding after
 bare_bytes word = record { each = λ b. grind (arith, nat_tests) }
 
 -- A word without its digit separator has the other fields of the word.
-pub raw-bare : (word : ℕ) → raw (pack (after (raw word) (write_byte layout.digit_separator 0 ∷ [])))
-    ≡ set_byte (raw word) layout.digit_separator 0
+pub raw-bare : (word : ℕ) → raw (pack (after (raw word) (write_byte layout.digit_separator 0 ∷ []))) ≡ set_byte (raw word) layout.digit_separator 0
 raw-bare word = raw-pack _ (bare_bytes word) ∙ ap trim (written (raw word)) ∙ trim-same _ (inr refl)
 
 -- A word without its digit separator satisfies each rule that the word satisfies.
-pub Holds-bare : (word : ℕ) (rule : Rule) → Holds rule word
-    → Holds rule (pack (after (raw word) (write_byte layout.digit_separator 0 ∷ [])))
+pub Holds-bare : (word : ℕ) (rule : Rule) → Holds rule word → Holds rule (pack (after (raw word) (write_byte layout.digit_separator 0 ∷ [])))
 unfolding Holds
 Holds-bare word rules.ReservedBitsAreZero h = pack-clean _ (bare_bytes word)
 Holds-bare word rule h = subst (FieldsMeet (shape_of rule)) (sym (raw-bare word)) (Demands-bare rule (raw word) h)

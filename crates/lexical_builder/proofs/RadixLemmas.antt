@@ -1,6 +1,6 @@
 -- Lemmas that the format of one radix is lawful if and only if the radix is between 2 and 36.
-use Rattle.lexical_builder.proofs.Common.{ℕ, ◌≡◌, ◌↔◌, ◌<◌, inl, inr, ◌∙◌, refl, sym, subst, arith, nat_tests, effective, Record, HasBytes, raw, pack, Rule}
-use Rattle.lexical_builder.proofs.Common.{IsRadix, shape_of, raw-pack, pack-clean, trim-same, FieldsMeet}
+use Rattle.lexical_builder.proofs.Common.{ℕ, ◌≡◌, ◌↔◌, ◌<◌, inr, ◌∙◌, refl, sym, subst, arith, nat_tests, effective, Record, HasBytes, raw, pack, Rule, IsRadix}
+use Rattle.lexical_builder.proofs.Common.{shape_of, raw-pack, pack-clean, trim-same, FieldsMeet}
 use Rattle.lexical_flags.specs.Literals.{on_literals}
 use Rattle.lexical_flags.specs.Rules.{Holds, Lawful}
 use Rattle.lexical_builder.specs.Writes.{radix_record}
@@ -12,19 +12,12 @@ radix-bytes : (radix : ℕ) → radix < 256 → HasBytes (radix_record radix)
 radix-bytes radix fits = record { each = λ b. grind arith }
 
 raw-radix : (radix : ℕ) → radix < 256 → raw (pack (radix_record radix)) ≡ radix_record radix
-raw-radix radix fits = raw-pack (radix_record radix) (radix-bytes radix fits)
-    ∙ trim-same (radix_record radix) (inr refl)
+raw-radix radix fits = raw-pack (radix_record radix) (radix-bytes radix fits) ∙ trim-same (radix_record radix) (inr refl)
 
 -- If a radix is between 2 and 36, then its record satisfies each rule.
 radix-demands : (radix : ℕ) → IsRadix radix → (rule : Rule) → FieldsMeet (shape_of rule) (radix_record radix)
 unfolding on_literals
-radix-demands radix h rules.MantissaRadixInRange = grind (arith, nat_tests)
-radix-demands radix h rules.ExponentBaseInRange = grind (arith, nat_tests)
-radix-demands radix h rules.ExponentRadixInRange = grind (arith, nat_tests)
-radix-demands radix h rules.DigitSeparatorIsPunctuation = inl refl
-radix-demands radix h rules.BasePrefixIsPunctuation = inl refl
-radix-demands radix h rules.BaseSuffixIsPunctuation = inl refl
-radix-demands radix h _ = search
+radix-demands radix h rule = grind (arith, nat_tests)
 
 radix-kept : (radix : ℕ) → radix < 256 → IsRadix radix → (rule : Rule) → Holds rule (pack (radix_record radix))
 unfolding Holds

@@ -311,6 +311,7 @@ impl NumberFormatBuilder {
     /// let word = NumberFormatBuilder::from_word(STANDARD).no_exponent_notation(true).build_strict()?;
     /// # Ok::<(), peltzivar::Error>(())
     /// ```
+    #[tactic(auto, using(crate::proofs::BuilderFlags::moved_fields))]
     pub const fn from_word(word: u128) -> Self
         ensures { result ≡ raw word }
     {
@@ -341,6 +342,7 @@ impl NumberFormatBuilder {
     /// let word = 0x10 << 104; // the mantissa radix 16 alone
     /// assert_eq!(NumberFormatBuilder::rebuild(word).get_exponent_base().map(u8::from), Some(16));
     /// ```
+    #[tactic(auto, using(crate::proofs::BuilderFlags::moved_fields))]
     pub const fn rebuild(format: u128) -> Self
         ensures { result ≡ fill (raw format) }
     {
@@ -374,6 +376,7 @@ impl NumberFormatBuilder {
     }
 
     // Returns whether the flag with this mask is set.
+    #[tactic(auto, using(crate::proofs::BuilderFlags::masked_flag))]
     const fn has_flag(&self, mask: u128) -> bool
         ensures { (f : Flag) → 2 ^ bit f ≡ mask → result ≡ self.now.flag f }
     {
@@ -413,6 +416,7 @@ const fn word_flags(flags: u32) -> u128
 }
 
 // Returns `bits` with all bits in `mask` set to `value`.
+#[tactic(auto, using(crate::proofs::BuilderFlags::replaced))]
 const fn replace_bits(bits: u32, mask: u32, value: bool) -> u32
     ensures each { (i : ℕ) → i < 32 → (part result i 1 == 1)
         ≡ (if part mask i 1 == 1 then value else (part bits i 1 == 1)) }

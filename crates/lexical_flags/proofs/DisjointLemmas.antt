@@ -18,8 +18,7 @@ not_both : (a b : Bool) → (not (a && b) ≡ true) ↔ (IsTrue a → IsTrue b �
 not_both a b = grind arith
 
 -- Two sets are disjoint if and only if no byte is in both.
-pub disjoint_bytes : (A B : ByteSet)
-    → Disjoint A B ↔ ((byte : ℕ) → byte < 256 → IsTrue (A byte) → IsTrue (B byte) → ⊥)
+pub disjoint_bytes : (A B : ByteSet) → Disjoint A B ↔ ((byte : ℕ) → byte < 256 → IsTrue (A byte) → IsTrue (B byte) → ⊥)
 unfolding Disjoint are_disjoint
 disjoint_bytes A B =
     let each = each_below (λ byte. not (A byte && B byte)) 256 in (

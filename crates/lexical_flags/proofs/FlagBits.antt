@@ -1,13 +1,14 @@
 -- Lemmas on the flags of a word under a mask, and on the flags of a record joined by `|`.
-use Rattle.lexical_flags.proofs.Common.{ℕ, ◌≡◌, ◌+◌, ◌*◌, ◌/◌, ◌%◌, ◌^◌, ◌<◌, ◌==◌, true, not, ◌||◌, List, [], ◌∷◌, sum_by, bit_and, bit_or, refl, ap, sym}
-use Rattle.lexical_flags.proofs.Common.{subst, ◌∙◌, arith, fold, mod-lt, pow_pos, nat_tests, part, Flag, bit, flags, Record, raw, separator_allowed, HasBytes}
+use Rattle.std.proofs.Common.{rules}
+use Rattle.lexical_flags.proofs.Common.{ℕ, ◌≡◌, ◌+◌, ◌*◌, ◌/◌, ◌%◌, ◌^◌, ◌<◌, ◌==◌, true, not, ◌||◌, List, [], ◌∷◌, sum_by, bit_and, refl, ap, sym, subst, ◌∙◌}
+use Rattle.lexical_flags.proofs.Common.{arith, mod-lt, pow_pos, nat_tests, part, Flag, bit, flags, Record, raw, separator_allowed}
 use Rattle.std.specs.List.{filter, list_any}
 use Rattle.std.proofs.lemmas.List.Sums.{sum_by-cons}
 use Rattle.std.proofs.lemmas.Nat.Bits.{and_pow}
 use Rattle.lexical_flags.specs.Record.{word_of, flag_bits}
 use Rattle.lexical_flags.specs.Additions.Masks.{mask_of}
 use Rattle.lexical_flags.proofs.Packing.{high, bit_value, bit_value-lt, flag_bits-value, raw-word_of}
-use Rattle.lexical_flags.proofs.Masks.{ascends, and_all, or_all, sum-below}
+use Rattle.lexical_flags.proofs.Masks.{ascends, and_all, sum-below}
 
 -- A bit times a power of two is 0 if and only if the bit is 0.
 moved_bit-set : (n p : ℕ) → n < 2 → 0 < p → not (n * p == 0) ≡ (n == 1)
@@ -15,19 +16,15 @@ moved_bit-set n p small high = grind (arith, nat_tests)
 
 -- The test of one flag, as the code writes it, is true if and only if its bit is 1.
 pub flag_test : (word k : ℕ) → not (bit_and word (2 ^ k) == 0) ≡ (part word k 1 == 1)
-flag_test word k =
-    ap (λ n. not (n == 0)) (and_pow word k)
-    ∙ moved_bit-set (part word k 1) (2 ^ k) (mod-lt _ (omega arith)) (pow_pos k)
+flag_test word k = ap (λ n. not (n == 0)) (and_pow word k) ∙ moved_bit-set (part word k 1) (2 ^ k) (mod-lt _ (omega arith)) (pow_pos k)
 
 -- `members mask` lists the flags in `mask`.
 abbrev pub members : ℕ → List Flag
 members mask = filter (λ f. not (bit_and mask (2 ^ bit f) == 0)) flags
 
 -- If a mask that is written as a number has one flag, then the test by this mask is the test of that flag.
-pub flag_by_mask : (word mask : ℕ) → 2 ^ sum_by bit (members mask) ≡ mask
-    → not (bit_and word mask == 0) ≡ (word / mask % 2 == 1)
-flag_by_mask word mask is =
-    subst (λ m. not (bit_and word m == 0) ≡ (word / m % 2 == 1)) is (flag_test word (sum_by bit (members mask)))
+pub flag_by_mask : (word mask : ℕ) → 2 ^ sum_by bit (members mask) ≡ mask → not (bit_and word mask == 0) ≡ (word / mask % 2 == 1)
+flag_by_mask word mask is = subst (λ m. not (bit_and word m == 0) ≡ (word / m % 2 == 1)) is (flag_test word (sum_by bit (members mask)))
 
 -- If a flag mask is written as a number, then `&` with it is the sum of the bits of its flags in the word.
 pub flags_under : (word mask : ℕ) → mask_of (members mask) ≡ mask → ascends bit 1 0 (members mask) ≡ true
@@ -41,36 +38,17 @@ sum-set : (m n : ℕ) → not (m + n == 0) ≡ (not (m == 0) || not (n == 0))
 sum-set m n = grind (arith, nat_tests)
 
 -- The sum of the bits of some flags is not 0 if and only if one of the flags is set.
-sum_by-set : (fs : List Flag) (word : ℕ) → not (sum_by (λ f. part word (bit f) 1 * 2 ^ bit f) fs == 0)
-    ≡ list_any (raw word).flag fs
+sum_by-set : (fs : List Flag) (word : ℕ) → not (sum_by (λ f. part word (bit f) 1 * 2 ^ bit f) fs == 0) ≡ list_any (raw word).flag fs
 sum_by-set [] word = refl
-sum_by-set (f ∷ fs) word =
-    let here : not (part word (bit f) 1 * 2 ^ bit f == 0) ≡ (raw word).flag f =
-    moved_bit-set (part word (bit f) 1) (2 ^ bit f) (mod-lt _ (omega arith)) (pow_pos (bit f)) in
-    ap (λ n. not (n == 0)) (sum_by-cons (λ f. part word (bit f) 1 * 2 ^ bit f) f fs)
-    ∙ sum-set (part word (bit f) 1 * 2 ^ bit f) (sum_by (λ f. part word (bit f) 1 * 2 ^ bit f) fs)
-    ∙ (λ i. here i || sum_by-set fs word i)
+sum_by-set (f ∷ fs) word = search (rules, sum_by-set fs word, part, bit, moved_bit-set, mod-lt, pow_pos, sum_by-cons, sum-set, sum_by)
 
 -- A word has a bit in common with the mask of some flags if and only if one of the flags is set.
-pub mask_test : (fs : List Flag) (word : ℕ) → ascends bit 1 0 fs ≡ true
-    → not (bit_and word (mask_of fs) == 0) ≡ list_any (raw word).flag fs
+pub mask_test : (fs : List Flag) (word : ℕ) → ascends bit 1 0 fs ≡ true → not (bit_and word (mask_of fs) == 0) ≡ list_any (raw word).flag fs
 mask_test fs word up = ap (λ n. not (n == 0)) (and_all bit fs word up) ∙ sum_by-set fs word
-
--- The flags of a record joined by `|` are the sum of the flags.
-pub flags_joined : (r : Record) → fold (λ bits f. bit_or bits (flag_bits r f)) 0 flags ≡ sum_by (flag_bits r) flags
-flags_joined r =
-    (λ i. fold (λ bits f. bit_or bits (flag_bits-value (r.flag f) (bit f) i)) 0 flags)
-    ∙ or_all bit (λ f. bit_value (r.flag f)) 1 (λ f. bit_value-lt (r.flag f)) flags 0 0 (omega arith) refl
-    ∙ sym (λ i. fold (λ bits f. bits + flag_bits-value (r.flag f) (bit f) i) 0 flags)
 
 -- The flags are below bit 64, where the bytes begin.
 pub flags-lt : (r : Record) → sum_by (flag_bits r) flags < 2 ^ 64
-flags-lt r =
-    let below : fold (λ bits f. bits + bit_value (r.flag f) * 2 ^ bit f) 0 flags < 2 ^ (32 + high) =
-    sum-below bit (λ f. bit_value (r.flag f)) 1 (λ f. bit_value-lt (r.flag f)) flags 0 0 (omega arith) refl in
-    let same : fold (λ bits f. bits + bit_value (r.flag f) * 2 ^ bit f) 0 flags ≡ sum_by (flag_bits r) flags =
-    sym (λ i. fold (λ bits f. bits + flag_bits-value (r.flag f) (bit f) i) 0 flags) in
-    omega arith
+flags-lt r = search (rules, bit_value, bit, flags, high, sum-below, bit_value-lt, sum_by, flag_bits-value)
 
 -- `flags_only r` is `r` with 0 as each byte.
 abbrev flags_only : Record → Record
@@ -83,6 +61,4 @@ word_of-flags_only r = omega arith
 -- The word of the flags of a record allows a digit separator if and only if the record does.
 pub separator_allowed-flags : (r : Record) → separator_allowed (raw (sum_by (flag_bits r) flags)) ≡ separator_allowed r
 separator_allowed-flags r =
-    let none : HasBytes (flags_only r) = record { each = λ b. omega arith } in
-    ap (λ word. separator_allowed (raw word)) (word_of-flags_only r)
-    ∙ ap separator_allowed (raw-word_of (flags_only r) none)
+    ap (λ word. separator_allowed (raw word)) (word_of-flags_only r) ∙ ap separator_allowed (raw-word_of (flags_only r) (record { each = λ b. omega arith }))

@@ -1,7 +1,7 @@
 -- Lemmas on the rules after filling and trimming. Filled fields satisfy the same rules. Trimmed fields satisfy all
 -- rules that they kept before, and so does a clean word with such fields.
-use Rattle.lexical_flags.proofs.Common.{◌≡◌, ℕ, ◌⊎◌, ◌↔◌, inl, inr, ◌||◌, true, IsTrue, refl, sym, ap, subst, arith, false≢true, nat_tests, ByteSet}
-use Rattle.lexical_flags.proofs.Common.{allowed_ascii, Error, IsClean, Record, raw, fill, trim, effective, separator_allowed, signs, digits_of, Rule, IsRadix}
+use Rattle.lexical_flags.proofs.Common.{◌≡◌, ℕ, ◌⊎◌, ◌↔◌, inl, ◌||◌, true, IsTrue, refl, sym, ap, subst, arith, false≢true, nat_tests, ByteSet, allowed_ascii}
+use Rattle.lexical_flags.proofs.Common.{Error, IsClean, Record, raw, fill, trim, effective, separator_allowed, signs, digits_of, Rule, IsRadix}
 use Rattle.lexical_flags.proofs.Common.{IsAbsentOrPunctuation, shape_of}
 use Rattle.std.proofs.lemmas.Bool.{cases_Bool, cond-false}
 use Rattle.lexical_flags.specs.Record.{set_byte, SeparatorAllowedOrAbsent}
@@ -10,19 +10,17 @@ use Rattle.lexical_flags.specs.Rules.{IsPunctuation, Holds, IsErrorOf, Lawful}
 use Rattle.lexical_flags.specs.Layout as layout
 use Rattle.lexical_flags.specs.declared.format_flags.rule.Rule.TheVariants as rules
 use Rattle.lexical_flags.proofs.DisjointLemmas.{Disjoint-from}
-use Rattle.lexical_flags.proofs.RuleFieldLemmas.{FieldsMeet}
+use Rattle.lexical_flags.proofs.RuleFieldLemmas.{FieldsMeet, kept_alike}
 use Rattle.lexical_flags.proofs.Packing.{trim-same}
-use Rattle.lexical_flags.proofs.RuleLemmas.{Holds-from_lawful, Lawful-from_all, IsErrorOf-same}
+use Rattle.lexical_flags.proofs.RuleLemmas.{Holds-from_lawful, Lawful-from_all, IsErrorOf-same, one_error}
 
 -- Filling twice is filling once.
 pub fill_once : (own radix : ℕ) → effective (effective own radix) radix ≡ effective own radix
 fill_once own radix = grind (arith, nat_tests)
 
-IsAbsentOrPunctuation-fill : (r : Record) (byte : ℕ)
-    → IsAbsentOrPunctuation (fill r) byte ≡ IsAbsentOrPunctuation r byte
+IsAbsentOrPunctuation-fill : (r : Record) (byte : ℕ) → IsAbsentOrPunctuation (fill r) byte ≡ IsAbsentOrPunctuation r byte
 unfolding IsPunctuation
-IsAbsentOrPunctuation-fill r byte =
-    ap (λ radix. (byte ≡ 0) ⊎ (IsTrue (allowed_ascii byte)
+IsAbsentOrPunctuation-fill r byte = ap (λ radix. (byte ≡ 0) ⊎ (IsTrue (allowed_ascii byte)
     × (IsTrue (digits_of (r.byte layout.mantissa_radix) byte || digits_of radix byte) → ⊥) × (IsTrue (signs byte) → ⊥)))
     (fill_once (r.byte layout.exponent_radix) (r.byte layout.mantissa_radix))
 
@@ -49,24 +47,15 @@ Demands-bare rules.PunctuationDiffers r h = ((Disjoint-nothing (prefix r), (Disj
 Demands-bare _ r h = h
 
 pub Demands-trim : (rule : Rule) (r : Record) → FieldsMeet (shape_of rule) r → FieldsMeet (shape_of rule) (trim r)
-Demands-trim rule r h =
-    elim (cases_Bool (separator_allowed r)) [
-      | inl on ↦ subst (FieldsMeet (shape_of rule)) (sym (trim-same r (inl on))) h
-      | inr off ↦ subst (λ n. FieldsMeet (shape_of rule) (set_byte r layout.digit_separator n))
-          (sym (cond-false (separator_allowed r) (r.byte layout.digit_separator) 0 off)) (Demands-bare rule r h)
-    ]
+Demands-trim rule r h = grind (arith, nat_tests, cases_Bool, separator_allowed, shape_of, trim-same, cond-false, Demands-bare)
 
 -- If a record satisfies a rule, then so does the filled and trimmed record.
 pub Demands-kept : (rule : Rule) (r : Record) → FieldsMeet (shape_of rule) r → FieldsMeet (shape_of rule) (trim (fill r))
 Demands-kept rule r h = Demands-trim rule (fill r) (subst (λ X. X) (sym (Demands-fill rule r)) h)
 
 -- If no separator is dropped, then a record satisfies a rule if and only if the filled and trimmed record does.
-pub Demands-same : (rule : Rule) (r : Record) → SeparatorAllowedOrAbsent r → FieldsMeet (shape_of rule) r
-    ↔ FieldsMeet (shape_of rule) (trim (fill r))
-Demands-same rule r used = (
-  Demands-kept rule r,
-  λ h. subst (λ X. X) (Demands-fill rule r) (subst (FieldsMeet (shape_of rule)) (trim-same (fill r) used) h),
-)
+pub Demands-same : (rule : Rule) (r : Record) → SeparatorAllowedOrAbsent r → FieldsMeet (shape_of rule) r ↔ FieldsMeet (shape_of rule) (trim (fill r))
+Demands-same rule r used = (Demands-kept rule r, λ h. subst (λ X. X) (Demands-fill rule r) (subst (FieldsMeet (shape_of rule)) (trim-same (fill r) used) h))
 
 -- In this section, `normal` is a clean word with the filled and trimmed fields of `word`.
 module _ (word normal : ℕ) (clean : IsClean normal) (fields : raw normal ≡ trim (fill (raw word))) where
@@ -87,6 +76,8 @@ module _ (word normal : ℕ) (clean : IsClean normal) (fields : raw normal ≡ t
   Holds-back whole used rule h = (Demands-same rule (raw word) used).1 (subst (FieldsMeet (shape_of rule)) fields h)
 
   -- If nothing was dropped from `word`, then `word` and `normal` have the same error.
-  pub IsErrorOf-kept : IsClean word → SeparatorAllowedOrAbsent (raw word)
-      → (error : Error) → IsErrorOf word error ↔ IsErrorOf normal error
+  pub IsErrorOf-kept : IsClean word → SeparatorAllowedOrAbsent (raw word) → (error : Error) → IsErrorOf word error ↔ IsErrorOf normal error
   IsErrorOf-kept whole used = IsErrorOf-same word normal (λ rule. (Holds-kept rule, Holds-back whole used rule))
+
+-- `rule_laws` are what `rule_facts` states.
+pub ruleset rule_laws = (Lawful-kept, IsErrorOf-kept, Holds-from_lawful, Lawful-from_all, kept_alike, one_error)

@@ -1,8 +1,8 @@
 -- Lemmas on packing a record, and on the record of a word.
-use Rattle.lexical_flags.proofs.Common.{ℕ, ◌≡◌, ◌+◌, ◌*◌, ◌/◌, ◌%◌, ◌^◌, ◌<◌, ◌==◌, ◌⊎◌, ◌↔◌, Bool, ◌-◌, IsTrue, if◌then◌else◌, List, [], ◌∷◌, sum_by, refl, ap, sym, ◌∙◌}
-use Rattle.lexical_flags.proofs.Common.{subst, arith, mod-eq_of_lt, mod-lt, pow_pos, nat_tests, part, Flag, Byte, bit, flags, shift, IsClean, Record, raw, fill}
-use Rattle.lexical_flags.proofs.Common.{trim, separator_allowed, HasBytes}
-use Rattle.std.proofs.Common.{length, ◌++◌, map}
+use Rattle.std.proofs.Common.{rules, length, ◌++◌, map}
+use Rattle.lexical_flags.proofs.Common.{ℕ, ◌≡◌, ◌+◌, ◌*◌, ◌/◌, ◌%◌, ◌^◌, ◌<◌, ◌==◌, ◌⊎◌, ◌↔◌, Bool, ◌-◌, IsTrue, if◌then◌else◌, List, [], ◌∷◌, sum_by, refl, ap}
+use Rattle.lexical_flags.proofs.Common.{sym, ◌∙◌, subst, arith, mod-eq_of_lt, mod-lt, pow_pos, nat_tests, part, Flag, Byte, bit, flags, shift, IsClean, Record}
+use Rattle.lexical_flags.proofs.Common.{raw, fill, trim, separator_allowed, HasBytes}
 use Rattle.lexical_flags.specs.Layout.{bytes, base_flags, digit_separator_flags}
 use Rattle.lexical_flags.specs.Record.{pack, record_of, word_from, word_of, byte_bits, IsBuilt}
 use Rattle.lexical_flags.specs.Layout as layout
@@ -18,14 +18,12 @@ high = length digit_separator_flags
 
 -- `widths` lists the widths of the segments of a word from the lowest up, including the three reserved segments.
 abbrev widths : List ℕ
-widths =
-    map (λ _. 1) base_flags ++ (32 - low) ∷ (map (λ _. 1) digit_separator_flags ++ (32 - high) ∷
+widths = map (λ _. 1) base_flags ++ (32 - low) ∷ (map (λ _. 1) digit_separator_flags ++ (32 - high) ∷
     8 ∷ 16 ∷ 8 ∷ 8 ∷ 8 ∷ 8 ∷ 8 ∷ [])
 
 -- `laid flag byte low middle high` lists the values of all segments: flags, bytes, and the three reserved segments.
 abbrev laid : (Flag → ℕ) → (Byte → ℕ) → ℕ → ℕ → ℕ → List ℕ
-laid flag byte low middle high =
-    map flag base_flags ++ low ∷ (map flag digit_separator_flags ++ middle ∷ byte layout.digit_separator ∷ high
+laid flag byte low middle high = map flag base_flags ++ low ∷ (map flag digit_separator_flags ++ middle ∷ byte layout.digit_separator ∷ high
     ∷ byte layout.base_prefix ∷ byte layout.base_suffix ∷ byte layout.mantissa_radix
     ∷ byte layout.exponent_base ∷ byte layout.exponent_radix ∷ [])
 
@@ -77,8 +75,7 @@ flag_bits-value b k = grind arith
 
 word_of-joined : (r : Record) → word_of r ≡ joined 0 widths (values r)
 unfolding word_of
-word_of-joined r =
-    (λ i. sum_by (λ f. flag_bits-value (r.flag f) (bit f) i) flags + sum_by (byte_bits r) bytes) ∙ omega arith
+word_of-joined r = (λ i. sum_by (λ f. flag_bits-value (r.flag f) (bit f) i) flags + sum_by (byte_bits r) bytes) ∙ omega arith
 
 -- A bit is 0 or 1.
 pub bit_value-lt : (b : Bool) → bit_value b < 2
@@ -89,9 +86,7 @@ values-fit r h = let byte = h.each in search (arith, bit_value-lt, byte)
 
 -- The segments of the word of a record have the values of the record.
 segments-word_of : (r : Record) → HasBytes r → segments 0 widths (word_of r) ≡ values r
-segments-word_of r h =
-    ap (segments 0 widths) (word_of-joined r ∙ omega arith)
-    ∙ segments-joined 0 widths (values r) 0 (omega arith) (values-fit r h)
+segments-word_of r h = ap (segments 0 widths) (word_of-joined r ∙ omega arith) ∙ segments-joined 0 widths (values r) 0 (omega arith) (values-fit r h)
 
 -- The record of the word of a record is that record.
 pub raw-word_of : (r : Record) → HasBytes r → raw (word_of r) ≡ r
@@ -111,14 +106,11 @@ bit_value-test : (n : ℕ) → n < 2 → bit_value (n == 1) ≡ n
 bit_value-test n l = grind (arith, nat_tests)
 
 values-raw : (w : ℕ) → IsClean w → values (raw w) ≡ segments 0 widths w
-values-raw w clean =
-    λ i. laid (λ f. bit_value-test (part w (bit f) 1) (mod-lt _ (pow_pos 1)) i) (λ b. part w (shift b) 8)
+values-raw w clean = λ i. laid (λ f. bit_value-test (part w (bit f) 1) (mod-lt _ (pow_pos 1)) i) (λ b. part w (shift b) 8)
     (sym clean.below_separator_flags i) (sym clean.below_separator i) (sym clean.below_prefix i)
 
 word_of-raw : (w : ℕ) → w < 2 ^ 128 → IsClean w → word_of (raw w) ≡ w
-word_of-raw w l clean =
-    word_of-joined (raw w) ∙ ap (joined 0 widths) (values-raw w clean)
-    ∙ omega (arith, joined-segments 0 widths w, mod-eq_of_lt l)
+word_of-raw w l clean = word_of-joined (raw w) ∙ ap (joined 0 widths) (values-raw w clean) ∙ omega (arith, joined-segments 0 widths w, mod-eq_of_lt l)
 
 -- The record of every word has bytes.
 pub HasBytes-raw : (w : ℕ) → HasBytes (raw w)
@@ -171,8 +163,7 @@ pack-raw w l = (
 
 -- Two clean words with the same fields are equal.
 pub raw-injective : (v w : ℕ) → v < 2 ^ 128 → w < 2 ^ 128 → IsClean v → IsClean w → raw v ≡ raw w → v ≡ w
-raw-injective v w fits fits' clean clean' same = sym (word_of-raw v fits clean) ∙ ap word_of same
-    ∙ word_of-raw w fits' clean'
+raw-injective v w fits fits' clean clean' same = sym (word_of-raw v fits clean) ∙ ap word_of same ∙ word_of-raw w fits' clean'
 
 -- Two records have the same packed word if and only if they are equal after trimming.
 pub pack-injective : (r s : Record) → HasBytes r → HasBytes s → (pack s ≡ pack r) ↔ (trim s ≡ trim r)
@@ -191,20 +182,8 @@ pub low-half : (flags : ℕ) (byte : Byte → ℕ) → flags < 2 ^ 64 → word_f
 low-half flags byte fits = omega (arith, fits)
 
 -- The record of the word with these flags and bytes has them.
-pub raw-fields : (flags : ℕ) (byte : Byte → ℕ) → flags < 2 ^ 64 → ((b : Byte) → byte b < 2 ^ 8)
-    → raw (word_from flags byte) ≡ record_of flags byte
-raw-fields flags byte fits small = record_same _ _
-    (λ f. sym (low_flag (word_from flags byte) f) ∙ ap (λ w. (raw w).flag f) (low-half flags byte fits)) on_byte where
-  on_byte : (b : Byte) → word_from flags byte / 2 ^ shift b % 2 ^ 8 ≡ byte b
-  on_byte layout.digit_separator = omega (arith, fits, small layout.digit_separator)
-  on_byte layout.base_prefix = omega (arith, fits, small layout.digit_separator, small layout.base_prefix)
-  on_byte layout.base_suffix = omega (arith, fits, small layout.digit_separator, small layout.base_prefix, small layout.base_suffix)
-  on_byte layout.mantissa_radix =
-      omega (arith, fits, small layout.digit_separator, small layout.base_prefix, small layout.base_suffix, small layout.mantissa_radix)
-  on_byte layout.exponent_base = omega (arith, fits, small layout.digit_separator, small layout.base_prefix, small layout.base_suffix,
-      small layout.mantissa_radix, small layout.exponent_base)
-  on_byte layout.exponent_radix = omega (arith, fits, small layout.digit_separator, small layout.base_prefix, small layout.base_suffix,
-      small layout.mantissa_radix, small layout.exponent_base, small layout.exponent_radix)
+pub raw-fields : (flags : ℕ) (byte : Byte → ℕ) → flags < 2 ^ 64 → ((b : Byte) → byte b < 2 ^ 8) → raw (word_from flags byte) ≡ record_of flags byte
+raw-fields flags byte fits small = search (rules, flags, record_same, low_flag, low-half, shift)
 
 -- The word with the lower half and the bytes of a word is that word, if the reserved bits between its bytes are 0.
 pub word-fields : (w : ℕ) → w < 2 ^ 128 → part w 72 16 ≡ 0 → word_from (w % 2 ^ 64) (raw w).byte ≡ w

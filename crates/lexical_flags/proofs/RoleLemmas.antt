@@ -1,6 +1,7 @@
 -- Lemmas on disjoint roles: digits, signs, and the roles of single bytes.
-use Rattle.lexical_flags.proofs.Common.{ℕ, ◌≡◌, ◌≢◌, ◌<◌, inl, inr, min, nat_lt, ◌||◌, Bool, IsTrue, subst, ◌∙◌, arith, nat_tests, ByteSet, Record}
-use Rattle.lexical_flags.proofs.Common.{effective_exponent_radix, other_case, digits, signs}
+use Rattle.std.proofs.Common.{rules}
+use Rattle.lexical_flags.proofs.Common.{ℕ, ◌≡◌, ◌≢◌, ◌<◌, min, nat_lt, ◌||◌, Bool, IsTrue, ◌∙◌, arith, nat_tests, ByteSet, Record, effective_exponent_radix}
+use Rattle.lexical_flags.proofs.Common.{other_case, digits, signs}
 use Rattle.lexical_base.specs.Digits.{byte_value}
 use Rattle.lexical_base.proofs.ValueLemmas.{value_is}
 use Rattle.lexical_flags.specs.Roles.{Disjoint, cased}
@@ -12,28 +13,20 @@ use Rattle.lexical_flags.proofs.CaseLemmas.{cased-cases, digits-other_case, sign
 -- of `own` is disjoint from the set.
 Disjoint-cased : (A : ByteSet) → ((b : ℕ) → IsTrue (A (other_case b)) → IsTrue (A b)) →
     (counts : Bool) (own : ℕ) → (own ≢ 0 → IsTrue (A own) → ⊥) → Disjoint A (cased counts own)
-Disjoint-cased A both_cases counts own out = Disjoint-from _ _ (λ byte below inside is_own.
-    let found = cased-cases counts own byte is_own in
-    out found.0 (elim found.1 [
-      | inl same ↦ subst (λ b. IsTrue (A b)) same inside
-      | inr other ↦ both_cases own (subst (λ b. IsTrue (A b)) other inside)
-    ]))
+Disjoint-cased A both_cases counts own out = search (rules, Disjoint-from, cased-cases)
 
 -- If the set `A` and the role of `own` are disjoint, then `A` does not contain `own`, provided that `own` is not 0 and
 -- below 256.
-pub not_in : (A : ByteSet) (counts : Bool) (own : ℕ) → Disjoint A (cased counts own) → own < 256 → own ≢ 0
-    → IsTrue (A own) → ⊥
+pub not_in : (A : ByteSet) (counts : Bool) (own : ℕ) → Disjoint A (cased counts own) → own < 256 → own ≢ 0 → IsTrue (A own) → ⊥
 unfolding cased
 not_in A counts own apart below positive inside = Disjoint-at _ _ apart own below inside (grind (arith, nat_tests))
 
 -- If a byte is absent or not a digit, then the digits and its role are disjoint.
-pub Disjoint-digits-cased : (r : Record) (counts : Bool) (own : ℕ) → (own ≢ 0 → IsTrue (digits r own) → ⊥)
-    → Disjoint (digits r) (cased counts own)
+pub Disjoint-digits-cased : (r : Record) (counts : Bool) (own : ℕ) → (own ≢ 0 → IsTrue (digits r own) → ⊥) → Disjoint (digits r) (cased counts own)
 Disjoint-digits-cased r = Disjoint-cased (digits r) (digits-other_case r)
 
 -- If a byte is absent or not a sign, then the signs and its role are disjoint.
-pub Disjoint-signs-cased : (counts : Bool) (own : ℕ) → (own ≢ 0 → IsTrue (signs own) → ⊥)
-    → Disjoint signs (cased counts own)
+pub Disjoint-signs-cased : (counts : Bool) (own : ℕ) → (own ≢ 0 → IsTrue (signs own) → ⊥) → Disjoint signs (cased counts own)
 Disjoint-signs-cased = Disjoint-cased signs signs-other_case
 
 -- A byte below the character 0 has the value 255.
@@ -49,6 +42,4 @@ no_digit r byte before = below_neither (byte_value byte) (r.byte layout.mantissa
 
 -- The digits and the signs are disjoint.
 pub Disjoint-digits-signs : (r : Record) → Disjoint (digits r) signs
-Disjoint-digits-signs r = Disjoint-from _ _ (λ byte below is_digit is_sign.
-    let before : byte < 48 = grind (arith, nat_tests) in
-    no_digit r byte before is_digit)
+Disjoint-digits-signs r = search (rules, Disjoint-from, no_digit)

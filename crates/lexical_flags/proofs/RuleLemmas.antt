@@ -1,6 +1,6 @@
 -- Lemmas that a word is lawful if and only if it satisfies every rule, and that it has one error.
-use Rattle.lexical_flags.proofs.Common.{◌≡◌, ℕ, ◌≢◌, ◌<◌, ◌↔◌, inl, inr, Bool, true, arith, nat_tests, Error, Success, IsClean, Record, raw, AreDisjoint}
-use Rattle.lexical_flags.proofs.Common.{digits, signs, format_roles, five_roles, Rule, IsAbsentOrPunctuation}
+use Rattle.lexical_flags.proofs.Common.{◌≡◌, ℕ, ◌≢◌, ◌↔◌, inl, inr, Bool, true, arith, nat_tests, Error, Success, IsClean, Record, raw, AreDisjoint, digits}
+use Rattle.lexical_flags.proofs.Common.{signs, format_roles, five_roles, Rule, IsAbsentOrPunctuation}
 use Rattle.std.proofs.lemmas.List.Elements.{recursion_from_All}
 use Rattle.lexical_base.specs.declared.error.Error.TheVariants.{InvalidFlags}
 use Rattle.lexical_flags.specs.Roles.{Disjoint, cased}
@@ -21,18 +21,10 @@ IsAbsentOrPunctuation-text r byte is = grind arith
 
 -- If a byte is absent or allowed ASCII, and its role is disjoint from the digits and the signs, then the byte is absent
 -- or punctuation.
-IsAbsentOrPunctuation-from : (r : Record) (counts : Bool) (byte : ℕ) → IsTextOrNone byte
-    → Disjoint (digits r) (cased counts byte)
+IsAbsentOrPunctuation-from : (r : Record) (counts : Bool) (byte : ℕ) → IsTextOrNone byte → Disjoint (digits r) (cased counts byte)
     → Disjoint signs (cased counts byte) → IsAbsentOrPunctuation r byte
 unfolding IsPunctuation
-IsAbsentOrPunctuation-from r counts byte text digits_apart signs_apart =
-    elim text [
-      | inl none ↦ inl none
-      | inr ascii ↦
-          let some : byte ≢ 0 = λ none. grind (arith, nat_tests) in
-          let small : byte < 256 = grind (arith, nat_tests) in
-          inr (ascii, not_in (digits r) counts byte digits_apart small some, not_in signs counts byte signs_apart small some)
-    ]
+IsAbsentOrPunctuation-from r counts byte text digits_apart signs_apart = grind (arith, nat_tests, not_in, digits, signs)
 
 -- A lawful word satisfies every rule.
 pub Holds-from_lawful : (rule : Rule) (word : ℕ) → Lawful word → Holds rule word
@@ -58,15 +50,7 @@ five_apart : (r : Record) → IsAbsentOrPunctuation r (r.byte layout.digit_separ
     → IsAbsentOrPunctuation r (r.byte layout.base_prefix) → IsAbsentOrPunctuation r (r.byte layout.base_suffix)
     → AreDisjoint (format_roles r) → AreDisjoint (five_roles r)
 unfolding IsPunctuation
-five_apart r separator prefix suffix own = (
-  (Disjoint-digits-signs r, (digits_apart true _ separator, (digits_apart _ _ prefix, (digits_apart _ _ suffix, tt)))),
-  ((signs_apart true _ separator, (signs_apart _ _ prefix, (signs_apart _ _ suffix, tt))), own),
-) where
-  digits_apart : (counts : Bool) (byte : ℕ) → IsAbsentOrPunctuation r byte → Disjoint (digits r) (cased counts byte)
-  digits_apart counts byte free = Disjoint-digits-cased r counts byte (λ some. (present r byte free some).1)
-
-  signs_apart : (counts : Bool) (byte : ℕ) → IsAbsentOrPunctuation r byte → Disjoint signs (cased counts byte)
-  signs_apart counts byte free = Disjoint-signs-cased counts byte (λ some. (present r byte free some).2)
+five_apart r separator prefix suffix own = grind (arith, nat_tests, Disjoint-digits-signs, digits, Disjoint-digits-cased, present, signs, Disjoint-signs-cased)
 
 -- A word that satisfies every rule is lawful.
 pub Lawful-from_all : (word : ℕ) → ((rule : Rule) → Holds rule word) → Lawful word
@@ -94,8 +78,7 @@ unfolding IsErrorOf
 one_error word a b h k = grind arith
 
 -- Words that satisfy the same rules have the same error.
-pub IsErrorOf-same : (v w : ℕ) → ((rule : Rule) → Holds rule v ↔ Holds rule w) → (error : Error) → IsErrorOf v error
-    ↔ IsErrorOf w error
+pub IsErrorOf-same : (v w : ℕ) → ((rule : Rule) → Holds rule v ↔ Holds rule w) → (error : Error) → IsErrorOf v error ↔ IsErrorOf w error
 unfolding IsErrorOf
 IsErrorOf-same v w same error = grind arith
 

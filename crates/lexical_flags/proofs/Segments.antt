@@ -1,6 +1,6 @@
 -- Lemmas on a number as segments that are one above the other, given by their widths from the lowest up.
+use Rattle.std.proofs.Common.{rules, add_assoc, add_comm}
 use Rattle.lexical_flags.proofs.Common.{ℕ, ◌≡◌, ◌+◌, ◌*◌, ◌/◌, ◌%◌, ◌^◌, ◌<◌, List, [], ◌∷◌, refl, ap, sym, ◌∙◌, arith, mul-le-mul_left, pow-add, part}
-use Rattle.std.proofs.Common.{add_assoc, add_comm}
 use Rattle.std.proofs.lemmas.Nat.{shr_high, mod_low, mod-pow-add}
 
 -- `joined s widths values` is the sum of the values, each times the power of two of its segment. The first segment
@@ -38,19 +38,14 @@ joined-multiple s (n ∷ widths) (v ∷ values) =
 -- A value between a number below its bits and a multiple above its bits is the part of the sum at its bits.
 part_between : (s n v low q : ℕ) → low < 2 ^ s → v < 2 ^ n → part (low + (v * 2 ^ s + q * 2 ^ (s + n))) s n ≡ v
 part_between s n v low q l fits =
-    let shape : low + (v * 2 ^ s + q * 2 ^ (s + n)) ≡ (q * 2 ^ n + v) * 2 ^ s + low =
-    rw (pow-add 2 s n) (omega arith) in
-    ap (λ x. part x s n) shape ∙ ap (λ x. x % 2 ^ n) (shr_high (q * 2 ^ n + v) s low l) ∙ mod_low q n v fits
+    ap (λ x. part x s n) (rw (pow-add 2 s n) (omega arith)) ∙ ap (λ x. x % 2 ^ n) (shr_high (q * 2 ^ n + v) s low l) ∙ mod_low q n v fits
 
 -- A number below a segment plus a value that fits the segment is below the next segment.
 below_next : (s n v low : ℕ) → low < 2 ^ s → v < 2 ^ n → low + v * 2 ^ s < 2 ^ (s + n)
-below_next s n v low l fits =
-    let room = mul-le-mul_left (2 ^ s) fits in
-    rw (pow-add 2 s n) (omega arith)
+below_next s n v low l fits = search (rules, mul-le-mul_left, pow-add)
 
 -- The segments of joined values are these values.
-pub segments-joined : (s : ℕ) (widths values : List ℕ) (low : ℕ) → low < 2 ^ s → Fit widths values
-    → segments s widths (low + joined s widths values) ≡ values
+pub segments-joined : (s : ℕ) (widths values : List ℕ) (low : ℕ) → low < 2 ^ s → Fit widths values → segments s widths (low + joined s widths values) ≡ values
 segments-joined s [] [] low l fit = refl
 segments-joined s [] (v ∷ values) low l fit = absurd fit
 segments-joined s (n ∷ widths) [] low l fit = absurd fit
@@ -64,8 +59,7 @@ segments-joined s (n ∷ widths) (v ∷ values) low l fit =
     λ i. here i ∷ rest i
 
 -- The joined segments of a word, plus its bits below them, are the word up to the end of the last segment.
-pub joined-segments : (s : ℕ) (widths : List ℕ) (w : ℕ)
-    → w % 2 ^ s + joined s widths (segments s widths w) ≡ w % 2 ^ top s widths
+pub joined-segments : (s : ℕ) (widths : List ℕ) (w : ℕ) → w % 2 ^ s + joined s widths (segments s widths w) ≡ w % 2 ^ top s widths
 joined-segments s [] w = omega arith
 joined-segments s (n ∷ widths) w =
     let low : w % 2 ^ (s + n) ≡ (w / 2 ^ s % 2 ^ n) * 2 ^ s + w % 2 ^ s = rw (add_comm s n) (mod-pow-add w n s) in
@@ -73,12 +67,8 @@ joined-segments s (n ∷ widths) w =
     omega arith
 
 -- Joined values are below the end of the last segment.
-pub joined-below : (s : ℕ) (widths values : List ℕ) (low : ℕ) → low < 2 ^ s → Fit widths values
-    → low + joined s widths values < 2 ^ top s widths
+pub joined-below : (s : ℕ) (widths values : List ℕ) (low : ℕ) → low < 2 ^ s → Fit widths values → low + joined s widths values < 2 ^ top s widths
 joined-below s [] [] low l fit = omega arith
 joined-below s [] (v ∷ values) low l fit = absurd fit
 joined-below s (n ∷ widths) [] low l fit = absurd fit
-joined-below s (n ∷ widths) (v ∷ values) low l fit =
-    let rest : low + v * 2 ^ s + joined (s + n) widths values < 2 ^ top (s + n) widths =
-    joined-below (s + n) widths values (low + v * 2 ^ s) (below_next s n v low l fit.0) fit.1 in
-    omega arith
+joined-below s (n ∷ widths) (v ∷ values) low l fit = search (rules, joined-below (s + n) widths values (low + v * 2 ^ s) (below_next s n v low l fit.0) fit.1, below_next)

@@ -66,6 +66,7 @@ pub fn layout_facts()
 
 /// States how the error of a word and of its normal form are related, which bits decide whether a word satisfies a
 /// rule, that a word is lawful if and only if it satisfies every rule, and that it has at most one error.
+#[tactic(auto, using(crate::proofs::NormalRules::rule_laws))]
 #[inline(always)]
 pub const fn rule_facts()
     // If `word` is lawful, then so is `normal`, the clean word whose fields are the filled and trimmed fields of

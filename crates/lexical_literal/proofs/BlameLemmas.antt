@@ -143,8 +143,7 @@ module _ (m : Notation) (s : Summary) (g : Group) (front : List ℕ) (read : IsR
   module _ (allowed : goes (bare m) s g next ≡ true) (refused : goes m s g next ≡ false) where
     -- Flags that refuse alone, or else those on leading zeros.
     is_requirement : IsRequirement m front next (raw (requirements m s g next)).flag
-    is_requirement = choose (λ (mask : ℕ). IsRequirement m front next (raw mask).flag)
-        (mask_of (alone m s g next) == 0 && not (some_unmet m s g next)) _ _
+    is_requirement = choose (λ (mask : ℕ). IsRequirement m front next (raw mask).flag) (mask_of (alone m s g next) == 0 && not (some_unmet m s g next)) _ _
         (λ none.
         let both = and_parts (mask_of (alone m s g next) == 0) _ none in
         let no = none_of (alone m s g next) both.0 in
@@ -162,8 +161,7 @@ module _ (m : Notation) (s : Summary) (g : Group) (front : List ℕ) (read : IsR
             }),
             λ is. elim is [ inl refuses ↦ absurd (none_alone f refuses) | inr jointly ↦ jointly.zeros ],
           );
-        }))
-        (λ some. let first = first_of some in as_flags (IsRequirement m front next) (alone m s g next) (record {
+        })) (λ some. let first = first_of some in as_flags (IsRequirement m front next) (alone m s g next) (record {
           refused = not_allowed;
           allowed = is_allowed;
           some = elim first [ inl flag ↦ inl flag | inr c ↦ inr (c.0, (each_unmet c.0).0 c.1) ];
@@ -211,8 +209,7 @@ module _ (m : Notation) (s : Summary) (g : Group) (front : List ℕ) (read : IsR
         (at_next m f s byte separates (sym (goes_free m (bare m).flag s g (Some byte)) ∙ none)
         (sym (goes_free m (adding f (bare m)).flag s g (Some byte)) ∙ allowed))
 
-    found : (f : Flag) → separators m s g (Some byte) f ≡ true
-        → (is_one_of number_separator_flags f ≡ true) × (goes (adding f (bare m)) s g (Some byte) ≡ true)
+    found : (f : Flag) → separators m s g (Some byte) f ≡ true → (is_one_of number_separator_flags f ≡ true) × (goes (adding f (bare m)) s g (Some byte) ≡ true)
     found f is = and_parts (is_one_of number_separator_flags f) _ (and_parts (is_at_gap m s (Some byte)) _ is).1
 
     permits : (f : Flag) → IsTrue (separators m s g (Some byte) f) ↔ Permits m front byte f
@@ -240,18 +237,15 @@ module _ (m : Notation) (s : Summary) (g : Group) (front : List ℕ) (read : IsR
     is_wrong : IsCause m front (Some byte) (otherwise m s g (Some byte)).kind (raw (otherwise m s g (Some byte)).mask).flag
     is_wrong = choose (λ (b : Blame). IsCause m front (Some byte) b.kind (raw b.mask).flag) (mask_of (separators m s g (Some byte)) == 0) _ _
         (λ zero. choose (λ (kind : ReadErrorKind). IsCause m front (Some byte) kind (raw (mask_of (cases m s g byte))).flag)
-        (mask_of (cases m s g byte) == 0) _ _
-        (λ no_cases. record {
+        (mask_of (cases m s g byte) == 0) _ _ (λ no_cases. record {
           refused = not_allowed;
           no_separator = no_flag _ permits zero;
           no_case = no_flag _ is_case no_cases;
           none = λ f. mask_flags (cases m s g byte) f ∙ none_of (cases m s g byte) no_cases f;
-        })
-        (λ some. as_flags (IsCause m front (Some byte) causes.Case) (cases m s g byte)
+        }) (λ some. as_flags (IsCause m front (Some byte) causes.Case) (cases m s g byte)
         (record { refused = not_allowed; no_separator = no_flag _ permits zero; some = some_of _ some; each = is_case })))
         (λ some. as_flags (IsCause m front (Some byte) (causes.Separator (part_of s.stage) (place_of m (part_of s.stage) s.stage s.gap (role_at m
-        (part_of s.stage) byte))))
-        (separators m s g (Some byte)) (record { refused = not_allowed; some = some_of _ some; each = permits; at = at }))
+        (part_of s.stage) byte)))) (separators m s g (Some byte)) (record { refused = not_allowed; some = some_of _ some; each = permits; at = at }))
 
   is_otherwise : (next : Option ℕ) → goes (bare m) s g next ≡ false → IsCause m front next (otherwise m s g next).kind (raw (otherwise m s g next).mask).flag
   is_otherwise x0 none = grind (arith, bare_weaker, goes_free, flag_zero, is_wrong)
@@ -287,8 +281,7 @@ module _ (g : Grammar) (text : List ℕ) (s : Summary) (separated : Bool) (tail 
   last = group_at (spot None)
 
   pub refusal_at : IsValidUpTo n text size → IsReadOf n s last (take size text) → goes n s last (slice_get text size) ≡ false
-      → (next : Option ℕ) → next ≡ slice_get text size → tail ≡ tail_of text size
-      → IsRefusal n text (refusal_of n (spot next))
+      → (next : Option ℕ) → next ≡ slice_get text size → tail ≡ tail_of text size → IsRefusal n text (refusal_of n (spot next))
   refusal_at valid read refused next is_next is_tail =
       let b = blame n s last next in
       let C = unmet n s last next in

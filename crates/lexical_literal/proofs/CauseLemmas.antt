@@ -80,8 +80,7 @@ pub separators_mask : (f : Flag) → (raw SEPARATORS).flag f ≡ is_one_of numbe
 separators_mask x0 = grind arith
 
 -- The flags of a word without requirements.
-pub bare_flags : (word : ℕ) (f : Flag)
-    → (raw (bit_and word (bit_not w128 REQUIREMENTS))).flag f ≡ ((raw word).flag f && not (is_one_of requirement_flags f))
+pub bare_flags : (word : ℕ) (f : Flag) → (raw (bit_and word (bit_not w128 REQUIREMENTS))).flag f ≡ ((raw word).flag f && not (is_one_of requirement_flags f))
 bare_flags word f = grind (arith, flag_and, flag_not)
 
 -- Two sets of flags that have the same flags have the same mask.
@@ -105,8 +104,7 @@ only_none = refl
 -- A mask without the bits that are not those of flags.
 pub masked : (mask : ℕ) (P : Flag → Bool) → ((f : Flag) → (raw mask).flag f ≡ P f) → bit_and mask FLAG_MASK ≡ mask_of P
 unfolding bits_of
-masked mask P each = bits_by_mask mask FLAG_MASK layout.flags refl refl
-    ∙ (λ j. sum_by (λ f. if each f j then 2 ^ bit f else 0) layout.flags) ∙ mask_sum P
+masked mask P each = bits_by_mask mask FLAG_MASK layout.flags refl refl ∙ (λ j. sum_by (λ f. if each f j then 2 ^ bit f else 0) layout.flags) ∙ mask_sum P
 
 -- A mask whose other bits a mask of flags clears.
 pub masked_by : (mask list : ℕ) (P : Flag → Bool) → bit_and list FLAG_MASK ≡ list → ((f : Flag) → (raw (bit_and mask list)).flag f ≡ P f)

@@ -1,4 +1,5 @@
 -- The texts that are accepted with the conditions of a notation are its literals.
+use Rattle.std.proofs.Common.{rules}
 use Rattle.lexical_literal.proofs.Common.{Bool, ByteSet, Condition, Cuts, HasLengths, HasRoles, IsLiteral, IsSpelled, List, Literal, None, Notation, Option}
 use Rattle.lexical_literal.proofs.Common.{Part, Piece, Reads, Role, Some, Stage, Summary, [], add, admits, after, and_from, and_parts, ap, arith}
 use Rattle.lexical_literal.proofs.Common.{awaits_integer, cases_Bool, condition, count, digits_piece, eqb-true, false, false≢true, has_sizes, if◌then◌else◌}
@@ -145,8 +146,7 @@ module _ (m : Notation) (h : HasRoles m) where
       let l = found.0 in
       let spelled = found.2 in
       let lengths = has_lengths l in
-      let tallied : tally_by O m (Some start) no_cuts text ≡ all_cuts l =
-      ap (tally_by O m (Some start) no_cuts) found.1 ∙ (spelled_arrives m h l spelled).1 in
+      let tallied : tally_by O m (Some start) no_cuts text ≡ all_cuts l = ap (tally_by O m (Some start) no_cuts) found.1 ∙ (spelled_arrives m h l spelled).1 in
       let met = subst Meets tallied (meets start no_cuts text (record { prefix = λ set. refl; suffix = refl }) is) in
       (l, record { whole = found.1; literal = record { spelled = spelled; conditions = each l text found.1 spelled is lengths met } }) where
         first : (l : Literal) (text : List ℕ) → text ≡ text_of l → IsSpelled m l → Accepts C m (Some start) text → HasLengths l (all_cuts l)
@@ -158,12 +158,9 @@ module _ (m : Notation) (h : HasRoles m) where
 
         each : (l : Literal) (text : List ℕ) → text ≡ text_of l → IsSpelled m l → Accepts C m (Some start) text → HasLengths l (all_cuts l)
             → Meets (all_cuts l) → (c : Condition) → C c ≡ true → condition c m l ≡ true
-        each l text whole spelled is lengths met conditions.BasePrefix set =
-            sym (some_bytes l.prefix) ∙ ap (nat_lt 0) lengths.prefix ∙ met.0 set
-        each l text whole spelled is lengths met conditions.BaseSuffix set =
-            sym (some_bytes l.suffix) ∙ ap (nat_lt 0) (sym (suffix_length l)) ∙ met.1 set
-        each l text whole spelled is lengths met conditions.NegativeSign set =
-            positive l.sign _ spelled.sign set (subst (Accepts C m (Some start)) whole is)
+        each l text whole spelled is lengths met conditions.BasePrefix set = sym (some_bytes l.prefix) ∙ ap (nat_lt 0) lengths.prefix ∙ met.0 set
+        each l text whole spelled is lengths met conditions.BaseSuffix set = sym (some_bytes l.suffix) ∙ ap (nat_lt 0) (sym (suffix_length l)) ∙ met.1 set
+        each l text whole spelled is lengths met conditions.NegativeSign set = positive l.sign _ spelled.sign set (subst (Accepts C m (Some start)) whole is)
         each l text whole spelled is lengths met conditions.HigherGroupSize set = refl
         each l text whole spelled is lengths met conditions.LeadingZero set =
             begins_zero (text_of (record l { sign = [] })) set (first l text whole spelled is lengths (or_left _ _ set))
@@ -183,11 +180,7 @@ module _ (m : Notation) (h : HasRoles m) where
   calm_admits s b x2 calm taken = grind arith
 
   calm_after : (s : Summary) (zero : Bool) (r : Role) → Calm s → Calm (after s zero r)
-  calm_after s zero r calm = record {
-    prefix = let a = calm.prefix in grind arith;
-    sign = let b = calm.sign in grind arith;
-    first = let b = calm.first in grind arith;
-  }
+  calm_after s zero r calm = search rules
 
   peel : (s : Summary) (b : ℕ) (c : Cuts) (text : List ℕ) (d : Cuts) → Arrives O m (Some s) c (b ∷ text) d
       → Took O m s b (λ o. Arrives O m o (count (part_of s.stage) (role_at m (part_of s.stage) b) c) text d)
@@ -214,10 +207,8 @@ module _ (m : Notation) (h : HasRoles m) where
         (shown s c (b == 48) t.role t.going suffix) more)
 
     -- One byte whose role is known, and what follows it.
-    one_byte : (s : Summary) (b : ℕ) (r : Role) (c e : Cuts) (text : List ℕ) → count (part_of s.stage) (Some r) c ≡ e
-        → role_at m (part_of s.stage) b ≡ Some r
-        → admits C s b r ≡ true
-        → (Arrives O m (Some (after s (b == 48) r)) e text d → Arrives C m (Some (after s (b == 48) r)) e text d)
+    one_byte : (s : Summary) (b : ℕ) (r : Role) (c e : Cuts) (text : List ℕ) → count (part_of s.stage) (Some r) c ≡ e → role_at m (part_of s.stage) b ≡ Some r
+        → admits C s b r ≡ true → (Arrives O m (Some (after s (b == 48) r)) e text d → Arrives C m (Some (after s (b == 48) r)) e text d)
         → Arrives O m (Some s) c (b ∷ text) d → Arrives C m (Some s) c (b ∷ text) d
     one_byte s b r c e text counts role admitted more is =
         let t = peel s b c text d is in
@@ -293,17 +284,14 @@ module _ (m : Notation) (h : HasRoles m) where
           (digit_role m (part_of stage) 48 (h.zero_is_digit (part_of stage))) (grind arith)
           (λ more. subst (λ s. Arrives C m (Some s) (add c pieces.Integer) (b ∷ rest) d) (sym bare)
           (one_byte (reading stages.Bare false) b roles.Prefix (add c pieces.Integer) _ rest refl
-          (is_role m parts.Integer b h roles.Prefix (λ e. cc) both.1) (grind arith)
-          (λ more. lift (reading stages.Prefixed false) _ rest
+          (is_role m parts.Integer b h roles.Prefix (λ e. cc) both.1) (grind arith) (λ more. lift (reading stages.Prefixed false) _ rest
           (record { prefix = grind arith; sign = grind arith; first = grind arith }) suffix more)
-          (subst (λ s. Arrives O m (Some s) (add c pieces.Integer) (b ∷ rest) d) bare more)))
-          (subst (λ z. Arrives O m (Some s) c (z ∷ b ∷ rest) d) zero is))
+          (subst (λ s. Arrives O m (Some s) (add c pieces.Integer) (b ∷ rest) d) bare more))) (subst (λ z. Arrives O m (Some s) c (z ∷ b ∷ rest) d) zero is))
       prefixed stage c _ set begin suffix one some is = absurd (grind arith)
 
       begun : (stage : Stage) (c : Cuts) → awaits_integer stage ≡ true → nat_lt 0 (c pieces.Suffix) ≡ false → (is_fresh stage ≡ true
           → nat_lt 0 (d pieces.Sign) ≡ false) → (needs_first m ≡ true → begins_with fits_first (prefix ++ rest) ≡ true)
-          → Arrives O m (Some (reading stage false)) c (prefix ++ rest) d
-          → Arrives C m (Some (reading stage false)) c (prefix ++ rest) d
+          → Arrives O m (Some (reading stage false)) c (prefix ++ rest) d → Arrives C m (Some (reading stage false)) c (prefix ++ rest) d
       begun stage c begin suffix unsigned first is = elim (cases_Bool (C conditions.BasePrefix)) [
         | inl set ↦ prefixed stage c prefix set begin suffix is_prefix (has_prefix set) is
         | inr none ↦ first_byte stage c (prefix ++ rest) none begin suffix unsigned first is
@@ -314,8 +302,7 @@ module _ (m : Notation) (h : HasRoles m) where
           → Arrives O m (Some start) no_cuts (sign ++ (prefix ++ rest)) d → Arrives C m (Some start) no_cuts (sign ++ (prefix ++ rest)) d
       signed [] one plus count first is = begun stages.Start no_cuts refl refl (λ fresh. count) first is
       signed (b ∷ []) one plus count first is =
-          one_byte start b roles.Sign no_cuts _ (prefix ++ rest) refl (is_role m parts.Integer b h roles.Sign (λ e. cc) one) (let need =
-          plus in grind arith)
+          one_byte start b roles.Sign no_cuts _ (prefix ++ rest) refl (is_role m parts.Integer b h roles.Sign (λ e. cc) one) (let need = plus in grind arith)
           (begun stages.Empty (add no_cuts pieces.Sign) refl refl (λ fresh. absurd (false≢true fresh)) first) is
       signed (b ∷ x ∷ sign) one plus count first is = absurd (false≢true one)
 

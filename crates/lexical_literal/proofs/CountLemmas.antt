@@ -9,6 +9,5 @@ count_more (a ∷ b ∷ c ∷ d ∷ e ∷ f ∷ g ∷ h ∷ i ∷ []) nine piece
 count_more counts nine piece n = absurd (omega (arith, nine))
 
 -- A base prefix behind a sign.
-pub count_prefix : (sign : ℕ) (other : Piece)
-    → with_prefix (cuts_of (integer_counts sign 0 0)) other ≡ cuts_of (integer_counts sign 2 0) other
+pub count_prefix : (sign : ℕ) (other : Piece) → with_prefix (cuts_of (integer_counts sign 0 0)) other ≡ cuts_of (integer_counts sign 2 0) other
 count_prefix sign x1 = grind arith

@@ -42,8 +42,7 @@ module _ (m : Notation) where
   unprefixed part stage gap sign prefix text bare new found = grind arith
 
   plain : (part : Part) (stage : Stage) (gap : Bool) (text : List ℕ) → is_fresh stage ≡ false → is_bare stage ≡ false
-      → (awaits_integer stage && not gap) ≡ false
-      → Cut m part stage gap text → Found m part stage gap [] [] text
+      → (awaits_integer stage && not gap) ≡ false → Cut m part stage gap text → Found m part stage gap [] [] text
   plain part stage gap text over bare new cut = unprefixed part stage gap [] cut.prefix text bare new (unsigned part stage gap text over cut)
 
   module _ (part : Part) (stage : Stage) (gap : Bool) (text : List ℕ) where
@@ -78,8 +77,7 @@ module _ (m : Notation) where
         → Cut m part (after_digit stage gap (b == 48)) false text → Cut m part stage gap (b ∷ text)
     digit_first digit signed fits cut = go cut.prefix (unsigned part (after_digit stage gap (b == 48)) false text (grind arith) cut) where
       go : (prefix : List ℕ) → Found m part (after_digit stage gap (b == 48)) false [] prefix text → Cut m part stage gap (b ∷ text)
-      go [] found = longer (after_digit stage gap (b == 48)) false true digit signed
-          (λ run is. grind arith) (λ run. refl) found
+      go [] found = longer (after_digit stage gap (b == 48)) false true digit signed (λ run is. grind arith) (λ run. refl) found
       go (x ∷ []) found = cut_at part stage gap (b ∷ text) [] (b ∷ x ∷ []) found.digits found.more (ap (λ t. b ∷ t) found.whole)
           (grind arith) (let prefixed = found.prefixed in grind arith) found.run found.end
       go (z ∷ x ∷ more) found = absurd (let prefixed = found.prefixed in grind arith)
@@ -119,8 +117,7 @@ module _ (m : Notation) where
 
   -- An exponent character in front.
   exponent_first : (part : Part) (stage : Stage) (gap : Bool) (b : ℕ) (text : List ℕ) → m.exponent_character b ≡ true
-      → (ends m part stage gap && continues m part stage roles.Exponent) ≡ true
-      → Cut m parts.Exponent stages.Mark false text → Cut m part stage gap (b ∷ text)
+      → (ends m part stage gap && continues m part stage roles.Exponent) ≡ true → Cut m parts.Exponent stages.Mark false text → Cut m part stage gap (b ∷ text)
   exponent_first parts.Exponent stage gap b text character is cut = absurd (grind arith)
   exponent_first part stage gap b text character is cut =
       let both = and_parts _ (continues m part stage roles.Exponent) is in
@@ -149,8 +146,7 @@ module _ (m : Notation) where
               → ((stage : Stage) (gap : Bool) → Accepts C m (Some (reading stage gap)) text → Cut m (part_of stage) stage gap text)
               → Cut m part stage gap (b ∷ text)
           go roles.Digit role taken is cut = let all = and_parts (is_signed m part stage) _ taken in
-              digit_first part stage gap b text (as_digit m part b role) all.0
-              (and_parts (gap_fits m part (has_digit stage) gap true) _ all.1).0
+              digit_first part stage gap b text (as_digit m part b role) all.0 (and_parts (gap_fits m part (has_digit stage) gap true) _ all.1).0
               (subst (λ part. Cut m part (after_digit stage gap (b == 48)) false text) (digit_part stage gap (b == 48)) (cut (after_digit stage gap
               (b == 48)) false is))
           go roles.Separator role taken is cut = let all = and_parts (is_signed m part stage) _ taken in

@@ -46,8 +46,7 @@ module _ (m : Notation) (ready : IsReady (unsized m)) (sizes : HasSizes m) (fron
         (l.0, as_sized m h sizes l.0 front l.1 (ap (ends m) grouped ∙ both.1)),
     λ l.
         let both = as_unsized m h sizes l.0 front l.1 in
-        and_from _ _ (sym (ap (is_accepted u) read) ∙ rw (l.1.whole) (literal_arrives u ready.roles l.0 both.0.literal).0)
-        (sym (ap (ends m) grouped) ∙ both.1),
+        and_from _ _ (sym (ap (is_accepted u) read) ∙ rw (l.1.whole) (literal_arrives u ready.roles l.0 both.0.literal).0) (sym (ap (ends m) grouped) ∙ both.1),
   )
   decides_there (Some b) = (
     λ is.

@@ -12,8 +12,7 @@ asks_nothing m = not (list_any m.flag requirement_flags) && not (list_any m.cond
 
 -- The tests of the spelling of each part of `l`, and of the parts that go together.
 abbrev tests : Notation → Literal → List Bool
-tests m l =
-    is_none_or_one signs l.sign ∷ is_none_or_prefix m.prefix l.prefix ∷ is_run m parts.Integer l.integer ∷ is_none_or_one m.point l.point ∷
+tests m l = is_none_or_one signs l.sign ∷ is_none_or_prefix m.prefix l.prefix ∷ is_run m parts.Integer l.integer ∷ is_none_or_one m.point l.point ∷
     is_run m parts.Fraction l.fraction ∷ is_none_or_one m.exponent_character l.exponent_character ∷ is_none_or_one signs l.exponent_sign ∷
     is_run m parts.Exponent l.exponent ∷ is_none_or_one m.suffix l.suffix ∷ implies (is_absent l.point) (is_absent l.fraction) ∷
     implies (is_absent l.exponent_character) (is_absent l.exponent_sign && is_absent l.exponent) ∷ (is_present l.integer || is_float l) ∷ []

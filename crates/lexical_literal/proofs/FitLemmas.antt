@@ -1,4 +1,5 @@
 -- What some literal of a notation with sizes of groups begins with: what one without begins with, if its groups fit byte by byte.
+use Rattle.std.proofs.Common.{rules}
 use Rattle.lexical_literal.proofs.Common.{Bool, Group, HasRoles, HasSizes, IsFront, IsReady, List, Literal, None, Notation, Option, Part, Reads, Role, Some}
 use Rattle.lexical_literal.proofs.Common.{Stage, Summary, [], admits, after, after_mark, and_from, and_parts, ap, append_assoc, arith, cases_Bool, false}
 use Rattle.lexical_literal.proofs.Common.{false≢true, first_group, follows, gap_fits, group_after, group_allows, grow, grown, has_digit, has_size, has_sizes}
@@ -81,11 +82,7 @@ module _ (m : Notation) where
 
   behind_digits : (part : Part) (stage : Stage) (gap : Bool) → has_size m part ≡ true → takes_in u part stage gap false roles.Separator ≡ true
       → has_digit stage ≡ true
-  behind_digits part stage gap sized taken = go (has_digit stage) (may_follow u stage) (no_empty part sized).0
-      (and_parts _ (is_open u part (has_digit stage) (may_follow u stage)) (and_parts (is_signed u part stage) _ taken).1).1 where
-        go : (digit next : Bool) → u.flag (separators_in part).leading ≡ false → is_open u part digit next ≡ true → digit ≡ true
-        go true next none is = refl
-        go false next none is = absurd (false≢true (sym (rw (none) refl) ∙ is))
+  behind_digits part stage gap sized taken = search (rules, has_digit, may_follow, no_empty, and_parts, is_open, is_signed, separators_in, false≢true)
 
   linked_after : (s : Summary) (g : Group) (plus naught : Bool) (r : Role) → Linked s g → s.ended ≡ false → takes u s plus r ≡ true
       → group_allows m g (Some r) ≡ true → Linked (after s naught r) (grown g (Some r))
@@ -171,8 +168,7 @@ module _ (m : Notation) where
 
       follow : may_follow u s.stage ≡ true
       follow = elim (cases_Bool s.gap) [
-        | inl gap ↦ next (has_digit s.stage) (may_follow u s.stage) opened.digit
-            (no_empty (part_of s.stage) (ap (has_size m) (sym linked.part) ∙ is.sized)).1
+        | inl gap ↦ next (has_digit s.stage) (may_follow u s.stage) opened.digit (no_empty (part_of s.stage) (ap (has_size m) (sym linked.part) ∙ is.sized)).1
             (rw (gap) at (goes_on_there u ready text s is.read).closes)
         | inr closed ↦ follow_run s.stage (opened.run closed)
       ] where
@@ -252,10 +248,8 @@ module _ (m : Notation) where
           (grown full (Some roles.Separator)) (separator_more x t full more ((opened x t full more).gap ∙ some) fit) (same ∙ part) (grind (arith, nat_tests))))
     ] where
       last : (text : List ℕ) (s : Summary) (g : Group) → Filling text s g → g.part ≡ parts.Integer
-          → nat_le g.digits (m.number conditions.IntegerGroupSize) ≡ true
-          → Closable text
-      last text s g is part low =
-          zeros (m.number conditions.IntegerGroupSize - g.digits) text s g is
+          → nat_le g.digits (m.number conditions.IntegerGroupSize) ≡ true → Closable text
+      last text s g is part low = zeros (m.number conditions.IntegerGroupSize - g.digits) text s g is
           (subst (λ part. g.digits + (m.number conditions.IntegerGroupSize - g.digits) ≤ most m part) (sym part) (grind (arith, nat_tests)))
           (λ x t full more same count. close x t full more (subst (λ part. last_fits m part full.digits ≡ true) (sym (same ∙ part)) (grind (arith, nat_tests))))
 

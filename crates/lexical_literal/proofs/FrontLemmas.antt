@@ -111,8 +111,7 @@ module _ (m : Notation) where
       digit_completed : is_settled stage ≡ true → is_signed m (part_of stage) stage ≡ true → CanGoOn m (reading stage gap) → Finishes (part_of stage)
           → Completed (reading stage gap)
       digit_completed settled signed can finishes = elim (closed (part_of stage) (has_digit stage) gap (may_follow m stage) can.closes) [
-        | inl here ↦ (finishes stage gap refl settled here.0
-            (and_from _ _ signed (and_from _ _ here.1 (enough (part_of stage) stage here.0))) can.led).0
+        | inl here ↦ (finishes stage gap refl settled here.0 (and_from _ _ signed (and_from _ _ here.1 (enough (part_of stage) stage here.0))) can.led).0
         | inr more ↦
             then_byte (reading stage gap) 48 roles.Digit refl (digit_role m (part_of stage) 48 (ready.roles.zero_is_digit (part_of stage))) (λ e. cc)
             (and_from _ _ signed (and_from _ _ more.0 (let may = more.1 in grind arith))) (grind arith)
@@ -124,38 +123,32 @@ module _ (m : Notation) where
       -- A sign first, or none where none is needed.
       signed_completed : is_fresh stage ≡ true → Completed (reading (after_mark stage) gap)
           → (is_signed m (part_of stage) stage ≡ true → Completed (reading stage gap)) → Completed (reading stage gap)
-      signed_completed fresh behind unsigned =
-          elim (cases_Bool (C conditions.NegativeSign && is_negative (part_of stage) false roles.Sign)) [
-            | inl forbidden ↦ elim (cases_Bool (is_signed m (part_of stage) stage)) [
-              | inl signed ↦ unsigned signed
-              | inr needs ↦ then_byte (reading stage gap) 43 roles.Sign refl (is_role m (part_of stage) 43 ready.roles roles.Sign (λ e. cc) refl) (λ e. cc)
-                  (plus (part_of stage) forbidden needs) (grind arith) behind
-            ]
-            | inr may ↦ then_byte (reading stage gap) 45 roles.Sign refl (is_role m (part_of stage) 45 ready.roles roles.Sign (λ e. cc) refl) (λ e. cc)
-                (and_from _ _ fresh (minus (part_of stage))) (grind arith) behind
-          ] where
-            plus : (part : Part) → (C conditions.NegativeSign && is_negative part false roles.Sign) ≡ true → is_signed m part stage ≡ false
-                → takes_in m part stage gap true roles.Sign ≡ true
-            plus parts.Exponent forbidden needs = absurd (grind arith)
-            plus _ forbidden needs = let some = ready.some_sign in grind arith
+      signed_completed fresh behind unsigned = elim (cases_Bool (C conditions.NegativeSign && is_negative (part_of stage) false roles.Sign)) [
+        | inl forbidden ↦ elim (cases_Bool (is_signed m (part_of stage) stage)) [
+          | inl signed ↦ unsigned signed
+          | inr needs ↦ then_byte (reading stage gap) 43 roles.Sign refl (is_role m (part_of stage) 43 ready.roles roles.Sign (λ e. cc) refl) (λ e. cc)
+              (plus (part_of stage) forbidden needs) (grind arith) behind
+        ]
+        | inr may ↦ then_byte (reading stage gap) 45 roles.Sign refl (is_role m (part_of stage) 45 ready.roles roles.Sign (λ e. cc) refl) (λ e. cc)
+            (and_from _ _ fresh (minus (part_of stage))) (grind arith) behind
+      ] where
+        plus : (part : Part) → (C conditions.NegativeSign && is_negative part false roles.Sign) ≡ true → is_signed m part stage ≡ false
+            → takes_in m part stage gap true roles.Sign ≡ true
+        plus parts.Exponent forbidden needs = absurd (grind arith)
+        plus _ forbidden needs = let some = ready.some_sign in grind arith
 
-            minus : (part : Part) → implies (forbids_plus m part) true ≡ true
-            minus part = grind arith
+        minus : (part : Part) → implies (forbids_plus m part) true ≡ true
+        minus part = grind arith
 
     part_completed : (stage : Stage) (gap : Bool) → is_settled stage ≡ true → CanGoOn m (reading stage gap) → Finishes (part_of stage)
         → Completed (reading stage gap)
     part_completed stage gap settled can finishes = elim (cases_Bool (is_fresh stage)) [
-      | inl fresh ↦ signed_completed stage gap fresh
-          (digit_completed (after_mark stage) gap (grind arith) (grind arith)
-          (record {
-            closes = let closes = can.closes in subst (λ part. implies gap (is_open m part (has_digit (after_mark stage)) (may_follow m
-                (after_mark stage))) ≡ true)
-                (sym (mark_part stage)) (grind arith);
-            led = grind arith;
-            prefixed = grind arith;
-          })
-          (subst Finishes (sym (mark_part stage)) finishes))
-          (λ signed. digit_completed stage gap settled signed can finishes)
+      | inl fresh ↦ signed_completed stage gap fresh (digit_completed (after_mark stage) gap (grind arith) (grind arith) (record {
+        closes = let closes = can.closes in subst (λ part. implies gap (is_open m part (has_digit (after_mark stage)) (may_follow m
+            (after_mark stage))) ≡ true) (sym (mark_part stage)) (grind arith);
+        led = grind arith;
+        prefixed = grind arith;
+      }) (subst Finishes (sym (mark_part stage)) finishes)) (λ signed. digit_completed stage gap settled signed can finishes)
       | inr over ↦ digit_completed stage gap settled (grind arith) can finishes
     ]
 
@@ -168,8 +161,7 @@ module _ (m : Notation) where
           let agree = ready.agree in
           then_end (reading stage gap) ready.exponent roles.Exponent refl
           (is_role m (part_of stage) ready.exponent ready.roles roles.Exponent (λ e. cc) (ready.has_exponent (grind arith))) (λ e. cc) (λ e. cc)
-          (subst (λ part. (ends m part stage gap && continues m part stage roles.Exponent) ≡ true) (sym at) (and_from _ _ end (grind arith)))
-          (grind arith)
+          (subst (λ part. (ends m part stage gap && continues m part stage roles.Exponent) ≡ true) (sym at) (and_from _ _ end (grind arith))) (grind arith)
           (part_completed stages.Mark false (grind arith) (record { closes = refl; led = refl; prefixed = grind arith }) exponent_finishes)
       | inr none ↦ stopped stage gap settled parts.Fraction at (and_from _ _ end (ap not none))
     ]
@@ -180,16 +172,14 @@ module _ (m : Notation) where
       | inr point ↦
           then_end (reading stage gap) ready.point roles.Point refl
           (is_role m (part_of stage) ready.point ready.roles roles.Point (λ e. cc) (ready.has_point (grind arith))) (λ e. cc) (λ e. cc)
-          (subst (λ part. (ends m part stage gap && continues m part stage roles.Point) ≡ true) (sym at) (and_from _ _ end (grind arith)))
-          (grind arith)
+          (subst (λ part. (ends m part stage gap && continues m part stage roles.Point) ≡ true) (sym at) (and_from _ _ end (grind arith))) (grind arith)
           (part_completed (after_point (has_digit stage)) false (grind arith) (record { closes = refl; led = grind arith; prefixed = grind arith })
           (subst Finishes (sym (point_part (has_digit stage))) fraction_finishes))
     ]
 
     -- The prefix that is required, and a digit.
     bare_completed : C conditions.BasePrefix ≡ true → Completed (reading stages.Bare false)
-    bare_completed set =
-        then_byte (reading stages.Bare false) ready.prefix roles.Prefix refl
+    bare_completed set = then_byte (reading stages.Bare false) ready.prefix roles.Prefix refl
         (is_role m parts.Integer ready.prefix ready.roles roles.Prefix (λ e. cc) (ready.has_prefix set)) (λ e. cc) refl (grind arith)
         (digit_completed stages.Prefixed false (grind arith) refl (record { closes = refl; led = refl; prefixed = grind arith }) integer_finishes)
 

@@ -15,8 +15,7 @@ group part separated digits = record { part = part; separated = separated; digit
 -- `run_fits m g run` is true if the bytes of `run` may follow the group `g`, and the part may end behind them.
 abbrev pub run_fits : Notation → Group → List ℕ → Bool
 run_fits m g [] = follows m g None
-run_fits m g (b ∷ run) =
-    if m.separator b
+run_fits m g (b ∷ run) = if m.separator b
     then follows m g (Some roles.Separator) && run_fits m (grown g (Some roles.Separator)) run
     else follows m g (Some roles.Digit) && run_fits m (grown g (Some roles.Digit)) run
 
@@ -110,8 +109,7 @@ module _ (m : Notation) (h : HasRoles m) (part : Part) (sizes : HasSizes m) (siz
   before x0 digits fit = grind arith
 
   pub tighter : (separated : Bool) (digits : ℕ) (run : List ℕ) → run_fits m (group part separated digits) run ≡ true
-      → is_rest m part (seen separated digits) (gap separated digits) run ≡ true
-      → is_rest n part (seen separated digits) (gap separated digits) run ≡ true
+      → is_rest m part (seen separated digits) (gap separated digits) run ≡ true → is_rest n part (seen separated digits) (gap separated digits) run ≡ true
   tighter separated digits [] fit is = let none = at_end separated digits fit in rw (none) refl
   tighter separated digits (b ∷ run) fit is = elim (cases_Bool (m.digit part b)) [
     | inl digit ↦

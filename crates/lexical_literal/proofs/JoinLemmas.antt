@@ -1,7 +1,7 @@
 -- What has been read where one part ends and the next one begins.
-use Rattle.lexical_literal.proofs.Common.{HasRoles, IsAt, IsBegun, IsOpened, IsReadOn, List, Notation, Piece, Reading, Stage, Stopped, after_point, ap}
-use Rattle.lexical_literal.proofs.Common.{arith, at_stage, awaits_integer, counts_of, cuts_of, false, get_or, has_digit, integer_counts, is_free}
-use Rattle.lexical_literal.proofs.Common.{length, part_of, piece_number, refl, set, subst, takes, true, ℕ, ◌+◌, ◌-◌, ◌<◌, ◌∙◌, ◌≡◌}
+use Rattle.lexical_literal.proofs.Common.{HasRoles, IsAt, IsBegun, IsOpened, IsReadOn, List, Notation, Piece, Reading, Stage, Stopped, after_point, ap, arith}
+use Rattle.lexical_literal.proofs.Common.{at_stage, awaits_integer, counts_of, cuts_of, false, get_or, has_digit, integer_counts, is_free, length, part_of}
+use Rattle.lexical_literal.proofs.Common.{piece_number, refl, set, subst, takes, true, ℕ, ◌+◌, ◌-◌, ◌<◌, ◌∙◌, ◌≡◌}
 use Rattle.lexical_literal.specs.Additions.Scan.{IsSign, behind_sign, has_first}
 use Rattle.lexical_util.specs.declared.feature_format.roles.Role.TheVariants as roles
 use Rattle.lexical_util.specs.declared.format_flags.Part.TheVariants as parts
@@ -57,8 +57,7 @@ module _ (m : Notation) (text : List ℕ) where
   pub integer_at : (sign prefix : ℕ) (first : Stage) → IsOpened m text sign prefix first → (size : ℕ) (stage : Stage)
       → IsReadOn m text (at_stage (sign + prefix) first) pieces.Integer (at_stage size stage)
       → IsAt m text (at_stage size stage) (cuts_of (integer_counts sign prefix (size - (sign + prefix))))
-  integer_at sign prefix first is size stage on =
-      at_more _ _ pieces.Integer (integer_counts sign prefix 0) (size - (sign + prefix)) refl refl refl on is.at
+  integer_at sign prefix first is size stage on = at_more _ _ pieces.Integer (integer_counts sign prefix 0) (size - (sign + prefix)) refl refl refl on is.at
 
   -- The digits of the fraction.
   pub fraction_at : (s : Reading) (from size : ℕ) (first stage : Stage) → s.fraction ≡ 0 → IsAt m text (at_stage from first) (cuts_of (counts_of s 0 0 0 0))
@@ -68,11 +67,9 @@ module _ (m : Notation) (text : List ℕ) where
 
   -- The sign and the digits of the exponent.
   pub exponent_at : (s : Reading) (size sign end : ℕ) (stage : Stage) → IsAt m text (at_stage size stages.Mark) (cuts_of (counts_of s 1 0 0 0))
-      → IsSign m text parts.Exponent size sign
-      → IsReadOn m text (at_stage (size + sign) (behind_sign parts.Exponent sign)) pieces.Exponent (at_stage end stage)
+      → IsSign m text parts.Exponent size sign → IsReadOn m text (at_stage (size + sign) (behind_sign parts.Exponent sign)) pieces.Exponent (at_stage end stage)
       → IsAt m text (at_stage end stage) (cuts_of (counts_of s 1 sign (end - (size + sign)) 0))
-  exponent_at s size sign end stage is signed on =
-      at_more _ _ pieces.Exponent (counts_of s 1 sign 0 0) (end - (size + sign)) refl refl refl on
+  exponent_at s size sign end stage is signed on = at_more _ _ pieces.Exponent (counts_of s 1 sign 0 0) (end - (size + sign)) refl refl refl on
       (at_more (at_stage size stages.Mark) _ pieces.ExponentSign (counts_of s 1 0 0 0) sign (omega arith) refl refl signed.on is)
 
   module _ (h : HasRoles m) where
@@ -90,8 +87,7 @@ module _ (m : Notation) (text : List ℕ) where
     -- The exponent character.
     pub mark_at : (s : Reading) (size : ℕ) (stage : Stage) → size < length text → m.exponent_character (get_or text size 0) ≡ true
         → takes m (at_stage size stage).read false roles.Exponent ≡ true → is_free m stage ≡ true
-        → IsAt m text (at_stage size stage) (cuts_of (counts_of s 0 0 0 0))
-        → IsAt m text (at_stage (size + 1) stages.Mark) (cuts_of (counts_of s 1 0 0 0))
+        → IsAt m text (at_stage size stage) (cuts_of (counts_of s 0 0 0 0)) → IsAt m text (at_stage (size + 1) stages.Mark) (cuts_of (counts_of s 1 0 0 0))
     mark_at s size stage inside mark taken free is = let b = get_or text size 0 in
         subst (IsAt m text (at_stage (size + 1) stages.Mark)) (count_more (counts_of s 0 0 0 0) refl pieces.ExponentCharacter 1)
         (read_free m text h (part_of stage) (at_stage size stage) roles.Exponent refl (λ same. cc) inside
@@ -99,8 +95,7 @@ module _ (m : Notation) (text : List ℕ) where
 
     -- The suffix.
     pub suffix_at : (s : Reading) (a b c : ℕ) (at : Stopped) → at.size < length text → m.suffix (get_or text at.size 0) ≡ true
-        → at.read.ended ≡ false → takes m at.read false roles.Suffix ≡ true → is_free m at.read.stage ≡ true
-        → IsAt m text at (cuts_of (counts_of s a b c 0))
+        → at.read.ended ≡ false → takes m at.read false roles.Suffix ≡ true → is_free m at.read.stage ≡ true → IsAt m text at (cuts_of (counts_of s a b c 0))
         → IsAt m text (record { size = at.size + 1; read = record at.read { ended = true } }) (cuts_of (counts_of s a b c 1))
     suffix_at s a b c at inside suffix going taken free is = let byte = get_or text at.size 0 in
         subst (IsAt m text (record { size = at.size + 1; read = record at.read { ended = true } })) (count_more (counts_of s a b c 0) refl pieces.Suffix 1)

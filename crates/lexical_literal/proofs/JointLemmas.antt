@@ -26,8 +26,7 @@ split_role : (n : Notation) (s : Summary) (b : ℕ) (o : Option Role)
     → is_some (move_by n.condition n s b o) ≡ (is_some (move_by no_condition n s b o) && passes_role n.condition s b o)
 split_role n s b None = refl
 split_role n s b (Some role) = gate s.ended (takes n s (b == 43) role) (admits n.condition s b role) (after s (b == 48) role) where
-  gate : (e t a : Bool) (x : Summary)
-      → is_some (if not e && (t && a) then Some x else None) ≡ (is_some (if not e && (t && true) then Some x else None) && a)
+  gate : (e t a : Bool) (x : Summary) → is_some (if not e && (t && a) then Some x else None) ≡ (is_some (if not e && (t && true) then Some x else None) && a)
   gate e t a x = grind arith
 
 moved : (n : Notation) (s : Summary) (ended : Bool) (b : ℕ) (o : Option Role)
@@ -83,8 +82,7 @@ module _ (m : Notation) where
       → ((c : Condition) → C c ≡ true → passes (λ d. is_same c d || false) s next ≡ true) → passes C s next ≡ true
   each_passes C s None each = grind arith
   each_passes C s (Some byte) each = go (role_at m (part_of s.stage) byte) (λ c. each c) where
-    go : (o : Option Role) → ((c : Condition) → C c ≡ true → passes_role (λ d. is_same c d || false) s byte o ≡ true)
-        → passes_role C s byte o ≡ true
+    go : (o : Option Role) → ((c : Condition) → C c ≡ true → passes_role (λ d. is_same c d || false) s byte o ≡ true) → passes_role C s byte o ≡ true
     go None each = refl
     go (Some role) each = and_from _ _ (implied (C conditions.BasePrefix) _ _ (λ set. (and_parts _ _ (each conditions.BasePrefix set)).0))
         (and_from _ _ (denied (C conditions.NegativeSign) _ (λ set. (and_parts _ _ (each conditions.NegativeSign set)).0))
@@ -162,8 +160,7 @@ module _ (m : Notation) where
     open_kept part kept digit next is = grind arith
 
     shut : (part : Part) → Kept part → (stage : Stage) (gap plus : Bool) (role : Role) → is_digits role ≡ true
-        → is_signed u part stage ≡ true → takes_in b part stage gap plus role ≡ true → takes_in u part stage gap plus role ≡ false
-        → may_follow u stage ≡ false
+        → is_signed u part stage ≡ true → takes_in b part stage gap plus role ≡ true → takes_in u part stage gap plus role ≡ false → may_follow u stage ≡ false
     shut part kept stage gap plus x5 is sign free refused = grind (arith, kept_gap, and_parts, open_kept)
 
     joint_role : (part : Part) → Kept part → (stage : Stage) (gap plus : Bool) (o : Option Role) → Alone (λ n. taken n part stage gap plus o)
@@ -203,10 +200,7 @@ module _ (m : Notation) where
       → free_allows (adding f (bare m)) s (Some byte) ≡ true
       → ((s.gap || is_separator (role_at m (part_of s.stage) byte)) && is_at (place_of m (part_of s.stage) s.stage s.gap (role_at m (part_of s.stage) byte))
       (part_of s.stage) f) ≡ true
-  at_next f s byte is refused allowed =
-      subst (λ (P : Notation → Bool). P (bare m) ≡ false → P (adding f (bare m)) ≡ true
+  at_next f s byte is refused allowed = subst (λ (P : Notation → Bool). P (bare m) ≡ false → P (adding f (bare m)) ≡ true
       → ((s.gap || is_separator (role_at m (part_of s.stage) byte)) && is_at (place_of m (part_of s.stage) s.stage s.gap (role_at m (part_of s.stage) byte))
-      (part_of s.stage) f) ≡ true)
-      (same s (Some byte) (let is = sym (moved (adding f (bare m)) s s.ended byte (role_at m (part_of s.stage) byte))
-      ∙ allowed in grind arith))
-      (at_role f (part_of s.stage) s.stage s.gap (byte == 43) (role_at m (part_of s.stage) byte) is) refused allowed
+      (part_of s.stage) f) ≡ true) (same s (Some byte) (let is = sym (moved (adding f (bare m)) s s.ended byte (role_at m (part_of s.stage) byte))
+      ∙ allowed in grind arith)) (at_role f (part_of s.stage) s.stage s.gap (byte == 43) (role_at m (part_of s.stage) byte) is) refused allowed

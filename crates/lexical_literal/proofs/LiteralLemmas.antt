@@ -181,15 +181,13 @@ module _ (m : Notation) (h : HasRoles m) where
         | inr other ↦
             let may = λ (some : list_any (m.digit part) run ≡ true). follow (m.digit part) stage gap (b ∷ run) goes.leads (or_right (m.digit part b) _ some) in
             let closes = opens m part (has_digit stage) (may_follow m stage) run (grind arith) may in
-            free_byte m part stage gap b roles.Separator c (run ++ rest) d at
-            (is_role m part b h roles.Separator (λ e. cc) (grind arith)) (grind arith)
+            free_byte m part stage gap b roles.Separator c (run ++ rest) d at (is_role m part b h roles.Separator (λ e. cc) (grind arith)) (grind arith)
             (run_arrives part (after_mark stage) true run rest more d (mark_part stage ∙ at) (grind arith) (grind arith) (rw (other) at goes))
       ]
 
   -- Digits of a part without a leading zero.
   unled_arrives : (part : Part) (stage : Stage) (run rest : List ℕ) (c d : Cuts) → part_of stage ≡ part → is_signed m part stage ≡ true
-      → has_digit stage ≡ false
-      → led_after (m.digit part) stage run ≡ false → is_rest m part false false run ≡ true
+      → has_digit stage ≡ false → led_after (m.digit part) stage run ≡ false → is_rest m part false false run ≡ true
       → let last = stage_after (m.digit part) stage false run in
       ((gap : Bool) → gap_fits m part (has_digit last) gap false ≡ true → is_signed m part last ≡ true
       → Arrives no_condition m (Some (reading last gap)) (add_all c (digits_piece part) run) rest d)
@@ -205,8 +203,7 @@ module _ (m : Notation) (h : HasRoles m) where
       → Arrives no_condition m (Some (reading stage gap)) c (sign ++ rest) d
   sign_arrives part stage gap [] rest c d at fits more = more (and_parts (implies (forbids_plus m part) true) (is_signed m part stage) fits).1
   sign_arrives part stage gap (b ∷ []) rest c d at fits more =
-      free_byte m part stage gap b roles.Sign c rest d at (is_role m part b h roles.Sign (λ e. cc) (grind arith))
-      (grind arith) (more (grind arith))
+      free_byte m part stage gap b roles.Sign c rest d at (is_role m part b h roles.Sign (λ e. cc) (grind arith)) (grind arith) (more (grind arith))
   sign_arrives part stage gap (b ∷ x ∷ sign) rest c d at fits more = absurd (false≢true fits)
 
   -- The suffix, or nothing.
@@ -223,11 +220,9 @@ module _ (m : Notation) (h : HasRoles m) where
       → digits_fit m parts.Exponent (stage_at stages.Mark l.exponent_sign []) l.exponent (ends_exponent m l) ≡ true
       → Arrives no_condition m (Some (reading stages.Mark false)) c (l.exponent_sign ++ (l.exponent ++ l.suffix))
       (add_all (add_all (add_all c pieces.ExponentSign l.exponent_sign) pieces.Exponent l.exponent) pieces.Suffix l.suffix)
-  power_arrives l c sign fits =
-      sign_arrives parts.Exponent stages.Mark false l.exponent_sign (l.exponent ++ l.suffix) c _ refl sign
+  power_arrives l c sign fits = sign_arrives parts.Exponent stages.Mark false l.exponent_sign (l.exponent ++ l.suffix) c _ refl sign
       (λ signed. unled_arrives parts.Exponent (stage_at stages.Mark l.exponent_sign []) l.exponent l.suffix _ _ (exponent_part l.exponent_sign) signed
-      (grind arith) (grind arith) (grind arith)
-      (λ gap closed signed. stop_arrives parts.Exponent (exponent_last m l) gap _ l.suffix
+      (grind arith) (grind arith) (grind arith) (λ gap closed signed. stop_arrives parts.Exponent (exponent_last m l) gap _ l.suffix
       (run_part (m.digit parts.Exponent) (stage_at stages.Mark l.exponent_sign []) false l.exponent
       ∙ exponent_part l.exponent_sign) (grind arith) (grind arith)))
 
@@ -277,8 +272,7 @@ module _ (m : Notation) (h : HasRoles m) where
       → after_digit stage false true ≡ stages.Bare
       → is_signed m parts.Integer stage ≡ true → is_none_or_prefix m.prefix prefix ≡ true → c pieces.Prefix ≡ 0 → c pieces.Integer ≡ 0
       → (is_signed m parts.Integer (stage_at stage [] prefix) ≡ true → Arrives no_condition m (Some (reading (stage_at stage [] prefix) false))
-      (add_all c pieces.Prefix prefix) rest d)
-      → Arrives no_condition m (Some (reading stage false)) c (prefix ++ rest) d
+      (add_all c pieces.Prefix prefix) rest d) → Arrives no_condition m (Some (reading stage false)) c (prefix ++ rest) d
   prefix_arrives stage [] rest c d at follows bare signed one no_prefix no_integer more = more signed
   prefix_arrives stage (z ∷ b ∷ []) rest c d at follows bare signed one no_prefix no_integer more =
       let both = and_parts (z == 48) _ one in
@@ -286,8 +280,7 @@ module _ (m : Notation) (h : HasRoles m) where
       subst (λ z. Arrives no_condition m (Some (reading stage false)) c (z ∷ b ∷ rest) d) (sym (eqb-true z 48 both.0))
       (free_byte m parts.Integer stage false 48 roles.Digit c (b ∷ rest) d at (digit_role m parts.Integer 48 (h.zero_is_digit parts.Integer))
       (and_from _ _ signed follows) (subst (λ s. Arrives no_condition m (Some (reading s false)) zero (b ∷ rest) d) (sym bare)
-      (free_byte m parts.Integer stages.Bare false b roles.Prefix zero rest d refl
-      (is_role m parts.Integer b h roles.Prefix (λ e. cc) both.1) refl
+      (free_byte m parts.Integer stages.Bare false b roles.Prefix zero rest d refl (is_role m parts.Integer b h roles.Prefix (λ e. cc) both.1) refl
       (subst (λ c. Arrives no_condition m (Some (reading stages.Prefixed false)) c rest d) (λ j other. counts other j) (more refl))))) where
         counts : (other : Piece) → add_all c pieces.Prefix (z ∷ b ∷ []) other ≡ with_prefix (add c pieces.Integer) other
         counts pieces.Prefix = omega (arith, no_prefix)

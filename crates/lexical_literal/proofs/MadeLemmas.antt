@@ -1,8 +1,8 @@
 -- What the lengths of its parts tell of a literal, and what a syntax without conditions is.
-use Rattle.lexical_literal.proofs.Common.{Conditions, Grammar, IsUsual, List, and_parts, arith, false, has, has_sizes, is_absent, is_minus, is_present, length, nat_tests}
-use Rattle.lexical_literal.proofs.Common.{not, notation_of, take, true, ℕ, ◌==◌, ◌||◌, ◌≡◌, ◌≢◌, raw}
+use Rattle.std.proofs.Common.{rules}
+use Rattle.lexical_literal.proofs.Common.{Conditions, Grammar, IsUsual, List, and_parts, arith, false, has, has_sizes, is_absent, is_minus, is_present, length}
+use Rattle.lexical_literal.proofs.Common.{nat_tests, not, notation_of, raw, take, true, ℕ, ◌==◌, ◌||◌, ◌≡◌, ◌≢◌}
 use Rattle.lexical_util.specs.Layout as layout
-use Rattle.lexical_util.specs.Record.{bytes_of}
 use Rattle.lexical_literal.specs.Additions.Scan.{are_usual}
 use Rattle.lexical_literal.specs.declared.syntax.Condition.TheVariants as conditions
 
@@ -28,11 +28,4 @@ no_sizes : (c : Conditions) → are_usual c ≡ true → (has c conditions.Integ
 no_sizes c usual = grind (arith, nat_tests)
 
 pub usual_sizes : (g : Grammar) → IsUsual g → has_sizes (notation_of g) ≡ false
-usual_sizes g usual =
-    let f = (raw g.word).flag in
-    let from-base = (and_parts (bytes_of g.word layout.mantissa_radix == 10) _ usual).1 in
-    let from-exponent = (and_parts (bytes_of g.word layout.exponent_base == 10) _ from-base).1 in
-    let from-prefix = (and_parts (bytes_of g.word layout.exponent_radix == 10) _ from-exponent).1 in
-    let from-sign = (and_parts (bytes_of g.word layout.base_prefix == 0) _ from-prefix).1 in
-    let from-notation = (and_parts (not (f layout.required_mantissa_sign)) _ from-sign).1 in
-    no_sizes g.conditions (and_parts (not (f layout.required_exponent_notation)) _ from-notation).1
+usual_sizes g usual = search (rules, and_parts, no_sizes)

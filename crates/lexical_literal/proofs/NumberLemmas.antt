@@ -9,8 +9,7 @@ at_place i below = grind arith
 
 -- The number of a condition after the one at a place has been looked at.
 pub number_next : (X : Condition → Bool) (N : Condition → ℕ) (i n : ℕ) (d : Condition) → i < length all_conditions
-    → n ≡ (if nat_lt (order d) i && X d then N d else 0)
-    → (if X (get_or all_conditions i conditions.BasePrefix)
+    → n ≡ (if nat_lt (order d) i && X d then N d else 0) → (if X (get_or all_conditions i conditions.BasePrefix)
     then (if is_same (get_or all_conditions i conditions.BasePrefix) d then N (get_or all_conditions i conditions.BasePrefix) else n) else n)
     ≡ (if nat_lt (order d) (i + 1) && X d then N d else 0)
 number_next X N i n d inside before = grind (arith, nat_tests)

@@ -6,8 +6,7 @@ use Rattle.lexical_literal.specs.declared.syntax.Condition.TheVariants as condit
 
 module _ (m : Notation) (s : Summary) where
   -- A byte that is neither a digit nor a separator, and has no role that is taken, is refused.
-  pub passed : (b : ℕ) → m.digit (part_of s.stage) b ≡ false → m.separator b ≡ false → is_fresh s.stage ≡ false
-      → (is_bare s.stage ≡ true → m.prefix b ≡ false)
+  pub passed : (b : ℕ) → m.digit (part_of s.stage) b ≡ false → m.separator b ≡ false → is_fresh s.stage ≡ false → (is_bare s.stage ≡ true → m.prefix b ≡ false)
       → (m.point b ≡ true → takes m s false roles.Point ≡ false) → (m.exponent_character b ≡ true → takes m s false roles.Exponent ≡ false)
       → (m.suffix b ≡ true → takes m s false roles.Suffix ≡ false) → step m s b ≡ None
   passed b digit separator old B P E S = grind arith

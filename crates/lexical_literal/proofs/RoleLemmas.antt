@@ -11,7 +11,7 @@ use Rattle.lexical_util.specs.Options.{OptionsFit, OptionsHaveOneRole}
 use Rattle.lexical_util.specs.Unfoldable.{Disjoint, Holds, Lawful, byte_value, cased}
 use Rattle.lexical_literal.specs.declared.syntax.ConditionsError.{ConditionsError}
 use Rattle.lexical_literal.specs.declared.syntax.ConditionsErrorKind.{ConditionsErrorKind}
-use Rattle.lexical_literal.specs.Syntax.{FitIfAny, IsSyntax, fault, lacks_separator, limits, missing}
+use Rattle.lexical_literal.specs.Syntax.{FitIfAny, IsSyntax, fault, lacks_separator, missing}
 use Rattle.lexical_flags.proofs.RuleLemmas.{Holds-from_lawful}
 use Rattle.lexical_flags.specs.declared.format_flags.rule.Rule.TheVariants as rules
 use Rattle.lexical_util.specs.Additions.ByteRoles as bytes
@@ -38,10 +38,7 @@ own : (word : ℕ) → Lawful word → (o : Option Options) (conditions : Condit
     → IsTrue (set_of_role (notation_of (record { word = word; options = o; conditions = conditions })) role byte)
     → IsTrue (bytes.role_set (raw word) (exponent_byte o) (point_byte o) role byte)
 unfolding Lawful
-own word lawful o conditions roles.Digit byte is = grind (arith, nat_tests)
-own word lawful None conditions roles.Exponent byte is = absurd (false≢true is)
-own word lawful None conditions roles.Point byte is = absurd (false≢true is)
-own word lawful o conditions _ byte is = is
+own word lawful o conditions role byte is = grind (arith, nat_tests, false≢true)
 
 -- A byte that is not 0 plays the role for which it is chosen.
 cased_own : (counts : Bool) (own : ℕ) → IsTrue (allowed_ascii own) → cased counts own own ≡ true
@@ -74,10 +71,7 @@ module _ (r : Record) (c : Conditions) (none : contradiction r c ≡ None) where
 
   not_missing : (d : Condition) → has c d ≡ true → fault r c d ≡ None → missing r c d ≡ None
   unfolding fault
-  not_missing d set is = go (has c d) (nat_le (limits d).0 (number_of c d) && nat_le (number_of c d) (limits d).1) (missing r c d) set is where
-    go : (has fits : Bool) (kind : Option ConditionsErrorKind) → has ≡ true
-        → option_map (error_of d) (if has then (if fits then kind else Some faults.Number) else None) ≡ None → kind ≡ None
-    go x0 fits kind set is = grind arith
+  not_missing d set is = grind (arith, nat_tests, has, nat_le, number_of, option_map)
 
   -- A part whose groups have sizes may have separators between digits.
   has_separators : (f : Flag) (kind : ConditionsErrorKind) → lacks_separator r f kind ≡ None
@@ -97,8 +91,7 @@ module _ (r : Record) (c : Conditions) (none : contradiction r c ≡ None) where
   some_size : (number : ℕ) → not (number == 0) ≡ true → 0 < number
   some_size number some = grind (arith, nat_tests)
 
-  used : separator_allowed r ≡ true → (r.byte layout.digit_separator == 0) ≡ false
-      → sets.used_separator r (r.byte layout.digit_separator) ≡ true
+  used : separator_allowed r ≡ true → (r.byte layout.digit_separator == 0) ≡ false → sets.used_separator r (r.byte layout.digit_separator) ≡ true
   used allowed some = and_from _ _ allowed (cased_present true (r.byte layout.digit_separator) some)
 
 -- The sizes of a syntax are at least 1, and separators may be between digits.

@@ -6,8 +6,7 @@ use Rattle.lexical_literal.proofs.Common.{is_present, list_any, list_any-append,
 -- separator is tested when the next digit or the end comes.
 abbrev pub is_rest : Notation → Part → Bool → Bool → List ℕ → Bool
 is_rest m part h g [] = gap_fits m part h g false
-is_rest m part h g (b ∷ run) =
-    if m.digit part b then gap_fits m part h g true && is_rest m part true false run
+is_rest m part h g (b ∷ run) = if m.digit part b then gap_fits m part h g true && is_rest m part true false run
     else (m.separator b && (not g || m.flag (separators_in part).consecutive) && is_rest m part h true run)
 
 ends_with_push : (A : ByteSet) (bytes : List ℕ) (byte : ℕ) → ends_with A (bytes ++ byte ∷ []) ≡ A byte

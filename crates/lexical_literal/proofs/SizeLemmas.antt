@@ -70,8 +70,7 @@ module _ (m : Notation) where
     abbrev Closes : Part → List ℕ → Bool → Type 0
     Closes part rest fit = (separated : Bool) (digits : ℕ) → at part separated digits rest ≡ (group_allows m (group part separated digits) None && fit)
 
-    byte_after : (part : Part) (separated : Bool) (digits b : ℕ) (text : List ℕ) (r : Role) → role_at m part b ≡ Some r
-        → at part separated digits (b ∷ text)
+    byte_after : (part : Part) (separated : Bool) (digits b : ℕ) (text : List ℕ) (r : Role) → role_at m part b ≡ Some r → at part separated digits (b ∷ text)
         ≡ ends (group_after m (if group_allows m (group part separated digits) (Some r)
         then Some (grown (group part separated digits) (Some r)) else None) text)
     byte_after part separated digits b text r plays = rw (sized, plays) refl
@@ -152,26 +151,22 @@ module _ (m : Notation) where
             rw (absent) (subst (Closes parts.Integer (text_after parts.Fraction l)) (sym (free_end parts.Fraction)) (tail_closes parts.Integer))
         go (b ∷ []) some one = subst (Closes parts.Integer (b ∷ (l.fraction ++ text_after parts.Fraction l)))
             (run_at parts.Fraction false 0 l.fraction (text_after parts.Fraction l) true (parts_have_roles m l is).fraction (tail_closes parts.Fraction)
-            ∙ and_true _)
-            (closes parts.Integer b (l.fraction ++ text_after parts.Fraction l) roles.Point (λ e. cc) (λ e. cc)
+            ∙ and_true _) (closes parts.Integer b (l.fraction ++ text_after parts.Fraction l) roles.Point (λ e. cc) (λ e. cc)
             (is_role m parts.Integer b h roles.Point (λ e. cc) one))
         go (b ∷ x ∷ point) some one = absurd (false≢true one)
 
-      prefix_at : (prefix rest : List ℕ) → is_none_or_prefix m.prefix prefix ≡ true
-          → at parts.Integer false 0 (prefix ++ rest) ≡ at parts.Integer false 0 rest
+      prefix_at : (prefix rest : List ℕ) → is_none_or_prefix m.prefix prefix ≡ true → at parts.Integer false 0 (prefix ++ rest) ≡ at parts.Integer false 0 rest
       prefix_at [] rest one = refl
       prefix_at (z ∷ b ∷ []) rest one =
           let two = and_parts (z == 48) _ one in
           ap (λ z. at parts.Integer false 0 (z ∷ b ∷ rest)) (eqb-true z 48 two.0)
           ∙ byte_after parts.Integer false 0 48 (b ∷ rest) roles.Digit (digit_role m parts.Integer 48 (h.zero_is_digit parts.Integer))
-          ∙ chosen _ (group parts.Integer false 1) (b ∷ rest)
-          ∙ rw (free_end parts.Integer) (closes parts.Integer b rest roles.Prefix (λ e. cc) (λ e. cc)
+          ∙ chosen _ (group parts.Integer false 1) (b ∷ rest) ∙ rw (free_end parts.Integer) (closes parts.Integer b rest roles.Prefix (λ e. cc) (λ e. cc)
           (is_role m parts.Integer b h roles.Prefix (λ e. cc) two.1) false 1 ∙ rw (free_end parts.Integer) refl)
       prefix_at _ rest one = absurd (false≢true one)
 
       -- The groups of a literal fit byte by byte if those of its integer and its fraction do.
-      literal_fits : at parts.Integer false 0 (text_of l)
-          ≡ (part_fits parts.Integer false 0 l.integer && part_fits parts.Fraction false 0 l.fraction)
+      literal_fits : at parts.Integer false 0 (text_of l) ≡ (part_fits parts.Integer false 0 l.integer && part_fits parts.Fraction false 0 l.fraction)
       literal_fits = grind (arith, sign_at, prefix_at, run_at, parts_have_roles, mantissa_closes)
 
   -- LITERALS WITH AND WITHOUT SIZES

@@ -40,13 +40,11 @@ led_after D _ run = false
 -- `stage_after D stage gap run` is the stage after the bytes of `run`: digits, which are in `D`, and separators.
 abbrev pub stage_after : ByteSet → Stage → Bool → List ℕ → Stage
 stage_after D stage gap [] = stage
-stage_after D stage gap (b ∷ run) =
-    if D b then stage_after D (after_digit stage gap (b == 48)) false run else stage_after D (after_mark stage) true run
+stage_after D stage gap (b ∷ run) = if D b then stage_after D (after_digit stage gap (b == 48)) false run else stage_after D (after_mark stage) true run
 
 -- `after_byte D stage gap b run digit` is the stage after `b`, a digit if `digit` is true, and the bytes of `run`.
 abbrev pub after_byte : ByteSet → Stage → Bool → ℕ → List ℕ → Bool → Stage
-after_byte D stage gap b run digit =
-    if digit then stage_after D (after_digit stage gap (b == 48)) false run else stage_after D (after_mark stage) true run
+after_byte D stage gap b run digit = if digit then stage_after D (after_digit stage gap (b == 48)) false run else stage_after D (after_mark stage) true run
 
 -- What is true of the stage `last` after `run`.
 pub record Passed (D : ByteSet) (stage : Stage) (run : List ℕ) (last : Stage) : Type 0 where

@@ -1,9 +1,10 @@
 -- The digits of a run, their number, and the number that they represent, modulo `2 ^ 64`.
-use Rattle.lexical_literal.proofs.Common.{Cuts, Grammar, HasRoles, IsAt, IsDigitAt, IsReadOn, IsRunOn, IsSeparated, List, None, Notation, Option, Part, Piece}
-use Rattle.lexical_literal.proofs.Common.{Reading, Some, Stage, [], add_more, ap, arith, at_stage, between, byte_value, common_steps, cond, cons_option}
-use Rattle.lexical_literal.proofs.Common.{digit_of, digits_in, digits_piece, drop, drop-drop, false, filter_map-append, get_or, is_run, length, length-drop}
-use Rattle.lexical_literal.proofs.Common.{mod-add-mod, mod-mod, nat_lt, number_after_append, number_from_digits_after, part_of, radix_of, raw, steps_of, subst}
-use Rattle.lexical_literal.proofs.Common.{sym, take, take_more, true, up_to, ℕ, ◌%◌, ◌*◌, ◌++◌, ◌+◌, ◌-◌, ◌<◌, ◌^◌, ◌∙◌, ◌∷◌, ◌≡◌, ◌≤◌}
+use Rattle.std.proofs.Common.{rules}
+use Rattle.lexical_literal.proofs.Common.{Grammar, HasRoles, IsDigitAt, IsReadOn, IsRunOn, IsSeparated, List, None, Notation, Option, Part, Reading, Some}
+use Rattle.lexical_literal.proofs.Common.{Stage, [], add_more, ap, arith, at_stage, between, byte_value, common_steps, cond, cons_option, digit_of, digits_in}
+use Rattle.lexical_literal.proofs.Common.{digits_piece, drop, drop-drop, false, filter_map-append, get_or, is_run, length, length-drop, mod-add-mod, mod-mod}
+use Rattle.lexical_literal.proofs.Common.{nat_lt, number_after_append, number_from_digits_after, part_of, radix_of, raw, steps_of, subst, sym, take, take_more}
+use Rattle.lexical_literal.proofs.Common.{true, up_to, ℕ, ◌%◌, ◌*◌, ◌++◌, ◌+◌, ◌-◌, ◌<◌, ◌^◌, ◌∙◌, ◌∷◌, ◌≡◌, ◌≤◌}
 use Rattle.std.proofs.Math.Seq.{take-add}
 use lib.ListN.{length-append}
 use Rattle.lexical_number.proofs.SmallLemmas.{push_same}
@@ -41,17 +42,7 @@ module _ (radix : ℕ) (text : List ℕ) where
 module _ (m : Notation) (radix : ℕ) (text : List ℕ) (part : Part) where
   -- No bytes.
   pub same_run : (run : Reading) → IsRunOn m radix text part run run
-  same_run run =
-      let nothing : run.size - run.size ≡ 0 = omega arith in
-      let none : digits_in radix (between text run.size run.size) ≡ [] = ap (λ n. digits_in radix (take n (drop run.size text))) nothing in
-      let few = ap length none in
-      let same : (c : Cuts) (other : Piece) → c other ≡ add_more c (digits_piece part) (run.size - run.size) other = λ c other. grind arith in
-      record {
-        on = record { more = omega arith; reads = λ c is. subst (IsAt m text (at_stage run.size run.stage)) (λ j other. same c other j) is };
-        within = λ is. is;
-        digits = omega (arith, few);
-        sum = ap (λ ds. number_from_digits_after radix run.sum.value ds % 2 ^ 64) (sym none);
-      }
+  same_run run = search (rules, digits_in, between, add_more, digits_piece, at_stage, number_from_digits_after)
 
   pub no_run : (run : Reading) → IsRunOn m radix text part run (up_to run run.size 0 run.sum.value)
   no_run run =
@@ -76,8 +67,7 @@ module _ (m : Notation) (radix : ℕ) (text : List ℕ) (part : Part) where
         );
         sum = second.sum ∙ after_same radix b.sum.value _ (digits_in radix (between text b.size c.size)) first.sum
             ∙ ap (λ n. n % 2 ^ 64) (sym (number_after_append radix a.sum.value (digits_in radix (between text a.size b.size)) (digits_in radix (between text
-            b.size c.size))))
-            ∙ ap (λ ds. number_from_digits_after radix a.sum.value ds % 2 ^ 64) (sym all);
+            b.size c.size)))) ∙ ap (λ ds. number_from_digits_after radix a.sum.value ds % 2 ^ 64) (sym all);
       }
 
 -- `pushed radix run value bytes` is the run with one more digit, the last of so many bytes.
@@ -127,8 +117,7 @@ module _ (g : Grammar) (text : List ℕ) (part : Part) (run : Reading) (v : ℕ)
   more_separated separated =
       let two : run.size + 1 + 1 ≡ run.size + 2 = omega arith in
       let inside : run.size < length text = omega (arith, separated.digit.0) in
-      let first = byte_between radix text run.size None inside
-      (no_value radix (get_or text run.size 0) (no_digit m part (get_or text run.size 0)
+      let first = byte_between radix text run.size None inside (no_value radix (get_or text run.size 0) (no_digit m part (get_or text run.size 0)
       (is_role m part (get_or text run.size 0) h roles.Separator (λ same. cc) separated.separator))) in
       let second = byte_between radix text (run.size + 1) (Some v) separated.digit.0 separated.digit.1 in
       let one : digits_in radix (between text run.size (run.size + 2)) ≡ v ∷ [] =

@@ -83,8 +83,7 @@ module _ (C : Condition → Bool) (m : Notation) where
     go (Some r) plays is = take s.ended (takes m s (b == 43) r) (admits C s b r) refl refl refl is where
       take : (e t a : Bool) → s.ended ≡ e → takes m s (b == 43) r ≡ t → admits C s b r ≡ a
           → P (if not e && (t && a) then Some (after s (b == 48) r) else None) → Took C m s b P
-      take false true true going taken admitted is =
-          record { role = r; plays = plays; going = going; taken = taken; admitted = admitted; rest = is }
+      take false true true going taken admitted is = record { role = r; plays = plays; going = going; taken = taken; admitted = admitted; rest = is }
       take _ _ _ going taken admitted is = absurd (none is)
 
   -- What a byte makes of a summary.

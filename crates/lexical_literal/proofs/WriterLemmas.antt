@@ -42,8 +42,7 @@ module _ (m : Notation) (ready : IsReady (unsized m)) (sizes : HasSizes m) where
       → is_accepted u (walk u (Some (reading stages.Integer false)) digits) ≡ not (m.condition conditions.BaseSuffix || needs_exponent m)
   more_digits [] all = grind arith
   more_digits (b ∷ digits) all =
-      let is : move_by u.condition u (reading stages.Integer false) b (Some roles.Digit)
-      ≡ Some (reading stages.Integer false) = grind arith in
+      let is : move_by u.condition u (reading stages.Integer false) b (Some roles.Digit) ≡ Some (reading stages.Integer false) = grind arith in
       ap (λ o. is_accepted u (walk u o digits)) (ap (move_by u.condition u (reading stages.Integer false) b)
       (digit_role u parts.Integer b all.0) ∙ is) ∙ more_digits digits all.1
 

@@ -12,20 +12,16 @@ use Rattle.lexical_number.proofs.LeadingLemmas.{beyond, exact, scaled, unscaled}
 
 powers : (den up l d down e : ℕ) → up + l + d ≡ down + e → den * 2 ^ up * (2 ^ l * 2 ^ d) ≡ den * 2 ^ e * 2 ^ down
 powers den up l d down e is =
-    let same : 2 ^ up * (2 ^ l * 2 ^ d) ≡ 2 ^ e * 2 ^ down =
-    ap (λ t. 2 ^ up * t) (sym (pow-add 2 l d)) ∙ sym (pow-add 2 up (l + d)) ∙ ap (λ t. 2 ^ t) {x = up + (l + d)} {y = e + down} (omega arith)
-    ∙ pow-add 2 e down in
     let left : den * 2 ^ up * (2 ^ l * 2 ^ d) ≡ den * (2 ^ up * (2 ^ l * 2 ^ d)) = grind arith in
     let right : den * (2 ^ e * 2 ^ down) ≡ den * 2 ^ e * 2 ^ down = grind arith in
-    left ∙ ap (λ t. den * t) same ∙ right
+    left ∙ ap (λ t. den * t) (ap (λ t. 2 ^ up * t) (sym (pow-add 2 l d)) ∙ sym (pow-add 2 up (l + d)) ∙ ap (λ t. 2 ^ t) {x = up + (l + d)} {y = e + down} (omega arith) ∙ pow-add 2 e down) ∙ right
 
 -- Units of a power of two are parts of units of least floats.
 pub cut_at : {digits : ℕ} {more : Bool} (num den up down l d e : ℕ) → up + l + d ≡ down + e → IsCutTo (num * 2 ^ down) digits more (den * 2 ^ up)
     → IsCutTo (num * 2 ^ l * 2 ^ d) digits more (den * 2 ^ e)
 cut_at {digits = digits} {more = more} num den up down l d e places cut =
     let moved : num * 2 ^ down * (2 ^ l * 2 ^ d) ≡ num * 2 ^ l * 2 ^ d * 2 ^ down = grind arith in
-    unscaled (2 ^ down) (pow_pos down)
-    (subst (λ m. IsCutTo m digits more (den * 2 ^ e * 2 ^ down)) moved
+    unscaled (2 ^ down) (pow_pos down) (subst (λ m. IsCutTo m digits more (den * 2 ^ e * 2 ^ down)) moved
     (subst (IsCutTo (num * 2 ^ down * (2 ^ l * 2 ^ d)) digits more) (powers den up l d down e places)
     (scaled cut (2 ^ l * 2 ^ d) (mul-pos (pow_pos l) (pow_pos d)))))
 
@@ -50,8 +46,7 @@ module _ (f : Format) (num den d k : ℕ) {h : ℕ} {more : Bool} (near : IsCutT
     halfway =
         let whole : kept * 2 ^ d + rest ≡ h = rw (cut.above, cut.below) (div-add-mod' h (2 ^ d)) in
         let twice : (2 * kept + 1) * 2 ^ d ≡ 2 * h = omega (arith, cut.twice) in
-        let p : (2 * kept + 1) * (den * 2 ^ k) * 2 ^ d ≡ (2 * kept + 1) * 2 ^ d * (den * 2 ^ k) = grind arith in
-        p ∙ ap (λ t. t * (den * 2 ^ k)) twice ∙ omega arith
+        (grind arith) ∙ ap (λ t. t * (den * 2 ^ k)) twice ∙ omega arith
 
     number : 2 * (num * 2 ^ low f) * 2 ^ d ≡ 2 * (num * 2 ^ low f * 2 ^ d)
     number = grind arith
@@ -99,8 +94,7 @@ module _ (f : Format) (num den d k : ℕ) {h : ℕ} {more : Bool} (near : IsCutT
       let least : k ≡ 0 = elim (eq-zero-or-pos k) [ inl z ↦ z | inr K ↦ absurd (omega (arith, fits.normal K)) ] in
       let s : suc (d - 1) ≡ d = elim (eq-zero-or-pos d) [ inl z ↦ absurd (omega (arith, ap (λ d. 2 ^ d) z)) | inr D ↦ omega arith ] in
       let twice : 2 * 2 ^ (d - 1) ≡ 2 ^ d = omega (arith, ap (λ d. 2 ^ d) s) in
-      let bits : scaled_bits f 0 k ≡ 0 = omega (arith, ap (λ k. k * hid f) least) in
-      subst (IsNearestBits f num den) bits
+      subst (IsNearestBits f num den) (omega (arith, ap (λ k. k * hid f) least))
       (rounds_down fits (record { above = sym none; below = sym (mod-eq_of_lt (omega arith)); twice = twice }) D within_one (omega arith))
 
 pub significand_at : (f : Format) (h j d k : ℕ) → (2 ^ j ≤ h) × (h < 2 ^ (j + 1)) → j + 1 ≤ prec f + d → (0 < k → j + 1 ≡ prec f + d)
@@ -113,26 +107,21 @@ significand_at f h j d k b fits full =
 pub to_top : (a j s k : ℕ) → 2 ^ j ≤ a → a < 2 ^ suc j → j + s ≡ k → (2 ^ k ≤ a * 2 ^ s) × (a * 2 ^ s < 2 ^ suc k)
 to_top a j s k from below is =
     let least : 2 ^ k ≡ 2 ^ j * 2 ^ s = ap (λ k. 2 ^ k) {x = k} {y = j + s} (omega arith) ∙ pow-add 2 j s in
-    let most : 2 ^ (suc j + s) ≡ 2 ^ suc k = ap (λ k. 2 ^ k) {x = suc j + s} {y = suc k} (omega arith) in
-    (omega (arith, least, mul-le-mul_right (2 ^ s) from), omega (arith, most, shl_lt (suc j) s below))
+    (omega (arith, least, mul-le-mul_right (2 ^ s) from), omega (arith, (ap (λ k. 2 ^ k) {x = suc j + s} {y = suc k} (omega arith)), shl_lt (suc j) s below))
 
 -- A number far above all floats, and one far below them.
 module _ (f : Format) (num den word up down : ℕ) {more : Bool} (D : 0 < den) (cut : IsCutTo (num * 2 ^ down) word more (den * 2 ^ up)) where
   pub far_above : 0 < word → down + 2000 < up → IsNearestBits f num den (ones f * hid f)
   far_above W far =
       let ten : 10 ^ 309 ≤ 2 ^ 1027 = lit≤ tt in
-      let top : 10 ^ 309 * 2 ^ down ≤ 2 ^ up = le_trans (mul-le-mul_right (2 ^ down) ten)
-      (le_trans (le_of_eq (sym (pow-add 2 1027 down))) (pow_mono (omega arith))) in
-      let unit : den * (10 ^ 309 * 2 ^ down) ≤ den * 2 ^ up = mul-le-mul_left den top in
+      let unit : den * (10 ^ 309 * 2 ^ down) ≤ den * 2 ^ up = mul-le-mul_left den (le_trans (mul-le-mul_right (2 ^ down) ten) (le_trans (le_of_eq (sym (pow-add 2 1027 down))) (pow_mono (omega arith)))) in
       let least : 1 * (den * 2 ^ up) ≤ word * (den * 2 ^ up) = mul-le-mul_right (den * 2 ^ up) W in
       nearest_of_huge f num den D (le_of_mul-le-mul_right {k = 2 ^ down} (omega (arith, unit, least, cut.from)) (pow_pos down))
 
   pub far_below : word < 2 ^ 64 → up + 2000 < down → IsNearestBits f num den 0
   far_below W far =
       let ten : 10 ^ 343 ≤ 2 ^ 1140 = lit≤ tt in
-      let top : 10 ^ 343 * 2 ^ up ≤ 2 ^ down = le_trans (mul-le-mul_right (2 ^ up) ten)
-      (le_trans (le_of_eq (sym (pow-add 2 1140 up))) (pow_mono (omega arith))) in
-      let number : num * (10 ^ 343 * 2 ^ up) ≤ num * 2 ^ down = mul-le-mul_left num top in
+      let number : num * (10 ^ 343 * 2 ^ up) ≤ num * 2 ^ down = mul-le-mul_left num (le_trans (mul-le-mul_right (2 ^ up) ten) (le_trans (le_of_eq (sym (pow-add 2 1140 up))) (pow_mono (omega arith)))) in
       let most : (word + 1) * (den * 2 ^ up) ≤ 2 ^ 64 * (den * 2 ^ up) = mul-le-mul_right (den * 2 ^ up) (omega arith) in
       nearest_of_tiny f num den D (le_of_mul-le-mul_right {k = 2 ^ up} (omega (arith, number, most, cut.below)) (pow_pos up))
 
@@ -142,14 +131,11 @@ pub without : {digits : ℕ} {more : Bool} (num den up down both : ℕ) → both
 without {digits = digits} {more = more} num den up down both U D cut =
     let split : (n k : ℕ) → both ≤ k → n * 2 ^ k ≡ n * 2 ^ (k - both) * 2 ^ both =
     λ n k le. ap (λ k. n * 2 ^ k) {x = k} {y = k - both + both} (omega arith) ∙ omega (arith, ap (λ p. n * p) (pow-add 2 (k - both) both)) in
-    unscaled (2 ^ both) (pow_pos both)
-    (subst (λ n. IsCutTo n digits more (den * 2 ^ (up - both) * 2 ^ both)) (split num down D)
+    unscaled (2 ^ both) (pow_pos both) (subst (λ n. IsCutTo n digits more (den * 2 ^ (up - both) * 2 ^ both)) (split num down D)
     (subst (IsCutTo (num * 2 ^ down) digits more) (split den up U) cut))
 
 -- A number of whole digits, by more digits.
 pub lifted : (digits p q z : ℕ) → IsCutTo (digits * 2 ^ p * 2 ^ (q + z)) (digits * 2 ^ z) false (2 ^ q * 2 ^ p)
 lifted digits p q z =
-    let same : digits * 2 ^ p * 2 ^ (q + z) ≡ digits * 2 ^ z * (2 ^ q * 2 ^ p) =
-    ap (λ t. digits * 2 ^ p * t) (pow-add 2 q z) ∙ grind arith in
-    let unit : 0 < 2 ^ q * 2 ^ p = mul-pos (pow_pos q) (pow_pos p) in
-    record { from = omega (arith, same); below = omega (arith, same, unit); some = grind (arith, nat_tests, same) }
+    let same : digits * 2 ^ p * 2 ^ (q + z) ≡ digits * 2 ^ z * (2 ^ q * 2 ^ p) = ap (λ t. digits * 2 ^ p * t) (pow-add 2 q z) ∙ grind arith in
+    record { from = omega (arith, same); below = omega (arith, same, (mul-pos (pow_pos q) (pow_pos p))); some = grind (arith, nat_tests, same) }

@@ -1,25 +1,19 @@
 -- Leading digits and an exponent, in radixes that are powers of two, as a whole number times a power of two.
-use Rattle.lexical_number.proofs.Common.{Bool, Format, IsNearestBits, Leads, ap, arith, false, hid, if◌then◌else◌, le_of_eq, le_trans, lit≤, mul-le-mul}
+use Rattle.std.proofs.Common.{rules}
+use Rattle.lexical_number.proofs.Common.{Bool, Format, IsNearestBits, Leads, ap, arith, hid, if◌then◌else◌, le_of_eq, le_trans, lit≤, mul-le-mul}
 use Rattle.lexical_number.proofs.Common.{mul-le-mul_right, nearest_of_huge, nearest_of_tiny, ones, pow-add, pow-suc, pow_mono, pow_pos, raised_down, raised_up}
-use Rattle.lexical_number.proofs.Common.{subst, suc, sym, true, zero, ℕ, ◌*◌, ◌+◌, ◌^◌, ◌∙◌, ◌≡◌, ◌≤◌}
+use Rattle.lexical_number.proofs.Common.{suc, sym, zero, ℕ, ◌*◌, ◌+◌, ◌^◌, ◌∙◌, ◌≡◌, ◌≤◌}
 use native.Mathlib.Nat.{pow-zero}
 
 pub pow_of : (a n : ℕ) → (2 ^ a) ^ n ≡ 2 ^ (n * a)
 pow_of a zero = pow-zero (2 ^ a) ∙ sym (ap (λ x. 2 ^ x) {x = 0 * a} {y = 0} (omega arith))
-pow_of a (suc n) =
-    pow-suc (2 ^ a) n ∙ ap (λ x. x * 2 ^ a) (pow_of a n) ∙ sym (pow-add 2 (n * a) a) ∙ ap (λ x. 2 ^ x) {x = n * a + a} {y = suc n * a} (omega arith)
+pow_of a (suc n) = search (rules, pow_of a n, pow-zero, pow-suc, pow-add)
 
 -- What holds of powers of two holds of powers of the radixes.
 pub in_radixes : (P : ℕ → ℕ → Type 0) (n bits places base e : ℕ) (negative : Bool)
     → P (n * 2 ^ (if negative then 0 else e * base)) (2 ^ (places * bits + (if negative then e * base else 0)))
     → P (n * raised_up negative (2 ^ base) e) ((2 ^ bits) ^ places * raised_down negative (2 ^ base) e)
-in_radixes P n bits places base e negative = go negative
-  where
-    go : (b : Bool) → P (n * 2 ^ (if b then 0 else e * base)) (2 ^ (places * bits + (if b then e * base else 0)))
-        → P (n * raised_up b (2 ^ base) e) ((2 ^ bits) ^ places * raised_down b (2 ^ base) e)
-    go true h = subst (P (n * 1)) (pow-add 2 (places * bits) (e * base) ∙ (λ i. sym (pow_of bits places) i * sym (pow_of base e) i)) h
-    go false h = subst (P (n * (2 ^ base) ^ e)) (pow-add 2 (places * bits) 0 ∙ ap (λ x. x * 1) (sym (pow_of bits places)))
-        (subst (λ x. P (n * x) (2 ^ (places * bits + 0))) (sym (pow_of base e)) h)
+in_radixes P n bits places base e negative = search (rules, raised_up, raised_down, pow-add, pow_of)
 
 -- A number is not larger than its leading digits allow.
 pub bound : {n digits : ℕ} {more : Bool} (bits dropped : ℕ) → bits ≤ 5 → Leads (2 ^ bits) n digits more dropped → n ≤ 2 ^ (96 + dropped * bits)
@@ -33,12 +27,10 @@ pub vanishes : (f : Format) (n x p q : ℕ) → n ≤ 2 ^ x → p ≡ 0 → x + 
 vanishes f n x p q N none far =
     let ten : 10 ^ 343 ≤ 2 ^ 1140 = lit≤ tt in
     let one : n * 2 ^ p ≡ n = ap (λ p. n * 2 ^ p) none ∙ omega arith in
-    let top : n * 10 ^ 343 ≤ 2 ^ q = le_trans (mul-le-mul N ten) (le_trans (le_of_eq (sym (pow-add 2 x 1140))) (pow_mono far)) in
-    nearest_of_tiny f (n * 2 ^ p) (2 ^ q) (pow_pos q) (omega (arith, ap (λ m. m * 10 ^ 343) one, top))
+    nearest_of_tiny f (n * 2 ^ p) (2 ^ q) (pow_pos q) (omega (arith, ap (λ m. m * 10 ^ 343) one, (le_trans (mul-le-mul N ten) (le_trans (le_of_eq (sym (pow-add 2 x 1140))) (pow_mono far)))))
 
 pub explodes : (f : Format) (n p q : ℕ) → 1 ≤ n → 1027 + q ≤ p → IsNearestBits f (n * 2 ^ p) (2 ^ q) (ones f * hid f)
 explodes f n p q N far =
     let ten : 10 ^ 309 ≤ 2 ^ 1027 = lit≤ tt in
-    let top : 10 ^ 309 * 2 ^ q ≤ 2 ^ p = le_trans (mul-le-mul_right (2 ^ q) ten) (le_trans (le_of_eq (sym (pow-add 2 1027 q))) (pow_mono far)) in
     let more : 1 * 2 ^ p ≤ n * 2 ^ p = mul-le-mul_right (2 ^ p) N in
-    nearest_of_huge f (n * 2 ^ p) (2 ^ q) (pow_pos q) (omega (arith, top, more))
+    nearest_of_huge f (n * 2 ^ p) (2 ^ q) (pow_pos q) (omega (arith, (le_trans (mul-le-mul_right (2 ^ q) ten) (le_trans (le_of_eq (sym (pow-add 2 1027 q))) (pow_mono far))), more))

@@ -1,8 +1,9 @@
 -- Numbers of 64 bits, by the number of their digits behind leading zeros.
-use Rattle.lexical_number.proofs.Common.{Bool, IsTrue, List, None, Some, [], agree_below_at, ap, arith, byte_value, cases_lt, cond, cons_option, digits_in}
-use Rattle.lexical_number.proofs.Common.{false, if◌then◌else◌, inl, inr, leading_zeros, length, mod-add-mod, mul-le-mul_right, nat_le, nat_lt, nat_tests}
-use Rattle.lexical_number.proofs.Common.{number, number_from_digits_after, number_lt, places, pow-le-pow_right, pow-suc, pow-zero, refl, slice_index_or, subst}
-use Rattle.lexical_number.proofs.Common.{suc, sym, true, zero, ℕ, ◌%◌, ◌&&◌, ◌*◌, ◌++◌, ◌+◌, ◌-◌, ◌<◌, ◌==◌, ◌^◌, ◌||◌, ◌↔◌, ◌∙◌, ◌∷◌, ◌≡◌, ◌≤◌}
+use Rattle.std.proofs.Common.{rules}
+use Rattle.lexical_number.proofs.Common.{Bool, IsTrue, List, None, Some, [], agree_below_at, ap, arith, byte_value, cases_lt, cons_option, digits_in, false}
+use Rattle.lexical_number.proofs.Common.{if◌then◌else◌, inl, inr, leading_zeros, length, mod-add-mod, mul-le-mul_right, nat_le, nat_lt, nat_tests, number}
+use Rattle.lexical_number.proofs.Common.{number_from_digits_after, number_lt, places, pow-le-pow_right, pow-suc, pow-zero, refl, slice_index_or, subst, suc}
+use Rattle.lexical_number.proofs.Common.{sym, true, zero, ℕ, ◌%◌, ◌&&◌, ◌*◌, ◌++◌, ◌+◌, ◌-◌, ◌<◌, ◌==◌, ◌^◌, ◌||◌, ◌↔◌, ◌∙◌, ◌∷◌, ◌≡◌, ◌≤◌}
 use Rattle.std.specs.Int.Digits.{AllBelowBase, number_from_digits}
 use Rattle.lexical_number.specs.Small.{IsSmall}
 use Rattle.std.proofs.lemmas.Nat.{mul-mod_first}
@@ -11,9 +12,7 @@ use Rattle.lexical_number.specs.declared.small.TheConstants.{MOST}
 -- Digits behind a number are those behind each number that is the same modulo `2 ^ 64`.
 pub push_same : (radix s t v : ℕ) → s % 2 ^ 64 ≡ t % 2 ^ 64 → (s * radix + v) % 2 ^ 64 ≡ (t * radix + v) % 2 ^ 64
 push_same radix s t v same =
-    let product : s * radix % 2 ^ 64 ≡ t * radix % 2 ^ 64 =
-    sym (mul-mod_first s radix (2 ^ 64)) ∙ ap (λ n. n * radix % 2 ^ 64) same ∙ mul-mod_first t radix (2 ^ 64) in
-    sym (mod-add-mod (s * radix) (2 ^ 64) v) ∙ ap (λ n. (n + v) % 2 ^ 64) product ∙ mod-add-mod (t * radix) (2 ^ 64) v
+    sym (mod-add-mod (s * radix) (2 ^ 64) v) ∙ ap (λ n. (n + v) % 2 ^ 64) (sym (mul-mod_first s radix (2 ^ 64)) ∙ ap (λ n. n * radix % 2 ^ 64) same ∙ mul-mod_first t radix (2 ^ 64)) ∙ mod-add-mod (t * radix) (2 ^ 64) v
 
 -- A row is the greatest number of digits.
 abbrev most : ℕ → ℕ
@@ -47,11 +46,7 @@ fits_is radix digits low high =
 -- Digits are below their radix.
 pub below : (radix : ℕ) (bytes : List ℕ) → AllBelowBase radix (digits_in radix bytes)
 below radix [] = tt
-below radix (byte ∷ bytes) = go (nat_lt (byte_value byte) radix) refl (below radix bytes) where
-  go : (test : Bool) → nat_lt (byte_value byte) radix ≡ test → AllBelowBase radix (digits_in radix bytes)
-      → AllBelowBase radix (cons_option (cond test (Some (byte_value byte)) None) (digits_in radix bytes))
-  go true is rest = (grind (arith, nat_tests), rest)
-  go false is rest = rest
+below radix (byte ∷ bytes) = search (rules, below radix bytes, nat_lt, byte_value, digits_in, cons_option)
 
 -- A leading zero does not change the number.
 no_change : (radix : ℕ) (ds : List ℕ) → number_from_digits radix (zero ∷ ds) ≡ number_from_digits radix ds
@@ -63,26 +58,18 @@ left n k = omega arith
 -- Behind the leading zeros, there are as many digits as the number has.
 pub at_most : (radix : ℕ) (ds : List ℕ) → AllBelowBase radix ds → number_from_digits radix ds < radix ^ (length ds - leading_zeros ds)
 at_most radix [] all = let none : 0 - 0 ≡ 0 = omega arith in subst (λ n. 0 < n) (sym (ap (λ k. radix ^ k) none ∙ pow-zero radix)) (omega arith)
-at_most radix (zero ∷ ds) all =
-    subst (λ k. number_from_digits radix (zero ∷ ds) < radix ^ k) (sym (left (length ds) (leading_zeros ds)))
-    (subst (λ n. n < radix ^ (length ds - leading_zeros ds)) (sym (no_change radix ds)) (at_most radix ds all.1))
+at_most radix (zero ∷ ds) all = search (rules, at_most radix ds all.1, pow-zero, left, leading_zeros, no_change, number_lt)
 at_most radix (suc d ∷ ds) all = let whole : suc (length ds) ≡ suc (length ds) - 0 = omega arith in
     subst (λ k. number_from_digits radix (suc d ∷ ds) < radix ^ k) whole (number_lt radix (suc d ∷ ds) all)
 
 -- Digits that follow others multiply these.
 follows : (radix n : ℕ) (ds : List ℕ) → n * radix ^ length ds ≤ number_from_digits_after radix n ds
 follows radix n [] = let one : radix ^ 0 ≡ 1 = pow-zero radix in omega (arith, ap (λ x. n * x) one)
-follows radix n (d ∷ ds) =
-    let rest = follows radix (n * radix + d) ds in
-    let more : n * radix * radix ^ length ds ≤ (n * radix + d) * radix ^ length ds =
-    (let less : n * radix ≤ n * radix + d = omega arith in mul-le-mul_right (radix ^ length ds) less) in
-    omega (arith, rest, more, ap (λ x. n * x) (pow-suc radix (length ds)), ap (λ x. x * n) (pow-suc radix (length ds)))
+follows radix n (d ∷ ds) = search (rules, follows radix (n * radix + d) ds, pow-zero, mul-le-mul_right, pow-suc)
 
 pub at_least : (radix : ℕ) (ds : List ℕ) → leading_zeros ds < length ds → radix ^ (length ds - leading_zeros ds - 1) ≤ number_from_digits radix ds
 at_least radix [] less = absurd (omega (arith, less))
-at_least radix (zero ∷ ds) less =
-    subst (λ k. radix ^ (k - 1) ≤ number_from_digits radix (zero ∷ ds)) (sym (left (length ds) (leading_zeros ds)))
-    (subst (λ n. radix ^ (length ds - leading_zeros ds - 1) ≤ n) (sym (no_change radix ds)) (at_least radix ds (omega (arith, less))))
+at_least radix (zero ∷ ds) less = search (rules, at_least radix ds (omega (arith, less)), left, leading_zeros, no_change, number_from_digits_after, follows, mul-le-mul_right)
 at_least radix (suc d ∷ ds) less =
     let first : 0 * radix + suc d ≡ suc d = omega arith in
     let all : suc d * radix ^ length ds ≤ number_from_digits radix (suc d ∷ ds) =
@@ -133,8 +120,7 @@ long_word radix bytes low long = record {
 
 pub fitting_word : (radix digits sum : ℕ) (bytes : List ℕ) → radix ^ digits ≤ 2 ^ 64 → digits ≡ places radix bytes → sum ≡ number radix bytes % 2 ^ 64
     → IsSmall radix (number radix bytes) (Some sum)
-fitting_word radix digits sum bytes fits all = short_word radix digits sum bytes fits
-    (subst (λ k. number radix bytes < radix ^ k) (sym all) (number_lt radix (digits_in radix bytes) (below radix bytes)))
+fitting_word radix digits sum bytes fits all = search (rules, short_word, number, number_lt, digits_in, below)
 
 -- What the digits behind leading zeros are below.
 pub ruleset sizes = (at_most, below, long_word, short_word, zeros_within)

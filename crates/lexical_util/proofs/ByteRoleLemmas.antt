@@ -38,8 +38,7 @@ module _ (test : Role → Bool) (role : Role) where
   found [] = λ same. let no : None ≡ Some role = same in cc
   found (x ∷ list) = let rest = found list in λ same. grind arith
 
-  finds : IsTrue (test role) → ((x : Role) → IsTrue (test x) → x ≡ role) → (list : List Role) → IsAmong list role
-      → find test list ≡ Some role
+  finds : IsTrue (test role) → ((x : Role) → IsTrue (test x) → x ≡ role) → (list : List Role) → IsAmong list role → find test list ≡ Some role
   finds plays alone [] none = absurd none
   finds plays alone (x ∷ list) among = let rest = finds plays alone list in grind arith
 
@@ -64,17 +63,14 @@ apart_from word e p is =
     record { exponent_below = grind (arith, nat_tests); point_below = grind (arith, nat_tests); roles = is.roles }
 
 -- These lemmas assume the law that two sets are disjoint if and only if no byte is in both.
-module _ (law : (A B : ByteSet)
-    → Disjoint A B ↔ ((byte : ℕ) → byte < 256 → IsTrue (A byte) → IsTrue (B byte) → ⊥)) (word : ℕ) where
+module _ (law : (A B : ByteSet) → Disjoint A B ↔ ((byte : ℕ) → byte < 256 → IsTrue (A byte) → IsTrue (B byte) → ⊥)) (word : ℕ) where
   -- In a lawful format, no byte is both a digit and the digit separator.
-  pub digit_or_separator : Lawful word → (byte : ℕ) → IsTrue (digits (raw word) byte)
-      → IsTrue (used_separator (raw word) byte) → ⊥
+  pub digit_or_separator : Lawful word → (byte : ℕ) → IsTrue (digits (raw word) byte) → IsTrue (used_separator (raw word) byte) → ⊥
   unfolding Lawful
   digit_or_separator lawful byte digit used =
       let stored : IsTrue (separator (raw word) byte) = (and_parts (separator_allowed (raw word)) _ used).1 in
       let pairs = lawful.roles in
-      (law (digits (raw word)) (separator (raw word))).0 (assumption pairs) byte
-      (cased_below true _ byte (omega arith) stored) digit stored
+      (law (digits (raw word)) (separator (raw word))).0 (assumption pairs) byte (cased_below true _ byte (omega arith) stored) digit stored
 
   -- The other lemmas are on a format and two bytes with which no byte plays two roles.
   module _ (e p : ℕ) (apart : AreApart word e p) where
@@ -88,8 +84,7 @@ module _ (law : (A B : ByteSet)
     below _ other byte is = cased_below _ _ byte (omega arith) is
 
     -- If a byte is in two stored sets, then their roles are equal.
-    one_below : (byte : ℕ) → byte < 256 → (a b : Role) → IsTrue (stored_set (raw word) e p a byte)
-        → IsTrue (stored_set (raw word) e p b byte) → a ≡ b
+    one_below : (byte : ℕ) → byte < 256 → (a b : Role) → IsTrue (stored_set (raw word) e p a byte) → IsTrue (stored_set (raw word) e p b byte) → a ≡ b
     one_below byte small roles.Digit roles.Digit in_a in_b = refl
     one_below byte small roles.Sign roles.Sign in_a in_b = refl
     one_below byte small roles.Separator roles.Separator in_a in_b = refl
@@ -100,17 +95,14 @@ module _ (law : (A B : ByteSet)
     one_below byte small a b in_a in_b = absurd ((law (stored_set (raw word) e p a) (stored_set (raw word) e p b)).0
         (search (Disjoint-sym, apart.roles)) byte small in_a in_b)
 
-    one_stored : (byte : ℕ) (a b : Role) → IsTrue (stored_set (raw word) e p a byte)
-        → IsTrue (stored_set (raw word) e p b byte) → a ≡ b
+    one_stored : (byte : ℕ) (a b : Role) → IsTrue (stored_set (raw word) e p a byte) → IsTrue (stored_set (raw word) e p b byte) → a ≡ b
     one_stored byte roles.Digit roles.Digit in_a in_b = refl
     one_stored byte roles.Digit b in_a in_b = one_below byte (below b (λ same. cc) byte in_b) roles.Digit b in_a in_b
     one_stored byte a b in_a in_b = one_below byte (below a (λ same. cc) byte in_a) a b in_a in_b
 
     -- A byte plays at most one role.
-    pub one_role : (byte : ℕ) (a b : Role) → IsTrue (role_set (raw word) e p a byte)
-        → IsTrue (role_set (raw word) e p b byte) → a ≡ b
-    one_role byte a b in_a in_b =
-        one_stored byte a b (stored (raw word) e p byte a in_a) (stored (raw word) e p byte b in_b)
+    pub one_role : (byte : ℕ) (a b : Role) → IsTrue (role_set (raw word) e p a byte) → IsTrue (role_set (raw word) e p b byte) → a ≡ b
+    one_role byte a b in_a in_b = one_stored byte a b (stored (raw word) e p byte a in_a) (stored (raw word) e p byte b in_b)
 
     -- The first role of a byte is its only role.
     pub first_role-only : (byte : ℕ) → IsOnlyRole (raw word) e p byte (first_role (raw word) e p byte)

@@ -7,8 +7,7 @@ use Rattle.lexical_util.specs.declared.edits.setters.Edit.TheVariants as edits
 
 -- Except for three setters, a flag edit changes a new builder if and only if its value is true.
 pub flag_change : (s : FlagSetter) (v : Bool) → (s ≡ setters.RequiredDigits → ⊥)
-    → (s ≡ setters.RequiredExponentDigits → ⊥) → (s ≡ setters.RequiredMantissaDigits → ⊥)
-    → differs_from_new (edits.Flag s v) ≡ v
+    → (s ≡ setters.RequiredExponentDigits → ⊥) → (s ≡ setters.RequiredMantissaDigits → ⊥) → differs_from_new (edits.Flag s v) ≡ v
 flag_change setters.RequiredDigits v a b c = absurd (a refl)
 flag_change setters.RequiredExponentDigits v a b c = absurd (b refl)
 flag_change setters.RequiredMantissaDigits v a b c = absurd (c refl)

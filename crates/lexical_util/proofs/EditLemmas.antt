@@ -14,8 +14,7 @@ use Rattle.lexical_util.specs.declared.edits.setters.Edit.{Edit}
 -- The writes of the first `i + 1` edits are the writes of the first `i` edits, and then the writes of the next.
 pub all_writes-more : (edits : List Edit) (i : ℕ) (e : Edit) → i < length edits
     → all_writes (take (i + 1) edits) ≡ all_writes (take i edits) ++ writes_of (get_or edits i e)
-all_writes-more edits i e h = ap all_writes (take_more edits i e h)
-    ∙ flat_map-append writes_of (take i edits) (get_or edits i e ∷ [])
+all_writes-more edits i e h = ap all_writes (take_more edits i e h) ∙ flat_map-append writes_of (take i edits) (get_or edits i e ∷ [])
     ∙ ap (λ L. all_writes (take i edits) ++ L) (append-nil (writes_of (get_or edits i e)))
 
 -- `HasApplied R edits i b` holds if applying the first `i` of `edits` to `R` gives `b`, and their writes are legal.
@@ -35,8 +34,7 @@ applied_more {R} {edits} {i} {b} {next} {e} h inside is applied legal =
     let more : all_writes (take (i + 1) edits) ≡ all_writes (take i edits) ++ writes_of e =
     all_writes-more edits i e inside ∙ ap (λ x. all_writes (take i edits) ++ writes_of x) (sym is) in
     record {
-      fields = applied ∙ ap (λ S. after S (writes_of e)) h.fields
-          ∙ after-append R (all_writes (take i edits)) (writes_of e) ∙ ap (after R) (sym more);
+      fields = applied ∙ ap (λ S. after S (writes_of e)) h.fields ∙ after-append R (all_writes (take i edits)) (writes_of e) ∙ ap (after R) (sym more);
       legal = All-same IsLegal _ _ more (All-append IsLegal (all_writes (take i edits)) (writes_of e) h.legal legal);
     }
 
@@ -63,8 +61,7 @@ module _ (w : ℕ) (L : List Write) (legal : All IsLegal L) where
 
   -- No other clean word has the fields of an edited word.
   pub edited-only : (u : ℕ) → u < 2 ^ 128 → IsClean u → raw u ≡ trim (after (fill (raw w)) L) → u ≡ edited w L
-  edited-only u fits clean same =
-      raw-injective u (edited w L) fits edited-fits clean edited-clean (same ∙ sym edited-fields)
+  edited-only u fits clean same = raw-injective u (edited w L) fits edited-fits clean edited-clean (same ∙ sym edited-fields)
 
 -- If two lists of writes give each field the same last value, then they give the same edited word.
 pub edited-same : (w : ℕ) (K L : List Write) → SameWrites K L → edited w K ≡ edited w L

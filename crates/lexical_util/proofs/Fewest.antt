@@ -49,12 +49,10 @@ count_overwritten : (r : Record) (L : List Write) → count_by (overwritten L) (
 count_overwritten r [] = le_refl 0
 count_overwritten r (x ∷ L) =
     let both : count_by (overwritten (x ∷ L)) (field_writes r)
-    ≤ count_by (overwrites x) (field_writes r) + count_by (overwritten L) (field_writes r) =
-    count_either (overwrites x) (overwritten L) (field_writes r) in
+    ≤ count_by (overwrites x) (field_writes r) + count_by (overwritten L) (field_writes r) = count_either (overwrites x) (overwritten L) (field_writes r) in
     omega (arith, both, overwrites_one x r, count_overwritten r L)
 
-count_fewer : (p q : Write → Bool) (ys : List Write) → All (λ y. cond (p y) 1 0 ≤ cond (q y) 1 0) ys
-    → count_by p ys ≤ count_by q ys
+count_fewer : (p q : Write → Bool) (ys : List Write) → All (λ y. cond (p y) 1 0 ≤ cond (q y) 1 0) ys → count_by p ys ≤ count_by q ys
 count_fewer p q [] all = le_refl 0
 count_fewer p q (y ∷ ys) all = omega (
   arith,
@@ -68,8 +66,7 @@ none_or : {T : Type 0} (o : Option T) (d : T) → is_some o ≡ false → unwrap
 none_or o d none = grind arith
 
 -- If no write is to a field, then the value of the field is the same.
-untouched : {T : Type 0} (h : Write → Option T) (L : List Write) (d : T) → list_any (λ x. is_some (h x)) L ≡ false
-    → left_by h L d ≡ d
+untouched : {T : Type 0} (h : Write → Option T) (L : List Write) (d : T) → list_any (λ x. is_some (h x)) L ≡ false → left_by h L d ≡ d
 untouched h [] d none = refl
 untouched h (x ∷ L) d none =
     let parts = or_parts (is_some (h x)) (list_any (λ y. is_some (h y)) L) none in
@@ -106,8 +103,7 @@ needed_overwritten L = All-field_writes (λ y. cond (changes new_record y) 1 0 �
   on_byte layout.digit_separator = separator (separator_allowed (after new_record L))
   on_byte b = kept b
 
-pub fewest_writes : (w : ℕ) (L : List Write) → All IsLegal L → pack (after new_record L) ≡ w
-    → length (needed_writes (raw w)) ≤ length L
+pub fewest_writes : (w : ℕ) (L : List Write) → All IsLegal L → pack (after new_record L) ≡ w → length (needed_writes (raw w)) ≤ length L
 fewest_writes w L legal makes =
     let r : Record = trim (after new_record L) in
     let fields : r ≡ raw w = sym (raw-pack (after new_record L) (HasBytes-after new_record L HasBytes-new legal)) ∙ ap raw makes in

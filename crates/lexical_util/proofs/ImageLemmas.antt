@@ -26,6 +26,5 @@ built_by_writes w fits = (
     legal = legal-field_writes (raw w) (HasBytes-raw w);
     makes = ap pack (after-field_writes new_record (raw w)) ∙ (pack-raw w fits).1 built;
   },
-  λ made. subst IsBuilt made.makes (IsBuilt-pack (after new_record made.writes)
-      (HasBytes-after new_record made.writes HasBytes-new made.legal)),
+  λ made. subst IsBuilt made.makes (IsBuilt-pack (after new_record made.writes) (HasBytes-after new_record made.writes HasBytes-new made.legal)),
 )

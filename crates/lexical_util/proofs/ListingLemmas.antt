@@ -26,8 +26,7 @@ writes_of-edit (write_byte b value) = ap (λ n. write_byte b n ∷ []) (byte_of_
 
 all_writes-edits : (writes : List Write) → all_writes (map edit_of_write writes) ≡ writes
 all_writes-edits [] = refl
-all_writes-edits (x ∷ writes) = ap (λ xs. xs ++ all_writes (map edit_of_write writes)) (writes_of-edit x)
-    ∙ ap (λ xs. x ∷ xs) (all_writes-edits writes)
+all_writes-edits (x ∷ writes) = ap (λ xs. xs ++ all_writes (map edit_of_write writes)) (writes_of-edit x) ∙ ap (λ xs. x ∷ xs) (all_writes-edits writes)
 
 -- Filtering edits by a test is filtering their writes by an equal test.
 filter-edits : (p : Edit → Bool) (q : Write → Bool) → ((x : Write) → p (edit_of_write x) ≡ q x) → (writes : List Write)
@@ -49,8 +48,7 @@ pub needed_edits-is : (R : Record) → filter differs_from_new (field_edits R) �
 needed_edits-is R = filter-edits differs_from_new (changes new_record) differs_from_new-edit (field_writes R)
 
 pub other_edits-is : (R : Record) → filter (λ e. not (differs_from_new e)) (field_edits R) ≡ other_edits R
-other_edits-is R = filter-edits (λ e. not (differs_from_new e)) (λ x. not (changes new_record x))
-    (λ x. ap not (differs_from_new-edit x)) (field_writes R)
+other_edits-is R = filter-edits (λ e. not (differs_from_new e)) (λ x. not (changes new_record x)) (λ x. ap not (differs_from_new-edit x)) (field_writes R)
 
 all_writes-both : (R : Record) → all_writes (needed_edits R ++ other_edits R) ≡ needed_writes R ++ other_writes R
 all_writes-both R = flat_map-append writes_of (needed_edits R) (other_edits R)
@@ -70,8 +68,7 @@ pub legal-both : (R : Record) → HasBytes R → All IsLegal (all_writes (needed
 legal-both R h =
     let legal = legal-field_writes R h in
     subst (All IsLegal) (sym (all_writes-both R)) (All-append IsLegal (needed_writes R) (other_writes R)
-    (All-filter (changes new_record) IsLegal (field_writes R) legal)
-    (All-filter (λ x. not (changes new_record x)) IsLegal (field_writes R) legal))
+    (All-filter (changes new_record) IsLegal (field_writes R) legal) (All-filter (λ x. not (changes new_record x)) IsLegal (field_writes R) legal))
 
 -- Each flag setter writes only its flag. Each case is computed.
 pub setter_alone : (f : Flag) → flags_of (flag_setter f) ≡ f ∷ []

@@ -49,8 +49,7 @@ SameFormat-from_trim R S e =
       exponent_base = ap (λ (T : Record). T.byte layout.exponent_base) e;
       exponent_radix = ap (λ (T : Record). T.byte layout.exponent_radix) e;
       digit_separator = used_same (separator_allowed R) (separator_allowed S) (R.byte layout.digit_separator) (S.byte layout.digit_separator)
-          (list_any_same R.flag S.flag digit_separator_flags flags_agree)
-          (ap (λ (T : Record). T.byte layout.digit_separator) e);
+          (list_any_same R.flag S.flag digit_separator_flags flags_agree) (ap (λ (T : Record). T.byte layout.digit_separator) e);
     }
 
 -- The normal form is the word into which the filled record packs.
@@ -143,7 +142,5 @@ filled_again R used = λ i. record { flag = R.flag; byte = λ b. on_byte b i } w
   on_byte b = let kept = kept_same (separator_allowed R) (R.byte layout.digit_separator) used in grind (arith, nat_tests)
 
 -- If the separator of a word is allowed or absent, then edits of its normal form and of the word give the same word.
-pub edited-normal : (w : ℕ) (L : List Write) → SeparatorAllowedOrAbsent (raw w)
-    → edited (normal_form_of w) L ≡ edited w L
-edited-normal w L used = ap (λ S. pack (after (fill S) L)) (raw_normal w)
-    ∙ ap (λ S. pack (after S L)) (filled_again (raw w) used)
+pub edited-normal : (w : ℕ) (L : List Write) → SeparatorAllowedOrAbsent (raw w) → edited (normal_form_of w) L ≡ edited w L
+edited-normal w L used = ap (λ S. pack (after (fill S) L)) (raw_normal w) ∙ ap (λ S. pack (after S L)) (filled_again (raw w) used)

@@ -19,16 +19,14 @@ pub record NumeralParts (radix most : ℕ) (digits : List ℕ) : Type 0 where
   pub few : length digits ≤ most
   pub all_digits : AllPass (is_digit_of_radix radix) digits
 
-pub numeral_parts : (radix most : ℕ) (digits : List ℕ) → IsTrue (is_numeral radix most digits)
-    → NumeralParts radix most digits
+pub numeral_parts : (radix most : ℕ) (digits : List ℕ) → IsTrue (is_numeral radix most digits) → NumeralParts radix most digits
 numeral_parts radix most digits test = record {
   some = grind (arith, nat_tests);
   few = grind (arith, nat_tests);
   all_digits = AllPass-from_list_all (is_digit_of_radix radix) digits (grind (arith, nat_tests));
 }
 
-pub numeral_from : (radix most : ℕ) (digits : List ℕ) → NumeralParts radix most digits
-    → IsTrue (is_numeral radix most digits)
+pub numeral_from : (radix most : ℕ) (digits : List ℕ) → NumeralParts radix most digits → IsTrue (is_numeral radix most digits)
 numeral_from radix most digits parts =
     let all = list_all-from_AllPass (is_digit_of_radix radix) digits parts.all_digits in grind (arith, nat_tests)
 
@@ -38,21 +36,18 @@ pub record HasRead (radix : ℕ) (digits : List ℕ) (count number : ℕ) : Type
   pub all_digits : AllPass (is_digit_of_radix radix) (take count digits)
 
 -- If at most 32 digits of a radix of at most 16 are read, then their number fits 128 bits.
-pub HasRead-fits : (radix : ℕ) (digits : List ℕ) (count number : ℕ) → HasRead radix digits count number → radix ≤ 16
-    → count ≤ 32 → number < 2 ^ 128
+pub HasRead-fits : (radix : ℕ) (digits : List ℕ) (count number : ℕ) → HasRead radix digits count number → radix ≤ 16 → count ≤ 32 → number < 2 ^ 128
 HasRead-fits radix digits count number read low few =
     let values = map byte_value (take count digits) in
     let below : numeral radix (take count digits) < radix ^ length values =
     number_lt radix values (recursion_from_All (λ d. d < radix) values (All-map (λ d. d < radix) byte_value
     (take count digits) (λ k d inside. ltb-true _ _ (read.all_digits k d inside)))) in
-    let short : length values ≤ 32 =
-    omega (arith, length-map (take count digits) byte_value, length-take count digits) in
+    let short : length values ≤ 32 = omega (arith, length-map (take count digits) byte_value, length-take count digits) in
     let power : 16 ^ length values ≤ 16 ^ 32 = pow-le-pow_right (omega arith) short in
     omega (arith, read.sum, below, pow-le-pow_left low (length values), power)
 
 -- If `count` digits are read and the next byte is a digit, then `count + 1` digits are read.
-pub HasRead-next : (radix : ℕ) (digits : List ℕ) (count number digit : ℕ) → HasRead radix digits count number
-    → count < length digits
+pub HasRead-next : (radix : ℕ) (digits : List ℕ) (count number digit : ℕ) → HasRead radix digits count number → count < length digits
     → Some digit ≡ digit_of (get_or digits count 0) radix → HasRead radix digits (count + 1) (number * radix + digit)
 HasRead-next radix digits count number digit before inside read =
     let byte = get_or digits count 0 in
@@ -66,8 +61,7 @@ HasRead-next radix digits count number digit before inside read =
 
 -- If all digits are read, then the bytes are a numeral, and the number is its value.
 pub HasRead-whole : (radix most : ℕ) (digits : List ℕ) (count number : ℕ) → HasRead radix digits count number
-    → length digits ≤ count → 1 ≤ length digits → length digits ≤ most
-    → IsTrue (is_numeral radix most digits) × (number ≡ numeral radix digits)
+    → length digits ≤ count → 1 ≤ length digits → length digits ≤ most → IsTrue (is_numeral radix most digits) × (number ≡ numeral radix digits)
 HasRead-whole radix most digits count number read done some few =
     let all : take count digits ≡ digits = take_all count digits done in (
       numeral_from radix most digits (record { some = some; few = few; all_digits = rw all at read.all_digits }),

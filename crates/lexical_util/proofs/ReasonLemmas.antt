@@ -79,8 +79,7 @@ roles_are r = λ i.
     ∷ cased (set_is r layout.case_sensitive_base_suffix i) (r.byte layout.base_suffix) ∷ []
 
 -- A byte clashes with none of some bytes if and only if its role is disjoint from theirs.
-clashes : (r : Record) (a : NamedByte) (bs : List NamedByte)
-    → AllByRecursion (Disjoint (role r a)) (map (role r) bs) ↔ NoCause (map (clash r a) bs)
+clashes : (r : Record) (a : NamedByte) (bs : List NamedByte) → AllByRecursion (Disjoint (role r a)) (map (role r) bs) ↔ NoCause (map (clash r a) bs)
 clashes r a [] = (λ h. tt, λ h. tt)
 clashes r a (b ∷ bs) =
     let one = apart r a b in
@@ -126,8 +125,7 @@ own_causes (absent_or_punctuation b) word =
     let present = absent_or byte (not_punctuation (raw word) byte) in one _ _ (grind arith)
 own_causes roles_differ word =
     let r = raw word in
-    subst (λ roles. AreDisjoint roles ↔ NoCause (causes_of roles_differ word)) (roles_are r)
-    (let byte = byte_in r in
+    subst (λ roles. AreDisjoint roles ↔ NoCause (causes_of roles_differ word)) (roles_are r) (let byte = byte_in r in
     let first = clashes r (byte layout.digit_separator) (byte layout.base_prefix ∷ byte layout.base_suffix ∷ []) in
     let second = clashes r (byte layout.base_prefix) (byte layout.base_suffix ∷ []) in (
       λ all. let a = first.0 all.0 in let b = second.0 all.1.0 in (a.0, (a.1.0, b)),
@@ -135,8 +133,7 @@ own_causes roles_differ word =
     ))
 own_causes (not_both a b) word =
     let r = raw word in
-    one _ _ (subst (λ t. IsFalse t ↔ (both_set r (flag_setter a) (flag_setter b) ≡ None)) (λ i. set_is r a i && set_is r b i)
-    (none_if _ _))
+    one _ _ (subst (λ t. IsFalse t ↔ (both_set r (flag_setter a) (flag_setter b) ≡ None)) (λ i. set_is r a i && set_is r b i) (none_if _ _))
 own_causes (position_allowed part) word = one _ _ (none_if _ _)
 own_causes reserved_zero word = let clean = reserved_clean word in one _ _ (grind arith)
 
@@ -164,8 +161,7 @@ own_demand rule word h = h
 
 -- `Explains r rule q` holds if a reason for which `r` breaks `rule` is also one for which it breaks `q`.
 abbrev Explains : Record → Rule → Rule → Type 0
-Explains r rule q =
-    (Some rule ≡ Some q) ⊎ (((followers r (Some rule)).0 ≡ Some q) ⊎ ((followers r (Some rule)).1 ≡ Some q))
+Explains r rule q = (Some rule ≡ Some q) ⊎ (((followers r (Some rule)).0 ≡ Some q) ⊎ ((followers r (Some rule)).1 ≡ Some q))
 
 -- If a rule is explained by another one and holds, then the own demand of the other one holds.
 explained : (word : ℕ) (rule q : Rule) → Explains (raw word) rule q → Holds q word → Own (shape_of rule) word
@@ -178,13 +174,10 @@ explained word rules.MantissaRadixInRange q (inr follows) holds = elim follows [
   mantissa : ℕ
   mantissa = (raw word).byte layout.mantissa_radix
 
-  followed : (n : ℕ) (own : Rule) → (Holds own word → IsRadix (effective n mantissa)) → then_some (n == 0) own ≡ Some q
-      → IsRadix mantissa
+  followed : (n : ℕ) (own : Rule) → (Holds own word → IsRadix (effective n mantissa)) → then_some (n == 0) own ≡ Some q → IsRadix mantissa
   followed n own step = test _ refl where
     test : (t : Bool) → (n == 0) ≡ t → then_some t own ≡ Some q → IsRadix mantissa
-    test true zero same =
-        subst (λ k. IsRadix (effective k mantissa)) (eqb-true n 0 zero)
-        (step (subst (λ q. Holds q word) (sym (same_Some own q same)) holds))
+    test true zero same = subst (λ k. IsRadix (effective k mantissa)) (eqb-true n 0 zero) (step (subst (λ q. Holds q word) (sym (same_Some own q same)) holds))
     test false zero same = absurd (none-some q same)
 explained word rule q (inr follows) holds = elim follows [ inl is ↦ cc | inr is ↦ cc ]
 
@@ -208,8 +201,7 @@ no_breaks : (r : Record) (rule q : Rule) (list : List (Option Cause)) → (Expla
     → EachReason (λ s. Breaks s q → ⊥) (reasons_for r rule list)
 no_breaks r rule q [] none = tt
 no_breaks r rule q (None ∷ list) none = (tt, no_breaks r rule q list (λ e. let own = none e in own.1))
-no_breaks r rule q (Some c ∷ list) none =
-    (λ e. let own = none e in none-some c (sym own.0), no_breaks r rule q list (λ e. let own = none e in own.1))
+no_breaks r rule q (Some c ∷ list) none = (λ e. let own = none e in none-some c (sym own.0), no_breaks r rule q list (λ e. let own = none e in own.1))
 
 -- There are no causes if and only if there are no reasons for them.
 no_reasons : (f : Cause → Reason) (list : List (Option Cause)) → NoCause list ↔ NoReason (map (option_map f) list)
@@ -217,8 +209,7 @@ no_reasons f [] = (λ none. tt, λ none. tt)
 no_reasons f (o ∷ list) = let rest = no_reasons f list in grind arith
 
 -- A property of the slots of each rule is a property of all slots.
-join : (P : Option Reason → Type 0) (xs ys : List (Option Reason)) → AllByRecursion P xs → AllByRecursion P ys
-    → AllByRecursion P (xs ++ ys)
+join : (P : Option Reason → Type 0) (xs ys : List (Option Reason)) → AllByRecursion P xs → AllByRecursion P ys → AllByRecursion P (xs ++ ys)
 join P [] ys first second = second
 join P (x ∷ xs) ys first second = (first.0, join P xs ys first.1 second)
 
@@ -235,26 +226,21 @@ by_rules word q = (
       (λ explains. (own_causes (shape_of rule) word).0 (explained word rule q explains holds))) rules_in_order,
   met q,
 ) where
-  own_slots : (P : Reason → Type 0) → EachReason P (reasons_of word) → (rule : Rule)
-      → EachReason P (slots word rule)
+  own_slots : (P : Reason → Type 0) → EachReason P (reasons_of word) → (rule : Rule) → EachReason P (slots word rule)
   own_slots P all rules.PunctuationDiffers = (assumption all, (assumption all, (assumption all, tt)))
   own_slots P all _ = (assumption all, tt)
 
-  own : (rule q : Rule) → Explains (raw word) rule q
-      → EachReason (λ r. Breaks r q → ⊥) (reasons_of word) → Own (shape_of rule) word
+  own : (rule q : Rule) → Explains (raw word) rule q → EachReason (λ r. Breaks r q → ⊥) (reasons_of word) → Own (shape_of rule) word
   own rule q explains fine = (own_causes (shape_of rule) word).1 (no_causes (raw word) rule q explains _ (own_slots _ fine rule))
 
   zero_is : {q : Rule} {n : ℕ} → n ≡ 0 → then_some (n == 0) q ≡ Some q
   zero_is {q} zero = ap (λ t. then_some t q) (eq-eqb _ 0 zero)
 
   met : (q : Rule) → EachReason (λ r. Breaks r q → ⊥) (reasons_of word) → Holds q word
-  met rules.MantissaRadixInRange fine =
-      subst IsRadix (sym (effective_self _)) (own rules.MantissaRadixInRange _ (inl refl) fine)
-  met rules.ExponentBaseInRange fine =
-      effective_radix _ _ (λ zero. own rules.MantissaRadixInRange rules.ExponentBaseInRange (inr (inl (zero_is zero))) fine)
+  met rules.MantissaRadixInRange fine = subst IsRadix (sym (effective_self _)) (own rules.MantissaRadixInRange _ (inl refl) fine)
+  met rules.ExponentBaseInRange fine = effective_radix _ _ (λ zero. own rules.MantissaRadixInRange rules.ExponentBaseInRange (inr (inl (zero_is zero))) fine)
       (own rules.ExponentBaseInRange _ (inl refl) fine)
-  met rules.ExponentRadixInRange fine =
-      effective_radix _ _ (λ zero. own rules.MantissaRadixInRange rules.ExponentRadixInRange (inr (inr (zero_is zero))) fine)
+  met rules.ExponentRadixInRange fine = effective_radix _ _ (λ zero. own rules.MantissaRadixInRange rules.ExponentRadixInRange (inr (inr (zero_is zero))) fine)
       (own rules.ExponentRadixInRange _ (inl refl) fine)
   met q fine = own q q (inl refl) fine
 
@@ -276,10 +262,7 @@ no_reason word = (
 -- Options fit a word if and only if they have no reason.
 pub options_fit : (word e p : ℕ) → OptionsFit word e p ↔ NoReason (options_reasons_of word e p)
 options_fit word e p =
-    let reasons = no_reasons (reason_of (raw word) None) (options_causes word e p) in (
-      λ fit. reasons.0 (causes fit),
-      λ none. fits (reasons.1 none),
-    ) where
+    let reasons = no_reasons (reason_of (raw word) None) (options_causes word e p) in (λ fit. reasons.0 (causes fit), λ none. fits (reasons.1 none)) where
       r : Record
       r = raw word
 
@@ -293,8 +276,7 @@ options_fit word e p =
       role_is = λ i. cased (set_is r layout.case_sensitive_exponent i) e
 
       new : (a : NamedByte) → AllByRecursion (Disjoint (role r a)) (format_roles r) ↔ NoCause (map (clash r a) (punctuation_in r))
-      new a =
-          subst (λ roles. AllByRecursion (Disjoint (role r a)) roles ↔ NoCause (map (clash r a) (punctuation_in r))) (roles_are r)
+      new a = subst (λ roles. AllByRecursion (Disjoint (role r a)) roles ↔ NoCause (map (clash r a) (punctuation_in r))) (roles_are r)
           (clashes r a (punctuation_in r))
 
       causes : OptionsFit word e p → NoCause (options_causes word e p)
@@ -303,10 +285,7 @@ options_fit word e p =
             (punctuation r x).0 fit.exponent_is_punctuation,
             (
               (punctuation r y).0 fit.point_is_punctuation,
-              (
-                (apart r x y).0 (subst (λ A. Disjoint A (point p)) (sym role_is) fit.apart),
-                (own.0, (own.1.0, (own.1.1.0, (new y).0 fit.point_is_new))),
-              ),
+              ((apart r x y).0 (subst (λ A. Disjoint A (point p)) (sym role_is) fit.apart), (own.0, (own.1.0, (own.1.1.0, (new y).0 fit.point_is_new)))),
             ),
           )
 

@@ -15,8 +15,7 @@ use Rattle.lexical_util.specs.declared.edits.setters.FlagSetter.{FlagSetter}
 use Rattle.lexical_util.specs.declared.edits.setters.FlagSetter.TheVariants as setters
 
 -- The test of a word under the mask of some flags is the test that one of these flags is set.
-pub any_by_mask : (word mask : ℕ) (fs : List Flag) → mask ≡ mask_of fs → ascends bit 1 0 fs ≡ true
-    → not (bit_and word mask == 0) ≡ any_flag word fs
+pub any_by_mask : (word mask : ℕ) (fs : List Flag) → mask ≡ mask_of fs → ascends bit 1 0 fs ≡ true → not (bit_and word mask == 0) ≡ any_flag word fs
 unfolding any_flag
 any_by_mask word mask fs is up = rw is (mask_test fs word up)
 
@@ -32,8 +31,7 @@ flag_bits-raw : (word : ℕ) (f : Flag) → part word (bit f) 1 * 2 ^ bit f ≡ 
 flag_bits-raw word f = one_bit (part word (bit f) 1) (bit f) (mod-lt _ (omega arith))
 
 -- The bits of a word under the mask of some flags are the bits of the flags that are set.
-pub bits_by_mask : (word mask : ℕ) (fs : List Flag) → mask ≡ mask_of fs → ascends bit 1 0 fs ≡ true
-    → bit_and word mask ≡ bits_of word fs
+pub bits_by_mask : (word mask : ℕ) (fs : List Flag) → mask ≡ mask_of fs → ascends bit 1 0 fs ≡ true → bit_and word mask ≡ bits_of word fs
 unfolding bits_of
 bits_by_mask word mask fs is up = rw is (and_all bit fs word up ∙ (λ i. sum_by (λ f. flag_bits-raw word f i) fs))
 
@@ -42,8 +40,7 @@ pub common_by_mask : (word mask : ℕ) → nat_lt mask (2 ^ 128) ≡ true → bi
 common_by_mask word mask fits = sym (common-bit_and word mask (grind (arith, nat_tests)))
 
 -- The test of a word under a mask is true if and only if word and mask have a bit in common.
-pub some_by_mask : (word mask : ℕ) → nat_lt mask (2 ^ 128) ≡ true
-    → (IsTrue (not (bit_and word mask == 0)) → common word mask ≢ 0)
+pub some_by_mask : (word mask : ℕ) → nat_lt mask (2 ^ 128) ≡ true → (IsTrue (not (bit_and word mask == 0)) → common word mask ≢ 0)
     × (common word mask ≢ 0 → IsTrue (not (bit_and word mask == 0)))
 some_by_mask word mask fits = let same : bit_and word mask ≡ common word mask = common_by_mask word mask fits in
     grind (arith, nat_tests)
@@ -58,15 +55,13 @@ eighth_power n = sym (pow-add n 4 4)
 
 -- `ByteTells word mask shift` holds if the bits of `word` under `mask` are 0 if and only if the byte at `shift` is 0.
 abbrev pub ByteTells : ℕ → ℕ → ℕ → Type 0
-ByteTells word mask shift = ((bit_and word mask ≡ 0) × (part word shift 8 ≡ 0)) ⊎
-    ((bit_and word mask ≢ 0) × (part word shift 8 ≢ 0))
+ByteTells word mask shift = ((bit_and word mask ≡ 0) × (part word shift 8 ≡ 0)) ⊎ ((bit_and word mask ≢ 0) × (part word shift 8 ≢ 0))
 
 zero_factor : (n p : ℕ) → 0 < p → n * p ≡ 0 → n ≡ 0
 zero_factor n p high e = grind arith
 
 -- If the bits under a mask are a byte times a power of two, then they are 0 if and only if the byte is 0.
-byte_tells : (word mask shift : ℕ) → bit_and word mask ≡ part word shift 8 * 2 ^ shift → 0 < 2 ^ shift
-    → ByteTells word mask shift
+byte_tells : (word mask shift : ℕ) → bit_and word mask ≡ part word shift 8 * 2 ^ shift → 0 < 2 ^ shift → ByteTells word mask shift
 byte_tells word mask shift is high = let zero = zero_factor (part word shift 8) (2 ^ shift) high in grind (arith, nat_tests)
 
 pub digit_separator_tells : (word : ℕ) → ByteTells word 0x00000000_000000FF_00000000_00000000 64

@@ -51,8 +51,7 @@ digit_character-byte_value byte printed =
 -- The digit character of a value below 16 is not a lowercase letter.
 IsUppercase-digit_character : (digit : ℕ) → digit < 16 → IsUppercase (slice_index_or digit_characters digit 0)
 unfolding byte_value
-IsUppercase-digit_character digit small =
-    agree_below_at (λ d. is_printed_digit (slice_index_or digit_characters d 0)) (λ _. true) 16 digit refl small
+IsUppercase-digit_character digit small = agree_below_at (λ d. is_printed_digit (slice_index_or digit_characters d 0)) (λ _. true) 16 digit refl small
 
 -- `HasWritten word rest count text` holds if the last `count` digits of `word` are at the end of `text`, and `rest` is
 -- the number of the other digits.
@@ -69,8 +68,7 @@ HasWritten-none word = record { long = refl; prefix = refl; left = omega arith; 
 
 -- If `count` digits are written, then storing the next digit writes `count + 1` digits.
 pub HasWritten-next : (word rest count byte : ℕ) (text : List ℕ) → HasWritten word rest count text → count < 32
-    → byte ≡ slice_index_or digit_characters (rest % 16) 0
-    → HasWritten word (rest / 16) (count + 1) (set text (33 - count) byte)
+    → byte ≡ slice_index_or digit_characters (rest % 16) 0 → HasWritten word (rest / 16) (count + 1) (set text (33 - count) byte)
 unfolding last_digits
 HasWritten-next word rest count byte text before few digit =
     let inside : 33 - count < length text = omega (arith, before.long) in
@@ -102,18 +100,14 @@ last_digits-uppercase (suc count) number = All-cons IsUppercase (digit_at number
     (IsUppercase-digit_character (number / 16 ^ count % 16) (omega arith)) (last_digits-uppercase count number)
 
 -- The last digits of a number, after the number of its other digits, write the whole number.
-last_digits-numeral : (count number : ℕ)
-    → number_from_digits_after 16 (number / 16 ^ count) (map byte_value (last_digits count number)) ≡ number
+last_digits-numeral : (count number : ℕ) → number_from_digits_after 16 (number / 16 ^ count) (map byte_value (last_digits count number)) ≡ number
 unfolding last_digits
 last_digits-numeral zero number = omega arith
 last_digits-numeral (suc count) number =
     let left : number / 16 ^ count / 16 ≡ number / (16 ^ count * 16) = div-div-eq-div-mul number (16 ^ count) 16 in
-    let digit : byte_value (digit_at number count) ≡ number / 16 ^ count % 16 =
-    byte_value-digit_character (number / 16 ^ count % 16) (omega arith) in
-    let front : number / 16 ^ suc count * 16 + byte_value (digit_at number count) ≡ number / 16 ^ count =
-    rw (pow-suc 16 count, digit, ← left) (omega arith) in
-    subst (λ n. number_from_digits_after 16 n (map byte_value (last_digits count number)) ≡ number) (sym front)
-    (last_digits-numeral count number)
+    let digit : byte_value (digit_at number count) ≡ number / 16 ^ count % 16 = byte_value-digit_character (number / 16 ^ count % 16) (omega arith) in
+    let front : number / 16 ^ suc count * 16 + byte_value (digit_at number count) ≡ number / 16 ^ count = rw (pow-suc 16 count, digit, ← left) (omega arith) in
+    subst (λ n. number_from_digits_after 16 n (map byte_value (last_digits count number)) ≡ number) (sym front) (last_digits-numeral count number)
 
 -- The printed text of a word has the printed form.
 pub IsPrintedForm-printed : (word : ℕ) → IsPrintedForm (printed word)
@@ -124,26 +118,22 @@ IsPrintedForm-printed word =
       word = numeral_from 16 32 (last_digits 32 word) (record {
         some = omega (arith, full);
         few = omega (arith, full);
-        all_digits = All-weaker IsUppercase
-            (λ byte. is_digit_of_radix 16 byte ≡ true) is_digit_of_radix-uppercase _ all;
+        all_digits = All-weaker IsUppercase (λ byte. is_digit_of_radix 16 byte ≡ true) is_digit_of_radix-uppercase _ all;
       });
       full = full;
-      uppercase = list_all-from_AllPass _ (last_digits 32 word)
-          (All-weaker IsUppercase (λ byte. not (is_lowercase byte) ≡ true) not_lowercase _ all);
+      uppercase = list_all-from_AllPass _ (last_digits 32 word) (All-weaker IsUppercase (λ byte. not (is_lowercase byte) ≡ true) not_lowercase _ all);
     }
 
 -- The printed text of a word has the word as its value.
 pub hex-printed : (word : ℕ) → word < 2 ^ 128 → hex (printed word) ≡ word
 hex-printed word fits =
     let none : word / 16 ^ 32 ≡ 0 = omega (arith, fits) in
-    subst (λ n. number_from_digits_after 16 n (map byte_value (last_digits 32 word)) ≡ word) none
-    (last_digits-numeral 32 word)
+    subst (λ n. number_from_digits_after 16 n (map byte_value (last_digits 32 word)) ≡ word) none (last_digits-numeral 32 word)
 
 -- If two lists of uppercase digits of the same length, after two numbers, write the same number, then the lists are
 -- equal, and so are the two numbers.
 numeral-injective : (xs ys : List ℕ) (m n : ℕ) → length xs ≡ length ys → All IsUppercase xs → All IsUppercase ys
-    → number_from_digits_after 16 m (map byte_value xs) ≡ number_from_digits_after 16 n (map byte_value ys)
-    → (m ≡ n) × (xs ≡ ys)
+    → number_from_digits_after 16 m (map byte_value xs) ≡ number_from_digits_after 16 n (map byte_value ys) → (m ≡ n) × (xs ≡ ys)
 numeral-injective [] [] m n long all all' same = (same, refl)
 numeral-injective [] (y ∷ ys) m n long all all' same = absurd (omega arith)
 numeral-injective (x ∷ xs) [] m n long all all' same = absurd (omega arith)
@@ -152,17 +142,14 @@ numeral-injective (x ∷ xs) (y ∷ ys) m n long all all' same =
     let first' = All-head IsUppercase y ys all' in
     let rest = numeral-injective xs ys (m * 16 + byte_value x) (n * 16 + byte_value y) (omega arith)
     (All-tail IsUppercase x xs all) (All-tail IsUppercase y ys all') same in
-    let parts = same_from_place m (byte_value x) n (byte_value y) 16
-    (ltb-true _ _ (is_digit_of_radix-uppercase x first))
+    let parts = same_from_place m (byte_value x) n (byte_value y) 16 (ltb-true _ _ (is_digit_of_radix-uppercase x first))
     (ltb-true _ _ (is_digit_of_radix-uppercase y first')) rest.0 in
-    let here : x ≡ y = sym (digit_character-byte_value x first)
-    ∙ ap (λ v. slice_index_or digit_characters v 0) parts.1 ∙ digit_character-byte_value y first' in
+    let here : x ≡ y = sym (digit_character-byte_value x first) ∙ ap (λ v. slice_index_or digit_characters v 0) parts.1 ∙ digit_character-byte_value y first' in
     (parts.0, λ i. here i ∷ rest.1 i)
 
 -- A text of the printed form begins with `0x`, and uppercase digits follow.
 form_prefix : (text : List ℕ) → IsPrintedForm text → take 2 text ≡ codes "0x"
-form_prefix text form =
-    (bytes_eq-Decides (take 2 text) (codes "0x")).0 (and_parts (bytes_eq (take 2 text) (codes "0x")) _ form.word).0
+form_prefix text form = (bytes_eq-Decides (take 2 text) (codes "0x")).0 (and_parts (bytes_eq (take 2 text) (codes "0x")) _ form.word).0
 
 form_digits : (text : List ℕ) → IsPrintedForm text → All IsUppercase (hex_digits text)
 form_digits text form k d inside =
@@ -174,7 +161,6 @@ form_digits text form k d inside =
 -- If two texts of the printed form have the same value, then they are equal.
 pub IsPrintedForm-unique : (s t : List ℕ) → IsPrintedForm s → IsPrintedForm t → hex s ≡ hex t → s ≡ t
 IsPrintedForm-unique s t form form' same =
-    let digits = numeral-injective (hex_digits s) (hex_digits t) 0 0 (form.full ∙ sym form'.full)
-    (form_digits s form) (form_digits t form') same in
+    let digits = numeral-injective (hex_digits s) (hex_digits t) 0 0 (form.full ∙ sym form'.full) (form_digits s form) (form_digits t form') same in
     let prefix : take 2 s ≡ take 2 t = form_prefix s form ∙ sym (form_prefix t form') in
     sym (take-append-drop 2 s) ∙ (λ i. prefix i ++ digits.1 i) ∙ take-append-drop 2 t

@@ -14,9 +14,10 @@ pub use Rattle.lexical_value.specs.Kind.{IsNotWorth, IsWorth, float_worth, forma
 pub use Rattle.lexical_value.specs.Scaled.{IsNotScaled, IsScaled, IsUnfit, over, under}
 pub use Rattle.lexical_value.specs.Value.{SameDigits, SameValue, denominator, numerator, power, scale, spelled}
 pub use Rattle.lexical_value.specs.declared.integer.ValueErrorKind.{ValueErrorKind}
-pub use Rattle.std.proofs.Common.{Bool, Err, IfOk, Ok, Result, Some, ap, arith, cond, false, if◌then◌else◌, inl, inr, le_refl, le_trans, not, refl, subst, suc}
+pub use Rattle.std.proofs.Common.{Bool, Err, IfOk, Ok, Result, Some, ap, arith, cond, false, if◌then◌else◌, inl, inr, le_refl, le_trans, mul_assoc, not, refl, subst, suc}
 pub use Rattle.std.proofs.Common.{sym, true, true≢false, zero, ℕ, ◌%◌, ◌*◌, ◌++◌, ◌+◌, ◌-◌, ◌/◌, ◌<◌, ◌^◌, ◌||◌, ◌∙◌, ◌≡◌, ◌≤◌, ◌⊎◌}
 pub use Rattle.std.proofs.Math.Nat.{mod-add-div', mod-eq_of_lt, mod-lt, mul-le-mul, mul-mod_left, pow-le-pow_right, pow-zero}
+pub use Rattle.std.proofs.lemmas.Bool.{false_from_ne_true, not-false, not-true}
 pub use Rattle.std.proofs.lemmas.Bool.Decides.{nat_tests}
 pub use Rattle.std.specs.Prelude.{SomeIff, from_bits, position, unwrap_or, ◌==◌}
 pub use lib.Ieee.{neg, round}

@@ -95,5 +95,4 @@ no_fraction m l text reads whole = reads.literal.spelled.after_point (grind arit
 -- Without fraction and exponent, the numerator is the number that the integer digits represent.
 pub integer_numerator : (m : Notation) (r : Record) (l : Literal) (text : List ℕ) → Reads m l text → IsFalse (is_float l)
     → numerator r.byte l ≡ integer_size r.byte l
-integer_numerator m r l text reads whole =
-    whole_numerator r l (no_fraction m l text reads whole) (reads.literal.spelled.after_character (grind arith)).1
+integer_numerator m r l text reads whole = whole_numerator r l (no_fraction m l text reads whole) (reads.literal.spelled.after_character (grind arith)).1

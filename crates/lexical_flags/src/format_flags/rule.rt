@@ -104,6 +104,7 @@ impl Rule {
 
     /// Returns whether `format` satisfies this rule.
     #[must_use]
+    #[tactic(auto, unfolding(crate::specs::Rules::Holds))]
     pub const fn is_kept(self, format: u128) -> bool
         ensures { IsTrue result ↔ Holds self format }
     {

@@ -1,5 +1,6 @@
 -- Each flag of the mask is that of a role.
-use Rattle.lexical_literal.proofs.Common.{Bool, Flag, Notation, arith, bit_or, case_set, false, if◌then◌else◌, mask_of, refl, true, ℕ, ◌^◌, ◌≡◌}
+use Rattle.std.proofs.Common.{rules}
+use Rattle.lexical_literal.proofs.Common.{Bool, Flag, Notation, arith, bit_or, case_set, false, if◌then◌else◌, mask_of, refl, ℕ, ◌^◌, ◌≡◌}
 use Rattle.lexical_util.specs.Record.{word_of}
 use Rattle.lexical_util.specs.Layout as layout
 use Rattle.lexical_literal.proofs.CauseLemmas.{same_mask}
@@ -13,14 +14,7 @@ of_roles e p s _ = false
 
 three : (e p s : Bool) → bit_or (bit_or (if e then 2 ^ 15 else 0) (if p then 2 ^ 16 else 0)) (if s then 2 ^ 17 else 0) ≡ mask_of (of_roles e p s)
 unfolding word_of
-three true true true = refl
-three true true false = refl
-three true false true = refl
-three true false false = refl
-three false true true = refl
-three false true false = refl
-three false false true = refl
-three false false false = refl
+three e p s = search rules
 
 each : (m : Notation) (byte : ℕ) (f : Flag) → of_roles (m.exponent_character byte) (m.prefix byte) (m.suffix byte) f ≡ case_set f m byte
 each m byte layout.required_integer_digits = refl

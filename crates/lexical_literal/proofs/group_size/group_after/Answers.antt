@@ -12,6 +12,5 @@ loop-index-preserved c =
       within = omega (arith, c.loop-index-test.true);
       digits = omega (arith, grown_small m g c.in-Some.next _ grown, c.loop-index.invariant.digits);
       same = c.loop-index.invariant.same ∙ group_step m c.args.text.now c.args.size c.loop-index.index g c.loop-index-test.true c.requires
-          ∙ ap (λ o. group_after m o (drop (c.loop-index.index + 1) (take c.args.size c.args.text.now)))
-          (ap (grow m g) (sym c.role_at-role.ensures) ∙ grown);
+          ∙ ap (λ o. group_after m o (drop (c.loop-index.index + 1) (take c.args.size c.args.text.now))) (ap (grow m g) (sym c.role_at-role.ensures) ∙ grown);
     }

@@ -14,8 +14,7 @@ returns-clause-one_reading c g is l k text first second =
     (has_sizes_of g is) text l k first second
 
 pub returns-clause-some : goal.returns-clause-some
-returns-clause-some c g is =
-    front_of (notation_of g) (ready c.role_facts.ensures.disjoint c.role_facts.ensures.five c.role_facts.ensures.lawful g is)
+returns-clause-some c g is = front_of (notation_of g) (ready c.role_facts.ensures.disjoint c.role_facts.ensures.five c.role_facts.ensures.lawful g is)
     (has_sizes_of g is) [] start first_group refl refl
 
 pub returns-clause-same_literals : goal.returns-clause-same_literals

@@ -4,13 +4,11 @@ use Rattle.lexical_number.proofs.BinaryLemmas.{significand_at, cut_at}
 use Rattle.lexical_number.proofs.binary.nearest_to_word.Goals as goal
 
 -- The highest bit, and the zeros above it.
-top : (word : ℕ) → 2 ^ 55 ≤ word → word < 2 ^ 64
-    → (j : ℕ) × (j + 1 + count_leading_zeros 64 word ≡ 64) × (2 ^ j ≤ word) × (word < 2 ^ (j + 1)) × (55 ≤ j)
+top : (word : ℕ) → 2 ^ 55 ≤ word → word < 2 ^ 64 → (j : ℕ) × (j + 1 + count_leading_zeros 64 word ≡ 64) × (2 ^ j ≤ word) × (word < 2 ^ (j + 1)) × (55 ≤ j)
 top word from fits =
     let t = leading_top 64 word (omega (arith, from)) fits in
     let less : word < 2 ^ (t.0 + 1) = omega (arith, t.3, ap (λ k. 2 ^ k) {x = suc t.0} {y = t.0 + 1} (omega arith)) in
-    let far : 55 < t.0 + 1 = lt_of_not-le (λ (g : t.0 + 1 ≤ 55). omega (arith, pow_mono {i = t.0 + 1} {j = 55} g)) in
-    (t.0, omega (arith, t.1), t.2, less, omega (arith, far))
+    (t.0, omega (arith, t.1), t.2, less, omega (arith, (lt_of_not-le (λ (g : t.0 + 1 ≤ 55). omega (arith, pow_mono {i = t.0 + 1} {j = 55} g)))))
 
 pub overflow_sub-least-2 : goal.overflow_sub-least-2
 overflow_sub-least-2 c =
@@ -25,8 +23,7 @@ settle-requires-clause-dropped c =
 pub settle-requires-clause-kept : goal.settle-requires-clause-kept
 settle-requires-clause-kept c =
     let t = top c.args.word c.requires.top (omega arith) in
-    significand_at (format_of c.args.double) _ t.0 _ _ (t.2, t.3)
-    (omega (arith, c.dropped-dropped.ensures.least, c.precision.ensures, t.1))
+    significand_at (format_of c.args.double) _ t.0 _ _ (t.2, t.3) (omega (arith, c.dropped-dropped.ensures.least, c.precision.ensures, t.1))
     (λ K. omega (arith, c.dropped-dropped.ensures.normal K, c.precision.ensures, t.1, t.4))
 
 pub returns : goal.returns

@@ -1,5 +1,6 @@
 -- What is cut off decides how the kept bits are rounded, and all of it is less than half if these are more than 64.
-use Rattle.lexical_number.proofs.Common.{IsNearestBits, arith, pow_mono, refl, subst, sym, ◌^◌, ◌≤◌}
+use Rattle.std.proofs.Common.{rules}
+use Rattle.lexical_number.proofs.Common.{arith, pow_mono, ◌^◌, ◌≤◌}
 use Rattle.lexical_number.proofs.BinaryLemmas.{rounded, vanishes}
 use Rattle.lexical_number.proofs.binary.settle.Goals as goal
 
@@ -9,7 +10,4 @@ returns-then-dropped-gt64 c num den D near =
     vanishes _ num den _ _ near c.requires.kept D (omega arith)
 
 pub returns : goal.returns
-returns c num den D near =
-    let room : 2 ^ 2 ≤ 2 ^ c.args.dropped = pow_mono c.requires.dropped in
-    subst (IsNearestBits _ num den) (sym c.scaled_bits.ensures)
-    (rounded _ num den _ _ near c.requires.kept c.cut-kept.ensures D (omega arith) _ refl)
+returns c num den D near = search (rules, pow_mono, rounded)

@@ -18,8 +18,7 @@ returns-then-negative c n e l h =
     let small : c.args.leading.dropped * c.args.radix_bits ≤ c.args.leading.dropped * 5 = mul-le-mul_left _ c.requires.radix.1 in
     in_radixes (λ num den. IsNearestBits (format_of c.args.double) num den 0) n c.args.radix_bits c.args.places c.args.base_bits e c.args.negative
     (vanishes (format_of c.args.double) n _ _ _ (bound c.args.radix_bits _ c.requires.radix.1 l)
-    (ap (λ b. if b then 0 else e * c.args.base_bits) c.if-negative.true)
-    (omega (arith, ap (λ b. if b then e * c.args.base_bits else 0) c.if-negative.true)))
+    (ap (λ b. if b then 0 else e * c.args.base_bits) c.if-negative.true) (omega (arith, ap (λ b. if b then e * c.args.base_bits else 0) c.if-negative.true)))
 
 pub returns-else-negative : goal.returns-else-negative
 returns-else-negative c n e l h =

@@ -20,8 +20,7 @@ loop-index-preserved c =
         | in-Some w ↦
             let d = w.in-Some.digit in (
               m.0 * radix + d,
-              w.sum-is ∙ mod-add-mod (l.sum * radix) (2 ^ 64) d
-                  ∙ push_same radix l.sum m.0 d (ap (λ n. n % 2 ^ 64) m.1 ∙ mod-mod m.0 (2 ^ 64)),
+              w.sum-is ∙ mod-add-mod (l.sum * radix) (2 ^ 64) d ∙ push_same radix l.sum m.0 d (ap (λ n. n % 2 ^ 64) m.1 ∙ mod-mod m.0 (2 ^ 64)),
               sym (at radix m.0 l.index c.args.bytes.now c.loop-index-test.true (Some d) (sym c.char_to_digit.ensures.digit ∙ w.in-Some.is)) ∙ m.2,
             )
         | in_default w ↦ (

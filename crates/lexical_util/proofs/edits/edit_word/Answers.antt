@@ -10,8 +10,7 @@ returns-clause-word c = c.build_unchecked.ensures.word
     ∙ ap pack (c.apply_all.ensures.fields ∙ ap (λ r. after r (all_writes c.args.edits.now)) c.rebuild.ensures)
 
 pub returns-clause-unique : goal.returns-clause-unique
-returns-clause-unique c other fits clean same =
-    edited-only c.args.format _ c.apply_all.ensures.legal other fits clean same ∙ sym (returns-clause-word c)
+returns-clause-unique c other fits clean same = edited-only c.args.format _ c.apply_all.ensures.legal other fits clean same ∙ sym (returns-clause-word c)
 
 pub returns-clause-same_writes : goal.returns-clause-same_writes
 returns-clause-same_writes c others legal same = edited-same c.args.format others _ same ∙ sym (returns-clause-word c)

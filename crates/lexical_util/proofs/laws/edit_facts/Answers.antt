@@ -17,6 +17,5 @@ returns c = record {
   exponent_radix = λ word writes legal. ap (λ (r : Record). r.byte layout.exponent_radix) (edited-fields word writes legal);
   digit_separator = λ word writes legal allowed.
       let fields = edited-fields word writes legal in
-      ap (λ (r : Record). r.byte layout.digit_separator) fields
-      ∙ cond-true _ _ 0 (subst (λ (r : Record). IsTrue (separator_allowed r)) fields allowed);
+      ap (λ (r : Record). r.byte layout.digit_separator) fields ∙ cond-true _ _ 0 (subst (λ (r : Record). IsTrue (separator_allowed r)) fields allowed);
 }

@@ -8,5 +8,4 @@ overflow_mul-number c =
     record { fits = omega (arith, HasRead-fits _ _ _ _ read c.requires.radix (omega arith)) }
 
 pub returns : goal.returns
-returns c = HasRead-whole _ c.args.most _ _ _ c.loop-digit.invariant c.loop-digit-test.false
-    (grind (arith, c.is_empty.ensures)) (omega arith)
+returns c = HasRead-whole _ c.args.most _ _ _ c.loop-digit.invariant c.loop-digit-test.false (grind (arith, c.is_empty.ensures)) (omega arith)

@@ -8,6 +8,5 @@ pub returns-clause-slots : goal.returns-clause-slots
 returns-clause-slots c = search rules
 
 pub returns-clause-accepted : goal.returns-clause-accepted
-returns-clause-accepted c =
-    subst (λ list. OptionsFit c.args.format c.args.exponent c.args.decimal_point ↔ NoReason list)
+returns-clause-accepted c = subst (λ list. OptionsFit c.args.format c.args.exponent c.args.decimal_point ↔ NoReason list)
     (sym (returns-clause-slots c)) (options_fit c.args.format c.args.exponent c.args.decimal_point)

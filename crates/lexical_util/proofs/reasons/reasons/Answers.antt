@@ -9,8 +9,7 @@ pub returns-clause-slots : goal.returns-clause-slots
 returns-clause-slots c = grind (arith, common_steps)
 
 pub returns-clause-lawful : goal.returns-clause-lawful
-returns-clause-lawful c =
-    subst (λ list. Lawful c.args.format ↔ NoReason list) (sym (returns-clause-slots c)) (no_reason c.args.format)
+returns-clause-lawful c = subst (λ list. Lawful c.args.format ↔ NoReason list) (sym (returns-clause-slots c)) (no_reason c.args.format)
 
 pub returns-clause-rules : goal.returns-clause-rules
 returns-clause-rules c rule = subst (λ list. Holds rule c.args.format ↔ EachReason (λ r. Breaks r rule → ⊥) list)

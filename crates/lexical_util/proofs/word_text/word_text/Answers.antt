@@ -10,8 +10,7 @@ pub loop-count-init : goal.loop-count-init
 loop-count-init c = HasWritten-none c.args.word
 
 pub loop-count-preserved : goal.loop-count-preserved
-loop-count-preserved c =
-    HasWritten-next _ _ _ _ _ c.loop-count.invariant c.loop-count-test.true
+loop-count-preserved c = HasWritten-next _ _ _ _ _ c.loop-count.invariant c.loop-count-test.true
     (sym (get_or_from_slice_get digit_characters (c.loop-count.rest % 16) c.digit_to_char.result 0
     c.digit_to_char.ensures.character))
 
@@ -30,9 +29,7 @@ pub returns-clause-read_back : goal.returns-clause-read_back
 returns-clause-read_back c = IsPrintedForm.word (returns-clause-form c)
 
 pub returns-clause-parsed : goal.returns-clause-parsed
-returns-clause-parsed c =
-    (λ i. cond (returns-clause-read_back c i) (Ok (returns-clause-value c i)) (Err (word_error c.loop-count.text)))
+returns-clause-parsed c = (λ i. cond (returns-clause-read_back c i) (Ok (returns-clause-value c i)) (Err (word_error c.loop-count.text)))
 
 pub returns-clause-unique : goal.returns-clause-unique
-returns-clause-unique c text form same = IsPrintedForm-unique _ _ form (returns-clause-form c)
-    (same ∙ sym (returns-clause-value c))
+returns-clause-unique c text form same = IsPrintedForm-unique _ _ form (returns-clause-form c) (same ∙ sym (returns-clause-value c))

@@ -19,5 +19,4 @@ returns g c =
     let ten = decimals r c.requires in
     of_value (λ num den. g.F.Float.value c.decimal_to_float.result ≡ round (format_of g.F.Float.DOUBLE) false num den) r l _ _ _ (exponent r.byte l) _ _
     (λ j. number (ten.0 j) ((same j).integer ++ (same j).fraction)) ten.0 ten.1 refl
-    (λ j. places (ten.0 j) (same j).fraction) c.has_negative_exponent-negative.ensures
-    (c.decimal_to_float.ensures (exponent r.byte l) c.exponent_of.ensures)
+    (λ j. places (ten.0 j) (same j).fraction) c.has_negative_exponent-negative.ensures (c.decimal_to_float.ensures (exponent r.byte l) c.exponent_of.ensures)

@@ -1,26 +1,17 @@
 -- After the loop, the bytes of the text are followed by those of the words.
-use Rattle.std.proofs.Common.{◌≡◌, ◌≤◌, ◌+◌, ◌++◌, length, take, ℕ, List, ap, sym, subst, ◌∙◌, arith}
+use Rattle.std.proofs.Common.{rules, ◌≡◌, ◌≤◌, ◌+◌, ◌++◌, length, take, ℕ, List, sym, subst, arith}
 use Rattle.std.specs.Str.{IsUtf8}
 use Rattle.std.proofs.lemmas.List.{take_all}
 use Rattle.std.proofs.lemmas.Str.{IsUtf8-append}
 use Rattle.lexical_base.proofs.short_text.ShortText.put.Goals as goal
 
-appended : (start end : ℕ) (bytes front words : List ℕ)
-    → take (start + end) bytes ≡ front ++ take end words → length words ≤ end → end ≤ length words
+appended : (start end : ℕ) (bytes front words : List ℕ) → take (start + end) bytes ≡ front ++ take end words → length words ≤ end → end ≤ length words
     → take (start + length words) bytes ≡ front ++ words
-appended start end bytes front words is passed within =
-    let done : end ≡ length words = omega arith in
-    ap (λ count. take (start + count) bytes) (sym done) ∙ is ∙ ap (λ more. front ++ more) (take_all end words passed)
+appended start end bytes front words is passed within = search (rules, take_all)
 
 pub invariant_of-self : goal.invariant_of-self
 invariant_of-self c =
     let loop = c.loop-index.invariant in (
       omega (arith, c.if-words-start.false, c.self.invariant.0),
-      subst IsUtf8 (sym (appended _ _ _ _ _ loop.0 c.loop-index-test.false loop.1))
-          (IsUtf8-append _ _ c.self.invariant.1 c.utf8.words),
+      subst IsUtf8 (sym (appended _ _ _ _ _ loop.0 c.loop-index-test.false loop.1)) (IsUtf8-append _ _ c.self.invariant.1 c.utf8.words),
     )
-
-pub returns : goal.returns
-returns c fits =
-    let loop = c.loop-index.invariant in
-    appended _ _ _ _ _ loop.0 c.loop-index-test.false loop.1 ∙ ap (λ front. front ++ c.args.words.now) c.self.view_is

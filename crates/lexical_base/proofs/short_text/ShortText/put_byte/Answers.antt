@@ -1,5 +1,5 @@
 -- A text followed by an ASCII character is a text.
-use Rattle.std.proofs.Common.{◌<◌, ◌∷◌, [], ℕ, zero, suc, sym, subst, arith, rules}
+use Rattle.std.proofs.Common.{◌<◌, ◌∷◌, [], ℕ, sym, subst, arith, rules}
 use Rattle.std.specs.List.{All}
 use Rattle.std.specs.Str.{IsUtf8}
 use Rattle.std.proofs.lemmas.List.{take_more_set}
@@ -8,8 +8,7 @@ use Rattle.std.proofs.lemmas.Str.Ascii.{IsAscii-from_all}
 use Rattle.lexical_base.proofs.short_text.ShortText.put_byte.Goals as goal
 
 only : (byte : ℕ) → byte < 128 → All (λ byte. byte < 128) (byte ∷ [])
-only byte small zero d within = small
-only byte small (suc k) d within = omega arith
+only byte small index default within = search rules
 
 pub invariant_of-self : goal.invariant_of-self
 invariant_of-self c =

@@ -1,6 +1,6 @@
-use Rattle.lexical_builder.proofs.Common.{◌≡◌, ◌∙◌, ℕ, if◌then◌else◌, ap, sym, subst, arith, ◌*◌, ◌%◌, ◌^◌, ◌<◌, sum_by, or_lt, Byte, flags, Record, pack, trim}
-use Rattle.lexical_builder.proofs.Common.{flag_bits, raw, HasBytes, raw-pack, pack-clean, builder_record}
-use Rattle.std.proofs.Common.{slice_index}
+use Rattle.std.proofs.Common.{rules, slice_index}
+use Rattle.lexical_builder.proofs.Common.{◌≡◌, ◌∙◌, ℕ, if◌then◌else◌, ap, sym, subst, arith, ◌*◌, ◌%◌, ◌^◌, or_lt, Byte, Record, pack, trim, raw, HasBytes}
+use Rattle.lexical_builder.proofs.Common.{raw-pack, pack-clean, builder_record}
 use Rattle.std.proofs.lemmas.Nat.{shl_whole}
 use Rattle.lexical_flags.specs.Layout.{IsClean}
 use Rattle.lexical_flags.specs.Record.{separator_allowed}
@@ -15,24 +15,20 @@ pub overflow_cast-result : goal.overflow_cast-result
 overflow_cast-result c =
     let moved : ℕ → ℕ → ℕ = λ i k. slice_index c.self.inside.bytes i * 2 ^ k % 2 ^ 64 in
     let two = or_lt 128 (moved 1 24) (moved 2 32) (omega arith) (omega arith) in
-    let four = or_lt 128 _ c.kept_separator.result (or_lt 128 _ (moved 3 40) two (omega arith)) (omega arith) in
-    record { fits = or_lt 128 _ (moved 5 56) (or_lt 128 _ (moved 4 48) four (omega arith)) (omega arith) }
+    record { fits = or_lt 128 _ (moved 5 56) (or_lt 128 _ (moved 4 48) (or_lt 128 _ c.kept_separator.result (or_lt 128 _ (moved 3 40) two (omega arith)) (omega arith)) (omega arith)) (omega arith) }
 
 pub returns-clause-bytes : goal.returns-clause-bytes
-returns-clause-bytes c =
-    let each : (b : Byte) → (builder_record c.self.inside).byte b < 256 = λ b. grind arith in subst HasBytes c.self.view_is (record { each = each })
+returns-clause-bytes c = search (rules, builder_record)
 
 pub returns-clause-word : goal.returns-clause-word
 returns-clause-word c =
     let r : Record = builder_record c.self.inside in
     let byte : Byte → ℕ = λ b. slice_index c.self.inside.bytes (byte_index b) in
     let bytes : HasBytes r = record { each = λ b. grind arith } in
-    let flags_joined : c.word_flags-flags.result ≡ sum_by (flag_bits r) flags = c.word_flags-flags.ensures in
     let kept : HasBytes (trim r) = HasBytes-trim r bytes in
-    let separator : c.kept_separator.result ≡ (trim r).byte layout.digit_separator =
-    c.kept_separator.ensures
+    let separator : c.kept_separator.result ≡ (trim r).byte layout.digit_separator = c.kept_separator.ensures
     ∙ ap (λ allowed. if allowed then r.byte layout.digit_separator else 0)
-    (ap (λ word. separator_allowed (raw word)) flags_joined ∙ separator_allowed-flags r) in
+    (ap (λ word. separator_allowed (raw word)) c.word_flags-flags.ensures ∙ separator_allowed-flags r) in
     let same = ap pack c.self.view_is in
     let joined = halves_joined r kept in
     let prefix = shl_whole (byte layout.base_prefix) 8 24 64 (omega arith) (omega arith) in

@@ -10,6 +10,5 @@ unfolding word_of
 returns-clause-word c = omega arith
 
 pub returns-clause-lawful : goal.returns-clause-lawful
-returns-clause-lawful c =
-    subst (λ w. Lawful w ↔ IsRadix c.args.radix) (sym (returns-clause-word c))
+returns-clause-lawful c = subst (λ w. Lawful w ↔ IsRadix c.args.radix) (sym (returns-clause-word c))
     (radix-lawful c.args.radix (omega arith) c.rule_facts.ensures.lawful)

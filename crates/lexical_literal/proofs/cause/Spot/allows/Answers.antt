@@ -1,8 +1,7 @@
 -- The other grammar has the flags of the word.
-use Rattle.lexical_literal.proofs.Common.{Bool, Condition, Flag, Group, Notation, Option, Summary, ap, false, goes, grammar_at, group_allows, group_at, has, lets}
-use Rattle.lexical_literal.proofs.Common.{notation_of, raw, role_next, sym, true, unsized, with_rules, ℕ, ◌&&◌, ◌∙◌, ◌≡◌}
+use Rattle.lexical_literal.proofs.Common.{Bool, Condition, Flag, Group, Notation, Option, Summary, ap, false, goes, grammar_at, group_allows, group_at, has}
+use Rattle.lexical_literal.proofs.Common.{lets, notation_of, role_next, sym, true, unsized, with_rules, ℕ, ◌&&◌, ◌∙◌, ◌≡◌}
 use Rattle.std.proofs.Common.{rules}
-use Rattle.lexical_literal.specs.Additions.Fields.{worded}
 use Rattle.lexical_literal.proofs.FieldLemmas.{other, other_fields, other_flag}
 use Rattle.lexical_literal.proofs.cause.Spot.allows.Goals as goal
 
@@ -27,16 +26,7 @@ pub invariant_of-other : goal.invariant_of-other
 invariant_of-other c = other_fields c.grammar.inside c.grammar.invariant c.args.word c.args.conditions (search rules)
 
 pub returns-then-goes_on : goal.returns-then-goes_on
-returns-then-goes_on c =
-    let a = c.grammar.inside in
-    then_goes (notation_of (grammar_at c.args.self.now)) (raw (worded (other a c.grammar.invariant c.args.word c.args.conditions (search rules))).word).flag
-    (raw c.args.word).flag (has c.args.conditions) c.args.self.now.read (group_at c.args.self.now) c.args.self.now.byte
-    (other_flag a c.grammar.invariant c.args.word c.args.conditions (search rules)) c.group_goes_on.result c.goes_on.result c.if-goes_on.true
-    c.goes_on.ensures c.group_goes_on.ensures
+returns-then-goes_on c = search (rules, then_goes, notation_of, grammar_at, other, has, group_at, other_flag)
 
 pub returns-else-goes_on : goal.returns-else-goes_on
-returns-else-goes_on c =
-    let a = c.grammar.inside in
-    else_goes (notation_of (grammar_at c.args.self.now)) (raw (worded (other a c.grammar.invariant c.args.word c.args.conditions (search rules))).word).flag
-    (raw c.args.word).flag (has c.args.conditions) c.args.self.now.read (group_at c.args.self.now) c.args.self.now.byte
-    (other_flag a c.grammar.invariant c.args.word c.args.conditions (search rules)) c.goes_on.result c.if-goes_on.false c.goes_on.ensures
+returns-else-goes_on c = search (rules, else_goes, notation_of, grammar_at, other, has, group_at, other_flag)

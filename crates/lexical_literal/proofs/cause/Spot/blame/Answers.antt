@@ -11,11 +11,10 @@ nonzero n some = grind (arith, nat_tests)
 module _ (m : Notation) (s : Summary) (g : Group) (byte : ℕ) where
   -- `by_tests t u` is why the byte cannot follow, if `t` is true of no separators and `u` of no other case.
   abbrev by_tests : Bool → Bool → Blame
-  by_tests t u =
-      if t then record { kind = if u then causes.Byte else causes.Case; mask = mask_of (cases m s g byte) } else record {
-        kind = causes.Separator (part_of s.stage) (place_of m (part_of s.stage) s.stage s.gap (role_at m (part_of s.stage) byte));
-        mask = mask_of (separators m s g (Some byte));
-      }
+  by_tests t u = if t then record { kind = if u then causes.Byte else causes.Case; mask = mask_of (cases m s g byte) } else record {
+    kind = causes.Separator (part_of s.stage) (place_of m (part_of s.stage) s.stage s.gap (role_at m (part_of s.stage) byte));
+    mask = mask_of (separators m s g (Some byte));
+  }
 
   is_blame : (next : Option ℕ) (t u : Bool) → goes (bare m) s g next ≡ false → next ≡ Some byte → (mask_of (separators m s g (Some byte)) == 0) ≡ t
       → (mask_of (cases m s g byte) == 0) ≡ u → by_tests t u ≡ blame m s g next

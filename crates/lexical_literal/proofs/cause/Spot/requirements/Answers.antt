@@ -10,8 +10,7 @@ none_is : (t : Spot) (k : Conditions) (is : Bool) → let m = notation_of (gramm
     → is ≡ not (list_any (has k) all_conditions) → is ≡ not (some_unmet m t.read (group_at t) t.byte)
 none_is t k is same none =
     let m = notation_of (grammar_at t) in
-    none ∙ (λ j. not (list_any (λ d. (ap (λ (k : Conditions). has k d) same
-    ∙ has_kept (grammar_at t).conditions (λ d. goes (bare m) t.read (group_at t) t.byte
+    none ∙ (λ j. not (list_any (λ d. (ap (λ (k : Conditions). has k d) same ∙ has_kept (grammar_at t).conditions (λ d. goes (bare m) t.read (group_at t) t.byte
     && not (goes (requiring d (bare m)) t.read (group_at t) t.byte)) d) j) all_conditions))
 
 none_alone : (a z : ℕ) (n : Bool) → a ≡ 0 → n ≡ true → z ≡ (if (a == 0) && n then z else a)

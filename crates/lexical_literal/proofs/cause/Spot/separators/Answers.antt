@@ -14,7 +14,6 @@ returns-then-is_at_gap c =
     λ f. flag_not f r c.refusing.type_inv ∙ ap not (ap (λ n. (raw n).flag f) c.refusing.ensures
     ∙ mask_flags (λ f. (raw SEPARATORS).flag f && not (allowed f)) f ∙ ap (λ t. t && not (allowed f)) (separators_mask f)) in
     let gap = sym c.if-is_at_gap.true ∙ c.is_at_gap.ensures in
-    and_comm SEPARATORS (bit_not w128 r)
-    ∙ masked_by (bit_not w128 r) SEPARATORS (λ f. is_one_of number_separator_flags f && allowed f) refl
+    and_comm SEPARATORS (bit_not w128 r) ∙ masked_by (bit_not w128 r) SEPARATORS (λ f. is_one_of number_separator_flags f && allowed f) refl
     (λ f. flag_and f (bit_not w128 r) SEPARATORS ∙ (λ j. others f j && separators_mask f j) ∙ rest (is_one_of number_separator_flags f) (allowed f))
     ∙ (λ j. mask_of (λ f. gap j && (is_one_of number_separator_flags f && allowed f)))

@@ -1,6 +1,6 @@
 -- After a condition, and after the last.
-use Rattle.lexical_literal.proofs.Common.{Bool, Condition, Conditions, Grammar, all_conditions, ap, arith, false, get_or, grammar_at, group_at, if◌then◌else◌, is_same}
-use Rattle.lexical_literal.proofs.Common.{length, nat_lt, nat_tests, notation_of, number_of, order, sym, true, unmet, ℕ, ◌&&◌, ◌∙◌, ◌≡◌, ◌≤◌}
+use Rattle.lexical_literal.proofs.Common.{Bool, Condition, Conditions, Grammar, all_conditions, ap, arith, false, get_or, grammar_at, group_at, if◌then◌else◌}
+use Rattle.lexical_literal.proofs.Common.{is_same, length, nat_lt, nat_tests, notation_of, number_of, order, sym, true, unmet, ℕ, ◌&&◌, ◌∙◌, ◌≡◌, ◌≤◌}
 use Rattle.lexical_literal.specs.declared.syntax.Condition.TheVariants as conditions
 use Rattle.lexical_literal.proofs.NumberLemmas.{is_kept, number_next}
 use Rattle.lexical_literal.proofs.cause.Spot.unmet.Goals as goal
@@ -10,8 +10,7 @@ last : (d : Condition) (i n : ℕ) (u : Bool) → length all_conditions ≤ i �
 last d i n u end = grind (arith, nat_tests)
 
 pub returns : goal.returns
-returns c =
-    is_kept (unmet (notation_of (grammar_at c.args.self.now)) c.args.self.now.read (group_at c.args.self.now) c.args.self.now.byte)
+returns c = is_kept (unmet (notation_of (grammar_at c.args.self.now)) c.args.self.now.read (group_at c.args.self.now) c.args.self.now.byte)
     (number_of (grammar_at c.args.self.now).conditions)
     c.loop-index.unmet
     c.loop-index.invariant.all (λ d. c.loop-index.invariant.each d ∙ last d c.loop-index.index _ _ c.loop-index-test.false)
@@ -32,15 +31,13 @@ loop-index-preserved c =
             all = ap (λ (k : Conditions). length k.numbers) w.unmet-is ∙ w.with-unmet.ensures.all;
             each = λ d. ap (λ (k : Conditions). number_of k d) w.unmet-is ∙ w.with-unmet.ensures.each d
                 ∙ ap (λ n. if is_same at d then n else number_of c.loop-index.unmet d) (w.number.ensures ∙ ap (λ (k : Conditions). number_of k at) same)
-                ∙ ap (λ t. if t then (if is_same at d then N at else number_of c.loop-index.unmet d) else number_of c.loop-index.unmet d) (sym is)
-                ∙ next d;
+                ∙ ap (λ t. if t then (if is_same at d then N at else number_of c.loop-index.unmet d) else number_of c.loop-index.unmet d) (sym is) ∙ next d;
           }
       | else-is_unmet w ↦
           let is : X at ≡ false = sym c.is_unmet.ensures ∙ w.if-is_unmet.false in
           record {
             all = ap (λ (k : Conditions). length k.numbers) w.unmet-is ∙ c.loop-index.invariant.all;
             each = λ d. ap (λ (k : Conditions). number_of k d) w.unmet-is
-                ∙ ap (λ t. if t then (if is_same at d then N at else number_of c.loop-index.unmet d) else number_of c.loop-index.unmet d) (sym is)
-                ∙ next d;
+                ∙ ap (λ t. if t then (if is_same at d then N at else number_of c.loop-index.unmet d) else number_of c.loop-index.unmet d) (sym is) ∙ next d;
           }
     ]

@@ -35,16 +35,14 @@ copy_from_slice-requires c =
 
 -- If the end of a list is written over, then the list is its front followed by the written list.
 overwritten : {X : Type 0} (a k : ℕ) (xs ys : List X) → length xs ≤ a + k → put_mid a k xs ys ≡ take a xs ++ ys
-overwritten a k xs ys long =
-    ap (λ zs. take a xs ++ (ys ++ zs)) (drop_all k (drop a xs) (omega (arith, length-drop a xs)))
+overwritten a k xs ys long = ap (λ zs. take a xs ++ (ys ++ zs)) (drop_all k (drop a xs) (omega (arith, length-drop a xs)))
     ∙ ap (λ zs. take a xs ++ zs) (append-nil ys)
 
 pub returns : goal.returns
 returns c =
     let R = raw c.args.format in
     let count = c.move_to_front-count.result in
-    let front = c.move_to_front-count.ensures.front ∙ ap (filter differs_from_new) c.field_edits_of-edits.ensures
-    ∙ needed_edits-is R in
+    let front = c.move_to_front-count.ensures.front ∙ ap (filter differs_from_new) c.field_edits_of-edits.ensures ∙ needed_edits-is R in
     let rest = c.copy_from_slice.ensures.after ∙ c.move_to_front-rest.ensures.front
     ∙ ap (filter (λ e. not (differs_from_new e))) c.field_edits_of-others.ensures ∙ other_edits-is R in
     let listed = overwritten count (length c.move_to_front-count.new.edits - count) c.move_to_front-count.new.edits
@@ -55,8 +53,7 @@ returns c =
       list = subst (AllZip IsEditOf (needed_writes R ++ other_writes R)) (sym listed) (IsEditOf-both R);
       number = number ∙ length-map (needed_writes R) edit_of_write;
       legal = subst (λ es. All IsLegal (all_writes es)) (sym listed) (legal-both R (record { each = λ b. omega arith }));
-      first = ap (λ es. after new_record (all_writes es)) (ap (take count) listed
-          ∙ ap (λ n. take n (needed_edits R ++ other_edits R)) number
+      first = ap (λ es. after new_record (all_writes es)) (ap (take count) listed ∙ ap (λ n. take n (needed_edits R ++ other_edits R)) number
           ∙ take-append_seam (needed_edits R) (other_edits R)) ∙ after-needed R;
       whole = ap (λ es. after new_record (all_writes es)) listed ∙ after-both R;
       builds = pack-raw c.args.format (omega arith);

@@ -11,10 +11,8 @@ pub loop-index-preserved : goal.loop-index-preserved
 loop-index-preserved c =
     let test = passes c.args.changed _ ∙ ap (λ t. beq t c.args.changed) (sym c.differs_from_new.ensures) in
     elim c.if-differs_from_new-changed.branch [
-      | goal.then-differs_from_new-changed w ↦ rw (w.edits-is, w.count-is)
-          (FiltersInPlace-more_swap c.loop-index.invariant
+      | goal.then-differs_from_new-changed w ↦ rw (w.edits-is, w.count-is) (FiltersInPlace-more_swap c.loop-index.invariant
           (omega arith) (test ∙ w.if-differs_from_new-changed.true) c.index-edits-index.is w.swap.ensures.by_index)
-      | goal.else-differs_from_new-changed w ↦ rw (w.edits-is, w.count-is)
-          (FiltersInPlace-more_no c.loop-index.invariant
+      | goal.else-differs_from_new-changed w ↦ rw (w.edits-is, w.count-is) (FiltersInPlace-more_no c.loop-index.invariant
           (omega arith) (test ∙ w.if-differs_from_new-changed.false) c.index-edits-index.is)
     ]

@@ -20,7 +20,6 @@ returns c =
           ∙ ap byte_of_option (sym w.in-Some.is ∙ c.get_digit_separator.ensures) ∙ byte_of_option_back _
       | in-None w ↦ w.separator-is ∙ ap byte_of_option (sym w.in-None.is ∙ c.get_digit_separator.ensures) ∙ byte_of_option_back _
     ] in
-    c.notes_beside.ensures
-    ∙ ap (λ (s : Record). notes_of (set_byte s layout.digit_separator separator) reasons) c.build_unchecked-format.ensures.fields
+    c.notes_beside.ensures ∙ ap (λ (s : Record). notes_of (set_byte s layout.digit_separator separator) reasons) c.build_unchecked-format.ensures.fields
     ∙ ap (λ byte. notes_of (set_byte (trim r) layout.digit_separator byte) reasons) own
     ∙ ap (notes_of r) (c.reasons.ensures.slots ∙ ap reasons_of c.build_unchecked-format.ensures.word)

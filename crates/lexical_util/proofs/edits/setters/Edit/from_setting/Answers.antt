@@ -8,5 +8,4 @@ returns-in-Some c =
     rw (trimmed_is c.args.name.now c.trim_ascii-name.result.now c.trim_ascii-name.ensures.value) (search (rules, named))
 
 pub returns-in-None : goal.returns-in-None
-returns-in-None c =
-    rw (trimmed_is c.args.name.now c.trim_ascii-name.result.now c.trim_ascii-name.ensures.value) (search rules)
+returns-in-None c = rw (trimmed_is c.args.name.now c.trim_ascii-name.result.now c.trim_ascii-name.ensures.value) (search rules)
