@@ -165,7 +165,7 @@ REPLACED += [
     # An error knows a suffix behind the part that is right, and whether it is of a part of a text, in bytes and a bit that the size of an
     # opening does not need.
     ("list.rt", "    pub(crate) opened: usize,", "    pub(crate) opened: u8, pub(crate) suffix: [u8; 7],"),
-    ("list.rt", "self.as_slice()[form].refuse(text, form, stop)", "self.with_suffix(text, self.as_slice()[form].refuse(text, form, stop))"),
+    ("list.rt", "self.as_slice()[form].form_error(text, form, stop)", "self.with_suffix(text, self.as_slice()[form].form_error(text, form, stop))"),
     ("lexical_forms/src/behind.rt", "            opened,\n", "            opened: opened as u8, suffix: [0; 7],\n"),
     ("lexical_forms/src/behind.rt", "            opened: right,\n", "            opened: right as u8, suffix: [0; 7],\n"),
     # Its other calls are written by hand. Their results depend on what is compared.
@@ -231,9 +231,9 @@ EVERYWHERE += [("unfinished(grammar, text, ", "unfinished("), ("self.fail(tokens
 REPLACED += [
     ("lexical_literal/src/scan.rt", "fn unfinished(_grammar: &Grammar, _text: &[u8], ", "fn unfinished("),
     ("lexical_literal/src/scan.rt", "unfinished(\n            grammar,\n            text,\n", "unfinished(\n\n\n"),
-    ("lexical_literal/src/scan.rt", "fn is_whole(self, _syntax: &Syntax, ", "fn is_whole(self, "),
-    ("behind.rt", "begun.is_whole(syntax, inside)", "begun.is_whole(inside)"),
-    ("lexical_literal/src/stop.rt", "begun.is_whole(self, shorter)", "begun.is_whole(shorter)"),
+    ("lexical_literal/src/scan.rt", "fn covers(self, _syntax: &Syntax, ", "fn covers(self, "),
+    ("behind.rt", "begun.covers(syntax, inside)", "begun.covers(inside)"),
+    ("lexical_literal/src/stop.rt", "begun.covers(self, shorter)", "begun.covers(shorter)"),
     ("behind.rt", "(&self, _text: &[u8], ", "(&self, "),
     ("list.rt", "it.read(text, inside)", "it.read(inside)"),
     ("lexical_literal/src/stop.rt", "fn beginning(&self, _text: &[u8])", "fn beginning(&self)"),

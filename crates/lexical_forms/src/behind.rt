@@ -86,7 +86,7 @@ impl Form {
     {
         let syntax = &self.syntax;
         let begun = syntax.begin(false, inside, false);
-        if begun.is_whole(syntax, inside) {
+        if begun.covers(syntax, inside) {
             let literal = syntax.literal(inside, begun.counts, begun.sums);
             return Ok(literal.with_kind(self.kind).behind(self.opening.size));
         }
@@ -210,7 +210,7 @@ impl Form {
 
     // Returns why `text` is not a literal of the form, which has the index `form`.
     #[inline(always)]
-    pub(crate) fn refuse(&self, text: &[u8], form: usize, stop: Stopped) -> FormError
+    pub(crate) fn form_error(&self, text: &[u8], form: usize, stop: Stopped) -> FormError
         requires { IsRefusedAt text.now stop self.now }
         ensures form { result.form ≡ form }
         ensures error { IsErrorOfForm text.now result self.now }

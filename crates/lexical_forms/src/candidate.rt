@@ -26,7 +26,7 @@ use crate::suffix::{
     byte_after, byte_before, has_digit_at, has_word_byte, is_followed, is_stopped, kind_with,
     more_of, suffix_size, suffix_words, word_size,
 };
-use crate::token::{Token, TokenError, is_float, is_one, larger};
+use crate::token::{Token, TokenError, is_decimal_point, is_float, larger};
 use lexical_literal::literal::{Literal, Sums};
 use lexical_literal::stop::{Begun, Found, byte_at};
 use lexical_literal::syntax::Syntax;
@@ -294,7 +294,7 @@ impl<'a> Forms<'a> {
         if !it.is_stopped(tokens, text, end) {
             return None;
         }
-        if has_digit(text, size, end) {
+        if digit_follows(text, size, end) {
             Some(self.fail(tokens, text))
         } else {
             Some(stopped(it, text, form, candidate))
@@ -374,7 +374,8 @@ impl Form {
         ensures { IsOverFrom back text.now result self.now }
     {
         match back {
-            PointsBack::ToWords if is_one(self.syntax, byte_before(text, stop)) => stop - 1,
+            PointsBack::ToWords if is_decimal_point(self.syntax, byte_before(text, stop)) => stop
+                - 1,
             _ => stop,
         }
     }
@@ -427,7 +428,8 @@ impl Form {
     pub(crate) fn is_stopped(&self, tokens: &Tokens, text: &[u8], end: usize) -> bool
         ensures { result ≡ is_stopped (lets_words tokens.now self.now text.now end) self.now.suffixes text.now end }
     {
-        let words = tokens.any_word_follows && !is_one(self.syntax, byte_before(text, end));
+        let words = tokens.any_word_follows
+            && !is_decimal_point(self.syntax, byte_before(text, end));
         is_stopped(words, self.suffixes, text, end)
     }
 
@@ -583,7 +585,7 @@ fn is_one_ahead(forms: &[Form], back: PointsBack, text: &[u8], end: usize) -> bo
 fn goes_on(syntax: Syntax, back: PointsBack, text: &[u8], end: usize, stop: usize) -> bool
     ensures { result ≡ goes_on back (notation_of syntax) text.now end stop }
 {
-    end < stop && !(is_alone(back, text, end, stop) && is_one(syntax, byte_at(text, end)))
+    end < stop && !(is_alone(back, text, end, stop) && is_decimal_point(syntax, byte_at(text, end)))
 }
 
 // Returns whether no byte of a literal that goes up to `stop` is behind the point at `end`, or only one that begins a name.
@@ -618,7 +620,7 @@ const fn begins_name(text: &[u8], index: usize) -> bool
 }
 
 // Returns whether a digit is behind a literal of `size` bytes that has no suffix, so that the number ends where the literal does.
-fn has_digit(text: &[u8], size: usize, end: usize) -> bool
+fn digit_follows(text: &[u8], size: usize, end: usize) -> bool
     ensures { result ≡ ((size == end) && is_in is_ascii_digit (slice_get text.now size)) }
 {
     size == end && has_digit_at(text, size)

@@ -169,7 +169,7 @@ pub(crate) const fn lacks_longer(grammar: Grammar, text: &[u8], size: usize) -> 
     ensures front { IsTrue result → NoFrontPast (notation_of grammar) text.now size }
     ensures past { IsTrue result → sign_size text.now < size → IsWithin (notation_of grammar) text.now size }
 {
-    lacks_prefix(grammar, text) || is_over(grammar, text, size)
+    has_no_prefix(grammar, text) || is_over(grammar, text, size)
 }
 
 // Returns whether the text ends behind the first `size` bytes, or a byte follows that plays no role.
@@ -196,7 +196,7 @@ const fn has_no_role(grammar: Grammar, byte: u8) -> bool
 
 // Returns whether there is not the base prefix that is required.
 #[inline(always)]
-const fn lacks_prefix(grammar: Grammar, text: &[u8]) -> bool
+const fn has_no_prefix(grammar: Grammar, text: &[u8]) -> bool
     ensures none { IsTrue result → NoFront (notation_of grammar) text.now }
     ensures within { IsTrue result → IsWithin (notation_of grammar) text.now (sign_size text.now + 1) }
 {

@@ -534,7 +534,7 @@ impl<'a> Forms<'a> {
         ensures { IsFormError self.now.forms text.now result }
     {
         let Furthest { form, stop, .. } = furthest;
-        self.as_slice()[form].refuse(text, form, stop)
+        self.as_slice()[form].form_error(text, form, stop)
     }
 }
 

@@ -168,7 +168,7 @@ impl Form {
     pub(crate) fn gives_back(&self, back: PointsBack, text: &[u8], size: usize) -> bool
         ensures { result ≡ gives_back back self.now text.now size }
     {
-        is_one(self.syntax, byte_before(text, size))
+        is_decimal_point(self.syntax, byte_before(text, size))
             && match byte_at(text, size) {
                 None => false,
                 Some(byte) => takes_point(back, byte),
@@ -190,7 +190,7 @@ const fn takes_point(back: PointsBack, byte: u8) -> bool
 
 // Returns whether `byte` is the decimal point.
 #[inline(always)]
-pub(crate) fn is_one(syntax: Syntax, byte: Option<u8>) -> bool
+pub(crate) fn is_decimal_point(syntax: Syntax, byte: Option<u8>) -> bool
     ensures { result ≡ is_in (notation_of syntax).point byte }
 {
     match byte {

@@ -29,7 +29,7 @@ impl Syntax {
         ensures { IsRead self.now text.now result }
     {
         let begun = self.begin(self.is_decimal(), text, false);
-        if begun.is_whole(self, text) {
+        if begun.covers(self, text) {
             Ok(self.literal(text, begun.counts, begun.sums))
         } else if begun.refused {
             begun.at.refuse(self, text)

@@ -291,7 +291,7 @@ const fn scan(grammar: Grammar, decimal: bool, text: &[u8], fronts: bool) -> Beg
 impl Begun {
     // Returns whether the parts are those of all of `text`.
     #[inline(always)]
-    pub const fn is_whole(self, _syntax: &Syntax, text: &[u8]) -> bool
+    pub const fn covers(self, _syntax: &Syntax, text: &[u8]) -> bool
         requires { HasBegun (notation_of _syntax.now) text.now self }
         ensures measured { IsTrue result → IsMeasured (notation_of _syntax.now) text.now self.counts }
         ensures complete { IsTrue result → IsTrue self.complete }
@@ -542,7 +542,7 @@ const fn exponent(
 
 // Returns whether `byte` is neither a digit nor a separator, and no base prefix, and follows digits.
 #[inline(always)]
-const fn is_passed(grammar: Grammar, stage: Stage, byte: u8) -> bool
+const fn refuses_next(grammar: Grammar, stage: Stage, byte: u8) -> bool
     requires { is_run stage ≡ true → (steps_of grammar).digit (part_of stage) byte ≡ false }
     ensures digit { IsTrue result → (steps_of grammar).digit (part_of stage) byte ≡ false }
     ensures separator { IsTrue result → (steps_of grammar).separator byte ≡ false }
@@ -569,7 +569,7 @@ const fn refuses(grammar: Grammar, text: &[u8], at: Stopped) -> bool
     requires suffix { IsPassed (steps_of grammar) text.now at Role.Suffix }
     ensures { IsTrue result → IsRefused (steps_of grammar) text.now at }
 {
-    at.size < text.len() && is_passed(grammar, at.read.stage, text[at.size])
+    at.size < text.len() && refuses_next(grammar, at.read.stage, text[at.size])
 }
 
 // Reads the suffix, if it follows.

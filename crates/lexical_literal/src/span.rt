@@ -214,7 +214,7 @@ impl Spot {
     const fn requirement_error(&self, number: u32, start: usize) -> Error
         ensures { result ≡ requirement_error (flag_at number) (notation_of (grammar_at self.now)) start self.now.size }
     {
-        let integers = self.grammar().is_whole();
+        let integers = self.grammar().integers_only();
         match number {
             0 => Error::EmptyInteger(start),
             1 => Error::EmptyFraction(start),

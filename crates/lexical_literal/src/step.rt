@@ -309,7 +309,7 @@ const fn allows_consecutive(grammar: Grammar, part: Part) -> bool
 pub(crate) const fn needs_exponent(grammar: Grammar) -> bool
     ensures { result ≡ needs_exponent (steps_of grammar) }
 {
-    grammar.has(REQUIRED_EXPONENT_NOTATION) && !grammar.is_whole()
+    grammar.has(REQUIRED_EXPONENT_NOTATION) && !grammar.integers_only()
 }
 
 // Returns whether another digit may follow: after a zero, only if some literal has a leading zero.
@@ -318,7 +318,7 @@ pub(crate) const fn may_follow(grammar: Grammar, stage: Stage) -> bool
     ensures { result ≡ may_follow (steps_of grammar) stage }
 {
     !matches!(stage, Stage::Bare | Stage::Zero)
-        || (!grammar.is_whole() && !grammar.has(NO_FLOAT_LEADING_ZEROS))
+        || (!grammar.integers_only() && !grammar.has(NO_FLOAT_LEADING_ZEROS))
         || (!grammar.has(NO_INTEGER_LEADING_ZEROS) && !needs_exponent(grammar))
 }
 

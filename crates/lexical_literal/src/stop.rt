@@ -307,7 +307,7 @@ impl Syntax {
         let size = stop.size - 1;
         let shorter = front_of(text, size);
         let begun = self.begin(false, shorter, true);
-        if begun.is_whole(self, shorter) {
+        if begun.covers(self, shorter) {
             let Begun { counts, .. } = begun;
             Some(Found { size, counts })
         } else {

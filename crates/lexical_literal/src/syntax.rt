@@ -346,7 +346,7 @@ impl Grammar {
 
     // Returns whether literals are integers alone.
     #[inline(always)]
-    pub const fn is_whole(self) -> bool
+    pub const fn integers_only(self) -> bool
         ensures { result ≡ lacks_options self.options }
     {
         self.point == 0
@@ -514,7 +514,7 @@ impl Syntax {
         ensures { result ≡ self.now.options }
     {
         let grammar = self.grammar;
-        if grammar.is_whole() {
+        if grammar.integers_only() {
             None
         } else {
             Some(Options {

@@ -57,7 +57,7 @@ impl Form {
     pub(crate) const fn read<'t>(&self, inside: &'t [u8]) -> Result<Literal<'t>, Stopped> {
         let syntax = &self.syntax;
         let begun = syntax.begin_small(inside, false);
-        if begun.is_whole(inside) {
+        if begun.covers(inside) {
             let literal = syntax.literal(inside, begun.counts, begun.sums);
             return Ok(literal.with_kind(self.kind).behind(self.opening.size));
         }
@@ -156,7 +156,7 @@ impl Form {
 
     // Returns why `text` is not a literal of the form, which has the index `form`.
     #[cfg_attr(not(peltzivar_small), inline(always))]
-    pub(crate) const fn refuse(&self, text: &[u8], form: usize, stop: Stopped) -> FormError {
+    pub(crate) const fn form_error(&self, text: &[u8], form: usize, stop: Stopped) -> FormError {
         let opened = self.opening.size();
         if stop.size < opened {
             return self.lacks_opening(text, form, stop.size);

@@ -12,7 +12,7 @@ use crate::literal::suffix::{
     suffix_words, word_size,
 };
 use crate::literal::syntax::Syntax;
-use crate::literal::token::{is_float, is_one, larger, Token, TokenError};
+use crate::literal::token::{is_decimal_point, is_float, larger, Token, TokenError};
 
 // The candidate of a form: the length of its literal, the lengths of its parts, and the index behind its suffix.
 #[derive(Clone, Copy)]
@@ -206,7 +206,7 @@ impl<'a> Forms<'a> {
         if !it.is_stopped(tokens, text, end) {
             return None;
         }
-        if has_digit(text, size, end) {
+        if digit_follows(text, size, end) {
             Some(self.fail(text))
         } else {
             Some(stopped(it, text, form, candidate))
@@ -267,7 +267,7 @@ impl Form {
     // Returns how far the form goes that stops at `stop`, but for a point before it that does not go on.
     const fn reach_of(&self, back: PointsBack, text: &[u8], stop: usize) -> usize {
         match back {
-            PointsBack::ToWords if is_one(self.syntax, byte_before(text, stop)) => stop - 1,
+            PointsBack::ToWords if is_decimal_point(self.syntax, byte_before(text, stop)) => stop - 1,
             _ => stop,
         }
     }
@@ -299,7 +299,7 @@ impl Form {
 
     // Returns whether what is behind the number that ends at `end` may not follow it. No word may follow a decimal point.
     pub(crate) const fn is_stopped(&self, tokens: &Tokens, text: &[u8], end: usize) -> bool {
-        let words = tokens.any_word_follows && !is_one(self.syntax, byte_before(text, end));
+        let words = tokens.any_word_follows && !is_decimal_point(self.syntax, byte_before(text, end));
         is_stopped(words, self.suffixes, text, end)
     }
 
@@ -411,7 +411,7 @@ const fn is_one_ahead(forms: &[Form], back: PointsBack, text: &[u8], end: usize)
 
 // Returns whether a literal that goes up to `stop` goes on behind `end`.
 const fn goes_on(syntax: Syntax, back: PointsBack, text: &[u8], end: usize, stop: usize) -> bool {
-    end < stop && !(is_alone(back, text, end, stop) && is_one(syntax, byte_at(text, end)))
+    end < stop && !(is_alone(back, text, end, stop) && is_decimal_point(syntax, byte_at(text, end)))
 }
 
 // Returns whether no byte of a literal that goes up to `stop` is behind the point at `end`, or only one that begins a name.
@@ -438,7 +438,7 @@ const fn begins_name(text: &[u8], index: usize) -> bool {
 }
 
 // Returns whether a digit is behind a literal of `size` bytes that has no suffix, so that the number ends where the literal does.
-const fn has_digit(text: &[u8], size: usize, end: usize) -> bool {
+const fn digit_follows(text: &[u8], size: usize, end: usize) -> bool {
     size == end && has_digit_at(text, size)
 }
 

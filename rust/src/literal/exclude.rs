@@ -120,7 +120,7 @@ pub(crate) const fn sign_size(text: &[u8]) -> usize {
 // behind them, or a byte follows that plays no role. If they are more than a sign, no literal begins with more.
 #[cfg_attr(not(peltzivar_small), inline(always))]
 pub(crate) const fn lacks_longer(grammar: &Grammar, text: &[u8], size: usize) -> bool {
-    lacks_prefix(grammar, text) || is_over(grammar, text, size)
+    has_no_prefix(grammar, text) || is_over(grammar, text, size)
 }
 
 // Returns whether the text ends behind the first `size` bytes, or a byte follows that plays no role.
@@ -140,7 +140,7 @@ const fn has_no_role(grammar: &Grammar, byte: u8) -> bool {
 
 // Returns whether there is not the base prefix that is required.
 #[inline(always)]
-const fn lacks_prefix(grammar: &Grammar, text: &[u8]) -> bool {
+const fn has_no_prefix(grammar: &Grammar, text: &[u8]) -> bool {
     grammar.conditions().has(Condition::BasePrefix) && !has_prefix(grammar, text, sign_size(text))
 }
 

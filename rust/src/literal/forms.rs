@@ -82,7 +82,7 @@ impl<'a> Forms<'a> {
             return Err(None);
         }
         let begun = syntax.begin(true, text, false);
-        if begun.is_whole(text) {
+        if begun.covers(text) {
             return Ok(syntax.usual_grammar().literal(text, begun.counts, begun.sums, kind));
         }
         let is_refused = begun.refused || begun.at.is_refused(&syntax, text);
@@ -140,7 +140,7 @@ impl<'a> Forms<'a> {
             Ok((_, literal)) => (T::from_literal(literal), literal.integer_kind()),
             Err(furthest) => match self.special(text) {
                 Some(special) => (T::from_special(special), IntegerKind::Exact),
-                None => return Err(self.refuse(text, furthest)),
+                None => return Err(self.parse_error(text, furthest)),
             },
         };
         value.map_err(|error| ParseError::Value(ValueError::of::<T>(error, text.len(), kind)))
@@ -155,7 +155,7 @@ impl<'a> Forms<'a> {
     // Returns the error of the form that goes furthest, made in its place.
     #[cold]
     #[inline(never)]
-    fn refuse(&self, text: &[u8], furthest: Furthest) -> ParseError {
+    fn parse_error(&self, text: &[u8], furthest: Furthest) -> ParseError {
         let Furthest { form, stop, .. } = furthest;
         let Form { name, ref syntax, ref opening, .. } = self.forms[form];
         if cfg!(peltzivar_small) || !opening.is_empty() {

@@ -396,7 +396,7 @@ impl<'a> Forms<'a> {
     #[inline(always)]
     pub(crate) const fn error_at(&self, text: &[u8], furthest: Furthest) -> FormError {
         let Furthest { form, stop, .. } = furthest;
-        self.with_suffix(text, self.as_slice()[form].refuse(text, form, stop))
+        self.with_suffix(text, self.as_slice()[form].form_error(text, form, stop))
     }
 }
 

@@ -62,7 +62,7 @@ impl Syntax {
     pub const fn read_bytes<'t>(&self, text: &'t [u8]) -> Result<Literal<'t>, ReadError> {
         if self.is_decimal() {
             let begun = self.begin(true, text, false);
-            if begun.is_whole(text) {
+            if begun.covers(text) {
                 return Ok(self.usual_grammar().literal(text, begun.counts, begun.sums, Kind::EXACT));
             }
             if begun.refused || begun.at.is_refused(self, text) {
@@ -79,7 +79,7 @@ impl Syntax {
         let mut refused = None;
         if self.is_decimal() {
             let begun = self.begin(true, text, false);
-            if begun.is_whole(text) {
+            if begun.covers(text) {
                 return then(Ok(self.usual_grammar().literal(text, begun.counts, begun.sums, Kind::EXACT)));
             }
             refused = begun.refused.then_some(begun.at);
@@ -100,7 +100,7 @@ impl Syntax {
     #[inline(never)]
     pub(crate) const fn read_generally<'t>(&self, text: &'t [u8]) -> Result<Literal<'t>, ReadError> {
         let begun = self.begin_small(text, false);
-        if begun.is_whole(text) {
+        if begun.covers(text) {
             Ok(self.literal(text, begun.counts, begun.sums))
         } else if begun.refused {
             begun.at.refuse(self, text)

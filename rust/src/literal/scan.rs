@@ -174,7 +174,7 @@ const fn scan(grammar: &Grammar, decimal: bool, text: &[u8], fronts: bool) -> Be
 impl Begun {
     // Returns whether the parts are those of all of `text`.
     #[inline(always)]
-    pub(crate) const fn is_whole(self, text: &[u8]) -> bool {
+    pub(crate) const fn covers(self, text: &[u8]) -> bool {
         self.complete && self.at.size == text.len()
     }
 }
@@ -309,7 +309,7 @@ const fn exponent(grammar: &Grammar, decimal: bool, text: &[u8], fronts: bool, m
 
 // Returns whether `byte` is neither a digit nor a separator, and no base prefix, and follows digits.
 #[inline(always)]
-const fn is_passed(grammar: &Grammar, stage: Stage, byte: u8) -> bool {
+const fn refuses_next(grammar: &Grammar, stage: Stage, byte: u8) -> bool {
     if is_separator(grammar, byte) {
         return false;
     }
@@ -323,7 +323,7 @@ const fn is_passed(grammar: &Grammar, stage: Stage, byte: u8) -> bool {
 // Returns whether a byte follows that is refused, if it is known at once.
 #[inline(always)]
 const fn refuses(grammar: &Grammar, text: &[u8], at: Stopped) -> bool {
-    at.size < text.len() && is_passed(grammar, at.read.stage, text[at.size])
+    at.size < text.len() && refuses_next(grammar, at.read.stage, text[at.size])
 }
 
 // Reads the suffix, if it follows.

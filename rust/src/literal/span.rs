@@ -167,7 +167,7 @@ impl Spot {
 
     // Returns the error for the flag with the number `number`.
     const fn requirement_error(&self, number: u32, start: usize) -> Error {
-        let integers = self.as_grammar().is_whole();
+        let integers = self.as_grammar().integers_only();
         match number {
             0 => Error::EmptyInteger(start),
             1 => Error::EmptyFraction(start),

@@ -226,14 +226,14 @@ const fn allows_consecutive(grammar: &Grammar, part: Part) -> bool {
 // Returns whether an exponent is required.
 #[inline(always)]
 pub(crate) const fn needs_exponent(grammar: &Grammar) -> bool {
-    grammar.has(REQUIRED_EXPONENT_NOTATION) && !grammar.is_whole()
+    grammar.has(REQUIRED_EXPONENT_NOTATION) && !grammar.integers_only()
 }
 
 // Returns whether another digit may follow: after a zero, only if some literal has a leading zero.
 #[inline(always)]
 pub(crate) const fn may_follow(grammar: &Grammar, stage: Stage) -> bool {
     !matches!(stage, Stage::Bare | Stage::Zero)
-        || (!grammar.is_whole() && !grammar.has(NO_FLOAT_LEADING_ZEROS))
+        || (!grammar.integers_only() && !grammar.has(NO_FLOAT_LEADING_ZEROS))
         || (!grammar.has(NO_INTEGER_LEADING_ZEROS) && !needs_exponent(grammar))
 }
 

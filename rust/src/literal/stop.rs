@@ -219,7 +219,7 @@ impl Syntax {
         let size = stop.size - 1;
         let shorter = front_of(text, size);
         let begun = self.begin_any(shorter, true);
-        if begun.is_whole(shorter) {
+        if begun.covers(shorter) {
             let Begun { counts, .. } = begun;
             Some(Found { size, counts })
         } else {

@@ -271,9 +271,9 @@ const fn is_one_met(stops: &[Stop], text: &[u8], end: usize) -> bool {
 
 // Returns whether a stop is behind the number that ends at `end`.
 const fn meets(text: &[u8], end: usize, stop: &Stop) -> bool {
-    admits(stop.last, byte_before(text, end))
-        && admits(stop.next, byte_at(text, end))
-        && admits(stop.second, byte_after(text, end))
+    stop_admits(stop.last, byte_before(text, end))
+        && stop_admits(stop.next, byte_at(text, end))
+        && stop_admits(stop.second, byte_after(text, end))
 }
 
 // Returns the byte behind the one at `index`, if there is one.
@@ -295,7 +295,7 @@ pub(crate) const fn byte_before(text: &[u8], index: usize) -> Option<u8> {
 }
 
 // Returns whether `byte` is one of `bytes`, or `bytes` is empty.
-const fn admits(bytes: &[u8], byte: Option<u8>) -> bool {
+const fn stop_admits(bytes: &[u8], byte: Option<u8>) -> bool {
     match bytes {
         [] => true,
         _ => match byte {

@@ -266,7 +266,7 @@ impl Grammar {
 
     // Returns whether literals are integers alone.
     #[inline(always)]
-    pub(crate) const fn is_whole(self) -> bool {
+    pub(crate) const fn integers_only(self) -> bool {
         self.point == 0
     }
 
@@ -379,7 +379,7 @@ impl Syntax {
     #[must_use]
     pub(crate) const fn options(&self) -> Option<Options> {
         let grammar = self.grammar;
-        if grammar.is_whole() {
+        if grammar.integers_only() {
             None
         } else {
             Some(Options { exponent: grammar.exponent, point: grammar.point })

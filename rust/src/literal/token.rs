@@ -144,7 +144,7 @@ impl Form {
     // Returns whether the first `size` bytes of `text` end in a point that is given back.
     #[cfg_attr(not(peltzivar_small), inline(always))]
     pub(crate) const fn gives_back(&self, back: PointsBack, text: &[u8], size: usize) -> bool {
-        is_one(self.syntax, byte_before(text, size))
+        is_decimal_point(self.syntax, byte_before(text, size))
             && match byte_at(text, size) {
                 None => false,
                 Some(byte) => takes_point(back, byte),
@@ -164,7 +164,7 @@ const fn takes_point(back: PointsBack, byte: u8) -> bool {
 
 // Returns whether `byte` is the decimal point.
 #[cfg_attr(not(peltzivar_small), inline(always))]
-pub(crate) const fn is_one(syntax: Syntax, byte: Option<u8>) -> bool {
+pub(crate) const fn is_decimal_point(syntax: Syntax, byte: Option<u8>) -> bool {
     match byte {
         None => false,
         Some(byte) => is_point(syntax.as_grammar(), byte),

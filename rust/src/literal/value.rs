@@ -439,7 +439,7 @@ impl Syntax {
             return Decimal::Unknown;
         }
         let begun = self.begin(true, text, false);
-        if begun.is_whole(text) {
+        if begun.covers(text) {
             if begun.sums.mantissa.digits <= 19 && begun.sums.exponent.digits <= 19 {
                 let literal = self.usual_grammar().literal(text, begun.counts, begun.sums, kind);
                 if let Ok(value) = T::from_literal(literal) {

@@ -17,7 +17,7 @@ pub(super) fn group_sizes(conditions: Conditions) -> [u8; 3] {
 pub(super) fn leading_zeros(grammar: &Grammar) -> [bool; 2] {
     let flags = [grammar.view().no_integer_leading_zeros(), grammar.view().no_float_leading_zeros()];
     let [integers, floats] = flags.map(|is_set| is_set && !grammar.conditions.has(Condition::BasePrefix));
-    match grammar.is_whole() {
+    match grammar.integers_only() {
         true => [integers, integers],
         false if needs_exponent(grammar) => [floats, floats],
         false => [integers, floats],
@@ -26,7 +26,7 @@ pub(super) fn leading_zeros(grammar: &Grammar) -> [bool; 2] {
 
 /// Returns the literals.
 pub(super) fn literal<'a>(pool: &'a Pool, grammar: &Grammar) -> Expression<'a> {
-    let (view, conditions, is_float) = (grammar.view(), grammar.conditions, !grammar.is_whole());
+    let (view, conditions, is_float) = (grammar.view(), grammar.conditions, !grammar.integers_only());
     let has_exponent = is_float && !view.no_exponent_notation();
     let sign =
         |part| pool.byte(|it| it == b'+' && allows_plus(grammar, part) || it == b'-' && allows_minus(grammar, part));

@@ -44,45 +44,45 @@ moves : (c : goal.Joined-letters-word) → Moves (notation_of c.args.grammar) c.
     c.loop-index.letters (get_or c.args.text.now c.loop-index.index 0) c.if-letters-word.taken c.if-letters-word.letters
 moves c = elim c.if-letters-word.branch [
   | then-letters-word+then-is_letter+then-is_separator w ↦ inl (
-      fit _ _ _ _ _ w.if-letters-word.true w.is_letter.ensures w.if-is_letter.true,
-      (let is = w.letters-is in omega (arith, is)),
-      more _ _ _ _ _ (let is = w.taken-is in omega (arith, is)) w.is_separator.ensures w.if-is_separator.true,
-    )
+    fit _ _ _ _ _ w.if-letters-word.true w.is_letter.ensures w.if-is_letter.true,
+    (let is = w.letters-is in omega (arith, is)),
+    more _ _ _ _ _ (let is = w.taken-is in omega (arith, is)) w.is_separator.ensures w.if-is_separator.true,
+  )
   | then-letters-word+then-is_letter+else-is_separator+then-not-is_letter w ↦ inl (
-      fit _ _ _ _ _ w.if-letters-word.true w.is_letter.ensures w.if-is_letter.true,
-      (let is = w.letters-is in omega (arith, is)),
-      none _ _ _ _ _ _ (let is = w.taken-is in omega (arith, is)) w.is_separator.ensures w.if-is_separator.false
-          w.is_letter-else-is_separator.ensures w.if-not-is_letter.true,
-    )
+    fit _ _ _ _ _ w.if-letters-word.true w.is_letter.ensures w.if-is_letter.true,
+    (let is = w.letters-is in omega (arith, is)),
+    none _ _ _ _ _ _ (let is = w.taken-is in omega (arith, is)) w.is_separator.ensures w.if-is_separator.false
+        w.is_letter-else-is_separator.ensures w.if-not-is_letter.true,
+  )
   | then-letters-word+then-is_letter+else-is_separator+else-not-is_letter w ↦ inl (
-      fit _ _ _ _ _ w.if-letters-word.true w.is_letter.ensures w.if-is_letter.true,
-      (let is = w.letters-is in omega (arith, is)),
-      as_many _ _ _ _ _ _ (let is = w.taken-is in omega (arith, is)) w.is_separator.ensures w.if-is_separator.false
-          w.is_letter-else-is_separator.ensures w.if-not-is_letter.false,
-    )
+    fit _ _ _ _ _ w.if-letters-word.true w.is_letter.ensures w.if-is_letter.true,
+    (let is = w.letters-is in omega (arith, is)),
+    as_many _ _ _ _ _ _ (let is = w.taken-is in omega (arith, is)) w.is_separator.ensures w.if-is_separator.false
+        w.is_letter-else-is_separator.ensures w.if-not-is_letter.false,
+  )
   | else-letters-word+then-not-is_separator+else-taken-eq0+else-not-is_letter-2 w ↦ inr (
-      (elim w.else-letters-word.branch [
-        | else-letters-word-via-then-letters-word+else-is_letter w' ↦ unfit _ _ _ _ _ w'.is_letter.ensures w'.if-is_letter.false
-        | else-letters-word-via-else-letters-word w' ↦ past _ _ _ w'.if-letters-word.false
-      ]),
-      (let is = w.letters-is in omega (arith, is)),
-      inr (
-        sym w.is_separator-else-letters-word.ensures ∙ w.if-not-is_separator.true,
-        equal _ _ _ w.is_letter-else-taken-eq0.ensures w.if-not-is_letter-2.false,
-        less _ _ (let is = w.taken-is in omega (arith, is)) w.if-taken-eq0.false,
-      ),
-    )
+    (elim w.else-letters-word.branch [
+      | else-letters-word-via-then-letters-word+else-is_letter w' ↦ unfit _ _ _ _ _ w'.is_letter.ensures w'.if-is_letter.false
+      | else-letters-word-via-else-letters-word w' ↦ past _ _ _ w'.if-letters-word.false
+    ]),
+    (let is = w.letters-is in omega (arith, is)),
+    inr (
+      sym w.is_separator-else-letters-word.ensures ∙ w.if-not-is_separator.true,
+      equal _ _ _ w.is_letter-else-taken-eq0.ensures w.if-not-is_letter-2.false,
+      less _ _ (let is = w.taken-is in omega (arith, is)) w.if-taken-eq0.false,
+    ),
+  )
   | else-letters-word+else-not-is_separator w ↦ inr (
-      (elim w.else-letters-word.branch [
-        | else-letters-word-via-then-letters-word+else-is_letter w' ↦ unfit _ _ _ _ _ w'.is_letter.ensures w'.if-is_letter.false
-        | else-letters-word-via-else-letters-word w' ↦ past _ _ _ w'.if-letters-word.false
-      ]),
-      (let is = w.letters-is in omega (arith, is)),
-      inl (
-        sym w.is_separator-else-letters-word.ensures ∙ w.if-not-is_separator.false,
-        (let is = w.taken-is in omega (arith, is)),
-      ),
-    )
+    (elim w.else-letters-word.branch [
+      | else-letters-word-via-then-letters-word+else-is_letter w' ↦ unfit _ _ _ _ _ w'.is_letter.ensures w'.if-is_letter.false
+      | else-letters-word-via-else-letters-word w' ↦ past _ _ _ w'.if-letters-word.false
+    ]),
+    (let is = w.letters-is in omega (arith, is)),
+    inl (
+      sym w.is_separator-else-letters-word.ensures ∙ w.if-not-is_separator.false,
+      (let is = w.taken-is in omega (arith, is)),
+    ),
+  )
 ]
 
 pub loop-index-preserved : goal.loop-index-preserved

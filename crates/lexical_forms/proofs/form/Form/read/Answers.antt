@@ -5,12 +5,12 @@ use Rattle.lexical_forms.proofs.form.Form.read.Goals as goal
 
 pub literal-literal-requires-clause-cut : goal.literal-literal-requires-clause-cut
 literal-literal-requires-clause-cut c =
-    measured_cut _ c.args.inside.now c.begin-begun.result.counts (c.is_whole.ensures.measured c.if-is_whole.true)
+    measured_cut _ c.args.inside.now c.begin-begun.result.counts (c.covers.ensures.measured c.if-covers.true)
 
-pub returns-then-is_whole-clause-some : goal.returns-then-is_whole-clause-some
-returns-then-is_whole-clause-some c =
+pub returns-then-covers-clause-some : goal.returns-then-covers-clause-some
+returns-then-covers-clause-some c =
     let read = c.literal-literal.result in
-    let is = whole_read _ c.args.inside.now c.begin-begun.result.counts (c.is_whole.ensures.measured c.if-is_whole.true) read c.literal-literal.ensures in (
+    let is = whole_read _ c.args.inside.now c.begin-begun.result.counts (c.covers.ensures.measured c.if-covers.true) read c.literal-literal.ensures in (
       (
         c.behind.ensures.format ∙ c.with_kind.ensures.format ∙ is.0,
         c.behind.ensures.kind ∙ c.with_kind.ensures.kind,

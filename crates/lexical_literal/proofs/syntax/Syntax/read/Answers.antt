@@ -21,8 +21,8 @@ returns-then-begun c =
     c.refuse.ensures
 
 pub literal-requires-clause-cut : goal.literal-requires-clause-cut
-literal-requires-clause-cut c = measured_cut c.args.self.now c.args.text.now c.begin-begun.result.counts (c.is_whole.ensures.measured c.if-is_whole.true)
+literal-requires-clause-cut c = measured_cut c.args.self.now c.args.text.now c.begin-begun.result.counts (c.covers.ensures.measured c.if-covers.true)
 
-pub returns-then-is_whole : goal.returns-then-is_whole
-returns-then-is_whole c = is_read c.args.self.now c.args.text.now c.begin-begun.result.counts (c.is_whole.ensures.measured c.if-is_whole.true)
+pub returns-then-covers : goal.returns-then-covers
+returns-then-covers c = is_read c.args.self.now c.args.text.now c.begin-begun.result.counts (c.covers.ensures.measured c.if-covers.true)
     c.literal.result c.literal.ensures

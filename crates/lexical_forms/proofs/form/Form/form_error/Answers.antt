@@ -1,7 +1,7 @@
 -- The opening is not there, or the syntax refuses what is behind it.
 use Rattle.lexical_forms.proofs.Common.{arith, refl}
 use Rattle.lexical_forms.proofs.BehindLemmas.{before_of, lacks_opening, part_error, part_refused, part_stopped}
-use Rattle.lexical_forms.proofs.form.Form.refuse.Goals as goal
+use Rattle.lexical_forms.proofs.form.Form.form_error.Goals as goal
 
 pub lacks_opening-requires : goal.lacks_opening-requires
 lacks_opening-requires c =
