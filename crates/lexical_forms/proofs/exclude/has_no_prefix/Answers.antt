@@ -2,7 +2,7 @@
 use Rattle.lexical_forms.proofs.Common.{ap, arith, has, sym, ◌∙◌}
 use Rattle.lexical_literal.specs.declared.syntax.Condition.TheVariants as conditions
 use Rattle.lexical_forms.proofs.LeadingLemmas.{lacking_none, lacking_within}
-use Rattle.lexical_forms.proofs.exclude.lacks_prefix.Goals as goal
+use Rattle.lexical_forms.proofs.exclude.has_no_prefix.Goals as goal
 
 pub returns-then-has-clause-none : goal.returns-then-has-clause-none
 returns-then-has-clause-none c = λ is. lacking_none _ c.args.text.now (ap (λ k. has k conditions.BasePrefix) (sym c.conditions.ensures) ∙ sym c.has.ensures ∙ c.if-has.true)
