@@ -253,6 +253,9 @@ static void test_opening(peltzivar_list list, const char *from, size_t len, bool
     CHECK_LAWFUL(is_refused || is_read == (is_own && !is_other));
     if (is_read) CHECK_LAWFUL(literal.text == all + before && literal.size == len && !memcmp(&literal.sign, &own.sign, 9 * sizeof own.sign));
     if (!is_refused && !is_own && !is_other) CHECK_LAWFUL(error.valid_up_to >= before + why.valid_up_to);
+    static char memory[16384];
+    const peltzivar_form *const shown = is_refused ? &form : peltzivar_list_of(forms, memory, sizeof memory, NULL)->forms;
+    CHECK(shown->case_sensitive_opening == form.case_sensitive_opening && shown->only_read == form.only_read);
     if (!is_refused) test_list(forms, all, before + len, is_lawful);
     free(all);
 }
@@ -324,12 +327,12 @@ static void test_numbers(peltzivar_word word) {
     const peltzivar_word mask = peltzivar_setter_mask(it);
     const char *const name = peltzivar_setter_name(it), *const texts[] = {peltzivar_language_name(it), peltzivar_language_title(it), peltzivar_description(it), peltzivar_value_description(it), peltzivar_write_description(it)};
     peltzivar_fields fields = peltzivar_fields_of(word);
+    const uint8_t marks[] = {it, 0, 0, fields.digit_separator, fields.base_prefix | 32, fields.base_suffix | 32};
     for (int i = 0; i < 5; i++) CHECK(strlen(texts[i]) < PELTZIVAR_TEXT_SIZE);
     CHECK(!*name == !(mask.low | mask.high));
     CHECK(is_same(peltzivar_pack(&fields), peltzivar_normal_form(word)) && !peltzivar_edit_fields(&fields, &edit, 1) == !!*name);
     const bool is_digit = (peltzivar_mantissa_digit(word, it) & peltzivar_exponent_digit(word, it)) != PELTZIVAR_NO_DIGIT, is_sign = it == '+' || it == '-';
     const peltzivar_role role = peltzivar_role_of(word, 0, 0, it);
-    const uint8_t marks[] = {it, 0, 0, fields.digit_separator, fields.base_prefix | 32, fields.base_suffix | 32};
     CHECK((role == PELTZIVAR_ROLE_DIGIT) == is_digit && (role == PELTZIVAR_ROLE_SIGN) == (is_sign && !is_digit) && role < 6);
     CHECK((role < 3 || marks[role] == (role > 3 ? it | 32 : it)) && peltzivar_version() == PELTZIVAR_VERSION_NUMBER);
 }
