@@ -412,6 +412,8 @@ class Literals(unittest.TestCase):
         for language in Language:
             copied = Forms(language.forms, **vars(language.specials))
             self.assertEqual((copied, copied.specials), (language.forms, language.specials))
+            for given in (15, -1, 3000000000, 2**63 - 1, 0.5, 1e39, languages.C.read("0x1.8p1"), *"0x1G 0b2 1e 1.5.5 017 1_0 nan -INF 1e-46 0xFFFFFFFF".split()):
+                self.assertEqual(*(repr(outcome(it.parse if isinstance(given, str) else it.format_number, given)) for it in (language, copied)))
 
     def test_a_literal_has_the_value_of_its_kind(self):
         java, syntax = languages.JAVA, Syntax(Format())
