@@ -45,7 +45,7 @@ impl<'a> Forms<'a> {
     #[cfg_attr(not(peltzivar_small), inline(always))]
     pub(crate) const fn may_end(&self, text: &[u8]) -> bool {
         let it = &self.forms[0];
-        if !self.ends || !it.opening.is_empty() || !it.syntax.is_decimal() {
+        if cfg!(peltzivar_small) || !self.ends || !it.opening.is_empty() || !it.syntax.is_decimal() {
             return false;
         }
         !has_letter_behind_zero(text)
