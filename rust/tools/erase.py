@@ -183,6 +183,7 @@ REPLACED += [
     # The library for C has one copy of these.
     ("candidate.rt", "match self.find_literal(word, None) {", "if cfg!(peltzivar_small) { return self.fault(text, end); } match self.find_literal(word, None) {"),
     ("candidate.rt", "TokenError::Literal(self.error_at(word, furthest))", "TokenError::Literal(self.error_at(word, furthest).before(end < text.len()))"),
+    ("candidate.rt", "if !self.ends ||", "if cfg!(peltzivar_small) || !self.ends ||"),
     ("behind.rt", "let begun = syntax.begin(false, inside, false);", "let begun = syntax.begin_small(inside, false);"),
     ("lexical_literal/src/stop.rt", "stop.step(syntax, text, last)", "stop.step_any(syntax, text, last)"),
     ("lexical_literal/src/stop.rt", "at.step(self, text, last)", "at.step_any(self, text, last)"),

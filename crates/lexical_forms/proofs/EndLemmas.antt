@@ -7,7 +7,7 @@ use Rattle.lexical_forms.proofs.Common.{length, length-drop, list_any, more_of, 
 use Rattle.lexical_forms.proofs.Common.{slice_get-get_or, spells, subst, suffix_size, sym, take, takes_point, true, unwrap_or, word_size, ℕ, ◌&&◌, ◌++◌, ◌+◌, ◌-◌}
 use Rattle.lexical_forms.proofs.Common.{◌<◌, ◌==◌, ◌||◌, ◌∙◌, ◌∷◌, ◌≡◌, ◌≤◌}
 use Rattle.lexical_forms.specs.Additions.Forms.{ENDS, IsOutside, LetEnd, LetsEnd, ends_at, is_end}
-use Rattle.lexical_forms.specs.Additions.Token.{IsEndedAt, IsLast}
+use Rattle.lexical_forms.specs.Additions.Token.{IsBegunFirst, IsEndedAt, IsLast}
 use Rattle.lexical_forms.specs.declared.list.PointsBack.TheVariants as points
 use Rattle.lexical_forms.proofs.BehindLemmas.{front_in}
 use Rattle.lexical_forms.proofs.FormLemmas.{all_at}
@@ -106,6 +106,14 @@ no_suffix form float text size none =
     let suffix = suffix_within form.suffixes float (drop size text) in
     let word = word_within (more_of form.suffixes) text size size (omega arith) none in omega (arith, suffix, word)
 
+-- An opening without bytes is there, and no more of it.
+none_opened : (form : Form) (text : List ℕ) → form.opening.size ≡ 0 → IsOpenedTo form.opening text 0
+none_opened form text bare = record {
+  inside = omega arith;
+  begins = record { within = omega arith; each = λ index below. absurd (omega (arith, below)) };
+  differs = λ short. absurd (omega (arith, short, bare));
+}
+
 module _ (list : FormList) (text : List ℕ) (form : Form) (at : slice_get list.forms 0 ≡ Some form) (bare : form.opening.size ≡ 0) (begun : Begun)
     (found : HasBegun (notation_of form.syntax) text begun) (complete : IsTrue begun.complete) (summed : IsSummed (raw form.syntax.word) text begun)
     (lets : LetEnd list.forms list.tokens) (on : ends_at text begun.at.size ≡ true) where
@@ -122,11 +130,7 @@ module _ (list : FormList) (text : List ℕ) (form : Form) (at : slice_get list.
   own = all_at (IsLast text size) list.forms 0 form at own_lasts
 
   opened : IsOpenedTo form.opening text 0
-  opened = record {
-    inside = omega arith;
-    begins = record { within = omega arith; each = λ index below. absurd (omega (arith, below)) };
-    differs = λ short. absurd (omega (arith, short, bare));
-  }
+  opened = none_opened form text bare
 
   over_own : IsWithin (notation_of form.syntax) text size
   over_own more past inside front =
@@ -215,3 +219,23 @@ module _ (list : FormList) (text : List ℕ) (c : Candidate) (e : IsEndedAt list
 pub kind_ended : (suffixes : Option (Bor Suffixes)) (word : List ℕ) (kind : Kind) → word ≡ [] → kind_with suffixes word kind ≡ kind
 kind_ended None word kind none = refl
 kind_ended (Some it) word kind none = ap (λ w. kind_with (Some it) w kind) none
+
+-- What has been read of the first form.
+module _ (list : FormList) (text : List ℕ) (begun : Begun) (e : IsBegunFirst list text begun) (d : Form) where
+  abbrev g : Form
+  g = get_or list.forms 0 d
+
+  same : e.form ≡ g
+  same = some_is _ _ (sym e.at ∙ slice_get-get_or list.forms 0 d (slice_get_within list.forms 0 e.form e.at))
+
+  pub bare_first : g.opening.size ≡ 0
+  bare_first = subst (λ (g : Form). g.opening.size ≡ 0) same e.bare
+
+  pub opened_first : IsOpenedTo g.opening text 0
+  opened_first = none_opened g text bare_first
+
+  pub begun_first : HasBegun (notation_of g.syntax) text begun
+  begun_first = subst (λ (g : Form). HasBegun (notation_of g.syntax) text begun) same e.found
+
+  pub summed_first : IsSummed (raw g.syntax.word) text begun
+  summed_first = subst (λ (g : Form). IsSummed (raw g.syntax.word) text begun) same e.summed

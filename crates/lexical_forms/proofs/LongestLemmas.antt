@@ -28,7 +28,7 @@ pub at_all : {X : Type 0} (P : X → Type 0) (xs : List X) (i : ℕ) (x : X) →
 at_all P xs i x at all =
     let inside = slice_get_within xs i x at in subst P (some_is _ _ (sym (slice_get-get_or xs i x inside) ∙ at)) (all i x inside)
 
-here_is : {X : Type 0} (P : X → Type 0) (o : Option X) → IsSomeAnd o P → (x : X) × (o ≡ Some x) × P x
+pub here_is : {X : Type 0} (P : X → Type 0) (o : Option X) → IsSomeAnd o P → (x : X) × (o ≡ Some x) × P x
 here_is P (Some x) is = (x, refl, is)
 here_is P None is = absurd is
 

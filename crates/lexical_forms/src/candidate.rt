@@ -4,11 +4,12 @@ ghost use Rattle.std.specs.Prelude.{◌≡◌, ◌<◌, ◌≤◌, ◌+◌, ◌-
 ghost use Rattle.std.specs.Prelude.{if◌then◌else◌, length, nat_le, nat_lt, slice_get, take, true};
 ghost use Rattle.std.specs.Char.{is_ascii_alphabetic, is_ascii_digit};
 ghost use Rattle.std.specs.Option.{ForSome};
-ghost use Rattle.lexical_forms.specs.Additions.Forms.{GoesTo, GoesWithin, IsFrontIn, further};
-ghost use Rattle.lexical_forms.specs.Additions.Token.{HasNoWord, HasSumsOf, IsAsked, IsCounted, IsEnd, IsEnded, IsEndedAt, IsMade, IsOverFrom, IsOwn, IsPicked};
-ghost use Rattle.lexical_forms.specs.Additions.Token.{IsWinner, IsYet, NoCandidate, NoOwn, goes_on, has_float, is_longer, suffixed, whole};
+ghost use Rattle.lexical_forms.specs.Additions.Forms.{GoesTo, GoesWithin, IsFrontIn, IsOpenedTo, further};
+ghost use Rattle.lexical_forms.specs.Additions.Token.{HasNoWord, HasSumsOf, IsAsked, IsAskedFirst, IsCounted, IsEnd, IsEnded, IsBegunFirst, IsEndedAt, IsMade, IsOverFrom, IsOwn, IsPicked};
+ghost use Rattle.lexical_forms.specs.Additions.Token.{IsWinner, IsYet, MayEnd, NoCandidate, NoOwn, goes_on, has_float, is_longer, suffixed, whole};
 ghost use Rattle.lexical_literal.specs.Cause.{is_in};
-ghost use Rattle.lexical_literal.specs.Additions.Literal.{AreSums, IsCut, cut};
+ghost use Rattle.lexical_literal.specs.Additions.Literal.{AreSums, IsCut, IsSummed, cut};
+ghost use Rattle.lexical_literal.specs.Additions.Stop.{HasBegun, IsWithin};
 ghost use Rattle.lexical_literal.specs.Read.{exact};
 ghost use Rattle.lexical_literal.specs.Additions.Step.{cuts_of};
 ghost use Rattle.lexical_literal.specs.Notation.{notation_of};
@@ -61,24 +62,36 @@ impl<'a> Forms<'a> {
     ) -> Result<Token<'t>, TokenError>
         ensures { IsReadByTokens self.now (Some tokens.entry) text.now result }
     {
-        self.end_of(tokens, text, self.longest(tokens, text, 0))
+        self.end_of(tokens, text, self.longest(tokens, text, 0, None))
     }
 
-    // Returns the literal of the first form that `text` begins with, without a suffix, if this form is decimal, and it is known at once that no
-    // form goes on.
+    // Returns whether the first form is asked before the others: it is decimal, and it may be known at once that no form goes on.
     #[inline(always)]
-    pub(crate) fn ended(&self, text: &[u8]) -> Option<Candidate>
-        ensures { ForSome result (IsEndedAt self.now text.now) }
+    pub(crate) fn may_end(&self, text: &[u8]) -> bool
+        ensures { IsTrue result → MayEnd self.now }
     {
         let it = &self.forms[0];
-        if !self.ends
-            || !it.opening.is_empty()
-            || !it.syntax.is_decimal()
-            || has_letter_behind_zero(text)
-        {
-            return None;
+        if !self.ends || !it.opening.is_empty() || !it.syntax.is_decimal() {
+            return false;
         }
-        let begun = it.syntax.begin(true, text, true);
+        !has_letter_behind_zero(text)
+    }
+
+    // Returns what has been read of the first form.
+    #[inline(always)]
+    pub(crate) fn first(&self, text: &[u8]) -> Begun
+        requires { MayEnd self.now }
+        ensures { IsBegunFirst self.now text.now result }
+    {
+        self.forms[0].syntax.begin(true, text, true)
+    }
+
+    // Returns the literal of the first form that `text` begins with, without a suffix, if it is known at once that no form goes on.
+    #[inline(always)]
+    pub(crate) fn ended(&self, text: &[u8], begun: Begun) -> Option<Candidate>
+        requires { IsBegunFirst self.now text.now begun }
+        ensures { ForSome result (IsEndedAt self.now text.now) }
+    {
         let Begun {
             at,
             counts,
@@ -99,9 +112,37 @@ impl<'a> Forms<'a> {
         }
     }
 
+    // Returns how far the first form goes, and its candidate, if it is complete where `first` has been read of it.
+    #[inline(always)]
+    pub(crate) fn asked(
+        &self,
+        tokens: &Tokens,
+        text: &[u8],
+        first: Option<Begun>,
+    ) -> Option<(usize, Option<Candidate>)>
+        requires { ForSome first (IsBegunFirst self.now text.now) }
+        ensures { ForSome result (IsAskedFirst self.now tokens.now text.now) }
+    {
+        let Some(begun) = first else {
+            return None;
+        };
+        if !begun.complete {
+            return None;
+        }
+        let it = &self.forms[0];
+        Some(it.candidate_of(tokens.gives_points_back, false, text, 0, text, begun))
+    }
+
     // Returns the longest candidate of the list and of the forms that need a suffix, of those with literals of more than `least` bytes.
     #[inline(always)]
-    pub(crate) fn longest(&self, tokens: &Tokens, text: &[u8], least: usize) -> Longest
+    pub(crate) fn longest(
+        &self,
+        tokens: &Tokens,
+        text: &[u8],
+        least: usize,
+        first: Option<(usize, Option<Candidate>)>,
+    ) -> Longest
+        requires { ForSome first (IsAskedFirst self.now tokens.now text.now) }
         ensures { (IsTrue result.clear ⊎ (least ≡ 0)) → IsWinner self.now tokens.now text.now result }
     {
         let mut found = Longest {
@@ -111,6 +152,10 @@ impl<'a> Forms<'a> {
             clear: false,
         };
         let mut form = 0;
+        if let Some(asked) = first {
+            found = self.longer(tokens, text, least, found, 0, asked);
+            form = 1;
+        }
         while form < self.forms.len() + tokens.forms.len() {
             if !self.passes(tokens, text, found.past, form) {
                 found = self.ask(tokens, text, least, found, form);
@@ -330,11 +375,31 @@ impl Form {
         }
         let (_, inside) = text.split_at(opened);
         let begun = self.syntax.begin(false, inside, true);
+        self.candidate_of(back, needs, text, opened, inside, begun)
+    }
+
+    // Returns the same where `begun` has been read of what is behind the opening.
+    #[inline(always)]
+    pub(crate) fn candidate_of(
+        &self,
+        back: PointsBack,
+        needs: bool,
+        text: &[u8],
+        opened: usize,
+        inside: &[u8],
+        begun: Begun,
+    ) -> (usize, Option<Candidate>)
+        requires opened { IsOpenedTo self.now.opening text.now opened }
+        requires least { self.now.opening.size ≤ opened }
+        requires inside { inside.now ≡ drop opened text.now }
+        requires begun { HasBegun (notation_of self.now.syntax) inside.now begun }
+        requires summed { IsSummed (raw self.now.syntax.word) inside.now begun }
+        ensures some { ForSome result.1 (IsMade back needs text.now self.now) }
+        ensures none { IsNone result.1 → NoCandidate back needs text.now self.now }
+        ensures over { IsOverFrom back text.now result.0 self.now }
+    {
         let size = opened + begun.at.size;
-        if begun.complete
-            && is_over(self.syntax.grammar(), inside, begun.at.size)
-            && !self.gives_back(back, text, size)
-        {
+        if begun.complete && self.is_last(inside, begun) && !self.gives_back(back, text, size) {
             let Begun { counts, sums, .. } = begun;
             return (
                 size,
@@ -342,6 +407,15 @@ impl Form {
             );
         }
         self.any_candidate(back, needs, text)
+    }
+
+    // Returns whether it is known that no literal goes on behind what has been read.
+    #[inline(always)]
+    fn is_last(&self, inside: &[u8], begun: Begun) -> bool
+        requires { HasBegun (notation_of self.now.syntax) inside.now begun }
+        ensures { IsTrue result → IsWithin (notation_of self.now.syntax) inside.now begun.at.size }
+    {
+        begun.refused || is_over(self.syntax.grammar(), inside, begun.at.size)
     }
 
     // Returns the same by all of the form's fronts.

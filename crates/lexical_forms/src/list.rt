@@ -328,7 +328,11 @@ impl<'a> Forms<'a> {
     pub fn read_prefix<'t>(&self, text: &'t [u8]) -> Result<(Number<'t>, &'t [u8]), FormError>
         ensures { IsFrontByForms self.now text.now result }
     {
-        match self.ended(text) {
+        if !self.may_end(text) {
+            return self.read_front(text);
+        }
+        let begun = self.first(text);
+        match self.ended(text, begun) {
             None => self.read_front(text),
             Some(candidate) => {
                 let it = &self.forms[0];

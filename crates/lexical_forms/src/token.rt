@@ -3,7 +3,8 @@
 ghost use Rattle.std.specs.Prelude.{◌≡◌, ◌≤◌, ◌||◌, Some, ℕ};
 ghost use Rattle.std.specs.Char.{is_ascii_alphabetic};
 ghost use Rattle.std.specs.List.{list_any};
-ghost use Rattle.lexical_forms.specs.Additions.Token.{go_on_with, has_float, has_more};
+ghost use Rattle.std.specs.Option.{ForSome};
+ghost use Rattle.lexical_forms.specs.Additions.Token.{IsBegunFirst, go_on_with, has_float, has_more};
 ghost use Rattle.lexical_literal.specs.Cause.{is_in};
 ghost use Rattle.lexical_literal.specs.Notation.{notation_of};
 ghost use Rattle.lexical_forms.specs.Token.{IsReadByTokens, gives_back, takes_point};
@@ -14,7 +15,7 @@ use crate::list::{FormError, Forms, PointsBack, Tokens};
 use crate::suffix::{byte_before, has_byte, is_word_byte, more_of};
 use lexical_literal::literal::Literal;
 use lexical_literal::step::is_point;
-use lexical_literal::stop::byte_at;
+use lexical_literal::stop::{Begun, byte_at};
 use lexical_literal::syntax::Syntax;
 
 /// A number that a text begins with, and what follows it.
@@ -94,18 +95,30 @@ impl<'a> Forms<'a> {
         let Some(tokens) = self.tokens else {
             return Err(TokenError::NoTokens);
         };
+        if !self.may_end(text) {
+            return self.token_behind(tokens, text, None);
+        }
+        let begun = self.first(text);
+        let Some(candidate) = self.ended(text, begun) else {
+            return self.token_behind(tokens, text, Some(begun));
+        };
         let it = &self.forms[0];
-        match self.ended(text) {
-            Some(candidate) if !it.is_stopped(tokens, text, candidate.end) => {
-                Ok(it.made(text, 0, candidate))
-            }
-            _ => self.token_behind(tokens, text),
+        if it.is_stopped(tokens, text, candidate.end) {
+            self.token_behind(tokens, text, None)
+        } else {
+            Ok(it.made(text, 0, candidate))
         }
     }
 
-    // Returns the same by all forms.
+    // Returns the same by all forms, where `first` has been read of the first one.
     #[inline(never)]
-    fn token_behind<'t>(&self, tokens: &Tokens, text: &'t [u8]) -> Result<Token<'t>, TokenError>
+    fn token_behind<'t>(
+        &self,
+        tokens: &Tokens,
+        text: &'t [u8],
+        first: Option<Begun>,
+    ) -> Result<Token<'t>, TokenError>
+        requires { ForSome first (IsBegunFirst self.now text.now) }
         ensures { IsReadByTokens self.now (Some tokens.entry) text.now result }
     {
         let least = if has_letter_behind_zero(text) {
@@ -113,7 +126,7 @@ impl<'a> Forms<'a> {
         } else {
             0
         };
-        let found = self.longest(tokens, text, least);
+        let found = self.longest(tokens, text, least, self.asked(tokens, text, first));
         if found.clear || least == 0 {
             self.end_of(tokens, text, found)
         } else {

@@ -38,18 +38,28 @@ impl<'a> Forms<'a> {
     #[cold]
     #[inline(never)]
     pub(crate) const fn token_of<'t>(&self, tokens: &Tokens, text: &'t [u8]) -> Result<Token<'t>, TokenError> {
-        self.end_of(tokens, text, self.longest(tokens, text, 0))
+        self.end_of(tokens, text, self.longest(tokens, text, 0, None))
     }
 
-    // Returns the literal of the first form that `text` begins with, without a suffix, if this form is decimal, and it is known at once that no
-    // form goes on.
+    // Returns whether the first form is asked before the others: it is decimal, and it may be known at once that no form goes on.
     #[cfg_attr(not(peltzivar_small), inline(always))]
-    pub(crate) const fn ended(&self, text: &[u8]) -> Option<Candidate> {
+    pub(crate) const fn may_end(&self, text: &[u8]) -> bool {
         let it = &self.forms[0];
-        if !self.ends || !it.opening.is_empty() || !it.syntax.is_decimal() || has_letter_behind_zero(text) {
-            return None;
+        if cfg!(peltzivar_small) || !self.ends || !it.opening.is_empty() || !it.syntax.is_decimal() {
+            return false;
         }
-        let begun = it.syntax.begin(true, text, true);
+        !has_letter_behind_zero(text)
+    }
+
+    // Returns what has been read of the first form.
+    #[cfg_attr(not(peltzivar_small), inline(always))]
+    pub(crate) const fn first(&self, text: &[u8]) -> Begun {
+        self.forms[0].syntax.begin(true, text, true)
+    }
+
+    // Returns the literal of the first form that `text` begins with, without a suffix, if it is known at once that no form goes on.
+    #[cfg_attr(not(peltzivar_small), inline(always))]
+    pub(crate) const fn ended(&self, text: &[u8], begun: Begun) -> Option<Candidate> {
         let Begun { at, counts, sums, complete, .. } = begun;
         let size = at.size;
         if complete && ends_at(text, size) {
@@ -59,11 +69,39 @@ impl<'a> Forms<'a> {
         }
     }
 
+    // Returns how far the first form goes, and its candidate, if it is complete where `first` has been read of it.
+    #[cfg_attr(not(peltzivar_small), inline(always))]
+    pub(crate) const fn asked(
+        &self,
+        tokens: &Tokens,
+        text: &[u8],
+        first: Option<Begun>,
+    ) -> Option<(usize, Option<Candidate>)> {
+        let Some(begun) = first else {
+            return None;
+        };
+        if !begun.complete {
+            return None;
+        }
+        let it = &self.forms[0];
+        Some(it.candidate_of(tokens.gives_points_back, false, text, 0, text, begun))
+    }
+
     // Returns the longest candidate of the list and of the forms that need a suffix, of those with literals of more than `least` bytes.
     #[cfg_attr(not(peltzivar_small), inline(never))]
-    pub(crate) const fn longest(&self, tokens: &Tokens, text: &[u8], least: usize) -> Longest {
+    pub(crate) const fn longest(
+        &self,
+        tokens: &Tokens,
+        text: &[u8],
+        least: usize,
+        first: Option<(usize, Option<Candidate>)>,
+    ) -> Longest {
         let mut found = Longest { best: None, reach: 0, past: least, clear: false };
         let mut form = 0;
+        if let Some(asked) = first {
+            found = self.longer(tokens, text, least, found, 0, asked);
+            form = 1;
+        }
         while form < self.forms.len() + tokens.forms.len() {
             if !self.passes(tokens, text, found.past, form) {
                 found = self.ask(tokens, text, least, found, form);
@@ -238,15 +276,32 @@ impl Form {
         }
         let (_, inside) = text.split_at(opened);
         let begun = self.syntax.begin_small(inside, true);
+        self.candidate_of(back, needs, text, opened, inside, begun)
+    }
+
+    // Returns the same where `begun` has been read of what is behind the opening.
+    #[cfg_attr(not(peltzivar_small), inline(always))]
+    pub(crate) const fn candidate_of(
+        &self,
+        back: PointsBack,
+        needs: bool,
+        text: &[u8],
+        opened: usize,
+        inside: &[u8],
+        begun: Begun,
+    ) -> (usize, Option<Candidate>) {
         let size = opened + begun.at.size;
-        if begun.complete
-            && is_over(self.syntax.as_grammar(), inside, begun.at.size)
-            && !self.gives_back(back, text, size)
-        {
+        if begun.complete && self.is_last(inside, begun) && !self.gives_back(back, text, size) {
             let Begun { counts, sums, .. } = begun;
             return (size, self.suffixed(needs, text, Found { size, counts }, Some(sums)));
         }
         self.any_candidate(back, needs, text)
+    }
+
+    // Returns whether it is known that no literal goes on behind what has been read.
+    #[cfg_attr(not(peltzivar_small), inline(always))]
+    const fn is_last(&self, inside: &[u8], begun: Begun) -> bool {
+        begun.refused || is_over(self.syntax.as_grammar(), inside, begun.at.size)
     }
 
     // Returns the same by all of the form's fronts.

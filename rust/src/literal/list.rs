@@ -236,7 +236,11 @@ impl<'a> Forms<'a> {
     ///
     /// If `text` does not begin with a literal, returns why it is not one.
     pub const fn read_prefix_bytes<'t>(&self, text: &'t [u8]) -> Result<(Number<'t>, &'t [u8]), FormError> {
-        match self.ended(text) {
+        if !self.may_end(text) {
+            return self.read_front(text);
+        }
+        let begun = self.first(text);
+        match self.ended(text, begun) {
             None => self.read_front(text),
             Some(candidate) => {
                 let it = &self.forms[0];

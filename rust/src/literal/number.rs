@@ -156,7 +156,7 @@ impl Syntax {
 
     /// Returns what [`read_prefix`][Self::read_prefix] returns, of bytes, also in a constant.
     pub const fn read_prefix_bytes<'t>(&self, text: &'t [u8]) -> Result<(Literal<'t>, &'t [u8]), ReadError> {
-        if self.is_decimal() {
+        if !cfg!(peltzivar_small) && self.is_decimal() {
             let begun = self.begin(true, text, true);
             if begun.is_front(text) {
                 let (front, rest) = text.split_at(begun.at.size);

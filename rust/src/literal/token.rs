@@ -7,7 +7,7 @@ use crate::literal::form::Form;
 use crate::literal::list::{FormError, Forms, PointsBack, Tokens};
 use crate::literal::literal::Literal;
 use crate::literal::step::is_point;
-use crate::literal::stop::byte_at;
+use crate::literal::stop::{byte_at, Begun};
 use crate::literal::suffix::{byte_before, has_byte, is_word_byte, more_of};
 use crate::literal::syntax::Syntax;
 
@@ -88,18 +88,31 @@ impl<'a> Forms<'a> {
         let Some(tokens) = self.tokens else {
             return Err(TokenError::NoTokens);
         };
+        if !self.may_end(text) {
+            return self.token_behind(tokens, text, None);
+        }
+        let begun = self.first(text);
+        let Some(candidate) = self.ended(text, begun) else {
+            return self.token_behind(tokens, text, Some(begun));
+        };
         let it = &self.forms[0];
-        match self.ended(text) {
-            Some(candidate) if !it.is_stopped(tokens, text, candidate.end) => Ok(it.made(text, 0, candidate)),
-            _ => self.token_behind(tokens, text),
+        if it.is_stopped(tokens, text, candidate.end) {
+            self.token_behind(tokens, text, None)
+        } else {
+            Ok(it.made(text, 0, candidate))
         }
     }
 
-    // Returns the same by all forms.
+    // Returns the same by all forms, where `first` has been read of the first one.
     #[inline(never)]
-    const fn token_behind<'t>(&self, tokens: &Tokens, text: &'t [u8]) -> Result<Token<'t>, TokenError> {
+    const fn token_behind<'t>(
+        &self,
+        tokens: &Tokens,
+        text: &'t [u8],
+        first: Option<Begun>,
+    ) -> Result<Token<'t>, TokenError> {
         let least = if has_letter_behind_zero(text) { sign_size(text) + 1 } else { 0 };
-        let found = self.longest(tokens, text, least);
+        let found = self.longest(tokens, text, least, self.asked(tokens, text, first));
         if found.clear || least == 0 {
             self.end_of(tokens, text, found)
         } else {

@@ -504,7 +504,7 @@ impl Syntax {
     ///
     /// Those of this call.
     pub fn parse_prefix_bytes<'t, T: FromLiteral>(&self, text: &'t [u8]) -> Result<(T, &'t [u8]), ParseError> {
-        if self.is_decimal() {
+        if !cfg!(peltzivar_small) && self.is_decimal() {
             let begun = self.begin(true, text, true);
             if begun.is_front(text) && begun.sums.mantissa.digits <= 19 && begun.sums.exponent.digits <= 19 {
                 let (front, rest) = text.split_at(begun.at.size);

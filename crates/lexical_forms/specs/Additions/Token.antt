@@ -6,10 +6,11 @@ use Rattle.std.specs.List.{list_any}
 use Rattle.lexical_util.specs.Ascii.{ByteSet}
 use Rattle.lexical_literal.specs.Cause.{is_in}
 use Rattle.lexical_forms.specs.FormList.{FormList, have_openings}
-use Rattle.lexical_forms.specs.Additions.Forms.{GoesWithin}
+use Rattle.lexical_forms.specs.Additions.Forms.{GoesWithin, LetEnd}
+use Rattle.lexical_literal.specs.declared.stop.Begun.{Begun}
 use Rattle.lexical_forms.specs.Forms.{Begins, HasFront, ReadsIn}
 use Rattle.lexical_literal.specs.Front.{NoneBy}
-use Rattle.lexical_literal.specs.Additions.Literal.{AreSums, cut}
+use Rattle.lexical_literal.specs.Additions.Literal.{AreSums, IsSummed, cut}
 use Rattle.lexical_literal.specs.Additions.Step.{cuts_of}
 use Rattle.lexical_literal.specs.declared.literal.Sums.{Sums}
 use Rattle.lexical_util.specs.Record.{raw}
@@ -19,7 +20,8 @@ use Rattle.lexical_forms.specs.declared.suffix.Suffixes.{Suffixes}
 use Rattle.lexical_forms.specs.Token.{HasNone, IsAhead, IsCandidate, IsChosen, IsFollowed, IsOver, gives_back, is_alone, is_shorter, lets_words, tried}
 use Rattle.lexical_forms.specs.declared.list.PointsBack.{PointsBack}
 use Rattle.lexical_forms.specs.declared.list.Tokens.{Tokens}
-use Rattle.lexical_literal.specs.Additions.Stop.{IsMeasured}
+use Rattle.lexical_literal.specs.Additions.Scan.{IsDecimal, IsUsual}
+use Rattle.lexical_literal.specs.Additions.Stop.{HasBegun, IsMeasured}
 use Rattle.lexical_literal.specs.Literal.{Literal, Reads}
 use Rattle.lexical_literal.specs.declared.stop.Found.{Found}
 use Rattle.lexical_literal.specs.Notation.{Notation, notation_of}
@@ -179,6 +181,10 @@ module _ (list : FormList) (t : Tokens) (text : List ℕ) (least : ℕ) where
     pub over : All (λ it. (end : ℕ) → found.reach ≤ end → found.past ≤ end → IsAhead t.gives_points_back text end it.0 → ⊥) (take i (tried list t))
     pub clear : IsTrue found.clear → (best : ℕ × Candidate) × (found.best ≡ Some best) × All (λ it. HasNoWord text best.1.end it.0) (tried list t)
 
+-- `IsAskedFirst list t text asked` holds if the first form goes up to `asked.0` at most, and has the candidate `asked.1`, or none.
+abbrev pub IsAskedFirst : FormList → Tokens → List ℕ → ℕ × Option Candidate → Type 0
+IsAskedFirst list t text asked = IsSomeAnd (slice_get (tried list t) 0) (λ it. IsAsked t.gives_points_back text it asked.0 asked.1)
+
 -- `IsEnded list t text form end` holds if a word that may follow is behind `end`, or if no literal goes on, and nothing follows that may not.
 abbrev pub IsEnded : FormList → Tokens → List ℕ → Form → ℕ → Type 0
 IsEnded list t text form end = IsFollowed list t text end
@@ -191,6 +197,24 @@ AreBare list t = (have_openings list.forms ≡ false) × (have_openings t.forms.
 -- `IsLast text size form` holds if no literal of `form` begins with more than the first `size` bytes of `text`, and no byte of a word is behind them.
 abbrev pub IsLast : List ℕ → ℕ → Form → Type 0
 IsLast text size form = GoesWithin text size form × HasNoWord text size form
+
+-- `MayEnd list` holds if the first form is decimal and has no opening, and if no form, of the list or of its tokens, goes on with a byte that ends a number.
+-- `IsBegunFirst list text begun` holds if `begun` has been read of this form, too.
+pub record MayEnd (list : FormList) : Type 0 where
+  pub form : Form
+  pub at : slice_get list.forms 0 ≡ Some form
+  pub bare : form.opening.size ≡ 0
+  pub decimal : IsDecimal (raw form.syntax.word)
+  pub usual : IsUsual form.syntax
+  pub lets : LetEnd list.forms list.tokens
+
+pub record IsBegunFirst (list : FormList) (text : List ℕ) (begun : Begun) : Type 0 where
+  pub form : Form
+  pub at : slice_get list.forms 0 ≡ Some form
+  pub bare : form.opening.size ≡ 0
+  pub found : HasBegun (notation_of form.syntax) text begun
+  pub summed : IsSummed (raw form.syntax.word) text begun
+  pub lets : LetEnd list.forms list.tokens
 
 -- `IsEndedAt list text c` holds if the first form has the candidate `c`, without a suffix, and no form, of the list or of its tokens, goes on.
 pub record IsEndedAt (list : FormList) (text : List ℕ) (c : Candidate) : Type 0 where

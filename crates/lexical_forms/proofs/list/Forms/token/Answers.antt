@@ -26,8 +26,8 @@ made-requires-clause-order c = let end = (c.ended.ensures c.in-Some-ended.candid
 pub made-requires-clause-within : goal.made-requires-clause-within
 made-requires-clause-within c = ((c.ended.ensures c.in-Some-ended.candidate c.in-Some-ended.is).made points.Never).within
 
-pub returns-in-Some-ended : goal.returns-in-Some-ended
-returns-in-Some-ended c =
+pub returns-else-is_stopped : goal.returns-else-is_stopped
+returns-else-is_stopped c =
     let text = c.args.text.now in let candidate = c.in-Some-ended.candidate in let t = c.in-Some.tokens in let made = c.made in
     let list : FormList = record { forms = c.self.inside.forms.now; specials = c.self.inside.specials; tokens = c.self.inside.tokens } in
     let e = subst (λ (l : FormList). IsEndedAt l text candidate) (sym c.self.view_is) (c.ended.ensures candidate c.in-Some-ended.is) in
@@ -37,5 +37,5 @@ returns-in-Some-ended c =
     (picked_ended list text candidate e t c.in-Some.is)) made.result made.ensures.form made.ensures.literal made.ensures.kind made.ensures.opened
     made.ensures.suffix made.ensures.rest (inr (
       over_ended list text candidate e t.now,
-      (let stopped = c.is_stopped.ensures in let on = c.if-not-is_stopped.true in grind arith),
+      (let stopped = c.is_stopped.ensures in let off = c.if-is_stopped.false in grind arith),
     ))))
