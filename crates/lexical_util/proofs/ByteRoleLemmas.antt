@@ -1,5 +1,5 @@
 -- In a lawful format with options that fit, or without options, a byte plays at most one role.
-use Rattle.std.proofs.Common.{◌≡◌, ◌≢◌, ◌<◌, ◌⊎◌, inl, inr, ℕ, ◌↔◌, Bool, true, List, [], ◌∷◌, Some, None, IsTrue, refl, arith}
+use Rattle.std.proofs.Common.{rules, ◌≡◌, ◌≢◌, ◌<◌, ◌⊎◌, inl, inr, ℕ, ◌↔◌, Bool, List, [], ◌∷◌, Some, None, IsTrue, refl, arith}
 use Rattle.std.proofs.lemmas.Bool.{and_parts}
 use Rattle.std.proofs.lemmas.Bool.Decides.{nat_tests}
 use Rattle.std.specs.List.{find}
@@ -57,20 +57,14 @@ pub record AreApart (word e p : ℕ) : Type 0 where
   pub roles : AreDisjoint (seven_roles (raw word) e p)
 
 pub apart_from : (word e p : ℕ) → OptionsHaveOneRole word e p → AreApart word e p
-apart_from word e p is =
-    let exponent = is.exponent_is_text in
-    let point = is.point_is_text in
-    record { exponent_below = grind (arith, nat_tests); point_below = grind (arith, nat_tests); roles = is.roles }
+apart_from word e p is = search rules
 
 -- These lemmas assume the law that two sets are disjoint if and only if no byte is in both.
 module _ (law : (A B : ByteSet) → Disjoint A B ↔ ((byte : ℕ) → byte < 256 → IsTrue (A byte) → IsTrue (B byte) → ⊥)) (word : ℕ) where
   -- In a lawful format, no byte is both a digit and the digit separator.
   pub digit_or_separator : Lawful word → (byte : ℕ) → IsTrue (digits (raw word) byte) → IsTrue (used_separator (raw word) byte) → ⊥
   unfolding Lawful
-  digit_or_separator lawful byte digit used =
-      let stored : IsTrue (separator (raw word) byte) = (and_parts (separator_allowed (raw word)) _ used).1 in
-      let pairs = lawful.roles in
-      (law (digits (raw word)) (separator (raw word))).0 (assumption pairs) byte (cased_below true _ byte (omega arith) stored) digit stored
+  digit_or_separator lawful byte digit used = search (rules, stored, and_parts, cased_below)
 
   -- The other lemmas are on a format and two bytes with which no byte plays two roles.
   module _ (e p : ℕ) (apart : AreApart word e p) where
@@ -96,9 +90,7 @@ module _ (law : (A B : ByteSet) → Disjoint A B ↔ ((byte : ℕ) → byte < 25
         (search (Disjoint-sym, apart.roles)) byte small in_a in_b)
 
     one_stored : (byte : ℕ) (a b : Role) → IsTrue (stored_set (raw word) e p a byte) → IsTrue (stored_set (raw word) e p b byte) → a ≡ b
-    one_stored byte roles.Digit roles.Digit in_a in_b = refl
-    one_stored byte roles.Digit b in_a in_b = one_below byte (below b (λ same. cc) byte in_b) roles.Digit b in_a in_b
-    one_stored byte a b in_a in_b = one_below byte (below a (λ same. cc) byte in_a) a b in_a in_b
+    one_stored byte a b in_a in_b = search (rules, one_below, below)
 
     -- A byte plays at most one role.
     pub one_role : (byte : ℕ) (a b : Role) → IsTrue (role_set (raw word) e p a byte) → IsTrue (role_set (raw word) e p b byte) → a ≡ b

@@ -1,13 +1,13 @@
 -- Lemmas on the writes of a list of edits, one edit after another.
-use Rattle.std.proofs.Common.{◌≡◌, ℕ, ◌+◌, ◌<◌, ◌≤◌, ◌^◌, List, [], ◌∷◌, ◌++◌, length, get_or, take, sym, ap, ◌∙◌, append-nil, take_all, All, arith}
+use Rattle.std.proofs.Common.{rules, ◌≡◌, ℕ, ◌+◌, ◌<◌, ◌≤◌, ◌^◌, List, [], ◌∷◌, ◌++◌, length, get_or, take, sym, ap, ◌∙◌, append-nil, take_all, All, arith}
 use Rattle.std.proofs.lemmas.List.{take_more}
 use Rattle.std.proofs.lemmas.List.Concat.{flat_map-append}
 use Rattle.std.proofs.lemmas.List.Elements.{All-append, All-same}
 use Rattle.lexical_flags.specs.Layout.{IsClean}
 use Rattle.lexical_flags.specs.Record.{Record, raw, fill, trim, pack, HasBytes}
 use Rattle.lexical_builder.specs.Writes.{Write, IsLegal, after, SameWrites}
-use Rattle.lexical_util.proofs.Lower.{raw-pack, pack-clean, pack-lt, raw-injective, HasBytes-raw, HasBytes-fill}
-use Rattle.lexical_util.proofs.Lower.{after_none, after-append, after-same, HasBytes-after}
+use Rattle.lexical_util.proofs.Lower.{raw-pack, pack-clean, pack-lt, raw-injective, HasBytes-raw, HasBytes-fill, after_none, after-append, after-same}
+use Rattle.lexical_util.proofs.Lower.{HasBytes-after}
 use Rattle.lexical_util.specs.Edits.{all_writes, writes_of, edited}
 use Rattle.lexical_util.specs.declared.edits.setters.Edit.{Edit}
 
@@ -41,9 +41,7 @@ applied_more {R} {edits} {i} {b} {next} {e} h inside is applied legal =
 -- If all edits are applied, then the result has all their writes, and they are legal.
 pub applied_all : {R : Record} {edits : List Edit} {i : ℕ} {b : Record} → HasApplied R edits i b → length edits ≤ i
     → (b ≡ after R (all_writes edits)) × All IsLegal (all_writes edits)
-applied_all {R} {edits} {i} {b} h end =
-    let all : take i edits ≡ edits = take_all i edits end in
-    (h.fields ∙ ap (λ es. after R (all_writes es)) all, All-same IsLegal _ _ (ap all_writes (sym all)) h.legal)
+applied_all {R} {edits} {i} {b} h end = search (rules, take_all, All-same)
 
 -- The fields of an edited word are the fields of the word, filled, written in order and trimmed.
 module _ (w : ℕ) (L : List Write) (legal : All IsLegal L) where

@@ -1,6 +1,6 @@
 -- Lemmas that a list of legal writes that builds a word has at least as many writes as the word needs.
-use Rattle.std.proofs.Common.{◌≡◌, ℕ, ◌+◌, ◌≤◌, ◌==◌, ◌||◌, Bool, true, false, not, cond, if◌then◌else◌, List, [], ◌∷◌, length, Option, unwrap_or, is_some}
-use Rattle.std.proofs.Common.{refl, sym, ap, ◌∙◌, subst, count_by, arith, le_refl, eq-eqb, All}
+use Rattle.std.proofs.Common.{rules, ◌≡◌, ℕ, ◌+◌, ◌≤◌, ◌==◌, ◌||◌, Bool, true, false, not, cond, if◌then◌else◌, List, [], ◌∷◌, length, Option, unwrap_or}
+use Rattle.std.proofs.Common.{is_some, refl, sym, ap, ◌∙◌, subst, count_by, arith, le_refl, eq-eqb, All}
 use Rattle.std.specs.List.{list_any}
 use Rattle.std.proofs.Math.Bool.{beq}
 use Rattle.std.proofs.lemmas.Bool.{or_parts}
@@ -25,10 +25,7 @@ overwritten L y = list_any (λ x. overwrites x y) L
 
 -- A write overwrites exactly one of the field writes of a record.
 overwrites_one : (x : Write) (r : Record) → count_by (overwrites x) (field_writes r) ≡ 1
-overwrites_one (write_flag layout.required_integer_digits v) r = refl
-overwrites_one (write_flag _ v) r = refl
-overwrites_one (write_byte layout.digit_separator v) r = refl
-overwrites_one (write_byte _ v) r = refl
+overwrites_one x r = search rules
 
 at_most_both : (p q : Bool) → cond (p || q) 1 0 ≤ cond p 1 0 + cond q 1 0
 at_most_both p q = grind arith

@@ -1,6 +1,6 @@
 -- Lemmas that the field writes of a record give this record, and that only the writes that change the start are needed.
-use Rattle.std.proofs.Common.{◌≡◌, Bool, true, false, not, if◌then◌else◌, arith, List, [], ◌∷◌, map, Option, Some, None, unwrap_or, filter, filter_map, refl}
-use Rattle.std.proofs.Common.{sym, ap, ◌∙◌, All}
+use Rattle.std.proofs.Common.{rules, ◌≡◌, Bool, true, false, not, if◌then◌else◌, arith, List, [], ◌∷◌, map, Option, Some, None, unwrap_or, filter, filter_map}
+use Rattle.std.proofs.Common.{refl, sym, ap, ◌∙◌, All}
 use Rattle.std.specs.List.{cons_option, last_or}
 use Rattle.std.proofs.Math.Bool.{beq}
 use Rattle.std.proofs.lemmas.Bool.Decides.{nat_tests}
@@ -15,14 +15,7 @@ use Rattle.lexical_util.specs.Listing.{field_writes}
 -- Writing all fields of `r` into any record gives `r`.
 pub after-field_writes : (s r : Record) → after s (field_writes r) ≡ r
 unfolding after
-after-field_writes s r = record_same _ _ on_flag on_byte where
-  on_flag : (f : Flag) → left_by (λ x. flag_written x f) (field_writes r) (s.flag f) ≡ r.flag f
-  on_flag layout.required_integer_digits = refl
-  on_flag _ = refl
-
-  on_byte : (b : Byte) → left_by (λ x. byte_written x b) (field_writes r) (s.byte b) ≡ r.byte b
-  on_byte layout.digit_separator = refl
-  on_byte _ = refl
+after-field_writes s r = search (rules, record_same, left_by)
 
 -- If `P` holds for the write of each flag and each byte, then it holds for all field writes of a record.
 pub All-field_writes : (P : Write → Type 0) (r : Record) → ((f : Flag) → P (write_flag f (r.flag f)))

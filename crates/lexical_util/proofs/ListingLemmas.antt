@@ -1,5 +1,5 @@
 -- Lemmas that the edits of all fields of a record give it from a new builder, and that only the needed edits suffice.
-use Rattle.std.proofs.Common.{◌≡◌, Bool, true, false, not, cond, List, [], ◌∷◌, ◌++◌, map, filter, refl, sym, ap, ◌∙◌, subst, All}
+use Rattle.std.proofs.Common.{rules, ◌≡◌, Bool, true, false, not, cond, List, [], ◌∷◌, ◌++◌, map, filter, refl, sym, ap, ◌∙◌, subst, All}
 use Rattle.std.specs.List.{list_any, AllZip}
 use Rattle.std.proofs.Math.Bool.{or-false}
 use Rattle.std.proofs.lemmas.List.{map-append}
@@ -8,7 +8,7 @@ use Rattle.std.proofs.lemmas.List.Elements.{All-append, All-filter}
 use Rattle.lexical_flags.specs.Layout as layout
 use Rattle.lexical_flags.specs.Layout.{Flag}
 use Rattle.lexical_flags.specs.Record.{Record, HasBytes}
-use Rattle.lexical_builder.specs.Writes.{Write, write_flag, write_byte, IsLegal, new_record, after, changes}
+use Rattle.lexical_builder.specs.Writes.{Write, IsLegal, new_record, after, changes}
 use Rattle.lexical_util.proofs.Lower.{byte_of_option_back, after-append}
 use Rattle.lexical_util.proofs.FieldWrites.{legal-field_writes, after-own, after-changes}
 use Rattle.lexical_util.specs.Edits.{flags_of, writes_of, all_writes}
@@ -19,10 +19,7 @@ use Rattle.lexical_util.specs.declared.edits.setters.Edit.{Edit}
 
 -- The edit of a write has only this write.
 writes_of-edit : (x : Write) → writes_of (edit_of_write x) ≡ x ∷ []
-writes_of-edit (write_flag layout.required_integer_digits value) = refl
-writes_of-edit (write_flag _ value) = refl
-writes_of-edit (write_byte layout.mantissa_radix value) = refl
-writes_of-edit (write_byte b value) = ap (λ n. write_byte b n ∷ []) (byte_of_option_back value)
+writes_of-edit x = search (rules, byte_of_option_back)
 
 all_writes-edits : (writes : List Write) → all_writes (map edit_of_write writes) ≡ writes
 all_writes-edits [] = refl
@@ -76,9 +73,7 @@ setter_alone layout.required_integer_digits = refl
 setter_alone _ = refl
 
 edit_of_write-is : (x : Write) → IsEditOf x (edit_of_write x)
-edit_of_write-is (write_flag f value) = (setter_alone f, refl)
-edit_of_write-is (write_byte layout.digit_separator value) = refl
-edit_of_write-is (write_byte _ value) = refl
+edit_of_write-is x = search (rules, setter_alone)
 
 edits_of_writes : (writes : List Write) → AllZip IsEditOf writes (map edit_of_write writes)
 edits_of_writes [] = tt

@@ -1,5 +1,5 @@
 -- Lemmas on normal forms: the words that are their own normal form, what a normal form keeps, and when two are equal.
-use Rattle.std.proofs.Common.{◌≡◌, ℕ, ◌<◌, ◌^◌, Bool, cond, IsTrue, arith, refl, sym, ap, ◌∙◌, subst, List, [], sum_by, if◌then◌else◌}
+use Rattle.std.proofs.Common.{rules, ◌≡◌, ℕ, ◌<◌, ◌^◌, Bool, cond, IsTrue, arith, refl, sym, ap, ◌∙◌, subst, List, [], sum_by, if◌then◌else◌}
 use Rattle.std.specs.List.{list_any}
 use Rattle.std.proofs.lemmas.Bool.{cond-true}
 use Rattle.std.proofs.lemmas.Bool.Decides.{nat_tests}
@@ -83,15 +83,7 @@ full own radix h = grind (arith, nat_tests)
 
 -- A record is equivalent to itself after it is filled and trimmed.
 pub SameFormat-normal : (R : Record) → SameFormat R (trim (fill R))
-SameFormat-normal R = record {
-  flags = λ f. refl;
-  base_prefix = refl;
-  base_suffix = refl;
-  mantissa_radix = refl;
-  exponent_base = effective_again (R.byte layout.exponent_base) (R.byte layout.mantissa_radix);
-  exponent_radix = effective_again (R.byte layout.exponent_radix) (R.byte layout.mantissa_radix);
-  digit_separator = λ t. sym (cond-true (separator_allowed R) (R.byte layout.digit_separator) 0 t);
-}
+SameFormat-normal R = search (rules, effective_again, cond-true)
 
 module _ (w : ℕ) where
   pub clean_normal : IsClean (normal_form_of w)

@@ -1,5 +1,5 @@
 -- Lemmas on reading a numeral digit by digit.
-use Rattle.std.proofs.Common.{◌≡◌, ℕ, ◌+◌, ◌*◌, ◌^◌, ◌<◌, ◌≤◌, true, IsTrue, List, length, map, take, get_or, nat_lt, sym, ap, ◌∙◌, arith, Some}
+use Rattle.std.proofs.Common.{rules, ◌≡◌, ℕ, ◌+◌, ◌*◌, ◌^◌, ◌<◌, ◌≤◌, true, IsTrue, List, length, map, take, get_or, nat_lt, sym, ap, ◌∙◌, arith, Some}
 use Rattle.std.specs.Int.Digits.{number_from_digits}
 use Rattle.std.specs.List.{AllPass}
 use Rattle.std.proofs.Math.Nat.{pow-le-pow_left, pow-le-pow_right}
@@ -20,11 +20,7 @@ pub record NumeralParts (radix most : ℕ) (digits : List ℕ) : Type 0 where
   pub all_digits : AllPass (is_digit_of_radix radix) digits
 
 pub numeral_parts : (radix most : ℕ) (digits : List ℕ) → IsTrue (is_numeral radix most digits) → NumeralParts radix most digits
-numeral_parts radix most digits test = record {
-  some = grind (arith, nat_tests);
-  few = grind (arith, nat_tests);
-  all_digits = AllPass-from_list_all (is_digit_of_radix radix) digits (grind (arith, nat_tests));
-}
+numeral_parts radix most digits test = search (rules, AllPass-from_list_all)
 
 pub numeral_from : (radix most : ℕ) (digits : List ℕ) → NumeralParts radix most digits → IsTrue (is_numeral radix most digits)
 numeral_from radix most digits parts =
@@ -62,11 +58,7 @@ HasRead-next radix digits count number digit before inside read =
 -- If all digits are read, then the bytes are a numeral, and the number is its value.
 pub HasRead-whole : (radix most : ℕ) (digits : List ℕ) (count number : ℕ) → HasRead radix digits count number
     → length digits ≤ count → 1 ≤ length digits → length digits ≤ most → IsTrue (is_numeral radix most digits) × (number ≡ numeral radix digits)
-HasRead-whole radix most digits count number read done some few =
-    let all : take count digits ≡ digits = take_all count digits done in (
-      numeral_from radix most digits (record { some = some; few = few; all_digits = rw all at read.all_digits }),
-      read.sum ∙ ap (numeral radix) all,
-    )
+HasRead-whole radix most digits count number read done some few = search (rules, take_all, numeral_from)
 
 -- `reading` are the lemmas that the loop of `read_numeral` needs.
 pub ruleset reading = (HasRead-fits, HasRead-next)

@@ -1,6 +1,6 @@
 -- Lemmas that the reasons of a word explain which rules it breaks, and that options have a reason if they do not fit.
-use Rattle.std.proofs.Common.{ℕ, ◌≡◌, ◌↔◌, ◌==◌, ◌&&◌, ◌⊎◌, inl, inr, Bool, true, false, IsFalse}
-use Rattle.std.proofs.Common.{option_map, Option, None, Some, List, [], ◌∷◌, ◌++◌, map, flat_map, refl, ap, sym, subst, ◌∙◌, arith}
+use Rattle.std.proofs.Common.{ℕ, ◌≡◌, ◌↔◌, ◌==◌, ◌&&◌, ◌⊎◌, inl, inr, Bool, IsFalse, option_map, Option, None, Some, List, [], ◌∷◌, ◌++◌, map, flat_map, refl}
+use Rattle.std.proofs.Common.{ap, sym, subst, ◌∙◌, arith}
 use Rattle.std.proofs.Math.Bool.{or-false}
 use Rattle.std.specs.Prelude.{IfSome}
 use Rattle.std.specs.Bool.{then_some}
@@ -11,8 +11,8 @@ use Rattle.std.proofs.lemmas.Option.{same_Some, none-some}
 use Rattle.lexical_flags.specs.Layout as layout
 use Rattle.lexical_flags.specs.Record.{Record, raw, effective}
 use Rattle.lexical_flags.specs.Roles.{cased, Disjoint, AreDisjoint, format_roles, exponent, point}
-use Rattle.lexical_flags.specs.Rules.{IsRadix, IsPunctuation, Holds, Lawful, rules_in_order, Shape, shape_of, Meets}
-use Rattle.lexical_flags.specs.Rules.{radix_in_range, absent_or_punctuation, roles_differ, not_both, position_allowed, reserved_zero}
+use Rattle.lexical_flags.specs.Rules.{IsRadix, IsPunctuation, Holds, Lawful, rules_in_order, Shape, shape_of, Meets, radix_in_range, absent_or_punctuation}
+use Rattle.lexical_flags.specs.Rules.{roles_differ, not_both, position_allowed, reserved_zero}
 use Rattle.lexical_flags.specs.Options.{OptionsFit}
 use Rattle.lexical_flags.specs.declared.format_flags.rule.Rule.{Rule}
 use Rattle.lexical_flags.specs.declared.format_flags.rule.Rule.TheVariants as rules
@@ -73,10 +73,7 @@ abbrev punctuation_in : Record → List NamedByte
 punctuation_in r = map (byte_in r) (layout.digit_separator ∷ layout.base_prefix ∷ layout.base_suffix ∷ [])
 
 roles_are : (r : Record) → map (role r) (punctuation_in r) ≡ format_roles r
-roles_are r = λ i.
-    cased true (r.byte layout.digit_separator)
-    ∷ cased (set_is r layout.case_sensitive_base_prefix i) (r.byte layout.base_prefix)
-    ∷ cased (set_is r layout.case_sensitive_base_suffix i) (r.byte layout.base_suffix) ∷ []
+roles_are r = grind (arith, nat_tests, set_is)
 
 -- A byte clashes with none of some bytes if and only if its role is disjoint from theirs.
 clashes : (r : Record) (a : NamedByte) (bs : List NamedByte) → AllByRecursion (Disjoint (role r a)) (map (role r) bs) ↔ NoCause (map (clash r a) bs)
@@ -152,10 +149,7 @@ effective_radix n m follows own = grind (arith, nat_tests)
 -- If a word satisfies a rule, then it is as the shape of the rule demands, or the byte of the rule is absent.
 own_demand : (rule : Rule) (word : ℕ) → Holds rule word → Own (shape_of rule) word
 unfolding Holds
-own_demand rules.MantissaRadixInRange word h = subst IsRadix (effective_self _) h
-own_demand rules.ExponentBaseInRange word h = used_radix _ _ h
-own_demand rules.ExponentRadixInRange word h = used_radix _ _ h
-own_demand rule word h = h
+own_demand rule word h = grind (arith, nat_tests, effective_self, used_radix)
 
 -- REASONS
 
@@ -166,20 +160,7 @@ Explains r rule q = (Some rule ≡ Some q) ⊎ (((followers r (Some rule)).0 ≡
 -- If a rule is explained by another one and holds, then the own demand of the other one holds.
 explained : (word : ℕ) (rule q : Rule) → Explains (raw word) rule q → Holds q word → Own (shape_of rule) word
 unfolding Holds
-explained word rule q (inl same) holds = own_demand rule word (subst (λ q. Holds q word) (sym (same_Some rule q same)) holds)
-explained word rules.MantissaRadixInRange q (inr follows) holds = elim follows [
-  | inl same ↦ followed _ rules.ExponentBaseInRange (λ h. h) same
-  | inr same ↦ followed _ rules.ExponentRadixInRange (λ h. h) same
-] where
-  mantissa : ℕ
-  mantissa = (raw word).byte layout.mantissa_radix
-
-  followed : (n : ℕ) (own : Rule) → (Holds own word → IsRadix (effective n mantissa)) → then_some (n == 0) own ≡ Some q → IsRadix mantissa
-  followed n own step = test _ refl where
-    test : (t : Bool) → (n == 0) ≡ t → then_some t own ≡ Some q → IsRadix mantissa
-    test true zero same = subst (λ k. IsRadix (effective k mantissa)) (eqb-true n 0 zero) (step (subst (λ q. Holds q word) (sym (same_Some own q same)) holds))
-    test false zero same = absurd (none-some q same)
-explained word rule q (inr follows) holds = elim follows [ inl is ↦ cc | inr is ↦ cc ]
+explained word rule q given holds = grind (arith, nat_tests, same_Some, eqb-true, none-some)
 
 -- `reasons_for r rule list` has the reasons for the causes in `list`, and `slots word rule` those of a rule. The slots of
 -- all rules, in their order, are equal to `reasons_of word` by computation.

@@ -1,7 +1,7 @@
 -- Lemmas on the loop of `word_text`, and on the only text with a given form and value.
-use Rattle.std.proofs.Common.{◌≡◌, ℕ, zero, suc, ◌+◌, ◌-◌, ◌*◌, ◌/◌, ◌%◌, ◌^◌, ◌<◌, ◌==◌, ◌&&◌, Bool, true, not, IsTrue, bytes_eq, List, [], ◌∷◌, ◌++◌, map}
-use Rattle.std.proofs.Common.{take, drop, length, codes, replicate, slice_index_or, refl, sym, ap, ◌∙◌, subst, arith, cond, inl, inr, nat_lt, unwrap_or, Some}
-use Rattle.std.proofs.Common.{None}
+use Rattle.std.proofs.Common.{rules, ◌≡◌, ℕ, zero, suc, ◌+◌, ◌-◌, ◌*◌, ◌/◌, ◌%◌, ◌^◌, ◌<◌, ◌==◌, ◌&&◌, Bool, true, not, IsTrue, bytes_eq, List, [], ◌∷◌, ◌++◌}
+use Rattle.std.proofs.Common.{map, take, drop, length, codes, replicate, slice_index_or, refl, sym, ap, ◌∙◌, subst, arith, cond, inl, inr, nat_lt, unwrap_or}
+use Rattle.std.proofs.Common.{Some, None}
 use Rattle.std.specs.Int.Digits.{number_from_digits_after}
 use Rattle.std.specs.List.{All, position_or_len}
 use Rattle.std.proofs.Math.ListN.{set}
@@ -111,18 +111,7 @@ last_digits-numeral (suc count) number =
 
 -- The printed text of a word has the printed form.
 pub IsPrintedForm-printed : (word : ℕ) → IsPrintedForm (printed word)
-IsPrintedForm-printed word =
-    let full : length (last_digits 32 word) ≡ 32 = last_digits-length 32 word in
-    let all = last_digits-uppercase 32 word in
-    record {
-      word = numeral_from 16 32 (last_digits 32 word) (record {
-        some = omega (arith, full);
-        few = omega (arith, full);
-        all_digits = All-weaker IsUppercase (λ byte. is_digit_of_radix 16 byte ≡ true) is_digit_of_radix-uppercase _ all;
-      });
-      full = full;
-      uppercase = list_all-from_AllPass _ (last_digits 32 word) (All-weaker IsUppercase (λ byte. not (is_lowercase byte) ≡ true) not_lowercase _ all);
-    }
+IsPrintedForm-printed word = search (rules, last_digits-length, last_digits-uppercase, numeral_from, All-weaker, is_digit_of_radix-uppercase, list_all-from_AllPass, not_lowercase)
 
 -- The printed text of a word has the word as its value.
 pub hex-printed : (word : ℕ) → word < 2 ^ 128 → hex (printed word) ≡ word
@@ -152,15 +141,8 @@ form_prefix : (text : List ℕ) → IsPrintedForm text → take 2 text ≡ codes
 form_prefix text form = (bytes_eq-Decides (take 2 text) (codes "0x")).0 (and_parts (bytes_eq (take 2 text) (codes "0x")) _ form.word).0
 
 form_digits : (text : List ℕ) → IsPrintedForm text → All IsUppercase (hex_digits text)
-form_digits text form k d inside =
-    let numeral = (and_parts (bytes_eq (take 2 text) (codes "0x")) _ form.word).1 in
-    let digits = (numeral_parts 16 32 (hex_digits text) numeral).all_digits in
-    let uppercase = AllPass-from_list_all (λ byte. not (is_lowercase byte)) (hex_digits text) form.uppercase in
-    and_from _ _ (digits k d inside) (uppercase k d inside)
+form_digits text form k d inside = search (rules, and_parts, bytes_eq, numeral_parts, AllPass-from_list_all, and_from)
 
 -- If two texts of the printed form have the same value, then they are equal.
 pub IsPrintedForm-unique : (s t : List ℕ) → IsPrintedForm s → IsPrintedForm t → hex s ≡ hex t → s ≡ t
-IsPrintedForm-unique s t form form' same =
-    let digits = numeral-injective (hex_digits s) (hex_digits t) 0 0 (form.full ∙ sym form'.full) (form_digits s form) (form_digits t form') same in
-    let prefix : take 2 s ≡ take 2 t = form_prefix s form ∙ sym (form_prefix t form') in
-    sym (take-append-drop 2 s) ∙ (λ i. prefix i ++ digits.1 i) ∙ take-append-drop 2 t
+IsPrintedForm-unique s t form form' same = search (rules, numeral-injective, form_digits, form_prefix, take-append-drop)

@@ -1,11 +1,12 @@
 -- The fraction that a literal is, by its parts, and floats that are no NaN.
-use Rattle.lexical_value.proofs.Common.{Bool, Leads, Literal, Record, ap, cond, denominator, effective_exponent_base, effective_exponent_radix, false}
-use Rattle.lexical_value.proofs.Common.{is_decimal, is_minus, mantissa, not, number, numerator, places, raised_down, raised_up, refl, round, subst, suc, sym}
-use Rattle.lexical_value.proofs.Common.{true, zero, ℕ, ◌*◌, ◌+◌, ◌==◌, ◌^◌, ◌∙◌, ◌≡◌}
+use Rattle.std.proofs.Common.{rules}
+use Rattle.lexical_value.proofs.Common.{Bool, Leads, Literal, Record, ap, denominator, effective_exponent_base, effective_exponent_radix, false, is_decimal}
+use Rattle.lexical_value.proofs.Common.{is_minus, mantissa, not, number, numerator, places, raised_down, raised_up, refl, round, subst, suc, sym, true, zero, ℕ}
+use Rattle.lexical_value.proofs.Common.{◌*◌, ◌+◌, ◌==◌, ◌^◌, ◌∙◌, ◌≡◌}
 use lib.Ieee.{Float, Format, emax, inf, is_nan, low, odd, prec, units}
 use lib.Ieee.Fits.{round_is}
 use Rattle.std.proofs.lemmas.Bool.{and_parts, eqb-true}
-use Rattle.core.specs.Prelude.{T, ltb}
+use Rattle.core.specs.Prelude.{T}
 use Rattle.std.specs.Float.{NotNan}
 use Rattle.lexical_util.specs.Layout as layout
 
@@ -13,10 +14,7 @@ use Rattle.lexical_util.specs.Layout as layout
 pub of_value : (P : ℕ → ℕ → Type 0) (r : Record) (l : Literal) (n m b e k : ℕ) (s : Bool) → n ≡ mantissa r.byte l → m ≡ r.byte layout.mantissa_radix
     → b ≡ effective_exponent_base r → e ≡ number (effective_exponent_radix r) l.exponent → k ≡ places (r.byte layout.mantissa_radix) l.fraction
     → s ≡ is_minus l.exponent_sign → P (n * raised_up s b e) (m ^ k * raised_down s b e) → P (numerator r.byte l) (denominator r.byte l)
-of_value P r l n m b e k s N M B E K S is =
-    let up : n * raised_up s b e ≡ numerator r.byte l = λ i. N i * raised_up (S i) (B i) (E i) in
-    let down : m ^ k * raised_down s b e ≡ denominator r.byte l = λ i. M i ^ K i * raised_down (S i) (B i) (E i) in
-    subst (λ d. P (numerator r.byte l) d) down (subst (λ n. P n (m ^ k * raised_down s b e)) up is)
+of_value P r l n m b e k s N M B E K S is = search (rules, raised_up, numerator, raised_down, denominator)
 
 -- A rounded fraction is no NaN.
 odd_number : (d : ℕ) (s : Bool) (q k l : ℕ) → is_nan (odd d s q k l) ≡ false
@@ -26,11 +24,7 @@ odd_number d s (suc q) k l = refl
 
 units_number : (f : Format) (s : Bool) (q k : ℕ) → is_nan (units f s q k) ≡ false
 unfolding is_nan units
-units_number f s q k = go (ltb (q * 2 ^ k) (2 ^ (low f + suc (emax f))))
-  where
-    go : (b : Bool) → is_nan (cond b (odd (suc (prec f)) s q k (low f)) (inf s)) ≡ false
-    go true = odd_number (suc (prec f)) s q k (low f)
-    go false = refl
+units_number f s q k = search (rules, low, emax, is_nan, odd, prec, inf, odd_number)
 
 round_number : (f : Format) (s : Bool) (num den : ℕ) → is_nan (round f s num den) ≡ false
 round_number f s num den = ap is_nan (round_is f s num den) ∙ units_number f s _ _

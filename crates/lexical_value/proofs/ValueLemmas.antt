@@ -1,8 +1,8 @@
 -- On what the value of a literal does not depend.
+use Rattle.std.proofs.Common.{rules, IsFalse, IsTrue, List, None, [], append-nil, nat_lt, ◌∷◌}
 use Rattle.lexical_value.proofs.Common.{Literal, Reads, Record, SameDigits, SameValue, Some, ap, arith, cond, denominator, digits_in, effective_exponent_base}
 use Rattle.lexical_value.proofs.Common.{effective_exponent_radix, if◌then◌else◌, integer_size, is_float, mantissa, nat_tests, number, numerator, position}
 use Rattle.lexical_value.proofs.Common.{pow-zero, power, refl, scale, spelled, sym, unwrap_or, ℕ, ◌*◌, ◌++◌, ◌<◌, ◌==◌, ◌^◌, ◌∙◌, ◌≡◌}
-use Rattle.std.proofs.Common.{IsFalse, IsTrue, List, None, [], append-nil, length, nat_lt, ◌∷◌}
 use Rattle.std.proofs.lemmas.List.Elements.{filter_map-append}
 use Rattle.std.specs.Int.Digits.{number_from_digits}
 use Rattle.lexical_util.specs.Digits.{byte_value, digit_characters, digit_of, uppercase}
@@ -12,11 +12,7 @@ use Rattle.lexical_util.specs.Layout as layout
 
 -- The value depends on the mantissa radix, and on the effective exponent base and radix.
 pub same_word : (r s : Record) (l : Literal) → SameFormat r s → SameValue r.byte l s.byte l
-same_word r s l same = record {
-  sign = refl;
-  numerator = grind (arith, same.mantissa_radix, same.exponent_base, same.exponent_radix);
-  denominator = grind (arith, same.mantissa_radix, same.exponent_base, same.exponent_radix);
-}
+same_word r s l same = search (rules, numerator, denominator)
 
 -- A byte in uppercase is in uppercase.
 twice : (byte : ℕ) → uppercase (uppercase byte) ≡ uppercase byte
@@ -59,11 +55,7 @@ module _ (r : Record) (m : Notation) (l k : Literal) (same : SameDigits m l k)
       (same_digits m (effective_exponent_radix r) exponent_apart l.exponent k.exponent same.exponent)
 
   pub same_value : SameValue r.byte l r.byte k
-  same_value = record {
-    sign = same.sign;
-    numerator = λ i. same_mantissa i * (if same.exponent_sign i then 1 else same_power i);
-    denominator = λ i. radix ^ length (same_fraction i) * (if same.exponent_sign i then same_power i else 1);
-  }
+  same_value = search (rules, numerator, same_mantissa, same_power, denominator, same_fraction)
 
 -- Without an exponent, its power is 1.
 no_power : (r : Record) (l : Literal) → l.exponent ≡ [] → power r.byte l ≡ 1
@@ -76,17 +68,10 @@ integer_mantissa r l none = ap (number (r.byte layout.mantissa_radix)) (ap (λ b
 
 -- Without fraction and exponent, the numerator is the number that the integer digits represent, and the denominator is 1.
 pub whole_numerator : (r : Record) (l : Literal) → l.fraction ≡ [] → l.exponent ≡ [] → numerator r.byte l ≡ integer_size r.byte l
-whole_numerator r l fraction exponent =
-    let same = integer_mantissa r l fraction in
-    let one = no_power r l exponent in
-    grind (arith, same, one)
+whole_numerator r l fraction exponent = search (rules, integer_mantissa, no_power)
 
 pub whole_denominator : (r : Record) (l : Literal) → l.fraction ≡ [] → l.exponent ≡ [] → denominator r.byte l ≡ 1
-whole_denominator r l fraction exponent =
-    let radix = r.byte layout.mantissa_radix in
-    let unit : scale r.byte l ≡ 1 = ap (λ bytes. radix ^ length (digits_in radix bytes)) fraction ∙ pow-zero radix in
-    let one = no_power r l exponent in
-    grind (arith, unit, one)
+whole_denominator r l fraction exponent = search (rules, scale, digits_in, pow-zero, no_power)
 
 -- Without a decimal point, there is no fraction.
 pub no_fraction : (m : Notation) (l : Literal) (text : List ℕ) → Reads m l text → IsFalse (is_float l) → l.fraction ≡ []

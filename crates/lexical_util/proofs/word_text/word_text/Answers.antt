@@ -1,5 +1,5 @@
 -- After 32 digits, the text is the printed text. The other clauses are lemmas on printed texts.
-use Rattle.std.proofs.Common.{◌≡◌, ◌%◌, Ok, Err, cond, ◌∙◌, sym, ap, subst, arith}
+use Rattle.std.proofs.Common.{rules, ◌%◌, Ok, Err, cond, ◌∙◌, sym, ap, subst}
 use Rattle.lexical_base.specs.Digits.{digit_characters}
 use Rattle.lexical_util.specs.Additions.WordText.{IsPrintedForm, hex, word_error}
 use Rattle.std.proofs.lemmas.Option.{get_or_from_slice_get}
@@ -15,9 +15,7 @@ loop-count-preserved c = HasWritten-next _ _ _ _ _ c.loop-count.invariant c.loop
     c.digit_to_char.ensures.character))
 
 pub returns-clause-text : goal.returns-clause-text
-returns-clause-text c =
-    let done : c.loop-count.count ≡ 32 = omega arith in
-    printed-written c.args.word c.loop-count.rest c.loop-count.text (rw done at c.loop-count.invariant)
+returns-clause-text c = search (rules, printed-written)
 
 pub returns-clause-form : goal.returns-clause-form
 returns-clause-form c = subst IsPrintedForm (sym (returns-clause-text c)) (IsPrintedForm-printed c.args.word)

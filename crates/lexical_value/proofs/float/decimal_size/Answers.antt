@@ -1,15 +1,11 @@
 -- The numbers, or the digits and the exponent, make the value.
+use Rattle.std.proofs.Common.{rules}
 use Rattle.lexical_value.proofs.Common.{exponent, false, format_of, number, places, raw, refl, round, ◌++◌, ◌≡◌}
 use Rattle.lexical_value.proofs.FloatLemmas.{decimals, of_value}
 use Rattle.lexical_value.proofs.float.decimal_size.Goals as goal
 
 pub returns-in-Some-Some : goal.returns-in-Some-Some
-returns-in-Some-Some g c =
-    let r = raw c.args.literal.now.format in
-    let ten = decimals r c.requires in
-    of_value (λ num den. g.F.Float.value c.digits_to_float.result ≡ round (format_of g.F.Float.DOUBLE) false num den) r c.args.literal.now.literal
-    _ 10 10 _ _ _ c.in-Some-Some.ensures.value ten.0 ten.1 c.in-Some-Some.ensures'.value c.places.ensures
-    c.has_negative_exponent-negative.ensures c.digits_to_float.ensures
+returns-in-Some-Some g c = search (rules, decimals, of_value, round, format_of)
 
 pub returns : goal.returns
 returns g c =

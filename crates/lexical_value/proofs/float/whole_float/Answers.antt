@@ -1,5 +1,5 @@
 -- A rounded integer is no NaN, and one that is worth itself is worth the nearest float.
-use Rattle.lexical_value.proofs.Common.{Err, IfOk, Kind, Ok, Result, Some, ap, format_of, is_binary, is_decimal, raw, sym, worth, ◌||◌, ◌∙◌}
+use Rattle.lexical_value.proofs.Common.{Kind, Some, ap, format_of, is_binary, is_decimal, raw, sym, worth, ◌||◌, ◌∙◌}
 use Rattle.std.proofs.lemmas.Result.{IfOk-weaker}
 use Rattle.lexical_value.specs.Private.{is_word}
 use Rattle.lexical_value.proofs.KindLemmas.{kept_float}

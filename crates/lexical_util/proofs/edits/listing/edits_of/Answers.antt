@@ -1,6 +1,6 @@
+use Rattle.std.proofs.Common.{◌≡◌, ℕ, ◌+◌, ◌-◌, ◌≤◌, List, ◌++◌, length, take, drop, filter, not, ◌∙◌, sym, ap, arith, subst, refl, All, append-nil}
+use Rattle.std.proofs.Common.{length-drop, length-take}
 use borrow.Rule.Slice.PartMut.{put_mid}
-use Rattle.std.proofs.Common.{◌≡◌, ℕ, ◌+◌, ◌-◌, ◌≤◌, List, ◌++◌, length, take, drop, filter, not, ◌∙◌, sym, ap, arith}
-use Rattle.std.proofs.Common.{subst, refl, All, append-nil, length-drop, length-take}
 use Rattle.std.specs.List.{AllZip}
 use Rattle.std.proofs.Math.Seq.{take-append_seam}
 use Rattle.std.proofs.lemmas.List.{drop_all, length-map}
