@@ -1,7 +1,7 @@
 -- Lemmas on the record after writes. Two lists of writes one after another have the effect of one joined list.
+use Rattle.lexical_builder.proofs.Common.{subst, ◌≡◌, ℕ, ◌<◌, ◌==◌, [], ◌∷◌, refl, sym, ap, ◌∙◌, arith, nat_tests, Bool, true, false, if◌then◌else◌, Flag, Byte}
+use Rattle.lexical_builder.proofs.Common.{part, bit, flags, Record, HasBytes, record_same, flags_with, write_flags}
 use Rattle.std.proofs.Common.{rules, List, ◌++◌, Option, Some, None, unwrap_or, filter_map, All, ◌⊎◌, ◌&&◌, ◌||◌, filter}
-use Rattle.lexical_builder.proofs.Common.{◌≡◌, ℕ, ◌<◌, ◌==◌, [], ◌∷◌, refl, sym, ap, ◌∙◌, arith, nat_tests, Bool, true, false, if◌then◌else◌, Flag, Byte, part}
-use Rattle.lexical_builder.proofs.Common.{bit, flags, Record, HasBytes, record_same, flags_with, write_flags}
 use Rattle.std.proofs.lemmas.List.Elements.{All-head, All-tail}
 use Rattle.std.proofs.Math.Bool.{or-false}
 use Rattle.std.specs.List.{last_or, cons_option, list_any}
@@ -104,7 +104,8 @@ byte_written-fits x b d legal fits = grind (arith, nat_tests)
 
 left_by-fits : (writes : List Write) (b : Byte) (d : ℕ) → All IsLegal writes → d < 256 → left_by (λ x. byte_written x b) writes d < 256
 left_by-fits [] b d legal fits = fits
-left_by-fits (x ∷ writes) b d legal fits = search (rules, left_by-fits writes b (unwrap_or (byte_written x b) d) (All-tail IsLegal x writes legal) (byte_written-fits x b d (All-head IsLegal x writes legal) fits), left_by-cons, unwrap_or, All-tail, byte_written-fits, All-head)
+left_by-fits (x ∷ writes) b d legal fits = subst (λ n. n < 256) (sym (left_by-cons (λ y. byte_written y b) x writes d))
+    (left_by-fits writes b (unwrap_or (byte_written x b) d) (All-tail IsLegal x writes legal) (byte_written-fits x b d (All-head IsLegal x writes legal) fits))
 
 -- If a record has bytes, then it has bytes after legal writes.
 pub HasBytes-after : (r : Record) (writes : List Write) → HasBytes r → All IsLegal writes → HasBytes (after r writes)

@@ -13,7 +13,8 @@ use Rattle.lexical_flags.proofs.DisjointLemmas.{Disjoint-at, Disjoint-from}
 -- The other case of a letter is the letter with the bit 0x20 flipped.
 pub flipped : (byte : ℕ) → byte < 256 → IsTrue (letters byte) → bit_xor byte 32 ≡ other_case byte
 flipped byte below is_letter =
-    eqb-true _ _ (subst (λ t. (not t || (bit_xor byte 32 == other_case byte)) ≡ true) is_letter (agree_below_at (λ b. not (letters b) || (bit_xor b 32 == other_case b)) (λ _. true) 256 byte refl below))
+    eqb-true _ _ (subst (λ t. (not t || (bit_xor byte 32 == other_case byte)) ≡ true) is_letter
+    (agree_below_at (λ b. not (letters b) || (bit_xor b 32 == other_case b)) (λ _. true) 256 byte refl below))
 
 -- A byte that plays the role of `own` is `own` or its other case, and `own` is not absent.
 pub cased-cases : (counts : Bool) (own byte : ℕ) → IsTrue (cased counts own byte) → (own ≢ 0) × ((byte ≡ own) ⊎ (byte ≡ other_case own))
@@ -70,7 +71,8 @@ own_roles_apart r {a} {b} {c} {ab} {ac} {bc} a_is b_is c_is a_fits b_fits ab_tol
     let first = or_parts ab ac front.0 in
     let a_c = far_apart true a suffix c (omega arith) ac_told first.1 in
     let b_c = far_apart prefix b suffix c (omega arith) bc_told front.1 in
-    subst (λ X. X) (λ i. AreDisjoint (cased true (a_is i) ∷ cased prefix (b_is i) ∷ cased suffix (c_is i) ∷ [])) (((far_apart true a prefix b (omega arith) ab_told first.0), (a_c, tt)), ((b_c, tt), (tt, tt)))
+    subst (λ X. X) (λ i. AreDisjoint (cased true (a_is i) ∷ cased prefix (b_is i) ∷ cased suffix (c_is i) ∷ []))
+    (((far_apart true a prefix b (omega arith) ab_told first.0), (a_c, tt)), ((b_c, tt), (tt, tt)))
 
 -- Two different bytes have disjoint roles if both roles are case-sensitive.
 both_count : (a b : ℕ) → a ≢ b → Disjoint (cased true a) (cased true b)

@@ -25,7 +25,8 @@ and_block_more w a k n l =
     let split : (w / 2 ^ k) * 2 ^ k + w % 2 ^ k ≡ w = shr_split w k in
     let low : bit_and (w % 2 ^ k) a ≡ bit_and w a = ap (λ x. bit_and (w % 2 ^ k) x) (sym (mod-eq_of_lt l)) ∙ sym (and_mod w a k)
     ∙ mod-eq_of_lt (lt_of_le_of_lt (and_le_r w a) l) in
-    ap (λ x. bit_and x ((2 ^ n - 1) * 2 ^ k + a)) (sym split) ∙ (and_block k (w / 2 ^ k) (2 ^ n - 1) (w % 2 ^ k) a (mod-lt w (pow_pos k)) l) ∙ (λ i. and_mask (w / 2 ^ k) n i * 2 ^ k + low i) ∙ omega arith
+    ap (λ x. bit_and x ((2 ^ n - 1) * 2 ^ k + a)) (sym split)
+    ∙ (and_block k (w / 2 ^ k) (2 ^ n - 1) (w % 2 ^ k) a (mod-lt w (pow_pos k)) l) ∙ (λ i. and_mask (w / 2 ^ k) n i * 2 ^ k + low i) ∙ omega arith
 
 -- If a mask has one more bit, then `&` with it has one more bit of the word.
 and_more : (w a k : ℕ) → a < 2 ^ k → bit_and w (a + 2 ^ k) ≡ bit_and w a + part w k 1 * 2 ^ k

@@ -97,7 +97,14 @@ some_from_lawful word lawful =
     let p : ℕ = free_from 37 (r.byte layout.digit_separator) (r.byte layout.base_prefix) (r.byte layout.base_suffix) in
     let e_free = free_from-is 33 (r.byte layout.digit_separator) (r.byte layout.base_prefix) (r.byte layout.base_suffix) in
     let p_free = free_from-is 37 (r.byte layout.digit_separator) (r.byte layout.base_prefix) (r.byte layout.base_suffix) in
-    record { exponent_byte = e; point_byte = p; one_role = roles_from_accepted word e p lawful (record { exponent_is_punctuation = IsPunctuation-mark r e e_free.0 (omega arith); point_is_punctuation = IsPunctuation-mark r p (omega arith) p_free.1; apart = Disjoint-mark e (r.flag layout.case_sensitive_exponent) p true e_free.0 (omega arith) (omega arith); exponent_is_new = is_new r e (r.flag layout.case_sensitive_exponent) e_free.0 (omega arith) e_free.2 e_free.3 e_free.4; point_is_new = is_new r p true (omega arith) p_free.1 p_free.2 p_free.3 p_free.4 }) }
+    let accepted : OptionsFit word e p = record {
+      exponent_is_punctuation = IsPunctuation-mark r e e_free.0 (omega arith);
+      point_is_punctuation = IsPunctuation-mark r p (omega arith) p_free.1;
+      apart = Disjoint-mark e (r.flag layout.case_sensitive_exponent) p true e_free.0 (omega arith) (omega arith);
+      exponent_is_new = is_new r e (r.flag layout.case_sensitive_exponent) e_free.0 (omega arith) e_free.2 e_free.3 e_free.4;
+      point_is_new = is_new r p true (omega arith) p_free.1 p_free.2 p_free.3 p_free.4;
+    } in
+    record { exponent_byte = e; point_byte = p; one_role = roles_from_accepted word e p lawful accepted }
 
 -- An exponent character and a decimal point have at most one error.
 pub one_options_error : (word e p : ℕ) (a b : Error) → IsOptionsError word e p a → IsOptionsError word e p b → a ≡ b

@@ -114,14 +114,18 @@ module _ (f : Format) (num den word up down : ℕ) {more : Bool} (D : 0 < den) (
   pub far_above : 0 < word → down + 2000 < up → IsNearestBits f num den (ones f * hid f)
   far_above W far =
       let ten : 10 ^ 309 ≤ 2 ^ 1027 = lit≤ tt in
-      let unit : den * (10 ^ 309 * 2 ^ down) ≤ den * 2 ^ up = mul-le-mul_left den (le_trans (mul-le-mul_right (2 ^ down) ten) (le_trans (le_of_eq (sym (pow-add 2 1027 down))) (pow_mono (omega arith)))) in
+      let top : 10 ^ 309 * 2 ^ down ≤ 2 ^ up = le_trans (mul-le-mul_right (2 ^ down) ten)
+      (le_trans (le_of_eq (sym (pow-add 2 1027 down))) (pow_mono (omega arith))) in
+      let unit : den * (10 ^ 309 * 2 ^ down) ≤ den * 2 ^ up = mul-le-mul_left den top in
       let least : 1 * (den * 2 ^ up) ≤ word * (den * 2 ^ up) = mul-le-mul_right (den * 2 ^ up) W in
       nearest_of_huge f num den D (le_of_mul-le-mul_right {k = 2 ^ down} (omega (arith, unit, least, cut.from)) (pow_pos down))
 
   pub far_below : word < 2 ^ 64 → up + 2000 < down → IsNearestBits f num den 0
   far_below W far =
       let ten : 10 ^ 343 ≤ 2 ^ 1140 = lit≤ tt in
-      let number : num * (10 ^ 343 * 2 ^ up) ≤ num * 2 ^ down = mul-le-mul_left num (le_trans (mul-le-mul_right (2 ^ up) ten) (le_trans (le_of_eq (sym (pow-add 2 1140 up))) (pow_mono (omega arith)))) in
+      let top : 10 ^ 343 * 2 ^ up ≤ 2 ^ down = le_trans (mul-le-mul_right (2 ^ up) ten)
+      (le_trans (le_of_eq (sym (pow-add 2 1140 up))) (pow_mono (omega arith))) in
+      let number : num * (10 ^ 343 * 2 ^ up) ≤ num * 2 ^ down = mul-le-mul_left num top in
       let most : (word + 1) * (den * 2 ^ up) ≤ 2 ^ 64 * (den * 2 ^ up) = mul-le-mul_right (den * 2 ^ up) (omega arith) in
       nearest_of_tiny f num den D (le_of_mul-le-mul_right {k = 2 ^ up} (omega (arith, number, most, cut.below)) (pow_pos up))
 

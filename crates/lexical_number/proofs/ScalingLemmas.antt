@@ -27,10 +27,12 @@ pub vanishes : (f : Format) (n x p q : ℕ) → n ≤ 2 ^ x → p ≡ 0 → x + 
 vanishes f n x p q N none far =
     let ten : 10 ^ 343 ≤ 2 ^ 1140 = lit≤ tt in
     let one : n * 2 ^ p ≡ n = ap (λ p. n * 2 ^ p) none ∙ omega arith in
-    nearest_of_tiny f (n * 2 ^ p) (2 ^ q) (pow_pos q) (omega (arith, ap (λ m. m * 10 ^ 343) one, (le_trans (mul-le-mul N ten) (le_trans (le_of_eq (sym (pow-add 2 x 1140))) (pow_mono far)))))
+    let top : n * 10 ^ 343 ≤ 2 ^ q = le_trans (mul-le-mul N ten) (le_trans (le_of_eq (sym (pow-add 2 x 1140))) (pow_mono far)) in
+    nearest_of_tiny f (n * 2 ^ p) (2 ^ q) (pow_pos q) (omega (arith, ap (λ m. m * 10 ^ 343) one, top))
 
 pub explodes : (f : Format) (n p q : ℕ) → 1 ≤ n → 1027 + q ≤ p → IsNearestBits f (n * 2 ^ p) (2 ^ q) (ones f * hid f)
 explodes f n p q N far =
     let ten : 10 ^ 309 ≤ 2 ^ 1027 = lit≤ tt in
+    let top : 10 ^ 309 * 2 ^ q ≤ 2 ^ p = le_trans (mul-le-mul_right (2 ^ q) ten) (le_trans (le_of_eq (sym (pow-add 2 1027 q))) (pow_mono far)) in
     let more : 1 * 2 ^ p ≤ n * 2 ^ p = mul-le-mul_right (2 ^ p) N in
-    nearest_of_huge f (n * 2 ^ p) (2 ^ q) (pow_pos q) (omega (arith, (le_trans (mul-le-mul_right (2 ^ q) ten) (le_trans (le_of_eq (sym (pow-add 2 1027 q))) (pow_mono far))), more))
+    nearest_of_huge f (n * 2 ^ p) (2 ^ q) (pow_pos q) (omega (arith, top, more))

@@ -12,7 +12,9 @@ use Rattle.lexical_number.specs.declared.small.TheConstants.{MOST}
 -- Digits behind a number are those behind each number that is the same modulo `2 ^ 64`.
 pub push_same : (radix s t v : ℕ) → s % 2 ^ 64 ≡ t % 2 ^ 64 → (s * radix + v) % 2 ^ 64 ≡ (t * radix + v) % 2 ^ 64
 push_same radix s t v same =
-    sym (mod-add-mod (s * radix) (2 ^ 64) v) ∙ ap (λ n. (n + v) % 2 ^ 64) (sym (mul-mod_first s radix (2 ^ 64)) ∙ ap (λ n. n * radix % 2 ^ 64) same ∙ mul-mod_first t radix (2 ^ 64)) ∙ mod-add-mod (t * radix) (2 ^ 64) v
+    let product : s * radix % 2 ^ 64 ≡ t * radix % 2 ^ 64 =
+    sym (mul-mod_first s radix (2 ^ 64)) ∙ ap (λ n. n * radix % 2 ^ 64) same ∙ mul-mod_first t radix (2 ^ 64) in
+    sym (mod-add-mod (s * radix) (2 ^ 64) v) ∙ ap (λ n. (n + v) % 2 ^ 64) product ∙ mod-add-mod (t * radix) (2 ^ 64) v
 
 -- A row is the greatest number of digits.
 abbrev most : ℕ → ℕ
@@ -69,7 +71,8 @@ follows radix n (d ∷ ds) = search (rules, follows radix (n * radix + d) ds, po
 
 pub at_least : (radix : ℕ) (ds : List ℕ) → leading_zeros ds < length ds → radix ^ (length ds - leading_zeros ds - 1) ≤ number_from_digits radix ds
 at_least radix [] less = absurd (omega (arith, less))
-at_least radix (zero ∷ ds) less = search (rules, at_least radix ds (omega (arith, less)), left, leading_zeros, no_change, number_from_digits_after, follows, mul-le-mul_right)
+at_least radix (zero ∷ ds) less = subst (λ k. radix ^ (k - 1) ≤ number_from_digits radix (zero ∷ ds)) (sym (left (length ds) (leading_zeros ds)))
+    (subst (λ n. radix ^ (length ds - leading_zeros ds - 1) ≤ n) (sym (no_change radix ds)) (at_least radix ds (omega (arith, less))))
 at_least radix (suc d ∷ ds) less =
     let first : 0 * radix + suc d ≡ suc d = omega arith in
     let all : suc d * radix ^ length ds ≤ number_from_digits radix (suc d ∷ ds) =

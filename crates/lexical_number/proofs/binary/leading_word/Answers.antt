@@ -26,7 +26,9 @@ module _ (c : goal.Start) where
   below more =
       let t = leading_top 128 c.args.digits c.requires.digits (omega arith) in
       let long : 55 < suc t.0 = lt_of_not-le (λ g. let p : 2 ^ suc t.0 ≤ 2 ^ 55 = pow_mono g in omega (arith, c.requires.more more, t.3)) in
-      let parts : (word + 1) * 2 ^ (72 - zeros) * 2 ^ zeros ≡ (word + 1) * 2 ^ 72 = omega (arith, ap (λ u. (word + 1) * u) (sym (pow-add 2 (72 - zeros) zeros) ∙ ap (λ k. 2 ^ k) {x = 72 - zeros + zeros} {y = 72} (omega (arith, t.1)))) in
+      let unit : 2 ^ (72 - zeros) * 2 ^ zeros ≡ 2 ^ 72 =
+      sym (pow-add 2 (72 - zeros) zeros) ∙ ap (λ k. 2 ^ k) {x = 72 - zeros + zeros} {y = 72} (omega (arith, t.1)) in
+      let parts : (word + 1) * 2 ^ (72 - zeros) * 2 ^ zeros ≡ (word + 1) * 2 ^ 72 = omega (arith, ap (λ u. (word + 1) * u) unit) in
       let less : c.args.digits < (word + 1) * 2 ^ (72 - zeros) = lt_of_mul-lt-mul_right (2 ^ zeros) (omega (arith, kept, parts)) in
       omega (arith, parts, mul-le-mul_right (2 ^ zeros) less)
 

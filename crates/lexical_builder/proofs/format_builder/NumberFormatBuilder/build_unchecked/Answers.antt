@@ -15,7 +15,8 @@ pub overflow_cast-result : goal.overflow_cast-result
 overflow_cast-result c =
     let moved : ℕ → ℕ → ℕ = λ i k. slice_index c.self.inside.bytes i * 2 ^ k % 2 ^ 64 in
     let two = or_lt 128 (moved 1 24) (moved 2 32) (omega arith) (omega arith) in
-    record { fits = or_lt 128 _ (moved 5 56) (or_lt 128 _ (moved 4 48) (or_lt 128 _ c.kept_separator.result (or_lt 128 _ (moved 3 40) two (omega arith)) (omega arith)) (omega arith)) (omega arith) }
+    let four = or_lt 128 _ c.kept_separator.result (or_lt 128 _ (moved 3 40) two (omega arith)) (omega arith) in
+    record { fits = or_lt 128 _ (moved 5 56) (or_lt 128 _ (moved 4 48) four (omega arith)) (omega arith) }
 
 pub returns-clause-bytes : goal.returns-clause-bytes
 returns-clause-bytes c = search (rules, builder_record)
