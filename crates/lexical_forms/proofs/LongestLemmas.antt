@@ -58,17 +58,6 @@ size_tried list t =
     let one = length-map {B = Form × Bool} list.forms (λ (form : Form). (form, false)) in let other = length-map {B = Form × Bool} t.forms.now (λ (form : Form). (form, true)) in
     omega (arith, all, one, other)
 
--- The form at an index, and whether it needs a suffix.
-pub tried_first : (list : FormList) (t : Tokens) (k : ℕ) (d : Form) → nat_le (length list.forms) k ≡ false
-    → slice_get (tried list t) k ≡ Some (get_or list.forms k d, nat_le (length list.forms) k)
-tried_first list t k d off = first_at list.forms (map (λ form. (form, true)) t.forms.now) k d (grind (arith, nat_tests))
-    ∙ ap (λ b. Some (get_or list.forms k d, b)) (sym off)
-
-pub tried_second : (list : FormList) (t : Tokens) (k : ℕ) (d : Form) → nat_le (length list.forms) k ≡ true → k < length (tried list t)
-    → slice_get (tried list t) k ≡ Some (get_or t.forms.now (k - length list.forms) d, nat_le (length list.forms) k)
-tried_second list t k d on inside = second_at list.forms t.forms.now k d (grind (arith, nat_tests)) (let size = size_tried list t in omega (arith, inside, size))
-    ∙ ap (λ b. Some (get_or t.forms.now (k - length list.forms) d, b)) (sym on)
-
 -- A form that needs no suffix is one of the list.
 never_first : (gs : List Form) (k : ℕ) (form : Form) → slice_get {X = Form × Bool} (map (λ form. (form, true)) gs) k ≡ Some (form, false) → ⊥
 never_first [] k form at = no_some _ at
@@ -119,12 +108,6 @@ picked_at list t text index it needs c at (form, is) = subst (λ f. IsPicked lis
 pub picked_inside : (list : FormList) (t : Tokens) (text : List ℕ) (index : ℕ) (c : Candidate)
     → (form : Form) × IsPicked list t text index form c → index < length (tried list t)
 picked_inside list t text index c (form, is) = slice_get_within (tried list t) index (form, is.chosen.needs) is.chosen.at
-
--- A form whose opening is not there goes no further.
-pub unopened_over : (back : PointsBack) (form : Form) (text : List ℕ) (opened : ℕ) → IsOpenedTo form.opening text opened → opened < form.opening.size
-    → IsOverFrom back text opened form
-unopened_over back form text opened is short end past ahead = not_longer text form opened is short ahead.size ahead.valid.front.more
-    (let further = ahead.further in omega (arith, further, past)) ahead.valid.within ahead.valid.front.reads.0
 
 -- What has been read behind the opening, where no literal goes on.
 module _ (form : Form) (text part : List ℕ) (opened : ℕ) (is : IsOpenedTo form.opening text opened) (least : form.opening.size ≤ opened)

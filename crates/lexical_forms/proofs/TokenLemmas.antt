@@ -178,14 +178,6 @@ module _ (back : PointsBack) (form : Form) (text : List ℕ) (found : Found) (is
           let apart : g.size < length shorter = grind (arith, nat_tests) in
           front.no_longer (length shorter) apart (omega arith) l read
 
--- A form without a front has no candidate.
-pub without_front : (back : PointsBack) (needs : Bool) (text : List ℕ) (form : Form) → NonePast text 0 form → NoCandidate back needs text form
-without_front back needs text form none s e other =
-    let front = other.front.1 in
-    let size = literal_size form (take other.longest text) other.front.0 front.reads in
-    let long = length-take-le other.longest text front.within in
-    none other.longest (omega (arith, size, long)) front.within other.front.0 front.reads
-
 -- A form has a candidate, or none.
 module _ (back : PointsBack) (needs : Bool) (text : List ℕ) (form : Form) (found : Found) (is : IsFrontIn text found form) where
   longest_is : (s e : ℕ) → (other : IsCandidate back needs text form s e) → other.longest ≡ found.size

@@ -26,10 +26,6 @@ use Rattle.lexical_literal.specs.declared.syntax.Grammar.TheInside.{Inside}
 use Rattle.std.proofs.Common.{◌/◌}
 use Rattle.std.proofs.lemmas.Nat.{and_mask, pow_pos}
 
--- The radix of a part that is not the exponent.
-pub other_radix : (r : Record) (part : Part) → (part ≡ parts.Exponent → ⊥) → r.byte layout.mantissa_radix ≡ radix_of r part
-other_radix r part other = grind arith
-
 place_bit : (n : ℕ) → not (bit_and n 1 == 0) ≡ (n % 2 == 1)
 place_bit n = ap (λ m. not (m == 0)) (and_mask n 1) ∙ odd (n % 2) (mod-lt n (pow_pos 1)) where
   odd : (m : ℕ) → m < 2 → not (m == 0) ≡ (m == 1)
@@ -84,10 +80,6 @@ module _ (a : Inside) (g : Worded) (h : AreFields a) (same : worded a ≡ g) whe
   -- The test of a flag by its number.
   pub place_is : (n : ℕ) (f : Flag) → n ≡ bit f → not (bit_and (a.flags / 2 ^ n) 1 == 0) ≡ (raw g.word).flag f
   place_is n f is = place_bit (a.flags / 2 ^ n) ∙ ap (λ k. a.flags / 2 ^ k % 2 == 1) is ∙ flag_is f
-
-  -- The exponent radix is filled.
-  pub radix_is : a.exponent_radix ≡ effective_exponent_radix (raw g.word)
-  radix_is = sym h.radix ∙ ap effective_exponent_radix record_is
 
   -- The separator is absent if no flag allows one.
   pub separator_is : (b : ℕ) → ((b == a.separator) && not (b == 0)) ≡ (notation_of g).separator b
