@@ -1,10 +1,10 @@
 -- Bytes that end a number: no form goes on with them.
-use Rattle.lexical_forms.proofs.Common.{All, All-from_recursion, BeginsBy, Bool, Bor, Candidate, Form, FormList, Found, GoesWithin, HasFront, HasNoWord, HasSumsOf, IsFrontIn}
+use Rattle.lexical_forms.proofs.Common.{All, All-from_recursion, BeginsBy, Bool, Bor, Candidate, Form, FormList, Found, HasFront, HasNoWord, HasSumsOf, IsFrontIn}
 use Rattle.lexical_forms.proofs.Common.{IsGreatest, IsOver, IsPicked, map, slice_get_within, tried}
 use Rattle.lexical_forms.proofs.Common.{IsMade, IsOpenedTo, IsSomeAnd, IsTrue, IsWithin, List, None, Option, PlaysNoRole, PointsBack, Reads, ReadsIn, Some, Tokens, [], ap, arith, behind}
 use Rattle.lexical_forms.proofs.Common.{byte_before, cases_lt, drop, false, false≢true, get_or, get_or-drop, gives_back, has_float, inl, inr, is_in, is_word_byte, kind_with}
 use Rattle.lexical_forms.proofs.Common.{length, length-drop, list_any, more_of, nat_tests, not, notation_of, option_map, other_case, raw, refl, slice_get}
-use Rattle.lexical_forms.proofs.Common.{slice_get-get_or, spells, subst, suffix_size, sym, take, takes_point, true, unwrap_or, word_size, ℕ, ◌&&◌, ◌++◌, ◌+◌, ◌-◌}
+use Rattle.lexical_forms.proofs.Common.{slice_get-get_or, spells, subst, suffix_size, sym, take, takes_point, true, unwrap_or, ℕ, ◌&&◌, ◌++◌, ◌+◌, ◌-◌}
 use Rattle.lexical_forms.proofs.Common.{◌<◌, ◌==◌, ◌||◌, ◌∙◌, ◌∷◌, ◌≡◌, ◌≤◌}
 use Rattle.lexical_forms.specs.Additions.Forms.{ENDS, IsOutside, LetEnd, LetsEnd, ends_at, is_end}
 use Rattle.lexical_forms.specs.Additions.Token.{IsBegunFirst, IsEndedAt, IsLast}
@@ -14,13 +14,12 @@ use Rattle.lexical_forms.proofs.FormLemmas.{all_at}
 use Rattle.lexical_forms.proofs.LeadingLemmas.{no_longer, over, suffix_within, word_within}
 use Rattle.lexical_forms.proofs.LongestLemmas.{all_tried, end_within, first_at, read_front, read_sums, size_within}
 use Rattle.lexical_forms.proofs.OpeningLemmas.{begins_whole, front_behind, front_byte, no_opening}
-use Rattle.lexical_forms.proofs.TokenLemmas.{for_some, kept, no_some, some_is, with_suffix}
+use Rattle.lexical_forms.proofs.TokenLemmas.{kept, some_is, with_suffix}
 use Rattle.lexical_literal.specs.Additions.Literal.{IsSummed}
 use Rattle.lexical_literal.specs.Additions.Stop.{HasBegun}
 use Rattle.lexical_forms.specs.declared.suffix.Suffixes.{Suffixes}
 use Rattle.lexical_literal.specs.declared.kind.Kind.{Kind}
 use Rattle.lexical_literal.specs.declared.stop.Begun.{Begun}
-use Rattle.std.specs.Char.{is_ascii_alphabetic}
 use Rattle.std.specs.List.{AllByRecursion}
 
 -- What holds of all bytes of a list holds of one of them.
@@ -107,7 +106,7 @@ no_suffix form float text size none =
     let word = word_within (more_of form.suffixes) text size size (omega arith) none in omega (arith, suffix, word)
 
 -- An opening without bytes is there, and no more of it.
-none_opened : (form : Form) (text : List ℕ) → form.opening.size ≡ 0 → IsOpenedTo form.opening text 0
+pub none_opened : (form : Form) (text : List ℕ) → form.opening.size ≡ 0 → IsOpenedTo form.opening text 0
 none_opened form text bare = record {
   inside = omega arith;
   begins = record { within = omega arith; each = λ index below. absurd (omega (arith, below)) };
@@ -220,22 +219,21 @@ pub kind_ended : (suffixes : Option (Bor Suffixes)) (word : List ℕ) (kind : Ki
 kind_ended None word kind none = refl
 kind_ended (Some it) word kind none = ap (λ w. kind_with (Some it) w kind) none
 
--- What has been read of the first form.
-module _ (list : FormList) (text : List ℕ) (begun : Begun) (e : IsBegunFirst list text begun) (d : Form) where
+-- The first form of a list that is known by its fields, its candidate, and what has been read of it.
+module _ (self list : FormList) (text : List ℕ) (view : list ≡ self) (d : Form) where
   abbrev g : Form
   g = get_or list.forms 0 d
 
-  same : e.form ≡ g
-  same = some_is _ _ (sym e.at ∙ slice_get-get_or list.forms 0 d (slice_get_within list.forms 0 e.form e.at))
+  pub made_first : (c : Candidate) → IsEndedAt self text c → IsMade points.Never false text g c
+  made_first c e = let own = subst (λ (l : FormList). IsEndedAt l text c) (sym view) e in
+      subst (λ (g : Form). IsMade points.Never false text g c) (first_is list text c own d) (own.made points.Never)
 
-  pub bare_first : g.opening.size ≡ 0
-  bare_first = subst (λ (g : Form). g.opening.size ≡ 0) same e.bare
-
-  pub opened_first : IsOpenedTo g.opening text 0
-  opened_first = none_opened g text bare_first
-
-  pub begun_first : HasBegun (notation_of g.syntax) text begun
-  begun_first = subst (λ (g : Form). HasBegun (notation_of g.syntax) text begun) same e.found
-
-  pub summed_first : IsSummed (raw g.syntax.word) text begun
-  summed_first = subst (λ (g : Form). IsSummed (raw g.syntax.word) text begun) same e.summed
+  pub begun_first : (begun : Begun) → IsBegunFirst self text begun
+      → (g.opening.size ≡ 0) × HasBegun (notation_of g.syntax) text begun × IsSummed (raw g.syntax.word) text begun
+  begun_first begun e =
+      let own = subst (λ (l : FormList). IsBegunFirst l text begun) (sym view) e in
+      let same = some_is _ _ (sym own.at ∙ slice_get-get_or list.forms 0 d (slice_get_within list.forms 0 own.form own.at)) in (
+        subst (λ (g : Form). g.opening.size ≡ 0) same own.bare,
+        subst (λ (g : Form). HasBegun (notation_of g.syntax) text begun) same own.found,
+        subst (λ (g : Form). IsSummed (raw g.syntax.word) text begun) same own.summed,
+      )

@@ -1,34 +1,22 @@
 -- The candidate of the first form.
-use Rattle.lexical_forms.proofs.Common.{Candidate, FormList, IsSomeAnd, Option, arith, false, get_or, map, subst, sym, true, ℕ}
-use Rattle.lexical_forms.proofs.EndLemmas.{bare_first, begun_first, opened_first, summed_first}
+use Rattle.lexical_forms.proofs.Common.{FormList, IsSomeAnd, arith, get_or, map, subst, sym, true}
+use Rattle.lexical_forms.proofs.EndLemmas.{begun_first, none_opened}
 use Rattle.lexical_forms.proofs.LongestLemmas.{first_at}
 use Rattle.lexical_forms.proofs.TokenLemmas.{for_some}
-use Rattle.lexical_forms.specs.Additions.Token.{IsAsked, IsAskedFirst, IsBegunFirst}
+use Rattle.lexical_forms.specs.Additions.Token.{IsAsked, IsAskedFirst}
 use Rattle.lexical_forms.proofs.list.Forms.asked.Goals as goal
 
 pub candidate_of-requires-clause-opened : goal.candidate_of-requires-clause-opened
-candidate_of-requires-clause-opened c =
-    let list : FormList = record { forms = c.self.inside.forms.now; specials = c.self.inside.specials; tokens = c.self.inside.tokens } in
-    let e = subst (λ (l : FormList). IsBegunFirst l c.args.text.now c.in-Some.begun) (sym c.self.view_is) (c.requires c.in-Some.begun c.in-Some.is) in
-    opened_first list c.args.text.now c.in-Some.begun e c.index-self-0.result
+candidate_of-requires-clause-opened c = none_opened (get_or c.self.inside.forms.now 0 c.index-self-0.result) _ (begun_first _ _ _ c.self.view_is c.index-self-0.result c.in-Some.begun (c.requires c.in-Some.begun c.in-Some.is)).0
 
 pub candidate_of-requires-clause-least : goal.candidate_of-requires-clause-least
-candidate_of-requires-clause-least c =
-    let list : FormList = record { forms = c.self.inside.forms.now; specials = c.self.inside.specials; tokens = c.self.inside.tokens } in
-    let e = subst (λ (l : FormList). IsBegunFirst l c.args.text.now c.in-Some.begun) (sym c.self.view_is) (c.requires c.in-Some.begun c.in-Some.is) in
-    let bare = bare_first list c.args.text.now c.in-Some.begun e c.index-self-0.result in omega (arith, bare)
+candidate_of-requires-clause-least c = let bare = (begun_first _ _ _ c.self.view_is c.index-self-0.result c.in-Some.begun (c.requires c.in-Some.begun c.in-Some.is)).0 in omega (arith, bare)
 
 pub candidate_of-requires-clause-begun : goal.candidate_of-requires-clause-begun
-candidate_of-requires-clause-begun c =
-    let list : FormList = record { forms = c.self.inside.forms.now; specials = c.self.inside.specials; tokens = c.self.inside.tokens } in
-    let e = subst (λ (l : FormList). IsBegunFirst l c.args.text.now c.in-Some.begun) (sym c.self.view_is) (c.requires c.in-Some.begun c.in-Some.is) in
-    begun_first list c.args.text.now c.in-Some.begun e c.index-self-0.result
+candidate_of-requires-clause-begun c = (begun_first _ _ _ c.self.view_is c.index-self-0.result c.in-Some.begun (c.requires c.in-Some.begun c.in-Some.is)).1
 
 pub candidate_of-requires-clause-summed : goal.candidate_of-requires-clause-summed
-candidate_of-requires-clause-summed c =
-    let list : FormList = record { forms = c.self.inside.forms.now; specials = c.self.inside.specials; tokens = c.self.inside.tokens } in
-    let e = subst (λ (l : FormList). IsBegunFirst l c.args.text.now c.in-Some.begun) (sym c.self.view_is) (c.requires c.in-Some.begun c.in-Some.is) in
-    summed_first list c.args.text.now c.in-Some.begun e c.index-self-0.result
+candidate_of-requires-clause-summed c = (begun_first _ _ _ c.self.view_is c.index-self-0.result c.in-Some.begun (c.requires c.in-Some.begun c.in-Some.is)).2
 
 pub returns : goal.returns
 returns c =

@@ -1,24 +1,16 @@
 -- The literal of the first form, behind which no form goes on.
 use Rattle.lexical_forms.proofs.Common.{Form, FormList, HasFront, HasOpening, HasSumsOf, IsCounted, IsGreatest, IsSomeAnd, ReadsForm, arith, drop, get_or}
 use Rattle.lexical_forms.proofs.Common.{slice_get, slice_get-get_or, subst, sym, take, ℕ, ◌-◌, ◌∙◌, ◌≡◌, ap}
-use Rattle.lexical_forms.proofs.EndLemmas.{first_is, greatest_ended, kind_ended}
+use Rattle.lexical_forms.proofs.EndLemmas.{first_is, made_first, greatest_ended, kind_ended}
 use Rattle.lexical_forms.specs.Additions.Token.{IsEndedAt}
 use Rattle.lexical_forms.specs.declared.list.PointsBack.TheVariants as points
 use Rattle.lexical_forms.proofs.list.Forms.read_prefix.Goals as goal
 
 pub made-literal-requires-clause-counted : goal.made-literal-requires-clause-counted
-made-literal-requires-clause-counted c =
-    let text = c.args.text.now in let candidate = c.in-Some.candidate in
-    let list : FormList = record { forms = c.self.inside.forms.now; specials = c.self.inside.specials; tokens = c.self.inside.tokens } in
-    let e = subst (λ (l : FormList). IsEndedAt l text candidate) (sym c.self.view_is) (c.ended.ensures candidate c.in-Some.is) in
-    subst (λ (g : Form). IsCounted g (take candidate.size text) candidate.counts) (first_is list text candidate e c.index-self-0.result) (e.made points.Never).counted
+made-literal-requires-clause-counted c = (made_first _ _ _ c.self.view_is c.index-self-0.result c.in-Some.candidate (c.ended.ensures c.in-Some.candidate c.in-Some.is)).counted
 
 pub made-literal-requires-clause-sums : goal.made-literal-requires-clause-sums
-made-literal-requires-clause-sums c =
-    let text = c.args.text.now in let candidate = c.in-Some.candidate in
-    let list : FormList = record { forms = c.self.inside.forms.now; specials = c.self.inside.specials; tokens = c.self.inside.tokens } in
-    let e = subst (λ (l : FormList). IsEndedAt l text candidate) (sym c.self.view_is) (c.ended.ensures candidate c.in-Some.is) in
-    subst (λ (g : Form). HasSumsOf g (take candidate.size text) candidate.counts candidate.sums) (first_is list text candidate e c.index-self-0.result) (e.made points.Never).sums
+made-literal-requires-clause-sums c = (made_first _ _ _ c.self.view_is c.index-self-0.result c.in-Some.candidate (c.ended.ensures c.in-Some.candidate c.in-Some.is)).sums
 
 pub made-literal-requires-clause-order : goal.made-literal-requires-clause-order
 made-literal-requires-clause-order c = let end = (c.ended.ensures c.in-Some.candidate c.in-Some.is).end in omega (arith, end)

@@ -1,24 +1,16 @@
 -- The token of the first form, behind whose literal no form goes on.
-use Rattle.lexical_forms.proofs.Common.{Form, FormList, HasSumsOf, IsCounted, IsPicked, IsReadByTokens, Ok, arith, get_or, inr, subst, sym, take}
-use Rattle.lexical_forms.proofs.EndLemmas.{first_is, over_ended, picked_ended}
+use Rattle.lexical_forms.proofs.Common.{Form, FormList, IsPicked, IsReadByTokens, Ok, arith, get_or, inr, subst, sym}
+use Rattle.lexical_forms.proofs.EndLemmas.{first_is, made_first, over_ended, picked_ended}
 use Rattle.lexical_forms.proofs.TokenLemmas.{token_is}
 use Rattle.lexical_forms.specs.Additions.Token.{IsEndedAt}
 use Rattle.lexical_forms.specs.declared.list.PointsBack.TheVariants as points
 use Rattle.lexical_forms.proofs.list.Forms.token.Goals as goal
 
 pub made-requires-clause-counted : goal.made-requires-clause-counted
-made-requires-clause-counted c =
-    let text = c.args.text.now in let candidate = c.in-Some-ended.candidate in
-    let list : FormList = record { forms = c.self.inside.forms.now; specials = c.self.inside.specials; tokens = c.self.inside.tokens } in
-    let e = subst (λ (l : FormList). IsEndedAt l text candidate) (sym c.self.view_is) (c.ended.ensures candidate c.in-Some-ended.is) in
-    subst (λ (g : Form). IsCounted g (take candidate.size text) candidate.counts) (first_is list text candidate e c.index-self-0.result) (e.made points.Never).counted
+made-requires-clause-counted c = (made_first _ _ _ c.self.view_is c.index-self-0.result c.in-Some-ended.candidate (c.ended.ensures c.in-Some-ended.candidate c.in-Some-ended.is)).counted
 
 pub made-requires-clause-sums : goal.made-requires-clause-sums
-made-requires-clause-sums c =
-    let text = c.args.text.now in let candidate = c.in-Some-ended.candidate in
-    let list : FormList = record { forms = c.self.inside.forms.now; specials = c.self.inside.specials; tokens = c.self.inside.tokens } in
-    let e = subst (λ (l : FormList). IsEndedAt l text candidate) (sym c.self.view_is) (c.ended.ensures candidate c.in-Some-ended.is) in
-    subst (λ (g : Form). HasSumsOf g (take candidate.size text) candidate.counts candidate.sums) (first_is list text candidate e c.index-self-0.result) (e.made points.Never).sums
+made-requires-clause-sums c = (made_first _ _ _ c.self.view_is c.index-self-0.result c.in-Some-ended.candidate (c.ended.ensures c.in-Some-ended.candidate c.in-Some-ended.is)).sums
 
 pub made-requires-clause-order : goal.made-requires-clause-order
 made-requires-clause-order c = let end = (c.ended.ensures c.in-Some-ended.candidate c.in-Some-ended.is).end in omega (arith, end)
