@@ -181,6 +181,8 @@ REPLACED += [
     # Texts that are refused need it alone, and one copy is enough for all calls.
     ("lexical_literal/src/stop.rt", "    const fn step(", "    pub(crate) const fn step("),
     ("lexical_literal/src/stop.rt", "#[inline(always)]\n    pub(crate) const fn go_on(", "#[inline(never)]\n    pub(crate) const fn go_on("),
+    # It is asked a second time where the first answer is not clear.
+    ("candidate.rt", "#[inline(always)]\n    pub(crate) const fn longest(", "#[cfg_attr(not(peltzivar_small), inline(never))]\n    pub(crate) const fn longest("),
     # The library for C asks it for each byte that may end a token.
     ("feature_format/roles.rt", "const fn is_byte(", "#[inline(always)]\nconst fn is_byte("),
     # The loop over the bytes of an opening is a loop in the library for C.

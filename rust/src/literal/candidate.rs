@@ -42,7 +42,7 @@ impl<'a> Forms<'a> {
     }
 
     // Returns the longest candidate of the list and of the forms that need a suffix, of those with literals of more than `least` bytes.
-    #[cfg_attr(not(peltzivar_small), inline(always))]
+    #[cfg_attr(not(peltzivar_small), inline(never))]
     pub(crate) const fn longest(&self, tokens: &Tokens, text: &[u8], least: usize) -> Longest {
         let mut found = Longest { best: None, reach: 0, past: least, clear: false };
         let mut form = 0;
