@@ -175,6 +175,8 @@ REPLACED += [
       for it in "cut format has_negative_exponent mantissa places scale".split()],
     # A syntax that is not lawful can have any radix.
     ("lexical_number/src/small.rt", "MOST[radix as usize] as usize", "if radix <= 36 { MOST[radix as usize] as usize } else { 0 }"),
+    # Lists are also made at run time.
+    ("list.rt", "let ends = let_end(self.forms) && let_end(", "let ends = self.ends && let_end("),
     # Programs have one copy of these.
     ("lexical_literal/src/stop.rt", "self.begin(false, text, false)", "self.begin_any(text, false)"),
     ("lexical_literal/src/stop.rt", "self.begin(false, text, true)", "self.begin_any(text, true)"),

@@ -185,7 +185,7 @@ impl<'a> Forms<'a> {
     /// Returns the same forms with rules for tokens, without which there are none.
     #[must_use]
     pub const fn with_tokens(self, tokens: &'a Tokens) -> Forms<'a> {
-        let ends = let_end(self.forms) && let_end(tokens.forms);
+        let ends = self.ends && let_end(tokens.forms);
         Forms { tokens: Some(tokens), ends, ..self }
     }
 
