@@ -151,6 +151,7 @@ const fn has_prefix(grammar: &Grammar, text: &[u8], index: usize) -> bool {
 }
 
 // The bytes that end a number unless a form goes on with them: white space, operators, and what closes or separates.
+#[allow(dead_code)]
 const ENDS: [u8; 12] = [9, 10, 13, b' ', b')', b'*', b',', b'/', b';', b'=', b']', b'}'];
 
 // Returns whether `text` ends behind the first `size` bytes, or a byte follows that ends a number.
@@ -170,10 +171,19 @@ const fn is_end(byte: u8) -> bool {
 
 // Returns whether the form goes on with no byte that ends a number.
 pub(crate) const fn lets_end(form: &Form) -> bool {
-    lets_all_end(form, &ENDS)
+    let it = form.syntax.as_grammar();
+    let own = [it.separator, it.prefix, it.suffix, it.exponent, it.point];
+    !(have_end(&own) || have_end(&form.opening.bytes) || have_end(more_of(form.suffixes)))
 }
 
 // Returns whether the form goes on with none of `bytes`.
+const fn have_end(bytes: &[u8]) -> bool {
+    match bytes {
+        [] => false,
+        [byte, rest @ ..] => is_end(*byte) || have_end(rest),
+    }
+}
+#[allow(dead_code)]
 const fn lets_all_end(form: &Form, bytes: &[u8]) -> bool {
     match bytes {
         [] => true,
