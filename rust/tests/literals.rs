@@ -2,12 +2,11 @@
 
 use peltzivar::format::{CASE_SENSITIVE_SPECIAL, DIGIT_SEPARATOR_FLAG_MASK, NO_SPECIAL};
 use peltzivar::literal::{
-    Condition, Form, Forms, Language, Literal, Number, ReadError, ReadErrorKind, Sign, Specials, Spelling, Style,
-    Syntax, ValueError, ValueErrorKind,
+    Condition, Form, Language, Literal, Number, ReadError, ReadErrorKind, Sign, Specials, Spelling, Style, Syntax,
+    ValueError, ValueErrorKind,
 };
 use peltzivar::{edits, Edit, FlagSetter, Format, NumberFormatBuilder, Part, Rule, Settings};
 use std::collections::HashSet;
-use std::slice;
 
 const FORMAT: &str = include_str!("../../docs/FORMAT.md");
 const EXPLANATIONS: &str = include_str!("../../docs/EXPLANATIONS.md");
@@ -142,17 +141,9 @@ fn flags_accept_and_reject_the_texts_of_the_page() {
     assert_eq!(flags.next(), None);
 }
 
-/// Each condition is one of `names`.
-fn has_each_condition<'a>(names: impl Iterator<Item = &'a str>) {
-    let (names, all) = (HashSet::<_>::from_iter(names), Condition::ALL.iter().map(|it| it.name()));
-    assert_eq!(Vec::from_iter(all.filter(|it| !names.contains(it))), [""; 0], "conditions without a row");
-}
-
 /// Each condition, by the texts in its row: all are literals without it.
 #[test]
 fn conditions_accept_and_reject_the_texts_of_the_page() {
-    let settings = table(FORMAT, "Conditions").map(|row| row[0].split(' ').next_back().unwrap());
-    has_each_condition(settings.map(|it| it.split('=').next().unwrap()));
     for row in table(FORMAT, "Conditions") {
         let [setting, _, with, accepted, rejected, refused] = row[..] else { panic!("{row:?}") };
         // Without other settings, the format contradicts the last condition, unless that is on the first digit.
@@ -196,11 +187,8 @@ fn questions_have_the_answers_of_the_page() {
 
 #[test]
 fn causes_are_those_of_the_page() {
-    let rows = [EXPLANATIONS, include_str!("causes.txt")].into_iter();
-    let rows = Vec::from_iter(rows.flat_map(|page| table(page, "Texts and their causes")));
-    // The last one is never blamed.
-    has_each_condition(rows.iter().flat_map(|row| row[2].split(' ')).chain(["higher_group_size"]));
-    for row in rows {
+    let pages = [EXPLANATIONS, include_str!("causes.txt")].into_iter();
+    for row in pages.flat_map(|page| table(page, "Texts and their causes")) {
         let [text, settings, cause, valid_up_to, span] = row[..] else { panic!("{row:?}") };
         let error = read(syntax_of(settings), text).expect_err(text);
         let mut found = match error.kind() {
@@ -221,7 +209,6 @@ fn causes_are_those_of_the_page() {
 #[test]
 fn sentences_name_what_is_seen() {
     let lines = include_str!("sentences.txt").lines().filter(|line| !line.is_empty() && !line.starts_with('#'));
-    has_each_condition(lines.clone().flat_map(|line| line.split([' ', '='])));
     let lines = lines.map(|line| match Vec::from_iter(line.split('|').map(str::trim))[..] {
         [settings, text, sentence, shown] => (settings, text, sentence, shown),
         _ => panic!("{line}"),
@@ -247,12 +234,10 @@ fn has_value(number: Number<'_>, value: &str) -> bool {
     }
 }
 
-/// Each text of literals.txt, and of what the tools of languages answered, with its value by its kind if the tool printed one. Each form
-/// gives one of the numbers, and of one of the refused texts, it reads as much as any form, but not all.
+/// Each text of literals.txt, and of what the tools of languages answered, with its value by its kind if the tool printed one.
 #[test]
 fn languages_answer_as_their_grammars_and_tools_do() {
     assert!(Language::ALL.is_sorted_by_key(Language::name));
-    let mut seen = HashSet::new();
     let tables = [include_str!("literals.txt"), include_str!("known/languages.txt")];
     for row in tables.into_iter().flat_map(str::lines).filter(|row| !row.is_empty() && !row.starts_with('#')) {
         let cells = Vec::from_iter(row.split_whitespace());
@@ -268,22 +253,10 @@ fn languages_answer_as_their_grammars_and_tools_do() {
         let is_large = |it: ValueError| it.kind() != ValueErrorKind::UnsupportedRadix;
         let is_number = result.is_ok_and(|it| !f64::try_from(it).is_err_and(is_large));
         assert_eq!(is_number, is_accepted, "{row}: {result:?}");
-        for (index, form) in language.forms().as_slice().iter().enumerate() {
-            let is_furthest = |size: usize| size > 1 && result.is_err_and(|it| it.valid_up_to() == size);
-            let alone = Forms::new_or_panic(slice::from_ref(form));
-            let is_refused = alone.read(text).is_err_and(|it| is_furthest(it.valid_up_to()));
-            let is_given = result.is_ok_and(|it| it.form() == Some(index));
-            seen.extend((is_refused || is_given).then_some((language, index, is_given)));
-        }
         if let (Ok(number), "+", Some(value)) = (result, cells[1], cells.get(3)) {
             assert!(has_value(number, value), "{row}: not {number:?}");
         }
     }
-    let forms = Language::ALL.iter().flat_map(|it| (0..it.forms().as_slice().len()).map(move |form| (it, form)));
-    let wanted = forms.flat_map(|(it, form)| [(it, form, true), (it, form, false)]);
-    let named = |it: Form| format!("{}, `{}`", it.name(), String::from_utf8_lossy(it.opening().as_bytes()));
-    let missing = wanted.filter(|it| !seen.contains(it)).map(|it| (it.0, named(it.0.forms()[it.1]), it.2));
-    assert_eq!(Vec::from_iter(missing), [], "forms without a row that is a number of theirs (true), or that is none");
 }
 
 /// Signs, and separators, which may be letters. FORMAT has the rows of the flags on special values alone.
@@ -333,20 +306,16 @@ fn the_first_spelling_that_is_not_empty_matches() {
     );
 }
 
-/// Each flag has a row: settings, and the phrases that the sentence has beside `decimal` and `NaN`, or lacks.
+/// Rows of settings, and the phrases that the sentence has beside `decimal` and `NaN`, or lacks.
 #[test]
 fn sentences_on_syntaxes_state_each_difference() {
     let rows = include_str!("phrases.txt").lines().filter(|row| !row.is_empty() && !row.starts_with('#'));
-    let rows = Vec::from_iter(rows.map(|row| row.split_once(" | ").expect(row)));
-    for (settings, phrases) in &rows {
+    for (settings, phrases) in rows.map(|row| row.split_once(" | ").expect(row)) {
         let sentence = syntax_of(settings).sentence().to_string();
         let [found, usual, wanted] =
             [&*sentence, "decimal; NaN", phrases].map(|it| HashSet::<_>::from_iter(it.split("; ")));
         assert_eq!(&found ^ &usual, wanted, "{settings}");
     }
-    has_each_condition(rows.iter().flat_map(|it| it.0.split([' ', '='])));
-    let has_row = |flag: &&FlagSetter| rows.iter().any(|it| it.0.contains(&format!("{flag}=")));
-    assert_eq!(FlagSetter::FLAGS.iter().find(|it| !has_row(it)), None);
     let settings = "digit_separator=39 integer_internal_digit_separator=true integer_group_size=3 \
         no_integer_leading_zeros=true no_positive_mantissa_sign=true";
     let sentence = "decimal; `'` between groups of three; no `+`; NaN; no leading zeros in integers";

@@ -136,37 +136,6 @@ fn suffixes_are_those_of_the_tools() {
     assert!(wrong.is_empty(), "suffixes of the library or of the tool alone: {wrong:#?}");
 }
 
-#[test]
-fn each_form_suffix_and_keyword_has_a_row() {
-    let mut texts = Vec::from_iter(rows().map(|(language, text, _)| (language, text.to_string())));
-    for (language, number, words) in suffixes() {
-        texts.extend([vec![("", "")], words].concat().iter().map(|it| (language, format!("{number}{}", it.0))));
-    }
-    let mut missing = BTreeSet::new();
-    for language in Language::ALL {
-        let Some(tokens) = language.forms().tokens() else { continue };
-        missing.extend(rows().all(|it| it.0 != *language).then(|| format!("{language} in tokens.txt")));
-        let texts = texts.iter().filter(|it| it.0 == *language);
-        let read: Vec<Token> = texts.filter_map(|it| language.token(&it.1).ok()).collect();
-        let mut require = |is_read: bool, name: &str| missing.extend((!is_read).then(|| format!("{language} {name}")));
-        let forms = Vec::from_iter(language.forms().into_iter().chain(tokens.forms()));
-        for form in &forms {
-            require(read.iter().any(|it| forms[it.form].name() == form.name()), form.name());
-            let Some(suffixes) = form.suffixes() else { continue };
-            let upper = |it: &[u8]| if suffixes.is_either_case() { it.to_ascii_uppercase() } else { it.to_vec() };
-            let words = [suffixes.integers(), suffixes.floats()].concat().into_iter();
-            for word in words.chain(suffixes.begins_any_word().get(..1)).flat_map(|it| [it.to_vec(), upper(it)]) {
-                require(read.iter().any(|it| it.suffix == word), &String::from_utf8_lossy(&word));
-            }
-        }
-        for word in tokens.following() {
-            let is_read = read.iter().any(|it| it.suffix.is_empty() && it.rest.starts_with(word));
-            require(is_read, &String::from_utf8_lossy(word));
-        }
-    }
-    assert!(missing.is_empty(), "no rows of these: {missing:#?}");
-}
-
 /// Behind an integer, a suffix of floats makes a float of any size.
 #[test]
 fn a_suffix_of_floats_has_no_limit() {
