@@ -267,7 +267,7 @@ static void test_literals(peltzivar_word word) {
     const peltzivar_fields own = peltzivar_fields_of(syntax.format);
     const uint8_t sign = draw() % 2 ? '+' : '-', separator = own.digit_separator;
     const uint8_t bytes[] = {sign, '0', own.base_prefix, separator, '0', '1', separator, '1', syntax.decimal_point, '0', separator,
-        separator, '1', syntax.exponent, sign, separator, '0', own.base_suffix};
+        separator, '1', syntax.exponent, sign, separator, (uint8_t)('0' + draw() % 2), own.base_suffix};
     size_t len = 0;
     for (size_t i = 0; i < sizeof bytes; i++) if (bytes[i] && draw() % 2) text[len++] = (char)bytes[i];
     if (len && draw() % 4 == 0) text[draw() % len] ^= (char)(draw() % 2 ? 32 : draw());
@@ -290,13 +290,18 @@ static void test_literals(peltzivar_word word) {
         const bool has_part = why.kind == PELTZIVAR_KIND_MISSING || why.kind == PELTZIVAR_KIND_SEPARATOR;
         CHECK(1 <= why.kind && why.kind <= 5 && has_part == (why.part != PELTZIVAR_NO_PART));
     }
-    /* The normal form of a lawful word is read in the same way. */
+    /* The normal form of a lawful word reads and writes in the same way. */
     peltzivar_syntax normal = syntax;
     peltzivar_explanation why_normal;
     normal.format = peltzivar_normal_form(syntax.format);
     CHECK_LAWFUL(!peltzivar_read(&normal, from, len, &literal_before, &error_before) == is_read);
     if (is_read) CHECK_LAWFUL(!memcmp(&literal.sign, &literal_before.sign, offsetof(peltzivar_literal, is_float) - offsetof(peltzivar_literal, sign)));
     if (is_explained) CHECK_LAWFUL(!peltzivar_explain(&error_before, &why_normal) && !memcmp(&why, &why_normal, sizeof why));
+    const double real = (double)(int64_t)draw() * 1e-9;
+    char written[PELTZIVAR_FLOAT_SIZE] = "";
+    *text = 0;
+    const peltzivar_write_status status = peltzivar_format_f64(&syntax, real, NULL, text, sizeof text, NULL);
+    CHECK_LAWFUL(peltzivar_format_f64(&normal, real, NULL, written, sizeof written, NULL) == status && !strcmp(text, written));
     /* A lawful syntax as a form reads the same, and a column has the values of its texts. */
     static const peltzivar_stop stops[] = {{"1", "-.", "1", {0}}};
     const peltzivar_suffixes suffixes = {"e ux", "f", "_", "ux", NULL, 0, stops, 1, true, len % 7 == 0, {0}, len % 2 ? "-" : NULL};

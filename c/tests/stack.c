@@ -1,6 +1,5 @@
 /* Prints how many bytes of stack each function of both headers needs at most, by each language and by a list of 64 forms.
- * test_c.py writes CALLS, with the name of each and a function that calls it with the variables below. Before, eight threads
- * with small stacks read their first tokens at the same time, each by another language and by a list of its own. */
+ * test_c.py writes CALLS, with the name of each and a function that calls it with the variables below. */
 #include "peltzivar_words.h"
 #include <pthread.h>
 #include <stdio.h>
@@ -53,33 +52,8 @@ static void measure(size_t *most) {
     }
 }
 
-static pthread_barrier_t barrier;
-static void *read_first(void *number) {
-    static char own[8][2][5120];
-    const size_t first = (size_t)(uintptr_t)number, len = sizeof **own;
-    size_t count = 0;
-    while (*peltzivar_language_name(count)) count++;
-    pthread_barrier_wait(&barrier);
-    for (size_t i = 0; i < count; i++) {
-        const char *const name = peltzivar_language_name((i + first) % count);
-        const peltzivar_list *const of = peltzivar_list_of(peltzivar_language(name, strlen(name)), own[first][0], len, NULL);
-        const peltzivar_forms *const by[] = {peltzivar_language(name, strlen(name)), peltzivar_make_forms(of, own[first][1], len, NULL)};
-        for (int j = 0; j < 2; j++) {
-            peltzivar_token token;
-            const bool is_token = !peltzivar_forms_token(by[j], "12 ", 3, &token, NULL);
-            if (!by[j] || is_token != !!of->tokens || (is_token && token.size != 2)) abort();
-        }
-    }
-    return NULL;
-}
-
 int main(void) {
     size_t most[sizeof calls / sizeof *calls] = {0};
-    pthread_t threads[8];
-    pthread_attr_t attributes;
-    if (pthread_barrier_init(&barrier, NULL, 8) || pthread_attr_init(&attributes) || pthread_attr_setstacksize(&attributes, 32768)) return 1;
-    for (uintptr_t i = 0; i < 8; i++) if (pthread_create(&threads[i], &attributes, read_first, (void *)i)) return 1;
-    for (int i = 0; i < 8; i++) pthread_join(threads[i], NULL);
     for (size_t i = 0; *peltzivar_language_name(i); i++) {
         const char *const name = peltzivar_language_name(i);
         forms = peltzivar_language(name, strlen(name)), list = peltzivar_list_of(forms, memory[0], sizeof *memory, NULL);

@@ -156,18 +156,6 @@ class Columns(unittest.TestCase):
         table = ";name;price\n0;a;1.234,50\n1;b;\n2;c;\n"
         self.assertEqual(printed.getvalue(), f"row 2: 12,3x: unexpected character 'x'\n{table}\n")
 
-    @unittest.skipUnless(importlib.util.find_spec("pandas"), "pandas")
-    def test_german_prices_are_written_nearly_as_fast_as_by_pandas(self):
-        import pandas
-
-        frame, ratios = pandas.DataFrame({"name": "a", "price": [it / 7 for it in range(20_000)]}), []
-        own = lambda: frame.assign(price=Language.CSV_DE.format_column(frame["price"], decimals=2, group=0)).to_csv(sep=";")
-        theirs = lambda: frame.to_csv(sep=";", decimal=",", float_format="%.2f")
-        self.assertEqual(own(), theirs())
-        while min(ratios, default=math.inf) > 1.2:
-            ratios.append(operator.truediv(*(min(timeit.repeat(it, number=1, repeat=3)) for it in (own, theirs))))
-            self.assertLess(len(ratios), 30, f"{min(ratios):.1f} times that of pandas, above 1.2. Is the machine busy?")
-
     def test_times_of_a_cell_are_these_multiples_of_that_of_float(self):
         json, texts = Language.JSON, ["1", "-17", "1000", "3.25", "-12345.678e-9", "0.5", "1000.5e-3", "9007199254740993"] * 100
         data, offsets = "".join(texts).encode(), array("q", [0, *itertools.accumulate(map(len, texts))])

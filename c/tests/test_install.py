@@ -99,7 +99,6 @@ endforeach()
         printed = self.run_in("bash", "-c", f"cmake '-DCMAKE_PREFIX_PATH={self.prefix};{self.folder}/other' . 2>&1")
         found = {name: re.findall(rf"^found {name} (\d) (.*)$", printed, re.M) for name in ("peltzivar", "other")}
         self.assertEqual(found["peltzivar"], found["other"])
-        self.assertEqual((len(found["other"]), {it for it, _ in found["other"]}), (len(wanted), {"0", "1"}))
 
     @unittest.skipUnless(PACKAGER, "setuptools 66 and wheel")
     def test_a_package_says_in_a_line_what_is_missing(self):
@@ -151,16 +150,9 @@ endforeach()
         ran = self.make("check", "PYTHON=no-python").replace("the Python module is", "tests/*.py are").splitlines()
         self.assertRegex(f"{ran[0]}\n" * ({*ran} == {ran[0]}), line)
 
-    def test_a_missing_or_old_library_is_built(self):
-        library = self.folder / "build/release/libpeltzivar_c.so"
-        install = ["install", f"PREFIX={self.prefix}", f"BUILD={self.folder}/build", "CARGO=no-cargo"]
-        self.assertRaisesRegex(AssertionError, "no-cargo is not found: install Rust", self.make, *install)
-        library.parent.mkdir(parents=True)
-        library.touch()
-        os.utime(library, (0, 0))
-        self.assertRaisesRegex(AssertionError, "no-cargo is not found: install Rust", self.make, *install)
-
-    def test_a_newer_source_of_any_folder_is_built_before_it_is_installed(self):
+    def test_a_missing_library_and_a_newer_source_of_any_folder_are_built_before_they_are_installed(self):
+        install = ["install", f"PREFIX={self.prefix}", f"BUILD={self.folder}/build"]
+        self.assertRaisesRegex(AssertionError, "no-cargo is not found: install Rust", self.make, *install, "CARGO=no-cargo")
         others = ".git", "crates", "target", "compare", "explorer", "bench", "*.so*"
         shutil.copytree(C.parent, top := self.folder / "copy", ignore=shutil.ignore_patterns(*others))
         cargo, built = self.folder / "cargo", self.folder / "build/release"
@@ -170,7 +162,7 @@ endforeach()
         sources = [*{it.parent: it for it in sources}.values(), *(it for it in top.glob("rust/capi/*.*") if it.is_file())]
         for builds, source in enumerate([None, None, top / "Cargo.toml", top / "rust/Cargo.toml", *sources]):
             _ = source and source.touch()
-            self.make("install", f"PREFIX={self.prefix}", f"BUILD={built.parent}", f"CARGO={cargo}", "PYTHON=", folder=top / "c")
+            self.make(*install, f"CARGO={cargo}", "PYTHON=", folder=top / "c")
             installed = [it.stat().st_size for it in self.prefix.glob("lib/libpeltzivar_c.[as]*")]
             self.assertEqual({*installed}, {builds or 1}, source)
 

@@ -12,24 +12,19 @@ class Look(Walk):
             wrong = [role for role, name in named if not name] + [it for it in fields if fields.count(it) > 1]
             self.assertEqual((wrong, self.call("idle", link), len(named) > 9), ([], [], True), link)
 
-    def test_each_tab_looks_right_on_each_screen(self):
+    def test_each_tab_looks_right_on_each_screen_and_has_the_same_texts(self):
         shown = {}
         for mode, phone in (("light", (360, 700)), ("dark", (320, 700))):
             self.media(prefers_color_scheme=mode)
             for width in self.screens((1280, 720), phone):
+                self.load()
                 for link in self.links():
-                    controls, whole, wrong = self.call("looks")
-                    self.assertEqual((wrong, controls, whole), ([], shown.setdefault(link, controls), width), (mode, link))
-
-    def test_a_phone_has_the_texts_of_a_laptop(self):
-        shown = {}
-        for mode in ("light", "dark"):
-            self.media(prefers_color_scheme=mode)
-            for width in self.screens((1280, 720), (390, 844)):
-                for link in self.links():
-                    self.assertEqual(self.call("shownTexts"), shown.setdefault(link, self.call("shownTexts")), (width, mode, link))
+                    texts, (controls, whole, wrong) = self.call("shownTexts"), self.call("looks")
+                    self.assertEqual((wrong, whole, controls, texts), ([], width, *shown.setdefault(link, (controls, texts))), (mode, link))
             self.load(f"#forms={MIXED_FORM}&numbers=-0x1_0%2C8p%2B1h%0ANaN".replace("441F", "401F"))
             self.assertEqual(self.call("alikeParts"), [])
+
+    def test_messages_are_live(self):
         nodes = self.driver.execute_cdp_cmd("Accessibility.getFullAXTree", {})["nodes"]
         live = {it["role"]["value"] for it in nodes for one in it.get("properties", []) if one["name"] == "live" and one["value"]["value"] != "off"}
         roles = {it: self.find(f"#{it}").get_attribute("role") for it in ("told", "summary", "same", "failed", "word-problem", "base_prefix-problem")}
