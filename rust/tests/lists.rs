@@ -127,6 +127,11 @@ fn settings_are_found_in_their_lines() {
         assert!(after.add(&lines[4]).is_err() && after.add(&set).is_ok());
         let found = |it: &Settings| Vec::from_iter(it.reasons().chain(it.notes()).map(|it| it.to_string()));
         assert_eq!(found(&after), found(&plain), "{name}");
+        // An option shares no bit with another setting, so none overrides the other.
+        let options = Settings::read(["exponent='p'", "point=','", &set, "exponent='x'", "point='.'"]).unwrap();
+        let overridden = options.notes().filter(|it| matches!(it.kind(), FindingKind::Overridden(_)));
+        let is_option = ["exponent", "point"].contains(&name);
+        assert!(is_option || overridden.map(|it| it.indexes().to_vec()).eq([[0, 3], [1, 4]]), "{name}");
     }
     // A reason of the mantissa radix is left out only where what sets the mantissa radix is refused.
     for setter in Setter::ALL {
@@ -207,17 +212,24 @@ fn sentences_name_the_nearer_limit() {
     }
 }
 
-/// A float has a plain text if its three radixes are 10, and an integer always has one.
+/// A float has a plain text if its three radixes are 10, and an integer always has one. Floats need two radixes alike.
 #[test]
-fn plain_texts_are_decimal() {
+fn plain_texts_are_decimal_and_floats_need_radixes() {
     let some = [2, 10, 36];
     for three in some.into_iter().flat_map(|one| some.into_iter().flat_map(move |two| some.map(|it| [one, two, it]))) {
         let [base, exponent] = [three[1], three[2]].map(std::num::NonZeroU8::new);
         let fields = NumberFormatBuilder::new().mantissa_radix(three[0]).exponent_base(base).exponent_radix(exponent);
         let syntax = Syntax::new_or_panic(fields.build_format_or_panic(), b'^', b'.');
         for text in ["1", "1.1", "1^1", "1.1^-1"] {
-            let is_plain = syntax.read(text).unwrap().plain().is_some();
-            assert_eq!(is_plain, text == "1" || three == [10; 3], "{three:?} {text}");
+            let literal = syntax.read(text).unwrap();
+            assert_eq!(literal.plain().is_some(), text == "1" || three == [10; 3], "{three:?} {text}");
+            let refused = literal.to_f64().map_err(|it| (it.kind(), it.target()));
+            let has_floats = three[0] == three[1] && three[0] != 36;
+            let wanted = if has_floats { Ok(()) } else { Err((ValueErrorKind::UnsupportedRadix, "f64")) };
+            assert_eq!((syntax.supports_floats(), refused.map(|_| ())), (has_floats, wanted), "{three:?} {text}");
+            let told = literal.to_f64().map_or_else(|it| it.to_string(), |_| String::new());
+            let sentence = "no f64: the mantissa radix and the exponent base are not both 10 or both";
+            assert!(has_floats || told.starts_with(sentence), "{told}");
         }
     }
 }
@@ -367,7 +379,7 @@ fn spans_begin_with_the_opening() {
     }
 }
 
-/// An error of a scaled value names the limit as it would be in the text.
+/// Each type has its limits as scaled values. An error beyond names the limit as it would be in the text.
 #[test]
 #[allow(clippy::unnecessary_cast, reason = "it is for each type")]
 fn limits_of_scaled_values_have_a_point() {
@@ -378,7 +390,8 @@ fn limits_of_scaled_values_have_a_point() {
             digits.trim_end_matches('.').to_string()
         };
         each_type!(Type => {
-            let scaled = |text: &str| Syntax::default().read(text).unwrap().to_scaled::<Type>(places).unwrap_err().to_string();
+            let value = |text: &str| Syntax::default().read(text).unwrap().to_scaled::<Type>(places);
+            let scaled = |text: &str| value(text).unwrap_err().to_string();
             let name = match places {
                 0 => format!(", the largest {}", std::any::type_name::<Type>()),
                 _ => String::new(),
@@ -388,6 +401,14 @@ fn limits_of_scaled_values_have_a_point() {
             let least = limit((Type::MIN as i128).unsigned_abs());
             let sign = if Type::MIN != 0 { "-" } else { "" };
             assert_eq!(scaled(&("-".to_string() + &"9".repeat(60))), format!("below {sign}{least}{name}"));
+            // Longer numbers may be too long.
+            if Type::BITS < 128 {
+                let next = [(Type::MIN as i128).unsigned_abs(), Type::MAX as u128].map(|it| limit(it + 1));
+                let ends = [format!("{sign}{least}"), limit(Type::MAX as u128), format!("-{}", next[0]), next[1].clone()];
+                let found = ends.map(|text| value(&text).map_err(|it| it.kind()));
+                let wanted = [Ok(Type::MIN), Ok(Type::MAX), Err(ValueErrorKind::TooSmall), Err(ValueErrorKind::TooLarge)];
+                assert_eq!(found, wanted, "{places}");
+            }
             let below = match places {
                 0 => "not a whole number".to_string(),
                 1 => "more than 1 digit after the point".to_string(),

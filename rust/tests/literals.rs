@@ -144,6 +144,9 @@ fn flags_accept_and_reject_the_texts_of_the_page() {
 /// Each condition, by the texts in its row: all are literals without it.
 #[test]
 fn conditions_accept_and_reject_the_texts_of_the_page() {
+    let settings = table(FORMAT, "Conditions").map(|row| row[0].split(' ').next_back().unwrap());
+    let names = HashSet::<_>::from_iter(settings.map(|it| it.split('=').next().unwrap()));
+    assert_eq!(names, Condition::ALL.iter().map(|it| it.name()).collect());
     for row in table(FORMAT, "Conditions") {
         let [setting, _, with, accepted, rejected, refused] = row[..] else { panic!("{row:?}") };
         // Without other settings, the format contradicts the last condition, unless that is on the first digit.

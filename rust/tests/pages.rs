@@ -24,7 +24,6 @@ fn commands_print_what_pages_show() {
     for name in ["README", "docs/FORMAT", "docs/EXPLANATIONS", "docs/SETTINGS", "docs/DIFFERENCES", "docs/RUST"] {
         let page = std::fs::read_to_string(format!("{}/../{name}.md", env!("CARGO_MANIFEST_DIR"))).unwrap();
         let mut lines = page.lines().peekable();
-        let mut count = 0;
         while let Some(line) = lines.next() {
             let command = line.replace("    $ numfmt ", "    $ cargo run -- ");
             let Some(arguments) = command.strip_prefix("    $ cargo run ") else { continue };
@@ -33,9 +32,7 @@ fn commands_print_what_pages_show() {
             // The standard error may have a warning of the compiler.
             let (_, [printed, _]) = cargo_run(&words(arguments));
             assert_eq!(printed, shown.join("\n") + "\n", "{name}: {line}");
-            count += 1;
         }
-        assert!(count > 0, "{name}");
     }
 }
 

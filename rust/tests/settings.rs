@@ -5,7 +5,7 @@
 #[allow(dead_code)]
 mod settings;
 
-use peltzivar::{Edit, EditErrorKind, FindingKind, FlagSetter, Settings};
+use peltzivar::{EditErrorKind, Settings};
 use settings::load;
 
 /// The syntax of a file, and the lines that are printed for it. The word of a syntax is in normal form.
@@ -139,19 +139,4 @@ fn reading_ends_at_the_first_error() {
     let settings = Settings::read(&texts[..2]).unwrap();
     // The options do not matter to the format.
     assert_eq!(settings.build_format().unwrap().word(), 0x00001000_00000000_00000000_0000000C);
-}
-
-/// An option shares no bit with a field, so none overrides the other.
-#[test]
-fn options_and_fields_are_apart() {
-    let fields = Edit::NAMES.iter().map(|it| (*it, if it.parse::<FlagSetter>().is_ok() { "true" } else { "33" }));
-    let conditions =
-        peltzivar::literal::Condition::ALL.iter().map(|it| (it.name(), if it.limits().1 == 1 { "true" } else { "3" }));
-    for (name, value) in fields.chain(conditions) {
-        let field = format!("{name}={value}");
-        let settings = Settings::read(["exponent='p'", "point=','", &field, "exponent='x'", "point='.'"]).unwrap();
-        let overridden = settings.notes().filter(|it| matches!(it.kind(), FindingKind::Overridden(_)));
-        let overridden: Vec<_> = overridden.map(|it| it.indexes().to_vec()).collect();
-        assert_eq!(overridden, [[0, 3], [1, 4]], "{name}");
-    }
 }

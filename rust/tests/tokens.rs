@@ -136,23 +136,6 @@ fn suffixes_are_those_of_the_tools() {
     assert!(wrong.is_empty(), "suffixes of the library or of the tool alone: {wrong:#?}");
 }
 
-/// Behind an integer, a suffix of floats makes a float of any size.
-#[test]
-fn a_suffix_of_floats_has_no_limit() {
-    for language in Language::ALL {
-        for suffixes in language.forms().into_iter().filter_map(|it| it.suffixes()) {
-            for word in suffixes.integers().iter().filter(|it| suffixes.floats().contains(it)) {
-                if matches!((language.name(), *word), ("C" | "C_PLUS_PLUS", _) | ("D", b"L")) {
-                    continue; // `1L` is an integer, and `1i` of C++ is made of one.
-                }
-                let text = ["1".repeat(39).as_bytes(), word].concat();
-                let token = language.token(&text).unwrap();
-                assert!(token.literal.to_f64().is_ok(), "{language}: {}", text.escape_ascii());
-            }
-        }
-    }
-}
-
 /// Lengths of tokens by the scanners of the languages' own tools, as `compare/languages/tokens` records them.
 #[test]
 fn tokens_end_where_scanners_end_them() {

@@ -147,7 +147,7 @@ fn some_texts_are_read_back_as_the_number() {
 }
 
 #[test]
-#[ignore = "compare/languages/run --back runs it in two minutes"]
+#[ignore = "two minutes in release"]
 fn all_texts_are_read_back_as_the_number() {
     let mut all = Vec::new();
     for text in BTreeSet::from_iter(texts()) {

@@ -23,35 +23,33 @@ fn edits_are_read_back() {
     }
 }
 
-/// The sentence of a refused setting, which names the setter and what it takes.
+/// A refused value has a sentence that names the setter and what it takes.
 #[test]
 fn a_refused_setting_has_a_sentence() {
-    const FLAG: &str = "no_special takes `true` or `false`";
-    #[rustfmt::skip]
-    let rows = [
-        ("no_special=1", Some("no_special"), FLAG),
-        ("no_special=", Some("no_special"), FLAG),
-        ("no_special=true=true", Some("no_special"), FLAG),
-        ("digit_separator=_", Some("digit_separator"), "digit_separator takes a character such as '_', a number from 0 to 255, or `none`"),
-        ("base_prefix=0x100", Some("base_prefix"), "base_prefix takes a character such as '_', a number from 0 to 255, or `none`"),
-        ("mantissa_radix=none", Some("mantissa_radix"), "mantissa_radix takes a number, 2 to 36 in a lawful format"),
-        ("exponent_base=ten", Some("exponent_base"), "exponent_base takes a number, 2 to 36 in a lawful format, or `none`"),
-        ("exponent_radix=0010", Some("exponent_radix"), "exponent_radix takes a number, 2 to 36 in a lawful format, or `none`"),
-        ("radix", None, "expected NAME=VALUE"),
-        ("", None, "expected NAME=VALUE"),
-        ("=7", None, "unknown setting name"),
-        ("RADIX=7", None, "unknown setting name; did you mean `radix`?"),
-        ("digit_seperator=_", None, "unknown setting name; did you mean `digit_separator`?"),
-        ("no-special=true", None, "unknown setting name; did you mean `no_special`?"),
-    ];
-    for (text, name, sentence) in rows {
-        let error = text.parse::<Edit>().unwrap_err();
-        assert_eq!((error.name(), &*error.to_string()), (name, sentence), "{text}");
-        let kind = match sentence {
-            "expected NAME=VALUE" => NoEquals,
-            _ if name.is_none() => UnknownName,
-            _ => BadValue,
+    for setter in Setter::ALL {
+        let name = setter.name();
+        let takes = match setter.kind() {
+            ArgumentKind::Flag => "`true` or `false`",
+            ArgumentKind::OptionalCharacter => "a character such as '_', a number from 0 to 255, or `none`",
+            ArgumentKind::OptionalNumber => "a number, 2 to 36 in a lawful format, or `none`",
+            _ => "a number, 2 to 36 in a lawful format",
         };
-        assert_eq!(error.kind(), kind, "{text}");
+        for value in ["", "_", "True", "true=true", "0010", "256", "0x100"] {
+            let error = format!("{name}={value}").parse::<Edit>().unwrap_err();
+            let wanted = (BadValue, Some(name), format!("{name} takes {takes}"));
+            assert_eq!((error.kind(), error.name(), error.to_string()), wanted, "{value}");
+        }
+    }
+    let near = |name| (UnknownName, format!("unknown setting name; did you mean `{name}`?"));
+    for (text, wanted) in [
+        ("radix", (NoEquals, "expected NAME=VALUE".into())),
+        ("", (NoEquals, "expected NAME=VALUE".into())),
+        ("=7", (UnknownName, "unknown setting name".into())),
+        ("RADIX=7", near("radix")),
+        ("digit_seperator=_", near("digit_separator")),
+        ("no-special=true", near("no_special")),
+    ] {
+        let error = text.parse::<Edit>().unwrap_err();
+        assert_eq!(((error.kind(), error.to_string()), error.name()), (wanted, None), "{text}");
     }
 }
