@@ -594,10 +594,6 @@ static PyObject *written(
     return result;
 }
 
-static PyObject *unwritten(peltzivar_write_status status) {
-    return PyErr_SetString(PyExc_ValueError, peltzivar_write_description(status)), NULL;
-}
-
 /* Returns the text of an int of 64 bits or a Decimal, which `rounded` rounds to the decimals of the style, unless it is
  * None. Returns NULL, perhaps without an error, for another number, and for one that is not written. */
 static PyObject *written_exactly(Reader *by, PyObject *it, const peltzivar_style *style, PyObject *rounded) {
@@ -688,7 +684,8 @@ static PyObject *reader_write(PyObject *self, PyObject *given) {
         bool is_all = other == Py_None;
         PyObject *text = is_all ? written((Reader *)self, &it, &style, &status)
                                 : written_at_once((Reader *)self, it.object, &style, rounded);
-        if (!text && is_all && !PyErr_Occurred()) unwritten(status);
+        if (!text && is_all && !PyErr_Occurred())
+            PyErr_SetString(PyExc_ValueError, peltzivar_write_description(status));
         if (!text && !PyErr_Occurred()) text = PyObject_CallFunctionObjArgs(other, it.object, NULL);
         if (!text || PyList_SetItem(result, i, text)) Py_CLEAR(result);
     }

@@ -75,6 +75,21 @@ macro_rules! may_change {
     };
 }
 
+/// Defines conversions. A row has a name, the types, and a value of the second one.
+macro_rules! conversions {
+    ($($(#[$about:meta])* $it:ident: $Source:ident => $Target:ident { $value:expr })*) => {
+        $(
+            impl From<$Source> for $Target {
+                $(#[$about])*
+                #[inline]
+                fn from($it: $Source) -> Self {
+                    $value
+                }
+            }
+        )*
+    };
+}
+
 // The documentation shows methods in this order, so getters of `feature_format` are after the others.
 mod lawful;
 mod lists;

@@ -5,6 +5,7 @@
 #[allow(dead_code)]
 mod settings;
 
+use peltzivar::literal::Condition;
 use peltzivar::{Edit, EditErrorKind, FindingKind, FlagSetter, Settings};
 use settings::load;
 
@@ -144,10 +145,10 @@ fn reading_ends_at_the_first_error() {
 /// An option shares no bit with a field, so none overrides the other.
 #[test]
 fn options_and_fields_are_apart() {
-    let fields = Edit::NAMES.iter().map(|it| (*it, if it.parse::<FlagSetter>().is_ok() { "true" } else { "33" }));
-    let conditions =
-        peltzivar::literal::Condition::ALL.iter().map(|it| (it.name(), if it.limits().1 == 1 { "true" } else { "3" }));
-    for (name, value) in fields.chain(conditions) {
+    let fields = Edit::NAMES.iter().map(|it| (*it, if it.parse::<FlagSetter>().is_ok() { 1 } else { 33 }));
+    let conditions = Condition::ALL.iter().map(|it| (it.name(), it.limits().1));
+    for (name, most) in fields.chain(conditions) {
+        let value = if most == 1 { "true".to_string() } else { most.to_string() };
         let field = format!("{name}={value}");
         let settings = Settings::read(["exponent='p'", "point=','", &field, "exponent='x'", "point='.'"]).unwrap();
         let overridden = settings.notes().filter(|it| matches!(it.kind(), FindingKind::Overridden(_)));

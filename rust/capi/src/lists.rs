@@ -37,6 +37,10 @@ impl Specials {
     }
 }
 
+/// The kinds and the limits of floats, by their numbers.
+const FLOATS: [FloatKind; 2] = [FloatKind::Nearest, FloatKind::Single];
+const LIMITS: [FloatLimits; 3] = [FloatLimits::None, FloatLimits::Largest, FloatLimits::Both];
+
 /// The numbers of a kind.
 #[repr(C)]
 #[derive(Clone, Copy)]
@@ -57,12 +61,7 @@ impl KindNumbers {
             IntegerKind::Unsigned(bits) => (4, bits),
             _ => (0, 0),
         };
-        let limits = match kind.limits() {
-            FloatLimits::Largest => 1,
-            FloatLimits::Both => 2,
-            _ => 0,
-        };
-        KindNumbers { integers, bits, floats: matches!(kind.floats(), FloatKind::Single) as u8, limits }
+        KindNumbers { integers, bits, floats: kind.floats() as u8, limits: kind.limits() as u8 }
     }
 
     /// Returns the kind, or `None` if there is none with these numbers.
@@ -75,18 +74,8 @@ impl KindNumbers {
             (4, bits) => IntegerKind::Unsigned(bits),
             _ => return None,
         };
-        let floats = match self.floats {
-            0 => FloatKind::Nearest,
-            1 => FloatKind::Single,
-            _ => return None,
-        };
-        let limits = match self.limits {
-            0 => FloatLimits::None,
-            1 => FloatLimits::Largest,
-            2 => FloatLimits::Both,
-            _ => return None,
-        };
-        Some(Kind::new(integers, floats)?.with_limits(limits))
+        let (floats, limits) = (FLOATS.get(usize::from(self.floats))?, LIMITS.get(usize::from(self.limits))?);
+        Some(Kind::new(integers, *floats)?.with_limits(*limits))
     }
 }
 
@@ -372,7 +361,7 @@ impl Memory {
             let [case_sensitive_opening, only_read] = [form.opening().is_case_sensitive(), form.is_only_read()];
             let shown = Form {
                 name,
-                syntax: Syntax::of(form.syntax()),
+                syntax: form.syntax().into(),
                 kind: KindNumbers::of(form.kind()),
                 case_sensitive_opening: case_sensitive_opening.into(),
                 only_read: only_read.into(),

@@ -25,20 +25,6 @@ pub struct Syntax {
 }
 
 impl Syntax {
-    /// Returns a syntax in C.
-    pub const fn of(syntax: literal::Syntax) -> Syntax {
-        let (mut numbers, mut at) = ([0; 14], 0);
-        while at < Condition::ALL.len() {
-            numbers[at] = syntax.conditions().number(Condition::ALL[at]);
-            at += 1;
-        }
-        let (exponent, decimal_point) = match (syntax.exponent(), syntax.point()) {
-            (Some(exponent), Some(point)) => (exponent, point),
-            _ => (0, 0),
-        };
-        Syntax { format: Word::of(syntax.format().word()), exponent, decimal_point, numbers }
-    }
-
     /// Returns the exponent character and the decimal point, unless literals are integers.
     fn options(&self) -> Option<(u8, u8)> {
         match (self.exponent, self.decimal_point) {
@@ -50,11 +36,8 @@ impl Syntax {
     /// Returns the conditions, or `None` if a later version may have others.
     fn conditions(&self) -> Option<Conditions> {
         const COUNT: usize = Condition::ALL.len();
-        let (mut all, mut at) = (Conditions::NONE, 0);
-        while at < COUNT {
-            all = all.with(Condition::ALL[at], self.numbers[at]);
-            at += 1;
-        }
+        let all = Condition::ALL.iter().zip(self.numbers);
+        let all = all.fold(Conditions::NONE, |all, (it, number)| all.with(*it, number));
         (self.numbers[COUNT..] == [0; 14 - COUNT]).then_some(all)
     }
 
@@ -87,7 +70,10 @@ impl Syntax {
 
 impl From<literal::Syntax> for Syntax {
     fn from(syntax: literal::Syntax) -> Syntax {
-        Syntax::of(syntax)
+        let mut numbers = [0; 14];
+        numbers.iter_mut().zip(Condition::ALL).for_each(|(to, it)| *to = syntax.conditions().number(*it));
+        let [exponent, decimal_point] = [syntax.exponent(), syntax.point()].map(Option::unwrap_or_default);
+        Syntax { format: syntax.format().word().into(), exponent, decimal_point, numbers }
     }
 }
 
@@ -157,20 +143,12 @@ const _: () = assert!(size_of::<literal::Literal>() <= 18 * size_of::<u64>());
 pub enum Refusal<E> {
     Argument(&'static str),
     Library(E),
-    /// The word from `start` to `end` is not a suffix of the form.
-    Suffix {
-        start: usize,
-        end: usize,
-    },
-    /// The decimal point before `end` belongs to what follows.
-    Point {
-        end: usize,
-    },
-    /// The bytes from `start` to `end` are a stop of the form.
-    Stop {
-        start: usize,
-        end: usize,
-    },
+    /// The word in this range is not a suffix of the form.
+    Suffix(Range<usize>),
+    /// The decimal point before this index belongs to what follows.
+    Point(usize),
+    /// The bytes in this range are a stop of the form.
+    Stop(Range<usize>),
 }
 
 impl<E: Display> Display for Refusal<E> {
@@ -179,9 +157,9 @@ impl<E: Display> Display for Refusal<E> {
         match self {
             Refusal::Argument(sentence) => f.write_str(sentence),
             Refusal::Library(error) => error.fmt(f),
-            Refusal::Suffix { .. } => f.write_str("unknown suffix"),
-            Refusal::Point { .. } => f.write_str("the decimal point belongs to what follows"),
-            Refusal::Stop { .. } => f.write_str("the number cannot end here"),
+            Refusal::Suffix(_) => f.write_str("unknown suffix"),
+            Refusal::Point(_) => f.write_str("the decimal point belongs to what follows"),
+            Refusal::Stop(_) => f.write_str("the number cannot end here"),
         }
     }
 }
@@ -249,18 +227,15 @@ pub struct Explanation {
 
 impl Explanation {
     /// Returns what only bytes explain, by the number of a kind.
-    fn of_bytes(kind: u8, start: usize, end: usize) -> Explanation {
-        let (span, mask) = (Span { start, end }, Word::of(0));
-        Explanation { span, mask, kind, number: NO_SETTER, part: NO_PART, reserved: [0; 5], conditions: 0 }
+    fn of_bytes(kind: u8, Range { start, end }: Range<usize>) -> Explanation {
+        let span = Span { start, end };
+        Explanation { span, mask: 0.into(), kind, number: NO_SETTER, part: NO_PART, reserved: [0; 5], conditions: 0 }
     }
 }
 
 impl From<&FormError> for Explanation {
     fn from(error: &FormError) -> Explanation {
-        let Some(error) = error.error() else {
-            let Range { start, end } = error.span();
-            return Explanation::of_bytes(9, start, end);
-        };
+        let Some(error) = error.error() else { return Explanation::of_bytes(9, error.span()) };
         let (kind, part) = match error.kind() {
             ReadErrorKind::Requirement => (1, None),
             ReadErrorKind::Separator(part, _) => (2, Some(part)),
@@ -390,9 +365,9 @@ calls! {
     fn peltzivar_explain(error: &ReadError, out: Out<Explanation>) -> ValueStatus {
         out.write_some(match error.value() {
             Some(Refusal::Library(error)) => Some(Explanation::from(error)),
-            Some(Refusal::Suffix { start, end }) => Some(Explanation::of_bytes(6, *start, *end)),
-            Some(Refusal::Point { end }) => Some(Explanation::of_bytes(7, *end, *end)),
-            Some(Refusal::Stop { start, end }) => Some(Explanation::of_bytes(8, *start, *end)),
+            Some(Refusal::Suffix(range)) => Some(Explanation::of_bytes(6, range.clone())),
+            Some(Refusal::Point(end)) => Some(Explanation::of_bytes(7, *end..*end)),
+            Some(Refusal::Stop(range)) => Some(Explanation::of_bytes(8, range.clone())),
             _ => None,
         })
     }

@@ -13,11 +13,6 @@ pub struct Word {
 }
 
 impl Word {
-    /// Returns the halves of a number.
-    pub const fn of(number: u128) -> Word {
-        Word { low: number as u64, high: (number >> 64) as u64 }
-    }
-
     /// Returns the number with these halves.
     pub fn number(self) -> u128 {
         u128::from(self.high) << 64 | u128::from(self.low)
@@ -31,7 +26,7 @@ impl Word {
 
 impl From<u128> for Word {
     fn from(number: u128) -> Word {
-        Word::of(number)
+        Word { low: number as u64, high: (number >> 64) as u64 }
     }
 }
 

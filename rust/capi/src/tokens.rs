@@ -34,9 +34,9 @@ impl<'a> Token<'a> {
 fn error_of(why: TokenError) -> ReadError {
     let (at, form, refusal) = match why {
         TokenError::Literal(why) => return ReadError::of(why),
-        TokenError::UnknownSuffix { form, start, end, .. } => (start, form, Refusal::Suffix { start, end }),
-        TokenError::Stopped { form, start, end } => (start, form, Refusal::Stop { start, end }),
-        TokenError::NotAToken { end } => (end, 0, Refusal::Point { end }),
+        TokenError::UnknownSuffix { form, start, end, .. } => (start, form, Refusal::Suffix(start..end)),
+        TokenError::Stopped { form, start, end } => (start, form, Refusal::Stop(start..end)),
+        TokenError::NotAToken { end } => (end, 0, Refusal::Point(end)),
         _ => (0, 0, Refusal::Argument("these forms have no tokens")),
     };
     ReadError::at(at, form, refusal)

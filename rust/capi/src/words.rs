@@ -62,11 +62,14 @@ calls! {
     fn peltzivar_parse_word(text: *const u8, len: usize, out: Out<Word>, index: Out<usize>) -> ErrorNumber {
         let text = input(text, len).ok_or(Error::Overflow(0));
         let text = text.and_then(|it| from_utf8(it).map_err(|_| Error::InvalidDigit(0)));
-        let view = text.and_then(|text| text.parse::<FormatView>());
-        if let Err(error) = view {
-            index.write(error.index().copied().unwrap_or(0));
+        match text.and_then(|text| text.parse::<FormatView>()) {
+            Ok(view) => out.write(view.word().into()),
+            Err(error) => {
+                index.write(error.index().copied().unwrap_or(0));
+                return error_number(error);
+            }
         }
-        out.write_ok(view.map(|view| view.word()))
+        error_number(Error::Success)
     }
 
     fn peltzivar_reason_text(format: Word, index: usize, text: *mut u8, len: usize) -> usize {

@@ -244,22 +244,10 @@ impl ParseError {
     }
 }
 
-impl From<FormError> for ParseError {
-    fn from(error: FormError) -> ParseError {
-        ParseError::Read(error)
-    }
-}
-
-impl From<ReadError> for ParseError {
-    fn from(error: ReadError) -> ParseError {
-        ParseError::Read(FormError::alone(error))
-    }
-}
-
-impl From<ValueError> for ParseError {
-    fn from(error: ValueError) -> ParseError {
-        ParseError::Value(error)
-    }
+conversions! {
+    error: FormError => ParseError { ParseError::Read(error) }
+    error: ReadError => ParseError { ParseError::Read(FormError::alone(error)) }
+    error: ValueError => ParseError { ParseError::Value(error) }
 }
 
 /// Prints the error of the text or of the value.
