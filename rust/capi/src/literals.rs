@@ -9,7 +9,7 @@ use crate::numbers::{error_number, ErrorNumber, Setter, Word, NO_PART, NO_SETTER
 use core::fmt::{self, Display, Formatter};
 use core::mem::ManuallyDrop;
 use core::ops::Range;
-use peltzivar::literal::{self, Condition, Conditions, FormError, Number, ReadErrorKind};
+use peltzivar::literal::{self, Condition, Conditions, FormError, Number, ReadErrorKind, TokenError};
 use peltzivar::{Error, Format, FormatError};
 
 /// A word with an exponent character, a decimal point and conditions, of any values. If both are 0, literals are
@@ -114,11 +114,11 @@ pub struct Reached {
 }
 
 /// Where reading stopped, and why.
-pub type ReadError = Made<Reached, Refusal<FormError>, 15>;
+pub type ReadError = Made<Reached, Refusal<TokenError>, 15>;
 
 impl ReadError {
     /// Returns the error of a form that is valid up to an index.
-    pub fn at(valid_up_to: usize, form: usize, refusal: Refusal<FormError>) -> ReadError {
+    pub fn at(valid_up_to: usize, form: usize, refusal: Refusal<TokenError>) -> ReadError {
         Made::new(Reached { valid_up_to, form: form as u8 }, refusal)
     }
 
@@ -126,7 +126,7 @@ impl ReadError {
     #[cold]
     #[inline(never)]
     pub fn of(why: FormError) -> ReadError {
-        ReadError::at(why.valid_up_to(), why.form, Refusal::Library(why))
+        ReadError::at(why.valid_up_to(), why.form, Refusal::Library(TokenError::Literal(why)))
     }
 }
 
@@ -143,12 +143,6 @@ const _: () = assert!(size_of::<literal::Literal>() <= 18 * size_of::<u64>());
 pub enum Refusal<E> {
     Argument(&'static str),
     Library(E),
-    /// The word in this range is not a suffix of the form.
-    Suffix(Range<usize>),
-    /// The decimal point before this index belongs to what follows.
-    Point(usize),
-    /// The bytes in this range are a stop of the form.
-    Stop(Range<usize>),
 }
 
 impl<E: Display> Display for Refusal<E> {
@@ -157,15 +151,12 @@ impl<E: Display> Display for Refusal<E> {
         match self {
             Refusal::Argument(sentence) => f.write_str(sentence),
             Refusal::Library(error) => error.fmt(f),
-            Refusal::Suffix(_) => f.write_str("unknown suffix"),
-            Refusal::Point(_) => f.write_str("the decimal point belongs to what follows"),
-            Refusal::Stop(_) => f.write_str("the number cannot end here"),
         }
     }
 }
 
 /// A refusal that prints flags and conditions, too.
-struct Full<'a>(&'a Refusal<FormError>);
+struct Full<'a>(&'a Refusal<TokenError>);
 
 impl Display for Full<'_> {
     fn fmt(&self, f: &mut Formatter<'_>) -> fmt::Result {
@@ -363,11 +354,12 @@ calls! {
     }
 
     fn peltzivar_explain(error: &ReadError, out: Out<Explanation>) -> ValueStatus {
-        out.write_some(match error.value() {
-            Some(Refusal::Library(error)) => Some(Explanation::from(error)),
-            Some(Refusal::Suffix(range)) => Some(Explanation::of_bytes(6, range.clone())),
-            Some(Refusal::Point(end)) => Some(Explanation::of_bytes(7, *end..*end)),
-            Some(Refusal::Stop(range)) => Some(Explanation::of_bytes(8, range.clone())),
+        let Some(Refusal::Library(error)) = error.value() else { return REFUSED };
+        out.write_some(match *error {
+            TokenError::Literal(ref error) => Some(Explanation::from(error)),
+            TokenError::UnknownSuffix { start, end, .. } => Some(Explanation::of_bytes(6, start..end)),
+            TokenError::NotAToken { end } => Some(Explanation::of_bytes(7, end..end)),
+            TokenError::Stopped { start, end, .. } => Some(Explanation::of_bytes(8, start..end)),
             _ => None,
         })
     }
