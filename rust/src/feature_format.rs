@@ -32,7 +32,7 @@ use crate::view::{FormatView, Role, Separators};
 /// }
 /// assert_eq!(parse_digit::<STANDARD>(b'7'), Some(7));
 /// ```
-#[derive(Clone, Copy, PartialEq, Eq, Hash)]
+#[derive(Clone, Copy, Default, PartialEq, Eq, Hash)]
 #[expect(clippy::exhaustive_structs, reason = "written by callers")]
 pub struct NumberFormat<const FORMAT: u128>;
 
@@ -60,12 +60,6 @@ impl<const FORMAT: u128> NumberFormat<FORMAT> {
     /// radix.
     pub const fn rebuild() -> NumberFormatBuilder {
         Self::VIEW.rebuild()
-    }
-}
-
-impl<const FORMAT: u128> Default for NumberFormat<FORMAT> {
-    fn default() -> Self {
-        Self::new()
     }
 }
 

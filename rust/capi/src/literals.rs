@@ -3,10 +3,10 @@
 //! A call takes a syntax of any bits: only `peltzivar_check_syntax` tests it, which takes longer than reading a short
 //! text, and a stamp that it would leave in the syntax would forbid a constant.
 
-use crate::arguments::{input, write_text, Out, ValueStatus, REFUSED, SPECIAL};
+use crate::arguments::{input, write_by, write_text, Out, ValueStatus, REFUSED, SPECIAL};
 use crate::lists::Forms;
 use crate::numbers::{error_number, ErrorNumber, Setter, Word, NO_PART, NO_SETTER};
-use core::fmt::{self, Display, Formatter};
+use core::fmt::{self, Display, Formatter, Write};
 use core::mem::ManuallyDrop;
 use core::ops::Range;
 use peltzivar::literal::{self, Condition, Conditions, FormError, Number, ReadErrorKind, TokenError};
@@ -152,15 +152,6 @@ impl<E: Display> Display for Refusal<E> {
             Refusal::Argument(sentence) => f.write_str(sentence),
             Refusal::Library(error) => error.fmt(f),
         }
-    }
-}
-
-/// A refusal that prints flags and conditions, too.
-struct Full<'a>(&'a Refusal<TokenError>);
-
-impl Display for Full<'_> {
-    fn fmt(&self, f: &mut Formatter<'_>) -> fmt::Result {
-        write!(f, "{:#}", self.0)
     }
 }
 
@@ -369,6 +360,6 @@ calls! {
     }
 
     fn peltzivar_read_error_full_text(error: &ReadError, text: *mut u8, len: usize) -> usize {
-        write_text(text, len, error.value().map(Full))
+        write_by(text, len, |text| error.value().map_or(Ok(()), |it| write!(text, "{it:#}")))
     }
 }

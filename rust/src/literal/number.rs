@@ -115,6 +115,16 @@ impl Syntax {
         self.begin(false, text, fronts)
     }
 
+    // Returns what `begin` returns for any syntax. The library for C, which sets `peltzivar_small`, has this code once.
+    #[inline(always)]
+    pub(crate) const fn begin_small(&self, text: &[u8], fronts: bool) -> Begun {
+        if cfg!(peltzivar_small) {
+            self.begin_any(text, fronts)
+        } else {
+            self.begin(false, text, fronts)
+        }
+    }
+
     // Returns what `read` returns, where `at` has been read.
     #[inline(never)]
     const fn read_slowly<'t>(&self, text: &'t [u8], at: Stopped) -> Result<Literal<'t>, ReadError> {
