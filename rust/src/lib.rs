@@ -64,9 +64,8 @@
 //! and `rustc`.
 #![no_std]
 #![forbid(unsafe_code)]
-#![allow(clippy::collapsible_match, clippy::len_zero, clippy::manual_find, clippy::manual_range_contains)]
-#![allow(clippy::match_like_matches_macro, clippy::module_inception, clippy::needless_lifetimes)]
-#![allow(clippy::question_mark, clippy::redundant_pattern_matching, reason = "code is as it is proved")]
+#![allow(clippy::len_zero, clippy::module_inception, clippy::needless_lifetimes)]
+#![allow(clippy::redundant_pattern_matching, reason = "code is as it is proved")]
 
 /// What the documentation adds to items that may change in any version. `rust/tools/surface.py` finds it.
 macro_rules! may_change {

@@ -26,7 +26,6 @@ pub struct Written<'a> {
 
 /// What is printed.
 #[derive(Clone, Copy)]
-#[allow(clippy::large_enum_variant, reason = "nothing is allocated")]
 pub(super) enum Text<'a> {
     Number(Layout<'a>),
     Integer(WrittenInteger),
