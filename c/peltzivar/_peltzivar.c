@@ -1152,23 +1152,16 @@ static int filled(PyObject *module) {
 }
 
 /* The module is in a cycle with its classes, which an interpreter beside the main one leaves when it ends. */
+#define KEPT(it) it(literal) it(refusal) it(decimal) it(slow[0]) it(slow[1]) it(slow[2]) it(reader)
+#define VISIT(member) Py_VISIT(STATE(module)->member);
+#define CLEAR(member) Py_CLEAR(STATE(module)->member);
 static int traversed(PyObject *module, visitproc visit, void *arg) {
-    State *state = STATE(module);
-    Py_VISIT(state->literal);
-    Py_VISIT(state->refusal);
-    Py_VISIT(state->decimal);
-    for (int i = 0; i < 3; i++) Py_VISIT(state->slow[i]);
-    Py_VISIT(state->reader);
+    KEPT(VISIT)
     return 0;
 }
 
 static int cleared(PyObject *module) {
-    State *state = STATE(module);
-    Py_CLEAR(state->literal);
-    Py_CLEAR(state->refusal);
-    Py_CLEAR(state->decimal);
-    for (int i = 0; i < 3; i++) Py_CLEAR(state->slow[i]);
-    Py_CLEAR(state->reader);
+    KEPT(CLEAR)
     return 0;
 }
 
