@@ -15,7 +15,7 @@ use peltzivar::literal::{
     Condition, Conditions, ConditionsError, ConditionsErrorKind, Form, FormError, Forms, Language, Literal, Number,
     Special, Specials, Syntax, Token,
 };
-use peltzivar::{Byte, Cause, Edit, Format, FormatView, NamedByte, NumberFormatBuilder, Part, Reason, Setter};
+use peltzivar::{Cause, Edit, Format, FormatView, NumberFormatBuilder, Part, Reason, Setter};
 use suggest::{lines_of, offers, Line, State};
 
 mod forms;
@@ -152,12 +152,7 @@ fn explain(state: &'static str) -> String {
 
 /// Returns the names of the options that a cause blames.
 fn options_of(cause: Cause) -> String {
-    let name = |it: NamedByte| match it.name {
-        Byte::ExponentCharacter => "exponent ",
-        Byte::DecimalPoint => "point ",
-        _ => "",
-    };
-    cause.bytes().into_iter().flatten().map(name).collect()
+    ["exponent ", "point "].into_iter().zip(cause.options()).filter(|it| it.1).map(|it| it.0).collect()
 }
 
 /// Returns why a text is not a literal of a form.

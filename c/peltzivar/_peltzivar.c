@@ -594,10 +594,6 @@ static PyObject *written(
     return result;
 }
 
-static PyObject *unwritten(peltzivar_write_status status) {
-    return PyErr_SetString(PyExc_ValueError, peltzivar_write_description(status)), NULL;
-}
-
 /* Returns the text of an int of 64 bits or a Decimal, which `rounded` rounds to the decimals of the style, unless it is
  * None. Returns NULL, perhaps without an error, for another number, and for one that is not written. */
 static PyObject *written_exactly(Reader *by, PyObject *it, const peltzivar_style *style, PyObject *rounded) {
@@ -688,7 +684,8 @@ static PyObject *reader_write(PyObject *self, PyObject *given) {
         bool is_all = other == Py_None;
         PyObject *text = is_all ? written((Reader *)self, &it, &style, &status)
                                 : written_at_once((Reader *)self, it.object, &style, rounded);
-        if (!text && is_all && !PyErr_Occurred()) unwritten(status);
+        if (!text && is_all && !PyErr_Occurred())
+            PyErr_SetString(PyExc_ValueError, peltzivar_write_description(status));
         if (!text && !PyErr_Occurred()) text = PyObject_CallFunctionObjArgs(other, it.object, NULL);
         if (!text || PyList_SetItem(result, i, text)) Py_CLEAR(result);
     }
@@ -1155,23 +1152,16 @@ static int filled(PyObject *module) {
 }
 
 /* The module is in a cycle with its classes, which an interpreter beside the main one leaves when it ends. */
+#define KEPT(it) it(literal) it(refusal) it(decimal) it(slow[0]) it(slow[1]) it(slow[2]) it(reader)
+#define VISIT(member) Py_VISIT(STATE(module)->member);
+#define CLEAR(member) Py_CLEAR(STATE(module)->member);
 static int traversed(PyObject *module, visitproc visit, void *arg) {
-    State *state = STATE(module);
-    Py_VISIT(state->literal);
-    Py_VISIT(state->refusal);
-    Py_VISIT(state->decimal);
-    for (int i = 0; i < 3; i++) Py_VISIT(state->slow[i]);
-    Py_VISIT(state->reader);
+    KEPT(VISIT)
     return 0;
 }
 
 static int cleared(PyObject *module) {
-    State *state = STATE(module);
-    Py_CLEAR(state->literal);
-    Py_CLEAR(state->refusal);
-    Py_CLEAR(state->decimal);
-    for (int i = 0; i < 3; i++) Py_CLEAR(state->slow[i]);
-    Py_CLEAR(state->reader);
+    KEPT(CLEAR)
     return 0;
 }
 

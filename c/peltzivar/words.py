@@ -31,7 +31,6 @@ __all__ = ["Edit", "Error", "Format", "FormatError", "FormatView", "Note", "Opti
 __all__ += ["ReasonsError", "Role", "Rule", "Setter", "notes_of"]
 
 
-
 class _Named(Enum):
     def __str__(self) -> str:
         return self.name

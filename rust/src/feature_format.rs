@@ -32,7 +32,7 @@ use crate::view::{FormatView, Role, Separators};
 /// }
 /// assert_eq!(parse_digit::<STANDARD>(b'7'), Some(7));
 /// ```
-#[derive(Clone, Copy, PartialEq, Eq, Hash)]
+#[derive(Clone, Copy, Default, PartialEq, Eq, Hash)]
 #[expect(clippy::exhaustive_structs, reason = "written by callers")]
 pub struct NumberFormat<const FORMAT: u128>;
 
@@ -63,12 +63,6 @@ impl<const FORMAT: u128> NumberFormat<FORMAT> {
     }
 }
 
-impl<const FORMAT: u128> Default for NumberFormat<FORMAT> {
-    fn default() -> Self {
-        Self::new()
-    }
-}
-
 impl<const FORMAT: u128> From<NumberFormat<FORMAT>> for FormatView {
     fn from(format: NumberFormat<FORMAT>) -> Self {
         format.view()
@@ -83,21 +77,6 @@ impl TryFrom<u128> for Format {
     }
 }
 
-/// Defines conversions. A row has a name, the types, and a value of the second one.
-macro_rules! conversions {
-    ($($(#[$about:meta])* $it:ident: $Source:ident => $Target:ident { $value:expr })*) => {
-        $(
-            impl From<$Source> for $Target {
-                $(#[$about])*
-                #[inline]
-                fn from($it: $Source) -> Self {
-                    $value
-                }
-            }
-        )*
-    };
-}
-
 conversions! {
     view: FormatView => u128 { view.word() }
     word: u128 => FormatView { FormatView::new(word) }
@@ -105,6 +84,8 @@ conversions! {
     format: Format => FormatView { format.view() }
     /// Returns a builder with exactly the fields of the word, as [`from_word`][NumberFormatBuilder::from_word] does.
     format: Format => NumberFormatBuilder { NumberFormatBuilder::from_word(format.word()) }
+    /// Returns the [`code`][FormatError::code].
+    error: FormatError => Error { error.code() }
 }
 
 /// Defines methods that call those of the view. A row has a name, arguments and a result. All have the same mark.

@@ -2,7 +2,6 @@
 
 use core::fmt;
 
-use crate::error::Error;
 use crate::lawful::{FormatError, Rejected};
 use crate::reasons::{options_reasons, reasons, Reason, MAX_REASONS};
 use crate::short_text::ShortText;
@@ -95,12 +94,5 @@ impl fmt::Debug for FormatError {
         text.field("code", &self.code());
         text.field("message", &format_args!("\"{self}\""));
         text.finish()
-    }
-}
-
-/// Returns the [`code`][FormatError::code].
-impl From<FormatError> for Error {
-    fn from(error: FormatError) -> Self {
-        error.code()
     }
 }

@@ -64,14 +64,28 @@
 //! and `rustc`.
 #![no_std]
 #![forbid(unsafe_code)]
-#![allow(clippy::collapsible_match, clippy::len_zero, clippy::manual_find, clippy::manual_range_contains)]
-#![allow(clippy::match_like_matches_macro, clippy::module_inception, clippy::needless_lifetimes)]
-#![allow(clippy::question_mark, clippy::redundant_pattern_matching, reason = "code is as it is proved")]
+#![allow(clippy::len_zero, clippy::module_inception, clippy::needless_lifetimes)]
+#![allow(clippy::redundant_pattern_matching, reason = "code is as it is proved")]
 
 /// What the documentation adds to items that may change in any version. `rust/tools/surface.py` finds it.
 macro_rules! may_change {
     () => {
         "\n\n**May change in any version**: see [Until 2.0][crate::docs::changelog#until-20]."
+    };
+}
+
+/// Defines conversions. A row has a name, the types, and a value of the second one.
+macro_rules! conversions {
+    ($($(#[$about:meta])* $it:ident: $Source:ident => $Target:ident { $value:expr })*) => {
+        $(
+            impl From<$Source> for $Target {
+                $(#[$about])*
+                #[inline]
+                fn from($it: $Source) -> Self {
+                    $value
+                }
+            }
+        )*
     };
 }
 

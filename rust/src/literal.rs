@@ -78,12 +78,6 @@ mod stop;
 mod suffix;
 mod syntax;
 mod text;
-#[allow(
-    clippy::implicit_saturating_sub,
-    clippy::manual_is_ascii_check,
-    clippy::redundant_pattern_matching,
-    reason = "as it is proved"
-)]
 mod token;
 mod tokens;
 mod value;

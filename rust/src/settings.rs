@@ -345,15 +345,20 @@ const fn is_one_option(cause: Cause) -> bool {
     matches!(cause, Cause::NotText(byte) if byte.value == 0)
 }
 
+impl Cause {
+    /// Returns whether the cause names the exponent character, and whether the decimal point.
+    #[doc(hidden)]
+    #[must_use]
+    pub fn options(&self) -> [bool; 2] {
+        let names = |name| self.bytes().into_iter().flatten().any(|it| it.name == name);
+        [Byte::ExponentCharacter, Byte::DecimalPoint].map(names)
+    }
+}
+
 /// Returns the bits of the options that a cause names, or of both if one is `none`.
 fn options_of(cause: Cause) -> u32 {
-    let bytes = cause.bytes().into_iter().flatten();
-    bytes.fold(0, |mask, byte| match byte.name {
-        _ if is_one_option(cause) => 3,
-        Byte::ExponentCharacter => mask | 1,
-        Byte::DecimalPoint => mask | 2,
-        _ => mask,
-    })
+    let [exponent, point] = cause.options().map(|it| it || is_one_option(cause)).map(u32::from);
+    exponent | point << 1
 }
 
 /// A reason or a note, and the indexes of the settings that cause it.

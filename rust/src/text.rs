@@ -90,7 +90,7 @@ impl fmt::Debug for ShortText {
 }
 
 macro_rules! words {
-    ($($Type:ident)*) => {
+    ($($Type:ident: $($Number:ident)*;)*) => {
         $(
             /// Prints the word as `0x` followed by 32 hexadecimal digits. [`FromStr`] parses this text into the same word.
             impl fmt::Display for $Type {
@@ -99,24 +99,22 @@ macro_rules! words {
                 }
             }
 
-            /// Prints the word as a number.
-            impl fmt::LowerHex for $Type {
-                fn fmt(&self, f: &mut fmt::Formatter<'_>) -> fmt::Result {
-                    fmt::LowerHex::fmt(&self.word(), f)
+            $(
+                /// Prints the word as a number.
+                impl fmt::$Number for $Type {
+                    fn fmt(&self, f: &mut fmt::Formatter<'_>) -> fmt::Result {
+                        fmt::$Number::fmt(&self.word(), f)
+                    }
                 }
-            }
-
-            /// Prints the word as a number.
-            impl fmt::UpperHex for $Type {
-                fn fmt(&self, f: &mut fmt::Formatter<'_>) -> fmt::Result {
-                    fmt::UpperHex::fmt(&self.word(), f)
-                }
-            }
+            )*
         )*
     };
 }
 
-words! { FormatView Format }
+words! {
+    FormatView: LowerHex UpperHex;
+    Format: LowerHex UpperHex;
+}
 
 // For each type, defines a method that returns a constant text for each variant, and `Display`, which prints the text.
 macro_rules! texts {

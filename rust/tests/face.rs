@@ -6,7 +6,7 @@ mod random;
 
 use peltzivar::edits::edits_of;
 use peltzivar::format::{NumberFormatBuilder, BASE_PREFIX_SHIFT, BASE_SUFFIX_SHIFT, STANDARD};
-use peltzivar::literal::{Conditions, Form, FormError, Language, Literal, ReadError, Syntax, WriteError};
+use peltzivar::literal::{Condition, Conditions, Form, FormError, Language, Literal, ReadError, Syntax, WriteError};
 use peltzivar::{Edit, Error, FlagSetter, Format, FormatView, Settings};
 use random::Random;
 use std::{iter, num::NonZeroU8, panic};
@@ -180,16 +180,21 @@ fn syntaxes_are_parsed() {
     const OPTION: &str = "each of the two options is a character such as 'e', a number from 0 to 255, or `none`";
     const INTEGERS: &str = "0x0A0A0A0000000000000000000000000C";
     const NUMBERS: &str = "0x0A0A0A0000000000000000000000000C 101 46";
-    const CONDITIONS: &str = "0x101010687800005F000000070000000C required_base_prefix=true required_base_suffix=true \
-        no_negative_mantissa_sign=true integer_group_size=8 higher_group_size=2 fraction_group_size=3 \
-        required_leading_zero=true decimal_first_digit=true";
+    const WORD: &str = "0x101010687800005F000000070000000C";
+    // Each condition is set, with another number than those before it if it takes several.
+    let setting = |(index, it): (usize, &Condition)| match it.limits() {
+        (1, 1) => format!(" {}=true", it.name()),
+        (least, most) => format!(" {}={}", it.name(), least + index as u8 % (most - least + 1)),
+    };
+    let conditions = WORD.to_string() + &Condition::ALL.iter().enumerate().map(setting).collect::<String>();
+    let conditions = conditions.as_str();
     #[rustfmt::skip]
     let rows = [
         ("0x00000A0000000000000000000000000C", Ok(INTEGERS)),
         ("0x00000a0000000000000000000000000c 101 046", Ok(NUMBERS)),
         ("0x00000A0000000000000000000000000C 'e' 0x2e", Ok(NUMBERS)),
         ("0x00000A0000000000000000000000000C none 0", Ok(INTEGERS)),
-        (CONDITIONS, Ok(CONDITIONS)),
+        (conditions, Ok(conditions)),
         // A space between quotes is a character.
         ("0x00000A0000000000000000000000000C 'e' ' '", Ok("0x0A0A0A0000000000000000000000000C 101 32")),
         ("0x00000A0000000000000000000000000C ' ' '.'", Ok("0x0A0A0A0000000000000000000000000C 32 46")),
@@ -224,7 +229,7 @@ fn syntaxes_are_parsed() {
     for size in 0..1000 {
         let sentence = "integer_group_size takes a number from 2 to 8, or `none`".to_string();
         let wanted = (!matches!(size, 0 | 2..=8)).then_some((Error::InvalidDigit(35), sentence));
-        assert_eq!(refused(&format!("{} integer_group_size={size}", &CONDITIONS[..34])), wanted, "{size}");
+        assert_eq!(refused(&format!("{WORD} integer_group_size={size}")), wanted, "{size}");
     }
     let [integers, numbers] = [INTEGERS, NUMBERS].map(|text| text.parse::<Syntax>().expect(text));
     assert!(integers < numbers);

@@ -1,7 +1,6 @@
 //! Numbers of several forms: which form has a text, which has its error, and which writes a number.
 
 #[path = "known/limits.rs"]
-#[allow(dead_code, reason = "`kinds.rs` uses the rest")]
 mod limits;
 #[path = "../../compare/rust/src/random.rs"]
 mod random;

@@ -1,10 +1,8 @@
 //! The arguments that are pointers: input, output and text. A C caller may leave output uninitialised, so no reference
 //! to a value points to it.
 
-use crate::numbers::{error_number, ErrorNumber};
 use core::fmt::{self, Display, Write};
 use core::{ptr, slice};
-use peltzivar::Error;
 
 /// Returns the `len` values that begin at `start`. A null pointer with length 0 becomes an empty slice. Returns `None` if
 /// no object in C has so many bytes.
@@ -65,17 +63,6 @@ impl<T> Out<T> {
             self.write(value.into());
             0
         })
-    }
-
-    /// Writes the value and returns the number of success, or returns the number of the error.
-    pub fn write_ok(self, value: Result<impl Into<T>, Error>) -> ErrorNumber {
-        match value {
-            Err(error) => error_number(error),
-            Ok(value) => {
-                self.write(value.into());
-                error_number(Error::Success)
-            }
-        }
     }
 }
 

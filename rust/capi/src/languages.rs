@@ -3,7 +3,7 @@
 use crate::arguments::{input, Out, ValueStatus};
 use crate::lists::Forms;
 use crate::names::{at, texts};
-use peltzivar::literal::{Language, Sign, Special, Spelling};
+use peltzivar::literal::{Language, Sign, Special};
 
 /// A special value: the number of its spelling, and its sign, or 0 without one.
 #[repr(C)]
@@ -17,13 +17,8 @@ const _: () = assert!(size_of::<NumberedSpecial>() == 8, "the size in the header
 
 impl From<Special> for NumberedSpecial {
     fn from(special: Special) -> NumberedSpecial {
-        let spelling = match special.spelling {
-            Spelling::Nan => 1,
-            Spelling::Inf => 2,
-            Spelling::Infinity => 3,
-        };
         let sign = special.sign.map_or(0, |sign| if sign == Sign::Plus { b'+' } else { b'-' });
-        NumberedSpecial { spelling, sign, reserved: [0; 6] }
+        NumberedSpecial { spelling: special.spelling as u8 + 1, sign, reserved: [0; 6] }
     }
 }
 

@@ -12,7 +12,6 @@
 //!
 //! No other library has names that begin with `peltzivar_`, so `no_mangle` is sound.
 #![no_std]
-#![allow(clippy::missing_safety_doc, reason = "the header states what a caller ensures")]
 
 /// Exports functions under their own names to C.
 macro_rules! calls {

@@ -24,18 +24,9 @@ pub struct Specials {
     reserved: [u8; 8],
 }
 
-impl Specials {
-    /// Returns the bytes of the strings, or `None` if a later version may have others. A null pointer has none.
-    ///
-    /// # Safety
-    ///
-    /// A C caller passes the strings, or null pointers.
-    pub unsafe fn spellings(&self) -> Option<literal::Specials<'static>> {
-        let spelling = |it: *const u8| Some(string(it)).filter(|it| !it.is_empty());
-        let [nan, inf, infinity] = [self.nan, self.inf, self.infinity].map(spelling);
-        (self.reserved == [0; 8]).then_some(literal::Specials { nan, inf, infinity })
-    }
-}
+/// The kinds and the limits of floats, by their numbers.
+const FLOATS: [FloatKind; 2] = [FloatKind::Nearest, FloatKind::Single];
+const LIMITS: [FloatLimits; 3] = [FloatLimits::None, FloatLimits::Largest, FloatLimits::Both];
 
 /// The numbers of a kind.
 #[repr(C)]
@@ -57,12 +48,7 @@ impl KindNumbers {
             IntegerKind::Unsigned(bits) => (4, bits),
             _ => (0, 0),
         };
-        let limits = match kind.limits() {
-            FloatLimits::Largest => 1,
-            FloatLimits::Both => 2,
-            _ => 0,
-        };
-        KindNumbers { integers, bits, floats: matches!(kind.floats(), FloatKind::Single) as u8, limits }
+        KindNumbers { integers, bits, floats: kind.floats() as u8, limits: kind.limits() as u8 }
     }
 
     /// Returns the kind, or `None` if there is none with these numbers.
@@ -75,17 +61,8 @@ impl KindNumbers {
             (4, bits) => IntegerKind::Unsigned(bits),
             _ => return None,
         };
-        let floats = match self.floats {
-            0 => FloatKind::Nearest,
-            1 => FloatKind::Single,
-            _ => return None,
-        };
-        let limits = match self.limits {
-            0 => FloatLimits::None,
-            1 => FloatLimits::Largest,
-            2 => FloatLimits::Both,
-            _ => return None,
-        };
+        let floats = FLOATS.into_iter().find(|it| *it as u8 == self.floats)?;
+        let limits = LIMITS.into_iter().find(|it| *it as u8 == self.limits)?;
         Some(Kind::new(integers, floats)?.with_limits(limits))
     }
 }
@@ -311,11 +288,14 @@ impl Memory {
             let tokens = Some(self.keep(tokens)).filter(|_| reserved == [0; 5])?;
             made = made.zip(tokens).map(|(it, tokens)| it.with_tokens(tokens));
         }
-        let specials = list.specials.spellings()?;
+        let Specials { nan, inf, infinity, reserved } = list.specials;
+        let [nan, inf, infinity] = [nan, inf, infinity].map(|it| Some(string(it)).filter(|it| !it.is_empty()));
+        let specials = Some(literal::Specials { nan, inf, infinity }).filter(|_| reserved == [0; 8])?;
         // Memory is taken in any case, so that it counts.
         let to = self.take(1).first_mut();
         Some(made.zip(to).map(|(it, to)| &*to.write(it.with_specials(specials))))
     }
+
     /// Returns a string of words with spaces between them, or a null pointer if it is empty.
     fn string(&mut self, words: &[&[u8]]) -> *const u8 {
         let len = words.iter().map(|it| it.len() + 1).sum();
@@ -335,7 +315,7 @@ impl Memory {
     /// Returns suffixes as C has them.
     #[inline(never)]
     fn shown_suffixes(&mut self, it: &literal::Suffixes) -> Suffixes {
-        let ([either_case, whole_words], any, kinds, stops) = it.rules();
+        let (whole_words, kinds, stops) = it.rules();
         let (to_kinds, to_stops) = (self.take(kinds.len()), self.take(stops.len()));
         for (index, (word, kind)) in kinds.iter().enumerate() {
             let word = self.string(&[word]);
@@ -345,14 +325,14 @@ impl Memory {
             put(to_stops, index, Stop { bytes: stop.bytes().map(|it| self.string(&[it])), reserved: [0; 8] });
         }
         Suffixes {
-            words: it.words().map(|it| self.string(it)),
-            any: self.string(&[any]),
+            words: [it.integers(), it.floats()].map(|it| self.string(it)),
+            any: self.string(&[it.begins_any_word()]),
             written: self.string(it.written()),
             kinds: to_kinds.as_ptr().cast(),
             kind_count: kinds.len(),
             stops: to_stops.as_ptr().cast(),
             stop_count: stops.len(),
-            either_case: either_case.into(),
+            either_case: it.is_either_case().into(),
             whole_words: whole_words.into(),
             reserved: [0; 6],
             word_bytes: self.string(&[it.word_bytes()]),
@@ -372,7 +352,7 @@ impl Memory {
             let [case_sensitive_opening, only_read] = [form.opening().is_case_sensitive(), form.is_only_read()];
             let shown = Form {
                 name,
-                syntax: Syntax::of(form.syntax()),
+                syntax: form.syntax().into(),
                 kind: KindNumbers::of(form.kind()),
                 case_sensitive_opening: case_sensitive_opening.into(),
                 only_read: only_read.into(),
@@ -395,9 +375,10 @@ impl Memory {
     fn shown(&mut self, forms: &Forms) -> Option<&'static List> {
         let literal::Specials { nan, inf, infinity } = forms.specials();
         let [nan, inf, infinity] = [nan, inf, infinity].map(|it| self.string(&[it.unwrap_or_default()]));
-        let tokens = forms.token_rules().map(|(behind, following, flags)| {
-            let (forms, following) = (self.shown_forms(behind), self.string(following));
-            self.address(Tokens { forms, count: behind.len(), following, flags: flags.map(u8::from), reserved: [0; 5] })
+        let tokens = forms.tokens().map(|it| {
+            let (forms, following, flags) = (self.shown_forms(it.forms()), self.string(it.following()), it.flags());
+            let (count, flags) = (it.forms().len(), flags.map(u8::from));
+            self.address(Tokens { forms, count, following, flags, reserved: [0; 5] })
         });
         let list = List {
             forms: self.shown_forms(forms.as_slice()),

@@ -3,13 +3,13 @@
 //! A call takes a syntax of any bits: only `peltzivar_check_syntax` tests it, which takes longer than reading a short
 //! text, and a stamp that it would leave in the syntax would forbid a constant.
 
-use crate::arguments::{input, write_text, Out, ValueStatus, REFUSED, SPECIAL};
+use crate::arguments::{input, write_by, write_text, Out, ValueStatus, REFUSED, SPECIAL};
 use crate::lists::Forms;
 use crate::numbers::{error_number, ErrorNumber, Setter, Word, NO_PART, NO_SETTER};
-use core::fmt::{self, Display, Formatter};
+use core::fmt::{self, Display, Formatter, Write};
 use core::mem::ManuallyDrop;
 use core::ops::Range;
-use peltzivar::literal::{self, Condition, Conditions, FormError, Number, ReadErrorKind};
+use peltzivar::literal::{self, Condition, Conditions, FormError, Number, ReadErrorKind, TokenError};
 use peltzivar::{Error, Format, FormatError};
 
 /// A word with an exponent character, a decimal point and conditions, of any values. If both are 0, literals are
@@ -25,20 +25,6 @@ pub struct Syntax {
 }
 
 impl Syntax {
-    /// Returns a syntax in C.
-    pub const fn of(syntax: literal::Syntax) -> Syntax {
-        let (mut numbers, mut at) = ([0; 14], 0);
-        while at < Condition::ALL.len() {
-            numbers[at] = syntax.conditions().number(Condition::ALL[at]);
-            at += 1;
-        }
-        let (exponent, decimal_point) = match (syntax.exponent(), syntax.point()) {
-            (Some(exponent), Some(point)) => (exponent, point),
-            _ => (0, 0),
-        };
-        Syntax { format: Word::of(syntax.format().word()), exponent, decimal_point, numbers }
-    }
-
     /// Returns the exponent character and the decimal point, unless literals are integers.
     fn options(&self) -> Option<(u8, u8)> {
         match (self.exponent, self.decimal_point) {
@@ -50,11 +36,8 @@ impl Syntax {
     /// Returns the conditions, or `None` if a later version may have others.
     fn conditions(&self) -> Option<Conditions> {
         const COUNT: usize = Condition::ALL.len();
-        let (mut all, mut at) = (Conditions::NONE, 0);
-        while at < COUNT {
-            all = all.with(Condition::ALL[at], self.numbers[at]);
-            at += 1;
-        }
+        let all = Condition::ALL.iter().zip(self.numbers);
+        let all = all.fold(Conditions::NONE, |all, (it, number)| all.with(*it, number));
         (self.numbers[COUNT..] == [0; 14 - COUNT]).then_some(all)
     }
 
@@ -87,7 +70,10 @@ impl Syntax {
 
 impl From<literal::Syntax> for Syntax {
     fn from(syntax: literal::Syntax) -> Syntax {
-        Syntax::of(syntax)
+        let mut numbers = [0; 14];
+        numbers.iter_mut().zip(Condition::ALL).for_each(|(to, it)| *to = syntax.conditions().number(*it));
+        let [exponent, decimal_point] = [syntax.exponent(), syntax.point()].map(Option::unwrap_or_default);
+        Syntax { format: syntax.format().word().into(), exponent, decimal_point, numbers }
     }
 }
 
@@ -128,11 +114,11 @@ pub struct Reached {
 }
 
 /// Where reading stopped, and why.
-pub type ReadError = Made<Reached, Refusal<FormError>, 15>;
+pub type ReadError = Made<Reached, Refusal<TokenError>, 15>;
 
 impl ReadError {
     /// Returns the error of a form that is valid up to an index.
-    pub fn at(valid_up_to: usize, form: usize, refusal: Refusal<FormError>) -> ReadError {
+    pub fn at(valid_up_to: usize, form: usize, refusal: Refusal<TokenError>) -> ReadError {
         Made::new(Reached { valid_up_to, form: form as u8 }, refusal)
     }
 
@@ -140,7 +126,7 @@ impl ReadError {
     #[cold]
     #[inline(never)]
     pub fn of(why: FormError) -> ReadError {
-        ReadError::at(why.valid_up_to(), why.form, Refusal::Library(why))
+        ReadError::at(why.valid_up_to(), why.form, Refusal::Library(TokenError::Literal(why)))
     }
 }
 
@@ -157,20 +143,6 @@ const _: () = assert!(size_of::<literal::Literal>() <= 18 * size_of::<u64>());
 pub enum Refusal<E> {
     Argument(&'static str),
     Library(E),
-    /// The word from `start` to `end` is not a suffix of the form.
-    Suffix {
-        start: usize,
-        end: usize,
-    },
-    /// The decimal point before `end` belongs to what follows.
-    Point {
-        end: usize,
-    },
-    /// The bytes from `start` to `end` are a stop of the form.
-    Stop {
-        start: usize,
-        end: usize,
-    },
 }
 
 impl<E: Display> Display for Refusal<E> {
@@ -179,19 +151,7 @@ impl<E: Display> Display for Refusal<E> {
         match self {
             Refusal::Argument(sentence) => f.write_str(sentence),
             Refusal::Library(error) => error.fmt(f),
-            Refusal::Suffix { .. } => f.write_str("unknown suffix"),
-            Refusal::Point { .. } => f.write_str("the decimal point belongs to what follows"),
-            Refusal::Stop { .. } => f.write_str("the number cannot end here"),
         }
-    }
-}
-
-/// A refusal that prints flags and conditions, too.
-struct Full<'a>(&'a Refusal<FormError>);
-
-impl Display for Full<'_> {
-    fn fmt(&self, f: &mut Formatter<'_>) -> fmt::Result {
-        write!(f, "{:#}", self.0)
     }
 }
 
@@ -249,18 +209,15 @@ pub struct Explanation {
 
 impl Explanation {
     /// Returns what only bytes explain, by the number of a kind.
-    fn of_bytes(kind: u8, start: usize, end: usize) -> Explanation {
-        let (span, mask) = (Span { start, end }, Word::of(0));
-        Explanation { span, mask, kind, number: NO_SETTER, part: NO_PART, reserved: [0; 5], conditions: 0 }
+    fn of_bytes(kind: u8, Range { start, end }: Range<usize>) -> Explanation {
+        let span = Span { start, end };
+        Explanation { span, mask: 0.into(), kind, number: NO_SETTER, part: NO_PART, reserved: [0; 5], conditions: 0 }
     }
 }
 
 impl From<&FormError> for Explanation {
     fn from(error: &FormError) -> Explanation {
-        let Some(error) = error.error() else {
-            let Range { start, end } = error.span();
-            return Explanation::of_bytes(9, start, end);
-        };
+        let Some(error) = error.error() else { return Explanation::of_bytes(9, error.span()) };
         let (kind, part) = match error.kind() {
             ReadErrorKind::Requirement => (1, None),
             ReadErrorKind::Separator(part, _) => (2, Some(part)),
@@ -388,11 +345,12 @@ calls! {
     }
 
     fn peltzivar_explain(error: &ReadError, out: Out<Explanation>) -> ValueStatus {
-        out.write_some(match error.value() {
-            Some(Refusal::Library(error)) => Some(Explanation::from(error)),
-            Some(Refusal::Suffix { start, end }) => Some(Explanation::of_bytes(6, *start, *end)),
-            Some(Refusal::Point { end }) => Some(Explanation::of_bytes(7, *end, *end)),
-            Some(Refusal::Stop { start, end }) => Some(Explanation::of_bytes(8, *start, *end)),
+        let Some(Refusal::Library(error)) = error.value() else { return REFUSED };
+        out.write_some(match *error {
+            TokenError::Literal(ref error) => Some(Explanation::from(error)),
+            TokenError::UnknownSuffix { start, end, .. } => Some(Explanation::of_bytes(6, start..end)),
+            TokenError::NotAToken { end } => Some(Explanation::of_bytes(7, end..end)),
+            TokenError::Stopped { start, end, .. } => Some(Explanation::of_bytes(8, start..end)),
             _ => None,
         })
     }
@@ -402,6 +360,6 @@ calls! {
     }
 
     fn peltzivar_read_error_full_text(error: &ReadError, text: *mut u8, len: usize) -> usize {
-        write_text(text, len, error.value().map(Full))
+        write_by(text, len, |text| error.value().map_or(Ok(()), |it| write!(text, "{it:#}")))
     }
 }

@@ -2,7 +2,7 @@
 
 use core::num::NonZeroU8;
 use peltzivar::edits::{self, FLAG_COUNT};
-use peltzivar::{Byte, Edit, Error, FormatView, NumberFormatBuilder, Reason, Rule};
+use peltzivar::{Edit, Error, FormatView, NumberFormatBuilder, Reason, Rule};
 
 /// A format word as two halves, since C has no 128-bit integer type that every compiler supports.
 #[repr(C)]
@@ -13,11 +13,6 @@ pub struct Word {
 }
 
 impl Word {
-    /// Returns the halves of a number.
-    pub const fn of(number: u128) -> Word {
-        Word { low: number as u64, high: (number >> 64) as u64 }
-    }
-
     /// Returns the number with these halves.
     pub fn number(self) -> u128 {
         u128::from(self.high) << 64 | u128::from(self.low)
@@ -31,7 +26,7 @@ impl Word {
 
 impl From<u128> for Word {
     fn from(number: u128) -> Word {
-        Word::of(number)
+        Word { low: number as u64, high: (number >> 64) as u64 }
     }
 }
 
@@ -123,12 +118,8 @@ pub fn broken_rules(reason: Reason) -> u32 {
 
 /// Returns the options that a reason blames. Bit n is the role with the number n.
 pub fn blamed_options(reason: Reason) -> u32 {
-    let bytes = reason.cause().bytes().into_iter().flatten();
-    bytes.fold(0, |bits, byte| match byte.name {
-        Byte::ExponentCharacter => bits | 1 << 6,
-        Byte::DecimalPoint => bits | 1 << 7,
-        _ => bits,
-    })
+    let [exponent, point] = reason.cause().options().map(u32::from);
+    exponent << 6 | point << 7
 }
 
 /// The number that C uses for an [`Error`]: 0 for success, and otherwise the rank plus 1.

@@ -7,14 +7,9 @@ use core::fmt::Display;
 use core::str::from_utf8;
 use peltzivar::{Edit, EditError, Finding, FindingKind, LineError, Settings};
 
-/// Returns a string. One that is too long or not UTF-8 is read as a setting with an unknown name.
-unsafe fn string<'a>(text: *const u8, len: usize) -> &'a str {
-    input(text, len).and_then(|it| from_utf8(it).ok()).unwrap_or("=")
-}
-
-/// Parses a setting.
+/// Parses a setting. A text that is too long or not UTF-8 is read as a setting with an unknown name.
 unsafe fn parsed(text: *const u8, len: usize) -> Result<Edit, EditError> {
-    string(text, len).parse()
+    input(text, len).and_then(|it| from_utf8(it).ok()).unwrap_or("=").parse()
 }
 
 /// What takes a sentence and lines, and returns what a call returns.

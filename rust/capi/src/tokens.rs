@@ -1,6 +1,6 @@
 //! Calls that read tokens.
 
-use crate::arguments::{input, write_text, Out, ValueStatus};
+use crate::arguments::{input, write_text, Out, ValueStatus, REFUSED};
 use crate::lists::Forms;
 use crate::literals::{Literal, ReadError, Refusal, Span, NO_FORMS, TOO_LONG};
 use peltzivar::literal::{self, TokenError};
@@ -31,15 +31,18 @@ impl<'a> Token<'a> {
 /// Returns the error that C gets. An error of a suffix has words of the caller, which it does not keep.
 #[cold]
 #[inline(never)]
-fn error_of(why: TokenError) -> ReadError {
-    let (at, form, refusal) = match why {
+fn error_of(mut why: TokenError) -> ReadError {
+    let (at, form) = match why {
         TokenError::Literal(why) => return ReadError::of(why),
-        TokenError::UnknownSuffix { form, start, end, .. } => (start, form, Refusal::Suffix { start, end }),
-        TokenError::Stopped { form, start, end } => (start, form, Refusal::Stop { start, end }),
-        TokenError::NotAToken { end } => (end, 0, Refusal::Point { end }),
-        _ => (0, 0, Refusal::Argument("these forms have no tokens")),
+        TokenError::UnknownSuffix { form, start, ref mut suffixes, .. } => {
+            *suffixes = &[];
+            (start, form)
+        }
+        TokenError::Stopped { form, start, .. } => (start, form),
+        TokenError::NotAToken { end } => (end, 0),
+        _ => (0, 0),
     };
-    ReadError::at(at, form, refusal)
+    ReadError::at(at, form, Refusal::Library(why))
 }
 
 /// Returns the token that a text begins with. It is called in two places, and is large.
@@ -60,13 +63,12 @@ calls! {
     fn peltzivar_forms_token(
         forms: Option<&Forms>, text: *const u8, len: usize, out: Out<Token>, error: Out<ReadError>
     ) -> ValueStatus {
-        let found = token(forms, (text, len));
-        match &found {
-            Err(Refusal::Library(why)) => error.write(error_of(*why)),
+        match token(forms, (text, len)) {
+            Ok(token) => return out.write_some(Some(Token::of(token, len))),
+            Err(Refusal::Library(why)) => error.write(error_of(why)),
             Err(Refusal::Argument(sentence)) => error.write(ReadError::at(0, 0, Refusal::Argument(sentence))),
-            _ => {}
         }
-        out.write_some(found.ok().map(|token| Token::of(token, len)))
+        REFUSED
     }
 
     fn peltzivar_token_error_text(

@@ -53,15 +53,13 @@ fn write_value<T, C: From<T>>(value: Result<T, ValueErrorKind>, out: Out<C>) -> 
             out.write(value.into());
             0
         }
-        Err(error) => match error {
-            ValueErrorKind::Float => 1,
-            ValueErrorKind::TooLarge => 2,
-            ValueErrorKind::TooSmall => 3,
-            ValueErrorKind::Special => SPECIAL,
-            ValueErrorKind::NotWhole => 8,
-            ValueErrorKind::Vanishes => 9,
-            _ => 4,
-        },
+        Err(ValueErrorKind::Float) => 1,
+        Err(ValueErrorKind::TooLarge) => 2,
+        Err(ValueErrorKind::TooSmall) => 3,
+        Err(ValueErrorKind::Special) => SPECIAL,
+        Err(ValueErrorKind::NotWhole) => 8,
+        Err(ValueErrorKind::Vanishes) => 9,
+        Err(_) => 4,
     }
 }
 

@@ -9,12 +9,6 @@ use peltzivar::{edits, Error, FormatView, Note, NumberFormatBuilder, Reason};
 /// The result for a byte that is not a digit.
 const NO_DIGIT: u32 = u32::MAX;
 
-/// Applies the edits in order. Returns `None` if an edit has an unknown setter, or if there are too many.
-unsafe fn edited(builder: NumberFormatBuilder, edits: *const NumberedEdit, len: usize) -> Option<NumberFormatBuilder> {
-    let apply = |it, edit: &NumberedEdit| Some(edits::apply(it, edit.edit()?));
-    input(edits, len)?.iter().try_fold(builder, apply)
-}
-
 fn reason_at(format: Word, index: usize) -> Option<Reason> {
     item(format.view().reasons(), index)
 }
@@ -48,7 +42,9 @@ calls! {
     fn peltzivar_pack(fields: &Fields) -> Word { fields.builder().build_unchecked().into() }
 
     fn peltzivar_edit_fields(fields: &mut Fields, edits: *const NumberedEdit, len: usize) -> ValueStatus {
-        let builder = edited(fields.builder(), edits, len);
+        // There is none if an edit has an unknown setter, or if there are too many.
+        let apply = |it, edit: &NumberedEdit| Some(edits::apply(it, edit.edit()?));
+        let builder = input(edits, len).and_then(|all| all.iter().try_fold(fields.builder(), apply));
         builder.map_or(REFUSED, |it| {
             *fields = it.into();
             0
@@ -62,11 +58,14 @@ calls! {
     fn peltzivar_parse_word(text: *const u8, len: usize, out: Out<Word>, index: Out<usize>) -> ErrorNumber {
         let text = input(text, len).ok_or(Error::Overflow(0));
         let text = text.and_then(|it| from_utf8(it).map_err(|_| Error::InvalidDigit(0)));
-        let view = text.and_then(|text| text.parse::<FormatView>());
-        if let Err(error) = view {
-            index.write(error.index().copied().unwrap_or(0));
+        match text.and_then(|text| text.parse::<FormatView>()) {
+            Ok(view) => out.write(view.word().into()),
+            Err(error) => {
+                index.write(error.index().copied().unwrap_or(0));
+                return error_number(error);
+            }
         }
-        out.write_ok(view.map(|view| view.word()))
+        error_number(Error::Success)
     }
 
     fn peltzivar_reason_text(format: Word, index: usize, text: *mut u8, len: usize) -> usize {

@@ -132,10 +132,7 @@ unsafe fn write<'a>(
     format: impl FnOnce(&literal::Syntax, literal::Style) -> Result<Written<'a>, WriteError>,
 ) -> WriteStatus {
     match (Syntax::given(syntax).filter(has_radixes), wishes(style)) {
-        (Some(syntax), Some(style)) => match format(&syntax, style) {
-            Ok(written) => print(&written, to),
-            Err(error) => status_of(error),
-        },
+        (Some(syntax), Some(style)) => format(&syntax, style).map_or_else(status_of, |written| print(&written, to)),
         _ => ARGUMENT,
     }
 }
@@ -160,10 +157,8 @@ unsafe fn write_number(
 unsafe fn write_special(forms: Option<&Forms>, to: (*mut u8, usize, Out<usize>), value: f64) -> WriteStatus {
     let spelling = if value.is_nan() { Spelling::Nan } else { Spelling::Inf };
     let special = Special { sign: (value < 0.0).then_some(Sign::Minus), spelling };
-    match forms.map_or(Err(WriteError::Special), |it| it.format_special(special)) {
-        Ok(written) => print(&written, to),
-        Err(error) => status_of(error),
-    }
+    let written = forms.map_or(Err(WriteError::Special), |it| it.format_special(special));
+    written.map_or_else(status_of, |written| print(&written, to))
 }
 
 /// Writes an integer. All calls share it, since a copy for each type takes 2 kB.

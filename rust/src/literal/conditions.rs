@@ -199,9 +199,7 @@ impl fmt::Display for ConditionsError {
     }
 }
 
-/// Makes the error of settings, or of a text, whose conditions contradict the format.
-impl From<ConditionsError> for FormatError {
-    fn from(error: ConditionsError) -> FormatError {
-        FormatError::new(error.kind.lacking().0, Rejected::Conditions(error))
-    }
+conversions! {
+    /// Makes the error of settings, or of a text, whose conditions contradict the format.
+    error: ConditionsError => FormatError { FormatError::new(error.kind.lacking().0, Rejected::Conditions(error)) }
 }

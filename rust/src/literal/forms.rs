@@ -4,7 +4,7 @@ use core::{fmt, ops, ops::Range, slice, str};
 
 use crate::literal::list::{Furthest, Unopened};
 use crate::literal::sentence::first_character;
-use crate::literal::stop::{Begun, Stopped};
+use crate::literal::stop::Stopped;
 use crate::literal::value::Decimal;
 use crate::literal::{
     Form, FormError, Forms, FromLiteral, IntegerKind, Literal, Number, ParseError, ReadError, ReadErrorKind, Special,
@@ -198,18 +198,6 @@ const fn may_be_decimal(text: &[u8]) -> bool {
     match text {
         [b'0', byte, ..] | [byte, ..] => *byte <= b'9',
         [] => true,
-    }
-}
-
-impl Syntax {
-    // Returns what `begin` returns for any syntax. The library for C, which sets `peltzivar_small`, has this code once.
-    #[inline(always)]
-    pub(crate) const fn begin_small(&self, text: &[u8], fronts: bool) -> Begun {
-        if cfg!(peltzivar_small) {
-            self.begin_any(text, fronts)
-        } else {
-            self.begin(false, text, fronts)
-        }
     }
 }
 

@@ -88,6 +88,29 @@ impl Language {
     pub const fn forms(&self) -> &'static Forms<'static> {
         &self.0.forms
     }
+
+    /// Returns other names of the language that people type.
+    #[doc(hidden)]
+    pub fn aliases(&self) -> impl Iterator<Item = &'static str> + use<> {
+        let language = *self;
+        tables::ALIASES.iter().filter(move |it| it.1 == language).map(|it| it.0)
+    }
+
+    /// Returns the language that is meant by a text that is not its name: an alias, a part of a name, a name with one letter
+    /// wrong, missing or too many or with two exchanged, or a text that begins with a name.
+    fn near(text: &str) -> Option<Language> {
+        let text = text.as_bytes();
+        let find = |is_near: fn(&[u8], &[u8]) -> bool| {
+            let names = |it: &Language| [it.name().as_bytes(), it.title().as_bytes()];
+            Language::ALL.iter().find(|it| names(it).iter().any(|name| is_near(text, name)))
+        };
+        let alias = tables::ALIASES.iter().find(|it| is_same(it.0.as_bytes(), text)).map(|it| &it.1);
+        alias
+            .or_else(|| find(is_part))
+            .or_else(|| find(is_misspelt))
+            .or_else(|| find(|text, name| is_part(name, text)))
+            .copied()
+    }
 }
 
 /// Defines the calls that forms have, too.
@@ -148,31 +171,6 @@ const fn is_same(name: &[u8], other: &[u8]) -> bool {
         index += 1;
     }
     index == name.len() && index == other.len()
-}
-
-impl Language {
-    /// Returns other names of the language that people type.
-    #[doc(hidden)]
-    pub fn aliases(&self) -> impl Iterator<Item = &'static str> + use<> {
-        let language = *self;
-        tables::ALIASES.iter().filter(move |it| it.1 == language).map(|it| it.0)
-    }
-
-    /// Returns the language that is meant by a text that is not its name: an alias, a part of a name, a name with one letter
-    /// wrong, missing or too many or with two exchanged, or a text that begins with a name.
-    fn near(text: &str) -> Option<Language> {
-        let text = text.as_bytes();
-        let find = |is_near: fn(&[u8], &[u8]) -> bool| {
-            let names = |it: &Language| [it.name().as_bytes(), it.title().as_bytes()];
-            Language::ALL.iter().find(|it| names(it).iter().any(|name| is_near(text, name)))
-        };
-        let alias = tables::ALIASES.iter().find(|it| is_same(it.0.as_bytes(), text)).map(|it| &it.1);
-        alias
-            .or_else(|| find(is_part))
-            .or_else(|| find(is_misspelt))
-            .or_else(|| find(|text, name| is_part(name, text)))
-            .copied()
-    }
 }
 
 /// Returns whether a word of a name begins with at least three bytes.

@@ -115,6 +115,16 @@ impl Syntax {
         self.begin(false, text, fronts)
     }
 
+    // Returns what `begin` returns for any syntax. The library for C, which sets `peltzivar_small`, has this code once.
+    #[inline(always)]
+    pub(crate) const fn begin_small(&self, text: &[u8], fronts: bool) -> Begun {
+        if cfg!(peltzivar_small) {
+            self.begin_any(text, fronts)
+        } else {
+            self.begin(false, text, fronts)
+        }
+    }
+
     // Returns what `read` returns, where `at` has been read.
     #[inline(never)]
     const fn read_slowly<'t>(&self, text: &'t [u8], at: Stopped) -> Result<Literal<'t>, ReadError> {
@@ -337,26 +347,17 @@ impl AsRef<[u8]> for Literal<'_> {
 /// Prints the text that was read, with the width and the fill of the formatter. A precision is ignored.
 impl fmt::Display for Literal<'_> {
     fn fmt(&self, f: &mut fmt::Formatter<'_>) -> fmt::Result {
-        pad(f, self.text.len(), |f| f.write_str(self.as_str()))
+        let missing = f.width().unwrap_or(0).saturating_sub(self.text.len());
+        let before = match f.align() {
+            Some(fmt::Alignment::Right) => missing,
+            Some(fmt::Alignment::Center) => missing / 2,
+            Some(fmt::Alignment::Left) | None => 0,
+        };
+        let fill = f.fill();
+        (0..before).try_for_each(|_| f.write_char(fill))?;
+        f.write_str(self.as_str())?;
+        (before..missing).try_for_each(|_| f.write_char(fill))
     }
-}
-
-/// Prints a text of `length` characters with the width and the fill of the formatter.
-fn pad(
-    f: &mut fmt::Formatter<'_>,
-    length: usize,
-    print: impl FnOnce(&mut fmt::Formatter<'_>) -> fmt::Result,
-) -> fmt::Result {
-    let missing = f.width().unwrap_or(0).saturating_sub(length);
-    let before = match f.align() {
-        Some(fmt::Alignment::Right) => missing,
-        Some(fmt::Alignment::Center) => missing / 2,
-        Some(fmt::Alignment::Left) | None => 0,
-    };
-    let fill = f.fill();
-    (0..before).try_for_each(|_| f.write_char(fill))?;
-    print(f)?;
-    (before..missing).try_for_each(|_| f.write_char(fill))
 }
 
 /// Writes the parts that are present, such as `Literal { integer: "1", point: ".", fraction: "5" }`.

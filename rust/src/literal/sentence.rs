@@ -153,17 +153,7 @@ impl ReadError {
             ReadErrorKind::Byte => unexpected(first_character(&refusal.wrong())),
         }
     }
-}
 
-impl Refusal {
-    /// Returns the byte that cannot follow, and what may follow it in its character. Other bytes are 0.
-    const fn wrong(&self) -> [u8; 4] {
-        let [second, third, fourth] = self.tail;
-        [if let Some(byte) = self.byte { byte } else { 0 }, second, third, fourth]
-    }
-}
-
-impl ReadError {
     /// Returns the sentence for a condition.
     const fn unmet(&self, condition: Condition) -> ShortText {
         let Grammar { prefix, suffix, conditions, .. } = *self.spot.as_grammar();
@@ -185,6 +175,14 @@ impl ReadError {
             Condition::LeadingZero => ShortText::of("expected a leading zero"),
             Condition::DecimalFirstDigit => ShortText::of("expected a first digit from 0 to 9"),
         }
+    }
+}
+
+impl Refusal {
+    /// Returns the byte that cannot follow, and what may follow it in its character. Other bytes are 0.
+    const fn wrong(&self) -> [u8; 4] {
+        let [second, third, fourth] = self.tail;
+        [if let Some(byte) = self.byte { byte } else { 0 }, second, third, fourth]
     }
 }
 

@@ -6,7 +6,7 @@ use crate::literal::list::PointsBack;
 use crate::literal::step::part_of;
 use crate::literal::stop::Stopped;
 use crate::literal::suffix::{begins, has_byte, is_word_byte, word_size};
-use crate::literal::{Form, FormError, Forms, Kind, Stop, Suffixes, Token, TokenError, Tokens};
+use crate::literal::{FormError, Forms, Kind, Stop, Suffixes, Token, TokenError, Tokens};
 use crate::short_text::ShortText;
 use crate::Part;
 
@@ -72,21 +72,15 @@ impl Forms<'_> {
         }
         suffix
     }
+}
 
-    /// Returns the forms that need a suffix, the words that may follow, and whether points are given back, to letters alone, and any word
-    /// may follow, for the library for C.
+impl Tokens {
+    /// Returns whether points are given back, to letters alone, and any word may follow, for the library for C.
     #[doc(hidden)]
     #[must_use]
-    #[allow(clippy::type_complexity, reason = "it is for the library for C alone")]
-    pub const fn token_rules(&self) -> Option<(&[Form], &[&'static [u8]], [bool; 3])> {
-        match self.tokens {
-            Some(Tokens { forms, following, gives_points_back: back, any_word_follows }) => {
-                let [to_words, to_letters] =
-                    [matches!(back, PointsBack::ToWords), matches!(back, PointsBack::ToLetters)];
-                Some((forms, following, [to_words, to_letters, *any_word_follows]))
-            }
-            None => None,
-        }
+    pub const fn flags(&self) -> [bool; 3] {
+        let back = self.gives_points_back;
+        [matches!(back, PointsBack::ToWords), matches!(back, PointsBack::ToLetters), self.any_word_follows]
     }
 }
 
@@ -105,18 +99,12 @@ impl Suffixes {
         is_one && word_size(self.word_bytes(), text) == text.len()
     }
 
-    /// Returns the words behind integers and floats, and the bytes of which any word that begins with one is a suffix.
-    #[doc(hidden)]
-    #[must_use]
-    pub const fn words(&self) -> [&'static [&'static [u8]]; 2] {
-        [self.integers, self.floats]
-    }
-
+    /// Returns whether a suffix is a whole word, the kinds, and the stops, for the library for C.
     #[doc(hidden)]
     #[must_use]
     #[allow(clippy::type_complexity, reason = "it is for the library for C alone")]
-    pub const fn rules(&self) -> ([bool; 2], &'static [u8], &'static [(&'static [u8], Kind)], &'static [Stop]) {
-        ([self.either_case, self.whole_words], self.any, self.kinds, self.stops)
+    pub const fn rules(&self) -> (bool, &'static [(&'static [u8], Kind)], &'static [Stop]) {
+        (self.whole_words, self.kinds, self.stops)
     }
 }
 

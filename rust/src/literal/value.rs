@@ -151,6 +151,47 @@ impl<'a> Literal<'a> {
         let radixes = [self.format().mantissa_radix(), self.format().exponent_base(), self.format().exponent_radix()];
         (radixes == [10; 3] || !self.is_float()).then_some(Plain(*self))
     }
+
+    /// Returns the value by the kind, if it is not the number that the literal represents.
+    #[inline(never)]
+    pub(crate) fn other_value(&self) -> Option<Other> {
+        if self.has_integer_kind() {
+            let Ok(own) = own_numeral(self) else { return Some(Other::TooLarge) };
+            let value = own.as_i128()?;
+            let written = integer_numeral(self)?.as_i128();
+            (written != Some(value)).then_some(Other::Integer(value))
+        } else if self.is_single() || self.is_float() && !matches!(self.kind().limits(), FloatLimits::None) {
+            let nearest = nearest_float::<f64>(self).ok()?;
+            let Ok(value) = to_float::<f64>(self) else { return Some(Other::TooLarge) };
+            (value.to_bits() != nearest.to_bits()).then_some(Other::Single(value))
+        } else {
+            None
+        }
+    }
+
+    /// Returns the error of the literal in a type.
+    const fn error<T: FromLiteral>(&self, kind: ValueErrorKind) -> ValueError {
+        ValueError::of::<T>(kind, self.end(), self.integer_kind())
+    }
+
+    /// Returns the kind of the literal if it is an integer. A float has none.
+    pub(crate) const fn integer_kind(&self) -> IntegerKind {
+        if self.is_float() {
+            IntegerKind::Exact
+        } else {
+            self.kind().integers()
+        }
+    }
+
+    /// Returns whether the literal is an integer of a kind that is not exact.
+    const fn has_integer_kind(&self) -> bool {
+        !matches!(self.integer_kind(), IntegerKind::Exact)
+    }
+
+    /// Returns whether the literal is worth a single as a float.
+    const fn is_single(&self) -> bool {
+        matches!(self.kind().floats(), FloatKind::Single) && !self.has_integer_kind()
+    }
 }
 
 /// The text of [`Literal::plain`], which its `Display` prints.
@@ -280,49 +321,6 @@ pub(crate) enum Other {
     Integer(i128),
     Single(f64),
     TooLarge,
-}
-
-impl Literal<'_> {
-    /// Returns the value by the kind, if it is not the number that the literal represents.
-    #[inline(never)]
-    pub(crate) fn other_value(&self) -> Option<Other> {
-        if self.has_integer_kind() {
-            let Ok(own) = own_numeral(self) else { return Some(Other::TooLarge) };
-            let value = own.as_i128()?;
-            let written = integer_numeral(self)?.as_i128();
-            (written != Some(value)).then_some(Other::Integer(value))
-        } else if self.is_single() || self.is_float() && !matches!(self.kind().limits(), FloatLimits::None) {
-            let nearest = nearest_float::<f64>(self).ok()?;
-            let Ok(value) = to_float::<f64>(self) else { return Some(Other::TooLarge) };
-            (value.to_bits() != nearest.to_bits()).then_some(Other::Single(value))
-        } else {
-            None
-        }
-    }
-
-    /// Returns the error of the literal in a type.
-    const fn error<T: FromLiteral>(&self, kind: ValueErrorKind) -> ValueError {
-        ValueError::of::<T>(kind, self.end(), self.integer_kind())
-    }
-
-    /// Returns the kind of the literal if it is an integer. A float has none.
-    pub(crate) const fn integer_kind(&self) -> IntegerKind {
-        if self.is_float() {
-            IntegerKind::Exact
-        } else {
-            self.kind().integers()
-        }
-    }
-
-    /// Returns whether the literal is an integer of a kind that is not exact.
-    const fn has_integer_kind(&self) -> bool {
-        !matches!(self.integer_kind(), IntegerKind::Exact)
-    }
-
-    /// Returns whether the literal is worth a single as a float.
-    const fn is_single(&self) -> bool {
-        matches!(self.kind().floats(), FloatKind::Single) && !self.has_integer_kind()
-    }
 }
 
 /// Returns the bits of the float nearest to a literal, without its sign, or `None` if the radix and the base are not both 10.

@@ -15,9 +15,6 @@ mod binary;
     clippy::exhaustive_structs,
     clippy::manual_map,
     clippy::manual_ok_err,
-    clippy::needless_lifetimes,
-    clippy::question_mark,
-    clippy::single_match,
     reason = "as it is proved, and for the library for C alone"
 )]
 mod choice;
@@ -56,38 +53,38 @@ pub trait WriteFloat: Float {}
 
 impl<T: Float> WriteFloat for T {}
 
-impl Style {
+/// Makes the calls that state a wish, each by its field and the value of this.
+macro_rules! wishes {
+    ($($(#[$about:meta])* $name:ident($($value:ident: $Type:ty)?) { $field:ident: $wish:expr })*) => {
+        impl Style {
+            $(
+                $(#[$about])*
+                #[must_use]
+                pub const fn $name(mut self, $($value: $Type)?) -> Style {
+                    self.$field = $wish;
+                    self
+                }
+            )*
+        }
+    };
+}
+
+wishes! {
     /// Writes the integer digits in groups of `size` digits, counted from the right. For `0`, there are no groups. Where a
     /// condition of the syntax has a size, the groups have this, and where the format does not allow separators between digits,
     /// there are none.
-    #[must_use]
-    pub const fn group(mut self, size: usize) -> Style {
-        self.group = Grouping::Of(size);
-        self
-    }
+    group(size: usize) { group: Grouping::Of(size) }
 
     /// Leaves out the base prefix and the base suffix, unless a condition of the syntax requires them.
-    #[must_use]
-    pub const fn without_base(mut self) -> Style {
-        self.base = false;
-        self
-    }
+    without_base() { base: false }
 
     /// Writes the digits that are letters in lowercase. A prefix, a suffix and an exponent character stay as the syntax has
     /// them.
-    #[must_use]
-    pub const fn lowercase(mut self) -> Style {
-        self.lowercase = true;
-        self
-    }
+    lowercase() { lowercase: true }
 
     /// Writes the integer with at least `count` digits. Zeros are added before the others, where the format allows leading
     /// zeros.
-    #[must_use]
-    pub const fn min_digits(mut self, count: u8) -> Style {
-        self.min_digits = count;
-        self
-    }
+    min_digits(count: u8) { min_digits: count }
 
     /// Chooses whether a number is written with an exponent.
     ///
@@ -104,11 +101,7 @@ impl Style {
     /// assert_eq!(write("1.5", ExponentStyle::Always), "1.5");
     /// assert_eq!(write("1.5e3", ExponentStyle::AsNumber), "1.5e3");
     /// ```
-    #[must_use]
-    pub const fn exponent(mut self, wish: ExponentStyle) -> Style {
-        self.exponent = wish;
-        self
-    }
+    exponent(wish: ExponentStyle) { exponent: wish }
 
     /// Rounds a float to `count` digits behind the point, as `{:.2}` of std does: to the nearest, or to the even one if two
     /// are as near. The sign of a number that becomes 0 is kept. There is no exponent, or 0 where the syntax requires one, unless
@@ -126,11 +119,7 @@ impl Style {
     /// let always = money.exponent(ExponentStyle::Always);
     /// assert_eq!(json.format_float(99999.0, always).unwrap().to_string(), "1.00e5");
     /// ```
-    #[must_use]
-    pub const fn decimals(mut self, count: u8) -> Style {
-        self.decimals = Some(count);
-        self
-    }
+    decimals(count: u8) { decimals: Some(count) }
 }
 
 /// Defines the default of a type.

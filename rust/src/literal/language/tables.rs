@@ -36,9 +36,7 @@ macro_rules! list {
     ($($word:tt)*) => { const { &[$(stringify!($word).as_bytes()),*] } };
 }
 macro_rules! kinds {
-    ($($kind:expr => $($word:ident)* $($quoted:lifetime)*;)*) => {
-        &[$($((stringify!($word).as_bytes(), $kind),)* $((stringify!($quoted).as_bytes(), $kind),)*)*]
-    };
+    ($($kind:expr => [$($word:tt)*];)*) => { &[$($((stringify!($word).as_bytes(), $kind),)*)*] };
 }
 
 /// Numbers without signs, which are operators, and without NaN and infinity, which are names.
@@ -171,14 +169,19 @@ const RAKU_PREFIXED: NumberFormatBuilder = GO_PREFIXED.case_sensitive_base_prefi
 /// Digits of Ruby, which are separated by one `_`, after a sign.
 const RUBY: NumberFormatBuilder = separated(b'_').no_positive_mantissa_sign(false); // accepts `+1`
 
-/// Numbers of Lisps, with signs.
-const LISP: NumberFormatBuilder = NumberFormatBuilder::new().no_special(true); // accepts `+1`
+/// Numbers with signs, without NaN and infinity.
+const SIGNED: NumberFormatBuilder = NumberFormatBuilder::new().no_special(true); // accepts `+1`, rejects `NaN` and `inf`
 
 /// Digits of C and C++.
 const C: NumberFormatBuilder = separated(b'\''); // accepts `1'000`, not `1''0`
 
 /// Digits of C#, Java and Kotlin.
 const JAVA: NumberFormatBuilder = separated(b'_').consecutive_digit_separator(true); // accepts `1__0`
+
+/// Decimal digits of Kotlin and Scala.
+const KOTLIN: NumberFormatBuilder = JAVA
+    .required_fraction_digits(true) // rejects `1.`, not `.5`
+    .no_integer_leading_zeros(true); // rejects `01`, not `01.0`
 
 /// Digits of Visual Basic after a prefix.
 const VISUAL_BASIC: NumberFormatBuilder = JAVA.integer_leading_digit_separator(true); // accepts `&H_1F`
@@ -195,8 +198,14 @@ const YAML_1_1: NumberFormatBuilder = RUST.no_positive_mantissa_sign(false); // 
 /// Digits of D after a prefix.
 const D_PREFIXED: NumberFormatBuilder = RUST.integer_leading_digit_separator(true); // accepts `0x_1F`
 
-/// Digits of Rust after a prefix.
+/// Digits of Rust and, after a sign, of YAML 1.1 after a prefix.
 const RUST_PREFIXED: NumberFormatBuilder = D_PREFIXED.case_sensitive_base_prefix(true); // rejects `0X1F`
+const YAML_1_1_PREFIXED: NumberFormatBuilder = RUST_PREFIXED.no_positive_mantissa_sign(false); // accepts `+0x1F`
+
+/// Digits of Ada, Elixir, Erlang and VHDL.
+const ERLANG: NumberFormatBuilder = separated(b'_')
+    .required_digits(true) // rejects `.5`, `1.`, `1e` and `.`
+    .no_exponent_without_fraction(true); // rejects `1e3`, not `1.0e3`
 
 /// Digits of Julia, which has no separator in an exponent.
 const JULIA: NumberFormatBuilder = separated(b'_').exponent_internal_digit_separator(false); // rejects `1e1_0`
@@ -260,9 +269,6 @@ const SHORT_REALS: Kind = finite(Kind::new(IntegerKind::Signed(64), FloatKind::S
 /// Integers and reals of Fortran.
 const DEFAULT: Kind = finite(Kind::new(IntegerKind::Signed(32), FloatKind::Single).unwrap());
 
-/// The suffix of a float of 32 bits, of C and of Kotlin.
-const FLOAT: &[(&[u8], Kind)] = kinds! { SINGLE => f F; };
-
 /// What goes on a number of Ada: `16#FF#`, `16:FF:` and `1.x`, but not `1..2`; and on one of VHDL: `1\a\`.
 const ADA_WORDS: Suffixes = Suffixes::new(&[], &[], ADA_STOPS);
 const ADA_STOPS: &[Stop] = &[
@@ -277,8 +283,8 @@ const ADA_STOPS: &[Stop] = &[
 const FORTRAN_WORDS: Suffixes = Suffixes::new(&[], &[], &[Stop::new(b"", b".", b"_0123456789")])
     .any_word(b"_")
     .with_kinds(kinds! {
-        whole(IntegerKind::Signed(8)) => _1; whole(IntegerKind::Signed(16)) => _2; finite(SIGNED_64) => _8;
-        Kind::EXACT => _10; whole(IntegerKind::Signed(128)) => _16;
+        whole(IntegerKind::Signed(8)) => [_1]; whole(IntegerKind::Signed(16)) => [_2]; finite(SIGNED_64) => [_8];
+        Kind::EXACT => [_10]; whole(IntegerKind::Signed(128)) => [_16];
     })
     .with_written(&[b"_8"]);
 
@@ -318,8 +324,8 @@ const C_WORDS: Suffixes = Suffixes::new(C_INTEGERS, C_FLOATS, C_STOPS).with_kind
 const C_DECIMALS: Suffixes =
     Suffixes::new(C_INTEGERS, C_DECIMAL_FLOATS, C_STOPS).with_kinds(C_KINDS).with_written(&[b"ULL"]);
 const C_KINDS: &[(&[u8], Kind)] = kinds! {
-    SINGLE => f F; Kind::EXACT => wb WB uwb uWB Uwb UWB wbu wbU WBu WBU;
-    UNSIGNED_64 => u U ul uL ull uLL Ul UL Ull ULL lu lU llu llU Lu LU LLu LLU;
+    SINGLE => [f F]; Kind::EXACT => [wb WB uwb uWB Uwb UWB wbu wbU WBu WBU];
+    UNSIGNED_64 => [u U ul uL ull uLL Ul UL Ull ULL lu lU llu llU Lu LU LLu LLU];
 };
 
 /// Suffixes of C++, of its library, such as `1ms` and `1.5if`, and of its users: `1_km`.
@@ -331,42 +337,27 @@ const C_PLUS_PLUS_WORDS: Suffixes = Suffixes::new(C_PLUS_PLUS_INTEGERS, C_PLUS_P
     .with_kinds(C_PLUS_PLUS_KINDS)
     .with_written(&[b"ULL"]);
 const C_PLUS_PLUS_KINDS: &[(&[u8], Kind)] = kinds! {
-    SINGLE => f F; UNSIGNED_64 => u U ul uL ull uLL Ul UL Ull ULL lu lU llu llU Lu LU LLu LLU d y i il;
-    SIGNED_64 => h min s ms us ns; Kind::new(IntegerKind::Unsigned(64), FloatKind::Single).unwrap() => if;
+    SINGLE => [f F]; UNSIGNED_64 => [u U ul uL ull uLL Ul UL Ull ULL lu lU llu llU Lu LU LLu LLU d y i il];
+    SIGNED_64 => [h min s ms us ns]; Kind::new(IntegerKind::Unsigned(64), FloatKind::Single).unwrap() => [if];
 };
 
 /// Units of CSS: any word, such as `px` and the `n-1` of `2n-1`. A name may also begin with `-` and have escapes: `1-x`, `1--x` and
 /// `1\78` are refused. So is `1e+x`, in which `e` is a unit: `+` may begin an exponent.
 const CSS_WORDS: Suffixes = Suffixes::new(&[], &[], CSS_STOPS).any_word(&LETTERS).with_word_bytes(b"-");
 const CSS_STOPS: &[Stop] = &[Stop::new(b"", b"-", &LETTERS), Stop::new(b"", b"-", b"-\\"), Stop::new(b"", b"\\", b"")];
-const LETTERS: [u8; 181] = letters();
-
-/// Returns letters, `_` and the bytes from 128 up.
-const fn letters() -> [u8; 181] {
-    let (mut letters, mut at, mut byte) = ([0; 181], 0, 0);
-    while at < letters.len() {
-        byte += 1;
-        if byte == b'_' || byte.is_ascii_alphabetic() || byte >= 128 {
-            letters[at] = byte;
-            at += 1;
-        }
-    }
-    letters
-}
-
 /// Suffixes of C#, in either case.
 const C_SHARP_INTEGERS: &[&[u8]] = list![u l ul lu];
 const C_SHARP_DECIMALS: Suffixes = words(list![u l ul lu f d m], &[b"f", b"d", b"m"])
     .either_case(true)
-    .with_kinds(kinds! { finite(SINGLE) => f; finite(Kind::EXACT) => d m; });
+    .with_kinds(kinds! { finite(SINGLE) => [f]; finite(Kind::EXACT) => [d m]; });
 
 /// Suffixes of D: `1uL` and `1.5Li`.
 const D_INTEGERS: Suffixes = words(list![L u U Lu LU uL UL], &[]);
 const D_WORDS: Suffixes =
     words(list![L u U Lu LU uL UL f F i fi Fi Li], list![f F L i fi Fi Li]).with_kinds(D_KINDS).with_written(&[b"u"]);
 const D_KINDS: &[(&[u8], Kind)] = kinds! {
-    UNSIGNED_64 => u U Lu LU uL UL; finite(SINGLE) => f F fi Fi; finite(Kind::EXACT) => i; SIGNED_64 => L;
-    Kind::EXACT => Li;
+    UNSIGNED_64 => [u U Lu LU uL UL]; finite(SINGLE) => [f F fi Fi]; finite(Kind::EXACT) => [i]; SIGNED_64 => [L];
+    Kind::EXACT => [Li];
 };
 
 /// Suffixes of imaginary numbers of Go, and a point that no binary and octal number has: `0b1.`.
@@ -376,40 +367,37 @@ const GO_POINTLESS: Suffixes = Suffixes::new(&[b"i"], &[], &[Stop::new(b"", b"."
 /// Suffixes of Java and Scala, in either case.
 const JAVA_DECIMALS: Suffixes = words(&[b"l", b"f", b"d"], &[b"f", b"d"])
     .either_case(true)
-    .with_kinds(kinds! { SIGNED_64 => l; within(SINGLE) => f; within(Kind::EXACT) => d; })
+    .with_kinds(kinds! { SIGNED_64 => [l]; within(SINGLE) => [f]; within(Kind::EXACT) => [d]; })
     .with_written(&[b"L"]);
 const SCALA_DECIMALS: Suffixes =
-    JAVA_DECIMALS.with_kinds(kinds! { SIGNED_64 => l; finite(SINGLE) => f; finite(Kind::EXACT) => d; });
+    JAVA_DECIMALS.with_kinds(kinds! { SIGNED_64 => [l]; finite(SINGLE) => [f]; finite(Kind::EXACT) => [d]; });
 const JAVA_INTEGERS: Suffixes =
-    words(&[b"l"], &[]).either_case(true).with_kinds(kinds! { WRAPS_64 => l; }).with_written(&[b"L"]);
+    words(&[b"l"], &[]).either_case(true).with_kinds(kinds! { WRAPS_64 => [l]; }).with_written(&[b"L"]);
 const JAVA_FLOATS: Suffixes = words(&[b"f", b"d"], &[b"f", b"d"])
     .either_case(true)
-    .with_kinds(kinds! { within(SINGLE) => f; within(Kind::EXACT) => d; });
-const SCALA_FLOATS: Suffixes = JAVA_FLOATS.with_kinds(kinds! { finite(SINGLE) => f; finite(Kind::EXACT) => d; });
+    .with_kinds(kinds! { within(SINGLE) => [f]; within(Kind::EXACT) => [d]; });
+const SCALA_FLOATS: Suffixes = JAVA_FLOATS.with_kinds(kinds! { finite(SINGLE) => [f]; finite(Kind::EXACT) => [d]; });
 
 /// The suffix of big integers of JavaScript. A name, which `$` and `\\` may begin, does not follow a number.
 const BIG: Suffixes = Suffixes::new(&[b"n"], &[], &[Stop::new(b"", b"$\\", b"")]);
 
 /// Suffixes of MATLAB: the type of an integer with a prefix, and those of imaginary numbers.
 const MATLAB_INTEGERS: Suffixes = Suffixes::new(list![u8 u16 u32 u64 s8 s16 s32 s64], &[], &[]).with_kinds(kinds! {
-    whole(IntegerKind::Unsigned(8)) => u8; whole(IntegerKind::Unsigned(16)) => u16;
-    whole(IntegerKind::Unsigned(32)) => u32; whole(IntegerKind::Wraps(8)) => s8;
-    whole(IntegerKind::Wraps(16)) => s16; WRAPS_32 => s32; WRAPS_64 => s64;
+    whole(IntegerKind::Unsigned(8)) => [u8]; whole(IntegerKind::Unsigned(16)) => [u16];
+    whole(IntegerKind::Unsigned(32)) => [u32]; whole(IntegerKind::Wraps(8)) => [s8];
+    whole(IntegerKind::Wraps(16)) => [s16]; WRAPS_32 => [s32]; WRAPS_64 => [s64];
 });
 const MATLAB_WORDS: Suffixes = Suffixes::new(&[b"i", b"j"], &[b"i", b"j"], POINT_AND_DIGIT).either_case(true);
 
 /// A second point of Julia, Lua and NASM: `1..2` is no number, and no range.
-const JULIA_WORDS: Suffixes = Suffixes::new(&[], &[], &[Stop::new(b"", b".", b"")]);
-const LUA_WORDS: Suffixes = JULIA_WORDS;
-const NASM_WORDS: Suffixes = JULIA_WORDS;
+const ONE_POINT: Suffixes = Suffixes::new(&[], &[], &[Stop::new(b"", b".", b"")]);
 
 /// Suffixes of Kotlin.
-const KOTLIN_INTEGERS: &[&[u8]] = list![u U L uL UL];
 const KOTLIN_DECIMALS: Suffixes =
     words(list![u U L uL UL f F], &[b"f", b"F"]).with_kinds(KOTLIN_KINDS).with_written(&[b"u"]);
-const KOTLIN_WORDS: Suffixes = words(KOTLIN_INTEGERS, &[]).with_kinds(KOTLIN_KINDS).with_written(&[b"u"]);
-const KOTLIN_KINDS: &[(&[u8], Kind)] = kinds! { UNSIGNED_64 => u U uL UL; SINGLE => f F; };
-const KOTLIN_FLOATS: Suffixes = words(&[b"f", b"F"], &[]).with_kinds(FLOAT);
+const KOTLIN_WORDS: Suffixes = words(list![u U L uL UL], &[]).with_kinds(KOTLIN_KINDS).with_written(&[b"u"]);
+const KOTLIN_KINDS: &[(&[u8], Kind)] = kinds! { UNSIGNED_64 => [u U uL UL]; SINGLE => [f F]; };
+const KOTLIN_FLOATS: Suffixes = words(&[b"f", b"F"], &[]).with_kinds(kinds! { SINGLE => [f F]; });
 
 /// Suffixes of Nim, in either case, also after `'`. Any other word after `'`, as in `1'x`, is refused, and so is a second point.
 const NIM_STOPS: &[Stop] = &[Stop::new(b"", b"'", b""), Stop::new(b"", b".", b"0123456789")];
@@ -429,27 +417,26 @@ const NIM_DECIMALS: Suffixes = Suffixes::new(
 .with_kinds(NIM_DECIMAL_KINDS)
 .with_written(&[b"u64"]);
 const NIM_KINDS: &[(&[u8], Kind)] = kinds! {
-    whole(IntegerKind::Wraps(8)) => i8 'i8; whole(IntegerKind::Wraps(16)) => i16 'i16; WRAPS_32 => i32 'i32;
-    whole(IntegerKind::Unsigned(8)) => u8 'u8; whole(IntegerKind::Unsigned(16)) => u16 'u16;
-    whole(IntegerKind::Unsigned(32)) => u32 'u32; UNSIGNED_64 => u u64 'u 'u64;
+    whole(IntegerKind::Wraps(8)) => [i8 'i8]; whole(IntegerKind::Wraps(16)) => [i16 'i16]; WRAPS_32 => [i32 'i32];
+    whole(IntegerKind::Unsigned(8)) => [u8 'u8]; whole(IntegerKind::Unsigned(16)) => [u16 'u16];
+    whole(IntegerKind::Unsigned(32)) => [u32 'u32]; UNSIGNED_64 => [u u64 'u 'u64];
 };
 const NIM_DECIMAL_KINDS: &[(&[u8], Kind)] = kinds! {
-    whole(IntegerKind::Signed(8)) => i8 'i8; whole(IntegerKind::Signed(16)) => i16 'i16; SIGNED_32 => i32 'i32;
-    whole(IntegerKind::Unsigned(8)) => u8 'u8; whole(IntegerKind::Unsigned(16)) => u16 'u16;
-    whole(IntegerKind::Unsigned(32)) => u32 'u32; UNSIGNED_64 => u u64 'u 'u64; SINGLE => f f32 'f 'f32;
-    Kind::EXACT => f64 d 'f64 'd;
+    whole(IntegerKind::Signed(8)) => [i8 'i8]; whole(IntegerKind::Signed(16)) => [i16 'i16]; SIGNED_32 => [i32 'i32];
+    whole(IntegerKind::Unsigned(8)) => [u8 'u8]; whole(IntegerKind::Unsigned(16)) => [u16 'u16];
+    whole(IntegerKind::Unsigned(32)) => [u32 'u32]; UNSIGNED_64 => [u u64 'u 'u64]; SINGLE => [f f32 'f 'f32];
+    Kind::EXACT => [f64 d 'f64 'd];
 };
 
 /// Suffixes of OCaml, whose names may have `'`.
 const OCAML_WORDS: Suffixes = Suffixes::new(list![l L n], &[], &[Stop::new(b"", b"'", b"")])
-    .with_kinds(kinds! { WRAPS_32 => l; WRAPS_64 => L n; });
-const OCAML_DECIMALS: Suffixes = OCAML_WORDS.with_kinds(kinds! { SIGNED_32 => l; SIGNED_64 => L n; });
+    .with_kinds(kinds! { WRAPS_32 => [l]; WRAPS_64 => [L n]; });
+const OCAML_DECIMALS: Suffixes = OCAML_WORDS.with_kinds(kinds! { SIGNED_32 => [l]; SIGNED_64 => [L n]; });
 
 /// What may not follow a decimal number of Perl, of which `1.2.3` is a string, and the point of `1.x` may be of the number or not,
 /// and of SQL, which has neither.
-const PERL_STOPS: &[Stop] = &[Stop::new(b"", b".", b"0123456789"), Stop::new(b"", b".", &LETTERS)];
-
-const SQL_WORDS: Suffixes = Suffixes::new(&[], &[], PERL_STOPS);
+const PERL_WORDS: Suffixes =
+    Suffixes::new(&[], &[], &[Stop::new(b"", b".", b"0123456789"), Stop::new(b"", b".", &LETTERS)]);
 
 /// What goes on a name of PostScript, of which letters and most punctuation may follow a digit.
 const POSTSCRIPT_WORDS: Suffixes = Suffixes::new(&[], &[], &[Stop::new(b"", b"!\"#$&'*+,-.:;=?@\\^`|~", b"")]);
@@ -470,8 +457,7 @@ const R_WORDS: Suffixes = words(&[b"L", b"i"], &[b"L", b"i"]);
 const RAKU_WORDS: Suffixes = words(&[b"i"], &[b"i"]);
 
 /// Suffixes of Ruby.
-const RUBY_INTEGERS: &[&[u8]] = &[b"r", b"i", b"ri"];
-const RUBY_WORDS: Suffixes = Suffixes::new(RUBY_INTEGERS, &[b"i"], POINT_AND_DIGIT).whole_words(true);
+const RUBY_WORDS: Suffixes = Suffixes::new(list![r i ri], &[b"i"], POINT_AND_DIGIT).whole_words(true);
 
 /// Words of Ruby that may follow a number: `1unless x`.
 const RUBY_KEYWORDS: &[&[u8]] = list![
@@ -485,65 +471,51 @@ const RUST_DECIMALS: &[&[u8]] = list![u8 u16 u32 u64 u128 usize i8 i16 i32 i64 i
 const RUST_WORDS: Suffixes = words(RUST_DECIMALS, &[b"f32", b"f64"]).with_kinds(RUST_KINDS);
 const RUST_PREFIXED_WORDS: Suffixes = Suffixes::new(RUST_INTEGERS, &[], POINT_AND_NO_NAME).with_kinds(RUST_KINDS);
 const RUST_KINDS: &[(&[u8], Kind)] = kinds! {
-    whole(IntegerKind::Unsigned(8)) => u8; whole(IntegerKind::Unsigned(16)) => u16;
-    whole(IntegerKind::Unsigned(32)) => u32; UNSIGNED_64 => u64 usize; whole(IntegerKind::Signed(8)) => i8;
-    whole(IntegerKind::Signed(16)) => i16; SIGNED_32 => i32; SIGNED_64 => i64 isize;
-    whole(IntegerKind::Signed(128)) => i128; finite(SINGLE) => f32; finite(Kind::EXACT) => f64;
+    whole(IntegerKind::Unsigned(8)) => [u8]; whole(IntegerKind::Unsigned(16)) => [u16];
+    whole(IntegerKind::Unsigned(32)) => [u32]; UNSIGNED_64 => [u64 usize]; whole(IntegerKind::Signed(8)) => [i8];
+    whole(IntegerKind::Signed(16)) => [i16]; SIGNED_32 => [i32]; SIGNED_64 => [i64 isize];
+    whole(IntegerKind::Signed(128)) => [i128]; finite(SINGLE) => [f32]; finite(Kind::EXACT) => [f64];
 };
 
 /// What goes on a number of Verilog: `8'hFF`, `1.x` and `1$`.
 const VERILOG_WORDS: Suffixes = Suffixes::new(&[], &[], &[Stop::new(b"", b"'.$", b"")]);
 
 /// Suffixes of Visual Basic, in either case, of which some are no letters: `1.5!`.
-const VISUAL_BASIC_INTEGERS: Suffixes = words(&[b"S", b"US", b"I", b"%", b"UI", b"L", b"&", b"UL"], &[])
+const VISUAL_BASIC_INTEGERS: Suffixes = words(list![S US I % UI L & UL], &[])
     .either_case(true)
     .with_word_bytes(b"%&")
-    .with_kinds(&[
-        (b"S", whole(IntegerKind::Wraps(16))),
-        (b"US", whole(IntegerKind::Unsigned(16))),
-        (b"UI", whole(IntegerKind::Unsigned(32))),
-        (b"L", WRAPS_64),
-        (b"&", WRAPS_64),
-        (b"UL", UNSIGNED_64),
-    ])
+    .with_kinds(kinds! {
+        whole(IntegerKind::Wraps(16)) => [S]; whole(IntegerKind::Unsigned(16)) => [US];
+        whole(IntegerKind::Unsigned(32)) => [UI]; WRAPS_64 => [L &]; UNSIGNED_64 => [UL];
+    })
     .with_written(&[b"L", b"UL"]);
-const VISUAL_BASIC_DECIMALS: Suffixes = words(
-    &[b"S", b"US", b"I", b"%", b"UI", b"L", b"&", b"UL", b"F", b"!", b"R", b"#", b"D", b"@"],
-    &[b"F", b"!", b"R", b"#", b"D", b"@"],
-)
-.either_case(true)
-.with_word_bytes(b"%&!#@")
-.with_kinds(&[
-    (b"S", whole(IntegerKind::Signed(16))),
-    (b"US", whole(IntegerKind::Unsigned(16))),
-    (b"I", SIGNED_32),
-    (b"%", SIGNED_32),
-    (b"UI", whole(IntegerKind::Unsigned(32))),
-    (b"L", SIGNED_64),
-    (b"&", SIGNED_64),
-    (b"UL", UNSIGNED_64),
-    (b"F", finite(SINGLE)),
-    (b"!", finite(SINGLE)),
-    (b"R", finite(Kind::EXACT)),
-    (b"#", finite(Kind::EXACT)),
-    (b"D", finite(Kind::EXACT)),
-    (b"@", finite(Kind::EXACT)),
-])
-.with_written(&[b"UL"]);
+const VISUAL_BASIC_DECIMALS: Suffixes = words(list![S US I % UI L & UL F ! R # D @], list![F ! R # D @])
+    .either_case(true)
+    .with_word_bytes(b"%&!#@")
+    .with_kinds(kinds! {
+        whole(IntegerKind::Signed(16)) => [S]; whole(IntegerKind::Unsigned(16)) => [US]; SIGNED_32 => [I %];
+        whole(IntegerKind::Unsigned(32)) => [UI]; SIGNED_64 => [L &]; UNSIGNED_64 => [UL];
+        finite(SINGLE) => [F !]; finite(Kind::EXACT) => [R # D @];
+    })
+    .with_written(&[b"UL"]);
 
 /// A decimal point before a byte that is neither a second one nor begins a name.
 const POINT_AND_NO_NAME: &[Stop] = &[Stop::new(b"", b".", &NO_NAME)];
-const NO_NAME: [u8; 73] = no_name();
 
-/// Returns the bytes that are neither a point nor what a name begins with, but for 0, which ends a string of C.
-const fn no_name() -> [u8; 73] {
-    let (mut bytes, mut at, mut byte) = ([0; 73], 0, 1);
-    while at < bytes.len() {
-        if byte != b'.' && byte != b'_' && !byte.is_ascii_alphabetic() {
+/// Letters, `_` and the bytes from 128 up; and all other bytes, but for a point, and for 0, which ends a string of C.
+const LETTERS: [u8; 181] = bytes(true);
+const NO_NAME: [u8; 73] = bytes(false);
+
+/// Returns the bytes of `LETTERS`, or else those of `NO_NAME`.
+const fn bytes<const COUNT: usize>(are_letters: bool) -> [u8; COUNT] {
+    let (mut bytes, mut at, mut byte) = ([0; COUNT], 0, 0);
+    while at < COUNT {
+        byte += 1;
+        let is_letter = byte == b'_' || byte.is_ascii_alphabetic() || byte >= 128;
+        if is_letter == are_letters && byte != b'.' {
             bytes[at] = byte;
             at += 1;
         }
-        byte += 1;
     }
     bytes
 }
@@ -558,13 +530,8 @@ languages! {
     /// Ada's decimal and based literals (Reference Manual 2012, 2.4.1 and 2.4.2). `1E3`, an integer in Ada, is a float
     /// here: `to_scaled(0)` is 1000. At the end of a text, the token of `1.` is `1`.
     ADA: "Ada" = {
-        "decimal": decimal(separated(b'_')
-            .required_digits(true) // rejects `.5`, `1.`, `1e` and `.`
-            .no_exponent_without_fraction(true) // rejects `1e3`, not `1.0e3`
-        ) => ADA_WORDS,
-        "integer with an exponent": decimal(separated(b'_')
-            .required_digits(true) // rejects `.5`, `1.`, `1e` and `.`
-        ) => ADA_WORDS,
+        "decimal": decimal(ERLANG) => ADA_WORDS,
+        "integer with an exponent": decimal(separated(b'_').required_digits(true)) => ADA_WORDS, // rejects `.5`, `1.`, `1e` and `.`
     } radixes "" "#" to 16 { closed(b'#', separated(b'_')) } => POINTS_BACK;
 
     /// Bash's integers in arithmetic (Bash Reference Manual 5.2, 6.5 Shell Arithmetic). An integer keeps its last 64
@@ -587,40 +554,37 @@ languages! {
 
     /// Clojure's integers and floats, with signs (The Clojure Reader 1.11, Literals, Numbers).
     CLOJURE: "Clojure" = {
-        "decimal": numbers(b'e', b'.', LISP
+        "decimal": numbers(b'e', b'.', SIGNED
             .required_integer_digits(true) // rejects `.5`, not `1.`
             .no_integer_leading_zeros(true) // rejects `08`, not `08.5`
         ) => CLOJURE_DECIMALS,
-        "octal": signed(octal(LISP)) => CLOJURE_INTEGERS,
-        "hexadecimal": signed(prefixed(b'x', 16, LISP)) => CLOJURE_INTEGERS,
+        "octal": signed(octal(SIGNED)) => CLOJURE_INTEGERS,
+        "hexadecimal": signed(prefixed(b'x', 16, SIGNED)) => CLOJURE_INTEGERS,
     } radixes "" "r" { integers(2, TOKENS, UNSIGNED) => CLOJURE_WORDS } => Tokens::new(
-        &[Form::new("big decimal, leading zeros", integers(10, LISP, Conditions::NONE)).with_suffixes(&CLOJURE_BIG)],
+        &[Form::new("big decimal, leading zeros", integers(10, SIGNED, Conditions::NONE)).with_suffixes(&CLOJURE_BIG)],
         &[],
     );
 
     /// Common Lisp's integers and floats, with signs (Common Lisp HyperSpec, 2.3.2.1 and 2.4.8.7 to 2.4.8.10). `1.` is
     /// an integer, and `0.1`, but not `0.1d0`, is an `f32`.
     COMMON_LISP: "Common Lisp" = {
-        "decimal": integers(10, LISP, Conditions::NONE) => LISP_WORDS,
-        "with a point at the end": integers(10, LISP.base_suffix(NonZeroU8::new(b'.')), Conditions::NONE.required_base_suffix(true)) => LISP_WORDS,
-        "float": numbers(b'e', b'.', LISP.required_fraction_digits(true)) => LISP_WORDS; finite(SINGLE), // rejects `1.` and `1.e5`, not `.5`
-        "float, no digits behind the point": numbers(b'e', b'.', LISP.required_exponent_notation(true)) => LISP_WORDS; finite(SINGLE), // accepts `1.e5`
-        "single": numbers(b'f', b'.', LISP.required_exponent_notation(true)) => LISP_WORDS; finite(SINGLE),
-        "short": numbers(b's', b'.', LISP.required_exponent_notation(true)) => LISP_WORDS; finite(SINGLE),
-        "double": numbers(b'd', b'.', LISP.required_exponent_notation(true)) => LISP_WORDS; finite(Kind::EXACT),
-        "long": numbers(b'l', b'.', LISP.required_exponent_notation(true)) => LISP_WORDS; finite(Kind::EXACT),
-        "hexadecimal" behind "#x": integers(16, LISP, Conditions::NONE) => LISP_WORDS,
-        "octal" behind "#o": integers(8, LISP, Conditions::NONE) => LISP_WORDS,
-        "binary" behind "#b": integers(2, LISP, Conditions::NONE) => LISP_WORDS,
-    } radixes "#" "r" { integers(2, LISP, Conditions::NONE) => LISP_WORDS } => Tokens::new(&[], &[]);
+        "decimal": integers(10, SIGNED, Conditions::NONE) => LISP_WORDS,
+        "with a point at the end": integers(10, SIGNED.base_suffix(NonZeroU8::new(b'.')), Conditions::NONE.required_base_suffix(true)) => LISP_WORDS,
+        "float": numbers(b'e', b'.', SIGNED.required_fraction_digits(true)) => LISP_WORDS; finite(SINGLE), // rejects `1.` and `1.e5`, not `.5`
+        "float, no digits behind the point": numbers(b'e', b'.', SIGNED.required_exponent_notation(true)) => LISP_WORDS; finite(SINGLE), // accepts `1.e5`
+        "single": numbers(b'f', b'.', SIGNED.required_exponent_notation(true)) => LISP_WORDS; finite(SINGLE),
+        "short": numbers(b's', b'.', SIGNED.required_exponent_notation(true)) => LISP_WORDS; finite(SINGLE),
+        "double": numbers(b'd', b'.', SIGNED.required_exponent_notation(true)) => LISP_WORDS; finite(Kind::EXACT),
+        "long": numbers(b'l', b'.', SIGNED.required_exponent_notation(true)) => LISP_WORDS; finite(Kind::EXACT),
+        "hexadecimal" behind "#x": integers(16, SIGNED, Conditions::NONE) => LISP_WORDS,
+        "octal" behind "#o": integers(8, SIGNED, Conditions::NONE) => LISP_WORDS,
+        "binary" behind "#b": integers(2, SIGNED, Conditions::NONE) => LISP_WORDS,
+    } radixes "#" "r" { integers(2, SIGNED, Conditions::NONE) => LISP_WORDS } => Tokens::new(&[], &[]);
 
     /// CSS's numbers, with signs (CSS Syntax Module Level 3, 4.3.12). The suffix of a token is its unit, a word that
     /// may have `-` after its first byte. A unit that begins with `-` or has an escape is refused, and so is `1e+x`. A
     /// token ends before `%`.
-    CSS: "CSS" = { "decimal": numbers(b'e', b'.', NumberFormatBuilder::new()
-        .no_special(true) // rejects `NaN` and `inf`
-        .required_fraction_digits(true) // rejects `1.`, not `.5`
-    ) => CSS_WORDS } => POINTS_BACK;
+    CSS: "CSS" = { "decimal": numbers(b'e', b'.', SIGNED.required_fraction_digits(true)) => CSS_WORDS } => POINTS_BACK; // rejects `1.`, not `.5`
 
     /// Numbers in CSV, as programs write them (RFC 4180): `1.23E+05`, `+5` and `NaN`, without groups. Most programs
     /// read integers as doubles: take them as `f64`.
@@ -683,10 +647,7 @@ languages! {
 
     /// Elixir's integers and floats (Syntax reference 1.14, Numbers).
     ELIXIR: "Elixir" = {
-        "decimal": decimal(separated(b'_')
-            .required_digits(true) // rejects `.5`, `1.`, `1e` and `.`
-            .no_exponent_without_fraction(true) // rejects `1e5`, not `1.0e5`
-        ); finite(Kind::EXACT),
+        "decimal": decimal(ERLANG); finite(Kind::EXACT),
         "hexadecimal": prefixed(b'x', 16, separated(b'_').case_sensitive_base_prefix(true)), // rejects `0X1F`
         "octal": prefixed(b'o', 8, separated(b'_').case_sensitive_base_prefix(true)), // rejects `0O17`
         "binary": prefixed(b'b', 2, separated(b'_').case_sensitive_base_prefix(true)), // rejects `0B1`
@@ -694,10 +655,7 @@ languages! {
 
     /// Erlang's integers and floats (Reference Manual 13.1 of OTP 25, 3.3 Numbers).
     ERLANG: "Erlang" = {
-        "decimal": decimal(separated(b'_')
-            .required_digits(true) // rejects `.5`, `1.`, `1e` and `.`
-            .no_exponent_without_fraction(true) // rejects `1e5`, not `1.0e5`
-        ) => ERLANG_WORDS; finite(Kind::EXACT),
+        "decimal": decimal(ERLANG) => ERLANG_WORDS; finite(Kind::EXACT),
     } radixes "" "#" { integers(2, separated(b'_'), UNSIGNED) } => WORDS_FOLLOW;
 
     /// Fortran's signed integers and reals (ISO/IEC 1539-1:2018, 7.4.3). Binary, octal and hexadecimal constants have
@@ -706,11 +664,9 @@ languages! {
     /// known. Compilers refuse `1_` and `1_8x`, which are tokens here. gfortran also reads `1q5`, and `1.q5` as one
     /// number.
     FORTRAN: "Fortran" = {
-        "decimal": numbers(b'e', b'.', NumberFormatBuilder::new().no_special(true)) => FORTRAN_WORDS; DEFAULT, // rejects `NaN` and `inf`
-        "double precision": numbers(b'd', b'.', NumberFormatBuilder::new()
-            .no_special(true)
-            .required_exponent_notation(true) // rejects `1.0`, which the first form reads
-        ); finite(Kind::EXACT),
+        "decimal": numbers(b'e', b'.', SIGNED) => FORTRAN_WORDS; DEFAULT,
+        // It rejects `1.0`, which the first form reads.
+        "double precision": numbers(b'd', b'.', SIGNED.required_exponent_notation(true)); finite(Kind::EXACT),
         "hexadecimal, '" behind "z'" only_read true: suffixed(b'\'', 16, TOKENS, SUFFIXED); UNSIGNED_128,
         "octal, '" behind "o'" only_read true: suffixed(b'\'', 8, TOKENS, SUFFIXED); UNSIGNED_128,
         "binary, '" behind "b'" only_read true: suffixed(b'\'', 2, TOKENS, SUFFIXED); UNSIGNED_128,
@@ -727,9 +683,9 @@ languages! {
         "octal": octal(TOKENS); UNSIGNED_128,
         "hexadecimal": prefixed(b'x', 16, TOKENS); UNSIGNED_128,
         "binary": prefixed(b'b', 2, TOKENS); UNSIGNED_128,
-        "float, 0e" behind "0e" only_read true: numbers(b'e', b'.', LISP); finite(Kind::EXACT),
-        "float, 0f" behind "0f" only_read true: numbers(b'e', b'.', LISP); finite(Kind::EXACT),
-        "float, 0d" behind "0d" only_read true: numbers(b'e', b'.', LISP); finite(Kind::EXACT),
+        "float, 0e" behind "0e" only_read true: numbers(b'e', b'.', SIGNED); finite(Kind::EXACT),
+        "float, 0f" behind "0f" only_read true: numbers(b'e', b'.', SIGNED); finite(Kind::EXACT),
+        "float, 0d" behind "0d" only_read true: numbers(b'e', b'.', SIGNED); finite(Kind::EXACT),
         "float": decimal(TOKENS.no_integer_leading_zeros(true)); finite(Kind::EXACT), // rejects `08`, not `08.5`
     } => Tokens::new(&[], &[]);
 
@@ -805,8 +761,8 @@ languages! {
     /// Julia's integers and floats (Manual 1.11, Integers and Floating-Point Numbers). `0.1f0`, but not `0.1`, is an
     /// `f32`. The token of `2x` is `2`.
     JULIA: "Julia" = {
-        "decimal": decimal(JULIA) => JULIA_WORDS,
-        "32 bits": numbers(b'f', b'.', JULIA.case_sensitive_exponent(true)).with_conditions_or_panic(UNSIGNED) => JULIA_WORDS; SINGLE, // accepts `1f3`, not `1F3`
+        "decimal": decimal(JULIA) => ONE_POINT,
+        "32 bits": numbers(b'f', b'.', JULIA.case_sensitive_exponent(true)).with_conditions_or_panic(UNSIGNED) => ONE_POINT; SINGLE, // accepts `1f3`, not `1F3`
         "hexadecimal": prefixed(b'x', 16, JULIA.case_sensitive_base_prefix(true)), // rejects `0X1F`
         "octal": prefixed(b'o', 8, JULIA.case_sensitive_base_prefix(true)), // rejects `0O17`
         "binary": prefixed(b'b', 2, JULIA.case_sensitive_base_prefix(true)), // rejects `0B1`
@@ -819,10 +775,7 @@ languages! {
     /// Kotlin's integer and real literals (Kotlin language specification 1.9, Literals). An integer is an `Int` or a `Long` or, with
     /// `u`, a `ULong`.
     KOTLIN: "Kotlin" = {
-        "decimal": decimal(JAVA
-            .required_fraction_digits(true) // rejects `1.`, not `.5`
-            .no_integer_leading_zeros(true) // rejects `01`, not `01.0`
-        ) => KOTLIN_DECIMALS; SIGNED_64,
+        "decimal": decimal(KOTLIN) => KOTLIN_DECIMALS; SIGNED_64,
         "hexadecimal": prefixed(b'x', 16, JAVA) => KOTLIN_WORDS; SIGNED_64,
         "binary": prefixed(b'b', 2, JAVA) => KOTLIN_WORDS; SIGNED_64,
     } => Tokens::new(
@@ -833,8 +786,8 @@ languages! {
     /// Lua's integers and floats (Reference Manual 5.4, 3.1). A decimal integer from 2^63 on is a float in Lua: take
     /// its value as an `f64`. A hexadecimal one keeps its last 64 bits: `0xffffffffffffffff` is -1.
     LUA: "Lua" = {
-        "decimal": decimal(TOKENS) => LUA_WORDS,
-        "hexadecimal": binary_floats(b'x', 16, TOKENS) => LUA_WORDS; LAST_64,
+        "decimal": decimal(TOKENS) => ONE_POINT,
+        "hexadecimal": binary_floats(b'x', 16, TOKENS) => ONE_POINT; LAST_64,
     } => Tokens::new(&[], &[]);
 
     /// MATLAB's numbers (MATLAB Programming Fundamentals R2023a, Integers and Floating-Point Numbers). A decimal is a
@@ -855,24 +808,24 @@ languages! {
         "decimal": decimal(NASM
             .required_integer_digits(true) // rejects `.5`, not `1.`
             .required_exponent_digits(false) // accepts `1e`
-        ) => NASM_WORDS; LAST_64,
-        "decimal, d": suffixed(b'd', 10, NASM, SUFFIXED) => NASM_WORDS; LAST_64,
-        "decimal, t": suffixed(b't', 10, NASM, SUFFIXED) => NASM_WORDS; LAST_64,
-        "hexadecimal, h": suffixed(b'h', 16, NASM, NAMELESS) => NASM_WORDS; LAST_64, // rejects `ffh`
-        "hexadecimal, x": suffixed(b'x', 16, NASM, NAMELESS) => NASM_WORDS; LAST_64, // rejects `ffx`
-        "octal, o": suffixed(b'o', 8, NASM, SUFFIXED) => NASM_WORDS; LAST_64,
-        "octal, q": suffixed(b'q', 8, NASM, SUFFIXED) => NASM_WORDS; LAST_64,
-        "binary, b": suffixed(b'b', 2, NASM, SUFFIXED) => NASM_WORDS; LAST_64,
-        "binary, y": suffixed(b'y', 2, NASM, SUFFIXED) => NASM_WORDS; LAST_64,
-        "decimal, 0d": prefixed_decimal(b'd', NASM_PREFIXED.required_exponent_digits(false)) => NASM_WORDS; LAST_64, // accepts `0d1e`
-        "decimal, 0t": prefixed_decimal(b't', NASM_PREFIXED.required_exponent_digits(false)) => NASM_WORDS; LAST_64, // accepts `0t1e`
-        "hexadecimal, 0h": binary_floats(b'h', 16, NASM_PREFIXED) => NASM_WORDS; LAST_64,
-        "hexadecimal, 0x": binary_floats(b'x', 16, NASM_PREFIXED) => NASM_WORDS; LAST_64,
-        "hexadecimal, $" behind "$": integers(16, NASM, UNSIGNED.decimal_first_digit(true)) => NASM_WORDS; LAST_64, // rejects `$ff`
-        "octal, 0o": binary_floats(b'o', 8, NASM_PREFIXED) => NASM_WORDS; LAST_64,
-        "octal, 0q": binary_floats(b'q', 8, NASM_PREFIXED) => NASM_WORDS; LAST_64,
-        "binary, 0b": binary_floats(b'b', 2, NASM_PREFIXED) => NASM_WORDS; LAST_64,
-        "binary, 0y": binary_floats(b'y', 2, NASM_PREFIXED) => NASM_WORDS; LAST_64,
+        ) => ONE_POINT; LAST_64,
+        "decimal, d": suffixed(b'd', 10, NASM, SUFFIXED) => ONE_POINT; LAST_64,
+        "decimal, t": suffixed(b't', 10, NASM, SUFFIXED) => ONE_POINT; LAST_64,
+        "hexadecimal, h": suffixed(b'h', 16, NASM, NAMELESS) => ONE_POINT; LAST_64, // rejects `ffh`
+        "hexadecimal, x": suffixed(b'x', 16, NASM, NAMELESS) => ONE_POINT; LAST_64, // rejects `ffx`
+        "octal, o": suffixed(b'o', 8, NASM, SUFFIXED) => ONE_POINT; LAST_64,
+        "octal, q": suffixed(b'q', 8, NASM, SUFFIXED) => ONE_POINT; LAST_64,
+        "binary, b": suffixed(b'b', 2, NASM, SUFFIXED) => ONE_POINT; LAST_64,
+        "binary, y": suffixed(b'y', 2, NASM, SUFFIXED) => ONE_POINT; LAST_64,
+        "decimal, 0d": prefixed_decimal(b'd', NASM_PREFIXED.required_exponent_digits(false)) => ONE_POINT; LAST_64, // accepts `0d1e`
+        "decimal, 0t": prefixed_decimal(b't', NASM_PREFIXED.required_exponent_digits(false)) => ONE_POINT; LAST_64, // accepts `0t1e`
+        "hexadecimal, 0h": binary_floats(b'h', 16, NASM_PREFIXED) => ONE_POINT; LAST_64,
+        "hexadecimal, 0x": binary_floats(b'x', 16, NASM_PREFIXED) => ONE_POINT; LAST_64,
+        "hexadecimal, $" behind "$": integers(16, NASM, UNSIGNED.decimal_first_digit(true)) => ONE_POINT; LAST_64, // rejects `$ff`
+        "octal, 0o": binary_floats(b'o', 8, NASM_PREFIXED) => ONE_POINT; LAST_64,
+        "octal, 0q": binary_floats(b'q', 8, NASM_PREFIXED) => ONE_POINT; LAST_64,
+        "binary, 0b": binary_floats(b'b', 2, NASM_PREFIXED) => ONE_POINT; LAST_64,
+        "binary, 0y": binary_floats(b'y', 2, NASM_PREFIXED) => ONE_POINT; LAST_64,
     } => Tokens::new(&[], &[]);
 
     /// Nim's integers and floats, with the sign `-` (Nim Manual 1.6, Numeric literals). A hexadecimal, octal or binary
@@ -914,7 +867,7 @@ languages! {
     /// take its value as an `f64`. Floats of another radix are only read, since Perl drops bits of them. A token is
     /// refused before a point that may be an operator, as in `1.x` and `0x1F.8`.
     PERL: "Perl" = {
-        "decimal": decimal(without_zeros(separated(b'_'))) => Suffixes::new(&[], &[], PERL_STOPS), // rejects `01.5`
+        "decimal": decimal(without_zeros(separated(b'_'))) => PERL_WORDS, // rejects `01.5`
         "octal": octal(separated(b'_')),
         "hexadecimal": prefixed(b'x', 16, separated(b'_')),
         "octal, 0o": prefixed(b'o', 8, separated(b'_')),
@@ -938,10 +891,7 @@ languages! {
     /// PostScript's numbers, with signs (PostScript Language Reference, third edition, 3.2.2), as in Ghostscript. An
     /// integer has 64 bits: `16#FFFFFFFFFFFFFFFF` is -1. Floats are singles.
     POSTSCRIPT: "PostScript" = {
-        "decimal": numbers(b'e', b'.', NumberFormatBuilder::new()
-            .no_special(true) // rejects `NaN` and `inf`
-            .required_exponent_digits(true) // rejects `1e`
-        ) => POSTSCRIPT_WORDS; SHORT_REALS,
+        "decimal": numbers(b'e', b'.', SIGNED.required_exponent_digits(true)) => POSTSCRIPT_WORDS; SHORT_REALS, // rejects `1e`
     } radixes "" "#" { integers(2, TOKENS, UNSIGNED) => POSTSCRIPT_WORDS; WRAPS_64 } => Tokens::new(&[], &[]);
 
     /// Prolog's integers and floats (SWI-Prolog 9 Reference Manual, 5.10 and 2.15.1.6). `1 000`, a number in
@@ -1020,10 +970,7 @@ languages! {
     /// Scala's integers and floats (Scala 3.3 Reference, Syntax). Values are those of `Int` or, with `L`, of `Long`:
     /// `0xffffffff` is -1. `2147483648`, which is lawful only after the operator `-`, is too large.
     SCALA: "Scala" = {
-        "decimal": decimal(JAVA
-            .required_fraction_digits(true) // rejects `1.`, not `.5`
-            .no_integer_leading_zeros(true) // rejects `01`, not `01.0`
-        ) => SCALA_DECIMALS; finite(SIGNED_32),
+        "decimal": decimal(KOTLIN) => SCALA_DECIMALS; finite(SIGNED_32),
         "hexadecimal": prefixed(b'x', 16, JAVA) => JAVA_INTEGERS; WRAPS_32,
     } => Tokens::new(
         &[Form::new("float, leading zeros", integers(10, JAVA, UNSIGNED)).with_suffixes(&SCALA_FLOATS)],
@@ -1032,15 +979,15 @@ languages! {
 
     /// Scheme's integers and decimals, with signs (R7RS, 7.1.1 Lexical structure).
     SCHEME: "Scheme" = {
-        "decimal": numbers(b'e', b'.', LISP) => SCHEME_WORDS,
-        "decimal, #d" behind "#d": numbers(b'e', b'.', LISP) => SCHEME_WORDS,
-        "hexadecimal" behind "#x": integers(16, LISP, Conditions::NONE) => SCHEME_WORDS,
-        "octal" behind "#o": integers(8, LISP, Conditions::NONE) => SCHEME_WORDS,
-        "binary" behind "#b": integers(2, LISP, Conditions::NONE) => SCHEME_WORDS,
+        "decimal": numbers(b'e', b'.', SIGNED) => SCHEME_WORDS,
+        "decimal, #d" behind "#d": numbers(b'e', b'.', SIGNED) => SCHEME_WORDS,
+        "hexadecimal" behind "#x": integers(16, SIGNED, Conditions::NONE) => SCHEME_WORDS,
+        "octal" behind "#o": integers(8, SIGNED, Conditions::NONE) => SCHEME_WORDS,
+        "binary" behind "#b": integers(2, SIGNED, Conditions::NONE) => SCHEME_WORDS,
     } => Tokens::new(&[], &[]);
 
     /// SQL's signed numeric literals (ISO/IEC 9075-2:2016, 5.3 `<literal>`).
-    SQL: "SQL" = { "decimal": numbers(b'e', b'.', NumberFormatBuilder::new().no_special(true)) => SQL_WORDS } => POINTS_BACK; // rejects `NaN` and `inf`
+    SQL: "SQL" = { "decimal": numbers(b'e', b'.', SIGNED) => PERL_WORDS } => POINTS_BACK;
 
     /// Swift's numeric literals, with the sign `-` (The Swift Programming Language, Lexical Structure).
     SWIFT: "Swift" = {
@@ -1093,10 +1040,7 @@ languages! {
     /// VHDL's abstract literals (IEEE 1076-2008, 15.5). Integers without an exponent have 64 bits, one of which is the
     /// sign, as in GHDL. `1E3`, an integer in VHDL, is a float here.
     VHDL: "VHDL" = {
-        "decimal": decimal(separated(b'_')
-            .required_digits(true) // rejects `.5`, `1.`, `1e` and `.`
-            .no_exponent_without_fraction(true) // rejects `1e3`, not `1.0e3`
-        ) => ADA_WORDS; finite(SIGNED_64),
+        "decimal": decimal(ERLANG) => ADA_WORDS; finite(SIGNED_64),
         "integer with an exponent": decimal(separated(b'_').required_digits(true)) => ADA_WORDS; finite(SIGNED_64),
     } radixes "" "#" to 16 { closed(b'#', separated(b'_')) => ADA_WORDS; finite(SIGNED_64) } => Tokens::new(&[], &[]);
 
@@ -1111,10 +1055,7 @@ languages! {
     } => POINTS_BACK;
 
     /// The decimals of XML Schema, with signs (XML Schema 1.1, Part 2, 3.3.3).
-    XML_SCHEMA: "XML Schema" = { "decimal": numbers(b'e', b'.', NumberFormatBuilder::new()
-        .no_special(true) // rejects `NaN` and `INF`, which are floats
-        .no_exponent_notation(true) // rejects `1e5`
-    ) };
+    XML_SCHEMA: "XML Schema" = { "decimal": numbers(b'e', b'.', SIGNED.no_exponent_notation(true)) }; // rejects `1e5`
 
     /// The doubles of XML Schema, with signs (XML Schema 1.1, Part 2, 3.3.5): take the values of integers as `f64`.
     XML_SCHEMA_DOUBLE: "XML Schema double" = {
@@ -1141,13 +1082,7 @@ languages! {
             .no_exponent_without_fraction(true) // rejects `1e+3`, not `1.e+3`
         ),
         "octal": signed(octal(YAML_1_1)),
-        "hexadecimal": signed(prefixed(b'x', 16, YAML_1_1
-            .case_sensitive_base_prefix(true) // rejects `0X1F`
-            .integer_leading_digit_separator(true) // accepts `0x_1F`
-        )),
-        "binary": signed(prefixed(b'b', 2, YAML_1_1
-            .case_sensitive_base_prefix(true) // rejects `0B1`
-            .integer_leading_digit_separator(true) // accepts `0b_1`
-        )),
+        "hexadecimal": signed(prefixed(b'x', 16, YAML_1_1_PREFIXED)),
+        "binary": signed(prefixed(b'b', 2, YAML_1_1_PREFIXED)),
     }, Specials { nan: Some(b".nan"), inf: Some(b".inf"), infinity: None };
 }

@@ -1,10 +1,10 @@
 //! A syntax as a sentence.
 
 use core::fmt::{self, Formatter};
-use core::num::NonZeroU8;
 
 use super::parts::{group_sizes, leading_zeros};
-use crate::literal::{Condition, Conditions, Syntax};
+use crate::literal::syntax::{Condition, Grammar};
+use crate::literal::Syntax;
 use crate::short_text::ShortText;
 use crate::view::{FormatView, Separators};
 use crate::word::Part;
@@ -27,15 +27,10 @@ pub(super) fn write(syntax: Syntax, f: &mut Formatter<'_>) -> fmt::Result {
 
 /// What phrases mention. A byte that is absent is 0.
 struct Terms {
+    grammar: Grammar,
     view: FormatView,
-    conditions: Conditions,
     floats: bool,
     has_exponent: bool,
-    point: u8,
-    exponent: u8,
-    separator: u8,
-    prefix: u8,
-    suffix: u8,
     /// The sizes of the last group of the integer, of its others, and of those of the fraction.
     groups: [u8; 3],
     /// Whether leading zeros are forbidden in integers, and in floats.
@@ -44,22 +39,10 @@ struct Terms {
 
 impl Terms {
     fn new(syntax: Syntax) -> Self {
-        let view = syntax.format().view();
-        let floats = syntax.options().is_some();
-        let byte = |byte: Option<NonZeroU8>| byte.map_or(0, NonZeroU8::get);
-        Terms {
-            view,
-            conditions: syntax.conditions(),
-            floats,
-            has_exponent: floats && !view.no_exponent_notation(),
-            point: syntax.point().unwrap_or_default(),
-            exponent: syntax.exponent().unwrap_or_default(),
-            separator: byte(view.digit_separator()),
-            prefix: byte(view.base_prefix()),
-            suffix: byte(view.base_suffix()),
-            groups: group_sizes(syntax.conditions()),
-            no_zeros: leading_zeros(syntax.as_grammar()),
-        }
+        let grammar = *syntax.as_grammar();
+        let (view, floats) = (grammar.view(), !grammar.integers_only());
+        let (groups, no_zeros) = (group_sizes(grammar.conditions), leading_zeros(&grammar));
+        Terms { grammar, view, floats, has_exponent: floats && !view.no_exponent_notation(), groups, no_zeros }
     }
 
     /// Returns the parts that literals can have: always an integer, and a fraction and an exponent.
@@ -71,14 +54,15 @@ impl Terms {
     fn places(&self, is_allowed: fn(Separators) -> bool) -> [bool; 3] {
         let [last, _, small] = self.groups;
         let [integer, fraction, exponent] = [Part::Integer, Part::Fraction, Part::Exponent]
-            .map(|part| self.separator != 0 && is_allowed(self.view.separators(part)));
+            .map(|part| self.grammar.separator != 0 && is_allowed(self.view.separators(part)));
         [integer && last == 0, self.floats && fraction && small == 0, self.has_exponent && exponent]
     }
 
     /// Returns all phrases, and whether each is true of the syntax and has an effect. A `%` and the byte behind it stand
     /// for what [`Self::write`] writes.
     fn phrases(&self) -> [(bool, &'static str); 35] {
-        let Terms { view, conditions, floats, has_exponent, point, exponent, prefix, suffix, .. } = *self;
+        let Terms { grammar, view, floats, has_exponent, .. } = *self;
+        let Grammar { conditions, point, exponent, prefix, suffix, .. } = grammar;
         let ([last, higher, small], [zeros, float_zeros]) = (self.groups, self.no_zeros);
         let anywhere = |is_allowed| self.places(is_allowed) != [false; 3];
         [
@@ -116,14 +100,14 @@ impl Terms {
             (has_exponent && view.case_sensitive_exponent() && exponent.is_ascii_alphabetic(), "no `%E`"),
             (view.case_sensitive_base_prefix() && prefix.is_ascii_alphabetic(), "no `0%X`"),
             (view.case_sensitive_base_suffix() && suffix.is_ascii_alphabetic(), "no `%H`"),
-            (!view.no_special() && view.special_digit_separator() && self.separator != 0, "`%s` in NaN"),
+            (!view.no_special() && view.special_digit_separator() && grammar.separator != 0, "`%s` in NaN"),
         ]
     }
 
     /// Writes what stands for `%` and `code` in a phrase.
     fn write(&self, code: u8, f: &mut Formatter<'_>) -> fmt::Result {
         let ([last, higher, small], [_, float_zeros]) = (self.groups, self.no_zeros);
-        let optional = |condition| if self.conditions.has(condition) { "" } else { "optional " };
+        let optional = |condition| if self.grammar.conditions.has(condition) { "" } else { "optional " };
         let text = match code {
             b'r' => return f.write_str(radix(self.view.mantissa_radix()).as_str()),
             b'R' => return f.write_str(radix(self.view.exponent_radix()).as_str()),
@@ -132,14 +116,14 @@ impl Terms {
             b'2' => return within(self.places(|it| it.leading), self.parts(), f),
             b'3' => return within(self.places(|it| it.trailing), self.parts(), f),
             b'4' => return within(self.places(|it| it.consecutive), self.parts(), f),
-            b'.' => return show(self.point, f),
-            b's' => return show(self.separator, f),
-            b'e' => return show(self.exponent, f),
-            b'x' => return show(self.prefix, f),
-            b'h' => return show(self.suffix, f),
-            b'E' => return show(self.exponent ^ 32, f),
-            b'X' => return show(self.prefix ^ 32, f),
-            b'H' => return show(self.suffix ^ 32, f),
+            b'.' => return show(self.grammar.point, f),
+            b's' => return show(self.grammar.separator, f),
+            b'e' => return show(self.grammar.exponent, f),
+            b'x' => return show(self.grammar.prefix, f),
+            b'h' => return show(self.grammar.suffix, f),
+            b'E' => return show(self.grammar.exponent ^ 32, f),
+            b'X' => return show(self.grammar.prefix ^ 32, f),
+            b'H' => return show(self.grammar.suffix ^ 32, f),
             b'i' if !self.floats => " integers",
             b'p' => optional(Condition::BasePrefix),
             b'q' => optional(Condition::BaseSuffix),

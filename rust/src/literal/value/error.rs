@@ -108,6 +108,28 @@ impl ValueError {
     pub const fn span(&self) -> Range<usize> {
         0..self.size
     }
+
+    /// Prints the limit that the value is beyond: of its kind, or else of the type.
+    fn fmt_limit(&self, f: &mut fmt::Formatter<'_>) -> fmt::Result {
+        let negative = matches!(self.kind, ValueErrorKind::TooSmall);
+        let (beyond, last) = if negative { ("below", "least") } else { ("above", "largest") };
+        let target = self.target();
+        match (self.limit_of_kind(), self.target.limits) {
+            (Some(size), _) => {
+                let limit = Limit { negative: negative && size > 0, size, places: 0 };
+                write!(f, "{beyond} {limit}, the {last} {}", Named(self.of))
+            }
+            (None, Some((least, largest))) => {
+                let size = if negative { least.unsigned_abs() } else { largest };
+                let limit = Limit { negative: negative && least < 0, size, places: self.places };
+                match self.places {
+                    0 => write!(f, "{beyond} {limit}, the {last} {target}"),
+                    _ => write!(f, "{beyond} {limit}"),
+                }
+            }
+            (None, None) => write!(f, "{beyond} the {last} {target}"),
+        }
+    }
 }
 
 /// A limit of a type, before a value is multiplied by a power of 10.
@@ -140,30 +162,6 @@ impl fmt::Display for Named {
             IntegerKind::Unsigned(bits) => write!(f, "u{bits}"),
             IntegerKind::Wraps(bits) | IntegerKind::WrapsModulo(bits) => write!(f, "number of {bits} bits"),
             IntegerKind::Exact => f.write_str("number"),
-        }
-    }
-}
-
-impl ValueError {
-    /// Prints the limit that the value is beyond: of its kind, or else of the type.
-    fn fmt_limit(&self, f: &mut fmt::Formatter<'_>) -> fmt::Result {
-        let negative = matches!(self.kind, ValueErrorKind::TooSmall);
-        let (beyond, last) = if negative { ("below", "least") } else { ("above", "largest") };
-        let target = self.target();
-        match (self.limit_of_kind(), self.target.limits) {
-            (Some(size), _) => {
-                let limit = Limit { negative: negative && size > 0, size, places: 0 };
-                write!(f, "{beyond} {limit}, the {last} {}", Named(self.of))
-            }
-            (None, Some((least, largest))) => {
-                let size = if negative { least.unsigned_abs() } else { largest };
-                let limit = Limit { negative: negative && least < 0, size, places: self.places };
-                match self.places {
-                    0 => write!(f, "{beyond} {limit}, the {last} {target}"),
-                    _ => write!(f, "{beyond} {limit}"),
-                }
-            }
-            (None, None) => write!(f, "{beyond} the {last} {target}"),
         }
     }
 }
@@ -244,22 +242,10 @@ impl ParseError {
     }
 }
 
-impl From<FormError> for ParseError {
-    fn from(error: FormError) -> ParseError {
-        ParseError::Read(error)
-    }
-}
-
-impl From<ReadError> for ParseError {
-    fn from(error: ReadError) -> ParseError {
-        ParseError::Read(FormError::alone(error))
-    }
-}
-
-impl From<ValueError> for ParseError {
-    fn from(error: ValueError) -> ParseError {
-        ParseError::Value(error)
-    }
+conversions! {
+    error: FormError => ParseError { ParseError::Read(error) }
+    error: ReadError => ParseError { ParseError::Read(FormError::alone(error)) }
+    error: ValueError => ParseError { ParseError::Value(error) }
 }
 
 /// Prints the error of the text or of the value.

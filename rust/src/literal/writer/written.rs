@@ -24,16 +24,8 @@ pub struct Written<'a> {
     pub(super) word: Option<&'static &'static [u8]>,
 }
 
-impl<'a> Written<'a> {
-    /// Returns a text that nothing stands around.
-    pub(super) const fn of(text: Text<'a>) -> Written<'a> {
-        Written { text, opening: Opening::NONE, word: None }
-    }
-}
-
 /// What is printed.
 #[derive(Clone, Copy)]
-#[allow(clippy::large_enum_variant, reason = "nothing is allocated")]
 pub(super) enum Text<'a> {
     Number(Layout<'a>),
     Integer(WrittenInteger),
@@ -158,7 +150,12 @@ impl Text<'_> {
     }
 }
 
-impl Written<'_> {
+impl<'a> Written<'a> {
+    /// Returns a text that nothing stands around.
+    pub(super) const fn of(text: Text<'a>) -> Written<'a> {
+        Written { text, opening: Opening::NONE, word: None }
+    }
+
     /// Returns the word, which is empty if there is none.
     fn word(&self) -> &'static [u8] {
         self.word.copied().unwrap_or_default()
@@ -217,24 +214,7 @@ impl Written<'_> {
         let text = buffer.get(..length).and_then(|text| str::from_utf8(text).ok());
         text.ok_or(WriteError::Buffer(length))
     }
-}
 
-/// Prints the text as std prints numbers: with the width and the fill of the formatter, to the right if it has no alignment,
-/// for `+` with a sign, and for `0` with zeros behind the sign and the prefix. With these two, it may not be a literal. A
-/// precision is ignored.
-impl fmt::Display for Written<'_> {
-    fn fmt(&self, f: &mut fmt::Formatter<'_>) -> fmt::Result {
-        let mut text = [0; 40];
-        let length = self.write(&mut text);
-        let text = text.get(..length).and_then(|text| str::from_utf8(text).ok());
-        match text {
-            Some(text) if f.width().is_none() && !f.sign_plus() => f.write_str(text),
-            _ => self.pad(f, length),
-        }
-    }
-}
-
-impl Written<'_> {
     /// Returns the text if it is short, and known.
     #[doc(hidden)]
     #[must_use]
@@ -301,6 +281,21 @@ impl Written<'_> {
             printer.result?;
         }
         (before + zeros..missing).try_for_each(|_| f.write_char(fill))
+    }
+}
+
+/// Prints the text as std prints numbers: with the width and the fill of the formatter, to the right if it has no alignment,
+/// for `+` with a sign, and for `0` with zeros behind the sign and the prefix. With these two, it may not be a literal. A
+/// precision is ignored.
+impl fmt::Display for Written<'_> {
+    fn fmt(&self, f: &mut fmt::Formatter<'_>) -> fmt::Result {
+        let mut text = [0; 40];
+        let length = self.write(&mut text);
+        let text = text.get(..length).and_then(|text| str::from_utf8(text).ok());
+        match text {
+            Some(text) if f.width().is_none() && !f.sign_plus() => f.write_str(text),
+            _ => self.pad(f, length),
+        }
     }
 }
 
