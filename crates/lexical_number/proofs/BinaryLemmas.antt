@@ -12,8 +12,11 @@ use Rattle.core.proofs.dec2flt.Settle.{lies_above, rounds_down, rounds_up, signi
 use Rattle.lexical_number.proofs.LeadingLemmas.{beyond, exact, scaled, unscaled}
 
 powers : (den up l d down e : ℕ) → up + l + d ≡ down + e → den * 2 ^ up * (2 ^ l * 2 ^ d) ≡ den * 2 ^ e * 2 ^ down
-powers den up l d down e is = omega (arith, ap (λ t. den * t) (ap (λ t. 2 ^ up * t) (sym (pow-add 2 l d)) ∙ sym (pow-add 2 up (l + d))
-    ∙ ap (λ t. 2 ^ t) {x = up + (l + d)} {y = e + down} (omega arith) ∙ pow-add 2 e down))
+powers den up l d down e is = omega (
+  arith,
+  ap (λ t. den * t) (ap (λ t. 2 ^ up * t) (sym (pow-add 2 l d)) ∙ sym (pow-add 2 up (l + d))
+      ∙ ap (λ t. 2 ^ t) {x = up + (l + d)} {y = e + down} (omega arith) ∙ pow-add 2 e down),
+)
 
 -- Units of a power of two are parts of units of least floats.
 pub cut_at : {digits : ℕ} {more : Bool} (num den up down l d e : ℕ) → up + l + d ≡ down + e → IsCutTo (num * 2 ^ down) digits more (den * 2 ^ up)

@@ -1,7 +1,7 @@
 -- Numbers of 64 bits, by the number of their digits behind leading zeros.
 use Rattle.std.proofs.Common.{rules}
-use Rattle.lexical_number.proofs.Common.{Bool, IsTrue, List, None, Some, [], agree_below_at, ap, arith, byte_value, cases_lt, cons_option, digits_in, false}
-use Rattle.lexical_number.proofs.Common.{if◌then◌else◌, inl, inr, leading_zeros, length, mod-add-mod, mul-le-mul_right, nat_le, nat_lt, nat_tests, number}
+use Rattle.lexical_number.proofs.Common.{Bool, IsTrue, List, None, Some, [], agree_below_at, ap, arith, byte_value, cons_option, digits_in, false}
+use Rattle.lexical_number.proofs.Common.{if◌then◌else◌, leading_zeros, length, mod-add-mod, mul-le-mul_right, nat_le, nat_lt, nat_tests, number}
 use Rattle.lexical_number.proofs.Common.{number_from_digits_after, number_lt, places, pow-le-pow_right, pow-suc, pow-zero, refl, slice_index_or, subst, suc}
 use Rattle.lexical_number.proofs.Common.{sym, true, zero, ℕ, ◌%◌, ◌&&◌, ◌*◌, ◌++◌, ◌+◌, ◌-◌, ◌<◌, ◌==◌, ◌^◌, ◌||◌, ◌↔◌, ◌∙◌, ◌∷◌, ◌≡◌, ◌≤◌}
 use Rattle.std.specs.Int.Digits.{AllBelowBase, number_from_digits}

@@ -1,7 +1,7 @@
 -- The digits are all of the number, and a power of two makes a word of them.
 use Rattle.std.proofs.Common.{rules}
 use Rattle.lexical_number.proofs.Common.{Bool, IsCutTo, IsNearestBits, arith, count_leading_zeros, false, format_of, if◌then◌else◌}
-use Rattle.lexical_number.proofs.Common.{mul-le-mul_left, pow_pos, subst, sym, ℕ, ◌%◌, ◌*◌, ◌+◌, ◌<◌, ◌^◌, ◌∙◌, ◌≡◌, ◌≤◌}
+use Rattle.lexical_number.proofs.Common.{mul-le-mul_left, pow_pos, subst, sym, ℕ, ◌%◌, ◌*◌, ◌+◌, ◌<◌, ◌^◌, ◌∙◌, ◌≤◌}
 use Rattle.lexical_number.proofs.BinaryLemmas.{few, kept, lifted, shifted}
 use Rattle.lexical_number.proofs.ScalingLemmas.{in_radixes}
 use Rattle.lexical_number.proofs.scaling.raised_word.Goals as goal
