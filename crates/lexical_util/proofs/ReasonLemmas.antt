@@ -19,7 +19,7 @@ use Rattle.lexical_flags.specs.declared.format_flags.rule.Rule.TheVariants as ru
 use Rattle.lexical_flags.proofs.RuleLemmas.{Holds-from_lawful, Lawful-from_all}
 use Rattle.lexical_flags.proofs.ReservedBits.{reserved_bits as reserved_clean}
 use Rattle.lexical_util.specs.Additions.FieldEdits.{flag_setter}
-use Rattle.lexical_util.specs.Additions.Reasons.{is_set, named, role, if_present, out_of_range, not_punctuation, clash, both_set, needs_position, reserved_bits}
+use Rattle.lexical_util.specs.Additions.Reasons.{is_set, named, role, if_present, out_of_range, not_punctuation, clash, both_set}
 use Rattle.lexical_util.specs.Additions.Reasons.{byte_in, causes_of, punctuation_in, slots_of, followers, reason_of, reasons_of, options_causes}
 use Rattle.lexical_util.specs.Additions.Reasons.{options_reasons_of, Breaks, EachReason, NoReason}
 use Rattle.lexical_util.specs.declared.reasons.Byte.TheVariants as bytes
