@@ -5,7 +5,7 @@ use Rattle.lexical_flags.proofs.Common.{range_with_len, mod-eq_of_lt, mod-lt, lt
 use Rattle.std.proofs.lemmas.Int.{to_z-of_z}
 use Rattle.std.proofs.lemmas.Nat.Bits.{bit_at_and}
 use Rattle.lexical_flags.specs.Common.{common, common_at}
-use Rattle.lexical_flags.proofs.ByteParts.{exponent_base_part, exponent_radix_part}
+use Rattle.lexical_flags.proofs.ByteParts.{byte_by_mask}
 use Rattle.lexical_flags.proofs.Masks.{and_all}
 
 -- Two bits are both 1 if and only if the smaller one is 1.
@@ -29,7 +29,7 @@ common_part v w z fits sfits = ap (λ s. bit_and (bit_and v w / 2 ^ unsigned_abs
 
 -- With the mask and the shift of an exponent byte, this number is the byte.
 pub common_base : (word : ℕ) → common word 0x00FF0000_00000000_00000000_00000000 / 2 ^ 112 % 2 ^ 32 ≡ part word 112 8
-common_base word = search (rules, common-bit_and, exponent_base_part)
+common_base word = search (rules, common-bit_and, byte_by_mask)
 
 pub common_radix : (word : ℕ) → common word 0xFF000000_00000000_00000000_00000000 / 2 ^ 120 % 2 ^ 32 ≡ part word 120 8
-common_radix word = search (rules, common-bit_and, exponent_radix_part)
+common_radix word = search (rules, common-bit_and, byte_by_mask)

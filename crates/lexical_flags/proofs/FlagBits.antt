@@ -40,7 +40,7 @@ sum-set m n = grind (arith, nat_tests)
 -- The sum of the bits of some flags is not 0 if and only if one of the flags is set.
 sum_by-set : (fs : List Flag) (word : ℕ) → not (sum_by (λ f. part word (bit f) 1 * 2 ^ bit f) fs == 0) ≡ list_any (raw word).flag fs
 sum_by-set [] word = refl
-sum_by-set (f ∷ fs) word = search (rules, sum_by-set fs word, part, bit, moved_bit-set, mod-lt, pow_pos, sum_by-cons, sum-set, sum_by)
+sum_by-set (f ∷ fs) word = search (rules, sum_by-set fs word, bit, moved_bit-set, mod-lt, pow_pos, sum_by-cons, sum-set)
 
 -- A word has a bit in common with the mask of some flags if and only if one of the flags is set.
 pub mask_test : (fs : List Flag) (word : ℕ) → ascends bit 1 0 fs ≡ true → not (bit_and word (mask_of fs) == 0) ≡ list_any (raw word).flag fs

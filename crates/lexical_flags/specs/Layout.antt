@@ -1,5 +1,5 @@
 -- The flags and bytes of a format word, and their bits.
-use Rattle.std.specs.Prelude.{ℕ, ◌≡◌, ◌/◌, ◌%◌, ◌^◌, List, [], ◌∷◌, ◌++◌}
+use Rattle.std.specs.Prelude.{ℕ, ◌≡◌, ◌/◌, ◌%◌, ◌^◌, List, [], ◌∷◌, drop, take}
 use Rattle.lexical_flags.specs.declared.format_flags.parts.Part.{Part}
 use Rattle.lexical_flags.specs.declared.format_flags.parts.Part.TheVariants as parts
 
@@ -63,13 +63,26 @@ bit special_digit_separator = 44
 abbrev pub shift : Byte → ℕ
 shift b = elim b [ digit_separator ↦ 64 | base_prefix ↦ 88 | base_suffix ↦ 96 | mantissa_radix ↦ 104 | exponent_base ↦ 112 | exponent_radix ↦ 120 ]
 
--- `base_flags` lists the flags below bit 32.
-abbrev pub base_flags : List Flag
-base_flags =
+-- `flags` lists all flags, in the order of their bits.
+abbrev pub flags : List Flag
+flags =
     required_integer_digits ∷ required_fraction_digits ∷ required_exponent_digits ∷ required_mantissa_digits ∷ no_positive_mantissa_sign ∷
     required_mantissa_sign ∷ no_exponent_notation ∷ no_positive_exponent_sign ∷ required_exponent_sign ∷ no_exponent_without_fraction ∷ no_special ∷
     case_sensitive_special ∷ no_integer_leading_zeros ∷ no_float_leading_zeros ∷ required_exponent_notation ∷ case_sensitive_exponent ∷
-    case_sensitive_base_prefix ∷ case_sensitive_base_suffix ∷ []
+    case_sensitive_base_prefix ∷ case_sensitive_base_suffix ∷
+    integer_internal_digit_separator ∷ fraction_internal_digit_separator ∷ exponent_internal_digit_separator ∷
+    integer_leading_digit_separator ∷ fraction_leading_digit_separator ∷ exponent_leading_digit_separator ∷
+    integer_trailing_digit_separator ∷ fraction_trailing_digit_separator ∷ exponent_trailing_digit_separator ∷
+    integer_consecutive_digit_separator ∷ fraction_consecutive_digit_separator ∷ exponent_consecutive_digit_separator ∷
+    special_digit_separator ∷ []
+
+-- `base_flags` lists the flags below bit 32: the first 18.
+abbrev pub base_flags : List Flag
+base_flags = take 18 flags
+
+-- `digit_separator_flags` lists the flags from bit 32 up: all flags that allow a digit separator somewhere.
+abbrev pub digit_separator_flags : List Flag
+digit_separator_flags = drop 18 flags
 
 -- `required_digits` lists the flags that require digits.
 abbrev pub required_digits : List Flag
@@ -88,11 +101,6 @@ trailing_digit_separator = integer_trailing_digit_separator ∷ fraction_trailin
 abbrev pub consecutive_digit_separator : List Flag
 consecutive_digit_separator =
     integer_consecutive_digit_separator ∷ fraction_consecutive_digit_separator ∷ exponent_consecutive_digit_separator ∷ []
-
--- `digit_separator_flags` lists the flags from bit 32 up: all flags that allow a digit separator somewhere.
-abbrev pub digit_separator_flags : List Flag
-digit_separator_flags =
-    internal_digit_separator ++ leading_digit_separator ++ trailing_digit_separator ++ consecutive_digit_separator ++ special_digit_separator ∷ []
 
 -- `SeparatorFlags` has the flags that allow digit separators between, before and after the digits of a part, and consecutive ones there.
 pub record SeparatorFlags : Type 0 where
@@ -130,10 +138,6 @@ fraction_digit_separator_flags = separator_flags_in parts.Fraction
 -- `exponent_digit_separator_flags` lists the digit separator flags of the exponent.
 abbrev pub exponent_digit_separator_flags : List Flag
 exponent_digit_separator_flags = separator_flags_in parts.Exponent
-
--- `flags` lists all flags, in the order of their bits.
-abbrev pub flags : List Flag
-flags = base_flags ++ digit_separator_flags
 
 -- `bytes` lists all bytes, in the order of their bits.
 abbrev pub bytes : List Byte

@@ -5,7 +5,7 @@
 //! exponent radix. A *field* is a flag or one of these bytes. The other bits are *reserved*: they belong to no field. A
 //! word is *lawful* if it satisfies every [`Rule`]. The reserved bits of a lawful word are 0. The setters of
 //! [`NumberFormatBuilder`][lexical_builder::format_builder::NumberFormatBuilder] have an example of each flag's effect.
-#![tactic(auto, using(crate::proofs::ByteParts::byte_parts))]
+#![tactic(auto, using(crate::proofs::ByteParts::byte_by_mask))]
 
 ghost use Rattle.std.specs.Prelude.{◌≡◌, ◌/◌, ◌%◌, ◌^◌, ◌≤ℤ◌, ◌<ℤ◌, pos, unsigned_abs};
 ghost use Rattle.lexical_flags.specs.Layout as layout;
@@ -248,7 +248,7 @@ pub const fn base_suffix(format: u128) -> u8
 /// Returns the mantissa radix of `format`. The result is at most 255. If `format` is [lawful][Rule], the
 /// result is between 2 and 36.
 #[must_use]
-#[tactic(auto, using(crate::proofs::ByteParts::byte_parts), unfolding(crate::specs::Rules::Lawful))]
+#[tactic(auto, using(crate::proofs::ByteParts::byte_by_mask), unfolding(crate::specs::Rules::Lawful))]
 pub const fn mantissa_radix(format: u128) -> u32
     ensures value { result ≡ (raw format).byte layout.mantissa_radix }
     ensures lawful { Lawful format → IsRadix result }
@@ -303,7 +303,7 @@ pub const fn raw_exponent_radix(format: u128) -> u8
 ///
 /// If `shift` is not in this range, panics if overflow checks are enabled, and otherwise returns an unspecified result.
 #[must_use]
-#[tactic(auto, using(crate::proofs::ByteParts::byte_parts, crate::proofs::CommonLemmas::common_part))]
+#[tactic(auto, using(crate::proofs::ByteParts::byte_by_mask, crate::proofs::CommonLemmas::common_part))]
 pub const fn radix_from_flags(format: u128, mask: u128, shift: i32) -> u32
     requires from { pos 0 ≤ℤ shift }
     requires below { shift <ℤ pos 128 }

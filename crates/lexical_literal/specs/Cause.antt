@@ -37,10 +37,9 @@ requirement_flags =
     layout.no_positive_exponent_sign ∷ layout.required_exponent_sign ∷ layout.no_exponent_without_fraction ∷
     layout.no_integer_leading_zeros ∷ layout.no_float_leading_zeros ∷ layout.required_exponent_notation ∷ []
 
--- `number_separator_flags` lists the flags that allow a digit separator in a number.
+-- `number_separator_flags` lists the flags that allow a digit separator in a number: all but the last of those that allow one somewhere.
 abbrev pub number_separator_flags : List Flag
-number_separator_flags =
-    layout.internal_digit_separator ++ layout.leading_digit_separator ++ layout.trailing_digit_separator ++ layout.consecutive_digit_separator
+number_separator_flags = take 12 layout.digit_separator_flags
 
 -- `is_one_of fs f` is true if `f` is one of `fs`.
 abbrev pub is_one_of : List Flag → Flag → Bool

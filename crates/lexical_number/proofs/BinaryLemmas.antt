@@ -1,5 +1,6 @@
 -- From a number by its leading bits to units of least floats, and to the nearest float.
 use Rattle.lexical_number.proofs.Common.{Bool, Format, IsCut, IsCutTo, IsJustAbove, IsNearestBits, IsSignificand, IsWithin, ap, arith, bool_byte}
+use Rattle.lexical_number.proofs.Common.{count_leading_zeros, leading_top}
 use Rattle.lexical_number.proofs.Common.{eq-zero-or-pos, eq_of_mul-eq-mul_right, false, hid, inl, inr, le_of_eq, le_trans, lit≤, low, lt_of_mul-lt-mul_right}
 use Rattle.lexical_number.proofs.Common.{mod-eq_of_lt, mul-le-mul_left, mul-le-mul_right, mul-pos, nat_lt, nat_tests, nearest_of_huge, nearest_of_tiny, ones}
 use Rattle.lexical_number.proofs.Common.{pow-add, pow_mono, pow_pos, prec, refl, scaled_bits, shl_lt, subst, suc, sym, true, ℕ, ◌%◌, ◌&&◌, ◌*◌, ◌+◌, ◌-◌, ◌/◌}
@@ -11,29 +12,27 @@ use Rattle.core.proofs.dec2flt.Settle.{lies_above, rounds_down, rounds_up, signi
 use Rattle.lexical_number.proofs.LeadingLemmas.{beyond, exact, scaled, unscaled}
 
 powers : (den up l d down e : ℕ) → up + l + d ≡ down + e → den * 2 ^ up * (2 ^ l * 2 ^ d) ≡ den * 2 ^ e * 2 ^ down
-powers den up l d down e is =
-    let left : den * 2 ^ up * (2 ^ l * 2 ^ d) ≡ den * (2 ^ up * (2 ^ l * 2 ^ d)) = grind arith in
-    let right : den * (2 ^ e * 2 ^ down) ≡ den * 2 ^ e * 2 ^ down = grind arith in
-    left ∙ ap (λ t. den * t) (ap (λ t. 2 ^ up * t) (sym (pow-add 2 l d)) ∙ sym (pow-add 2 up (l + d)) ∙ ap (λ t. 2 ^ t) {x = up + (l + d)} {y = e + down} (omega arith) ∙ pow-add 2 e down) ∙ right
+powers den up l d down e is = omega (
+  arith,
+  ap (λ t. den * t) (ap (λ t. 2 ^ up * t) (sym (pow-add 2 l d)) ∙ sym (pow-add 2 up (l + d))
+      ∙ ap (λ t. 2 ^ t) {x = up + (l + d)} {y = e + down} (omega arith) ∙ pow-add 2 e down),
+)
 
 -- Units of a power of two are parts of units of least floats.
 pub cut_at : {digits : ℕ} {more : Bool} (num den up down l d e : ℕ) → up + l + d ≡ down + e → IsCutTo (num * 2 ^ down) digits more (den * 2 ^ up)
     → IsCutTo (num * 2 ^ l * 2 ^ d) digits more (den * 2 ^ e)
-cut_at {digits = digits} {more = more} num den up down l d e places cut =
+cut_at num den up down l d e places cut =
     let moved : num * 2 ^ down * (2 ^ l * 2 ^ d) ≡ num * 2 ^ l * 2 ^ d * 2 ^ down = grind arith in
-    unscaled (2 ^ down) (pow_pos down) (subst (λ m. IsCutTo m digits more (den * 2 ^ e * 2 ^ down)) moved
-    (subst (IsCutTo (num * 2 ^ down * (2 ^ l * 2 ^ d)) digits more) (powers den up l d down e places)
-    (scaled cut (2 ^ l * 2 ^ d) (mul-pos (pow_pos l) (pow_pos d)))))
+    unscaled (2 ^ down) (pow_pos down)
+    (rw (← moved, ← powers den up l d down e places) (scaled cut (2 ^ l * 2 ^ d) (mul-pos (pow_pos l) (pow_pos d))))
 
 -- Powers of two can be on either side.
 pub raised : {n digits : ℕ} {more : Bool} (k p up down : ℕ) → k + p ≡ up → IsCutTo n digits more (2 ^ k)
     → IsCutTo (n * 2 ^ p * 2 ^ down) digits more (2 ^ down * 2 ^ up)
-raised {n = n} {digits = digits} {more = more} k p up down is cut =
+raised {n = n} k p up down is cut =
     let number : n * (2 ^ p * 2 ^ down) ≡ n * 2 ^ p * 2 ^ down = grind arith in
     let units : 2 ^ k * (2 ^ p * 2 ^ down) ≡ 2 ^ down * (2 ^ k * 2 ^ p) = grind arith in
-    subst (λ m. IsCutTo m digits more (2 ^ down * 2 ^ up)) number
-    (subst (IsCutTo (n * (2 ^ p * 2 ^ down)) digits more) (units ∙ ap (λ t. 2 ^ down * t) (sym (pow-add 2 k p) ∙ ap (λ t. 2 ^ t) is))
-    (scaled cut (2 ^ p * 2 ^ down) (mul-pos (pow_pos p) (pow_pos down))))
+    rw (← number, ← is, pow-add 2 k p, ← units) (scaled cut (2 ^ p * 2 ^ down) (mul-pos (pow_pos p) (pow_pos down)))
 
 module _ (f : Format) (num den d k : ℕ) {h : ℕ} {more : Bool} (near : IsCutTo (num * 2 ^ low f * 2 ^ d) h more (den * 2 ^ k)) where
   pub within_one : IsWithin f num den h 1 d k
@@ -108,6 +107,17 @@ pub to_top : (a j s k : ℕ) → 2 ^ j ≤ a → a < 2 ^ suc j → j + s ≡ k �
 to_top a j s k from below is =
     let least : 2 ^ k ≡ 2 ^ j * 2 ^ s = ap (λ k. 2 ^ k) {x = k} {y = j + s} (omega arith) ∙ pow-add 2 j s in
     (omega (arith, least, mul-le-mul_right (2 ^ s) from), omega (arith, (ap (λ k. 2 ^ k) {x = suc j + s} {y = suc k} (omega arith)), shl_lt (suc j) s below))
+
+-- A word whose highest bit becomes bit 63.
+module _ (digits : ℕ) (some : 0 < digits) (fits : digits < 2 ^ 64) where
+  pub shifted : (2 ^ 63 ≤ digits * 2 ^ count_leading_zeros 64 digits) × (digits * 2 ^ count_leading_zeros 64 digits < 2 ^ 64)
+  shifted = let t = leading_top 64 digits some fits in to_top digits t.0 (count_leading_zeros 64 digits) 63 t.2 t.3 (omega (arith, t.1))
+
+  pub few : count_leading_zeros 64 digits ≤ 64
+  few = let t = leading_top 64 digits some fits in omega (arith, t.1)
+
+  pub kept : digits * 2 ^ count_leading_zeros 64 digits % 2 ^ 64 ≡ digits * 2 ^ count_leading_zeros 64 digits
+  kept = mod-eq_of_lt shifted.1
 
 -- A number far above all floats, and one far below them.
 module _ (f : Format) (num den word up down : ℕ) {more : Bool} (D : 0 < den) (cut : IsCutTo (num * 2 ^ down) word more (den * 2 ^ up)) where

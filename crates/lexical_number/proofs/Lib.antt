@@ -6,7 +6,7 @@ mod BinaryLemmas
 pub mod LeadingLemmas
 mod NearLemmas
 mod PowersLemmas
-mod ScalingLemmas
+pub mod ScalingLemmas
 mod TenLemmas
 mod FareyLemmas
 mod RowLemmas

@@ -5,9 +5,10 @@ use Rattle.lexical_number.proofs.Common.{mul-le-mul_right, nearest_of_huge, near
 use Rattle.lexical_number.proofs.Common.{suc, sym, zero, ℕ, ◌*◌, ◌+◌, ◌^◌, ◌∙◌, ◌≡◌, ◌≤◌}
 use native.Mathlib.Nat.{pow-zero}
 
-pub pow_of : (a n : ℕ) → (2 ^ a) ^ n ≡ 2 ^ (n * a)
-pow_of a zero = pow-zero (2 ^ a) ∙ sym (ap (λ x. 2 ^ x) {x = 0 * a} {y = 0} (omega arith))
-pow_of a (suc n) = search (rules, pow_of a n, pow-zero, pow-suc, pow-add)
+-- A power of a power.
+pub pow_of : (b a n : ℕ) → (b ^ a) ^ n ≡ b ^ (n * a)
+pow_of b a zero = pow-zero (b ^ a) ∙ sym (ap (λ x. b ^ x) {x = 0 * a} {y = 0} (omega arith) ∙ pow-zero b)
+pow_of b a (suc n) = search (rules, pow_of b a n, pow-zero, pow-suc, pow-add)
 
 -- What holds of powers of two holds of powers of the radixes.
 pub in_radixes : (P : ℕ → ℕ → Type 0) (n bits places base e : ℕ) (negative : Bool)
@@ -20,7 +21,7 @@ pub bound : {n digits : ℕ} {more : Bool} (bits dropped : ℕ) → bits ≤ 5 �
 bound {digits = digits} bits dropped C l =
     let radix : 2 ^ bits ≤ 2 ^ 5 = pow_mono {i = bits} {j = 5} C in
     let front : digits + 1 ≤ 2 ^ 96 = omega (arith, l.small) in
-    le_trans (omega (arith, l.cut.below)) (le_trans (mul-le-mul front (le_of_eq (pow_of bits dropped))) (le_of_eq (sym (pow-add 2 96 (dropped * bits)))))
+    le_trans (omega (arith, l.cut.below)) (le_trans (mul-le-mul front (le_of_eq (pow_of 2 bits dropped))) (le_of_eq (sym (pow-add 2 96 (dropped * bits)))))
 
 -- Where the exponent is large enough, nothing else counts.
 pub vanishes : (f : Format) (n x p q : ℕ) → n ≤ 2 ^ x → p ≡ 0 → x + 1140 ≤ q → IsNearestBits f (n * 2 ^ p) (2 ^ q) 0

@@ -1,13 +1,14 @@
 -- Numbers of 64 bits, by the number of their digits behind leading zeros.
 use Rattle.std.proofs.Common.{rules}
-use Rattle.lexical_number.proofs.Common.{Bool, IsTrue, List, None, Some, [], agree_below_at, ap, arith, byte_value, cases_lt, cons_option, digits_in, false}
-use Rattle.lexical_number.proofs.Common.{if◌then◌else◌, inl, inr, leading_zeros, length, mod-add-mod, mul-le-mul_right, nat_le, nat_lt, nat_tests, number}
+use Rattle.lexical_number.proofs.Common.{Bool, IsTrue, List, None, Some, [], agree_below_at, ap, arith, byte_value, cons_option, digits_in, false}
+use Rattle.lexical_number.proofs.Common.{if◌then◌else◌, leading_zeros, length, mod-add-mod, mul-le-mul_right, nat_le, nat_lt, nat_tests, number}
 use Rattle.lexical_number.proofs.Common.{number_from_digits_after, number_lt, places, pow-le-pow_right, pow-suc, pow-zero, refl, slice_index_or, subst, suc}
 use Rattle.lexical_number.proofs.Common.{sym, true, zero, ℕ, ◌%◌, ◌&&◌, ◌*◌, ◌++◌, ◌+◌, ◌-◌, ◌<◌, ◌==◌, ◌^◌, ◌||◌, ◌↔◌, ◌∙◌, ◌∷◌, ◌≡◌, ◌≤◌}
 use Rattle.std.specs.Int.Digits.{AllBelowBase, number_from_digits}
 use Rattle.lexical_number.specs.Small.{IsSmall}
 use Rattle.std.proofs.lemmas.Nat.{mul-mod_first}
 use Rattle.lexical_number.specs.declared.small.TheConstants.{MOST}
+use native.Mathlib.Omega.{by_contra}
 
 -- Digits behind a number are those behind each number that is the same modulo `2 ^ 64`.
 pub push_same : (radix s t v : ℕ) → s % 2 ^ 64 ≡ t % 2 ^ 64 → (s * radix + v) % 2 ^ 64 ≡ (t * radix + v) % 2 ^ 64
@@ -109,17 +110,11 @@ long_word radix bytes low long = record {
   ds = digits_in radix bytes
 
   fewer : (k : ℕ) → number radix bytes < radix ^ k → radix ^ k ≤ 2 ^ 64 → radix ^ (places radix bytes - leading_zeros ds) ≤ 2 ^ 64
-  fewer k small fits = elim (cases_lt k (length ds - leading_zeros ds)) [
-    | inl more ↦
-        let least = at_least radix ds (omega (arith, more)) in
-        let grows : radix ^ k ≤ radix ^ (length ds - leading_zeros ds - 1) =
-        pow-le-pow_right {n = radix} (omega (arith, low)) {i = k} {j = length ds - leading_zeros ds - 1} (omega (arith, more)) in
-        absurd (omega (arith, least, grows, small))
-    | inr few ↦
-        let grows : radix ^ (length ds - leading_zeros ds) ≤ radix ^ k =
-        pow-le-pow_right {n = radix} (omega (arith, low)) {i = length ds - leading_zeros ds} {j = k} few in
-        omega (arith, grows, fits)
-  ]
+  fewer k small fits =
+      let grows : (i j : ℕ) → i ≤ j → radix ^ i ≤ radix ^ j = λ i j within. pow-le-pow_right {n = radix} (omega (arith, low)) {i = i} {j = j} within in
+      let few : length ds - leading_zeros ds ≤ k = by_contra _ k (λ more.
+      omega (arith, at_least radix ds (omega (arith, more)), grows k (length ds - leading_zeros ds - 1) (omega (arith, more)), small)) in
+      omega (arith, grows (length ds - leading_zeros ds) k few, fits)
 
 pub fitting_word : (radix digits sum : ℕ) (bytes : List ℕ) → radix ^ digits ≤ 2 ^ 64 → digits ≡ places radix bytes → sum ≡ number radix bytes % 2 ^ 64
     → IsSmall radix (number radix bytes) (Some sum)

@@ -1,4 +1,5 @@
 -- The lemmas of lower crates that proofs on edits and normal forms cite, passed on from one place. Declares nothing.
+pub use Rattle.lexical_flags.proofs.ByteParts.{start}
 pub use Rattle.lexical_flags.proofs.CommonLemmas.{common-bit_and}
 pub use Rattle.lexical_flags.proofs.FlagBits.{flag_by_mask, mask_test}
 pub use Rattle.lexical_flags.proofs.Masks.{and_all, ascends}

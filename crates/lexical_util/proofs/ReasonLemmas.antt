@@ -19,9 +19,9 @@ use Rattle.lexical_flags.specs.declared.format_flags.rule.Rule.TheVariants as ru
 use Rattle.lexical_flags.proofs.RuleLemmas.{Holds-from_lawful, Lawful-from_all}
 use Rattle.lexical_flags.proofs.ReservedBits.{reserved_bits as reserved_clean}
 use Rattle.lexical_util.specs.Additions.FieldEdits.{flag_setter}
-use Rattle.lexical_util.specs.Additions.Reasons.{is_set, named, role, if_present, out_of_range, not_punctuation, clash, both_set, needs_position, reserved_bits}
-use Rattle.lexical_util.specs.Additions.Reasons.{followers, reason_of, reasons_of, options_causes, options_reasons_of, Breaks, EachReason, NoReason}
-use Rattle.lexical_util.specs.declared.reasons.Byte.{Byte}
+use Rattle.lexical_util.specs.Additions.Reasons.{is_set, named, role, if_present, out_of_range, not_punctuation, clash, both_set}
+use Rattle.lexical_util.specs.Additions.Reasons.{byte_in, causes_of, punctuation_in, slots_of, followers, reason_of, reasons_of, options_causes}
+use Rattle.lexical_util.specs.Additions.Reasons.{options_reasons_of, Breaks, EachReason, NoReason}
 use Rattle.lexical_util.specs.declared.reasons.Byte.TheVariants as bytes
 use Rattle.lexical_util.specs.declared.reasons.NamedByte.{NamedByte}
 use Rattle.lexical_util.specs.declared.reasons.Cause.{Cause}
@@ -57,21 +57,7 @@ none_if b c = grind arith
 set_is : (r : Record) (f : layout.Flag) → is_set r (flag_setter f) ≡ r.flag f
 set_is r f = ap (list_any r.flag) (setter_alone f) ∙ or-false _
 
--- `byte_in r b` is the byte `b` of `r` with its name, and `punctuation_in r` lists those whose roles `format_roles` has.
-abbrev name_of : layout.Byte → Byte
-name_of layout.digit_separator = bytes.DigitSeparator
-name_of layout.base_prefix = bytes.BasePrefix
-name_of layout.base_suffix = bytes.BaseSuffix
-name_of layout.mantissa_radix = bytes.MantissaRadix
-name_of layout.exponent_base = bytes.ExponentBase
-name_of layout.exponent_radix = bytes.ExponentRadix
-
-abbrev byte_in : Record → layout.Byte → NamedByte
-byte_in r b = named (name_of b) (r.byte b)
-
-abbrev punctuation_in : Record → List NamedByte
-punctuation_in r = map (byte_in r) (layout.digit_separator ∷ layout.base_prefix ∷ layout.base_suffix ∷ [])
-
+-- The roles of the punctuation of a format are those that `format_roles` has.
 roles_are : (r : Record) → map (role r) (punctuation_in r) ≡ format_roles r
 roles_are r = grind (arith, nat_tests, set_is)
 
@@ -83,21 +69,6 @@ clashes r a (b ∷ bs) =
     let rest = clashes r a bs in (λ h. (one.0 h.0, rest.0 h.1), λ h. (one.1 h.0, rest.1 h.1))
 
 -- RULES
-
--- `causes_of shape word` lists the causes for which `word` is not as `shape` demands.
-abbrev causes_of : Shape → ℕ → List (Option Cause)
-causes_of (radix_in_range layout.mantissa_radix) word = out_of_range (byte_in (raw word) layout.mantissa_radix) ∷ []
-causes_of (radix_in_range b) word = let byte = byte_in (raw word) b in if_present byte (out_of_range byte) ∷ []
-causes_of (absent_or_punctuation b) word =
-    let byte = byte_in (raw word) b in if_present byte (not_punctuation (raw word) byte) ∷ []
-causes_of roles_differ word =
-    let byte = byte_in (raw word) in
-    clash (raw word) (byte layout.digit_separator) (byte layout.base_prefix)
-    ∷ clash (raw word) (byte layout.digit_separator) (byte layout.base_suffix)
-    ∷ clash (raw word) (byte layout.base_prefix) (byte layout.base_suffix) ∷ []
-causes_of (not_both a b) word = both_set (raw word) (flag_setter a) (flag_setter b) ∷ []
-causes_of (position_allowed part) word = needs_position (raw word) part ∷ []
-causes_of reserved_zero word = reserved_bits word ∷ []
 
 -- `Own shape word` holds if `word` is as `shape` demands, or if the byte that `shape` names is absent.
 abbrev Own : Shape → ℕ → Type 0
@@ -162,13 +133,9 @@ explained : (word : ℕ) (rule q : Rule) → Explains (raw word) rule q → Hold
 unfolding Holds
 explained word rule q given holds = grind (arith, nat_tests, same_Some, eqb-true, none-some)
 
--- `reasons_for r rule list` has the reasons for the causes in `list`, and `slots word rule` those of a rule. The slots of
--- all rules, in their order, are equal to `reasons_of word` by computation.
+-- `reasons_for r rule list` has the reasons for the causes in `list`.
 abbrev reasons_for : Record → Rule → List (Option Cause) → List (Option Reason)
 reasons_for r rule list = map (option_map (reason_of r (Some rule))) list
-
-abbrev slots : ℕ → Rule → List (Option Reason)
-slots word rule = reasons_for (raw word) rule (causes_of (shape_of rule) word)
 
 -- There are no causes for `rule` if their reasons break no rule that `rule` explains.
 no_causes : (r : Record) (rule q : Rule) → Explains r rule q → (list : List (Option Cause))
@@ -194,10 +161,10 @@ join : (P : Option Reason → Type 0) (xs ys : List (Option Reason)) → AllByRe
 join P [] ys first second = second
 join P (x ∷ xs) ys first second = (first.0, join P xs ys first.1 second)
 
-of_rules : (P : Option Reason → Type 0) (word : ℕ) → ((rule : Rule) → AllByRecursion P (slots word rule))
-    → (list : List Rule) → AllByRecursion P (flat_map (slots word) list)
+of_rules : (P : Option Reason → Type 0) (word : ℕ) → ((rule : Rule) → AllByRecursion P (slots_of word rule))
+    → (list : List Rule) → AllByRecursion P (flat_map (slots_of word) list)
 of_rules P word each [] = tt
-of_rules P word each (rule ∷ list) = join P (slots word rule) _ (each rule) (of_rules P word each list)
+of_rules P word each (rule ∷ list) = join P (slots_of word rule) _ (each rule) (of_rules P word each list)
 
 -- A word satisfies a rule if and only if it does not break it because of one of its reasons.
 pub by_rules : (word : ℕ) (rule : Rule) → Holds rule word ↔ EachReason (λ r. Breaks r rule → ⊥) (reasons_of word)
@@ -207,7 +174,7 @@ by_rules word q = (
       (λ explains. (own_causes (shape_of rule) word).0 (explained word rule q explains holds))) rules_in_order,
   met q,
 ) where
-  own_slots : (P : Reason → Type 0) → EachReason P (reasons_of word) → (rule : Rule) → EachReason P (slots word rule)
+  own_slots : (P : Reason → Type 0) → EachReason P (reasons_of word) → (rule : Rule) → EachReason P (slots_of word rule)
   own_slots P all rules.PunctuationDiffers = (assumption all, (assumption all, (assumption all, tt)))
   own_slots P all _ = (assumption all, tt)
 

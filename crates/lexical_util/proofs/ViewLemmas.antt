@@ -1,5 +1,5 @@
 -- Lemmas on the bits of a word under a mask that is written as a number.
-use Rattle.std.proofs.Common.{ℕ, ◌≡◌, ◌*◌, ◌^◌, ◌<◌, ◌==◌, ◌≢◌, ◌⊎◌, nat_lt, IsTrue, true, not, if◌then◌else◌, List, sum_by, bit_and, refl, sym, ◌∙◌, arith}
+use Rattle.std.proofs.Common.{ℕ, ◌≡◌, ◌+◌, ◌-◌, ◌*◌, ◌/◌, ◌%◌, ◌^◌, ◌<◌, ◌==◌, ◌≢◌, ◌↔◌, nat_lt, IsTrue, true, not, if◌then◌else◌, List, sum_by, bit_and, refl, sym, ap, ◌∙◌, arith}
 use Rattle.std.proofs.Math.Nat.{mod-lt}
 use Rattle.std.proofs.lemmas.Bool.Decides.{nat_tests}
 use Rattle.std.proofs.lemmas.Nat.{pow-add, pow_pos}
@@ -8,7 +8,7 @@ use Rattle.lexical_flags.specs.Layout.{part, Flag, bit}
 use Rattle.lexical_flags.specs.Record.{raw, flag_bits}
 use Rattle.lexical_flags.specs.Additions.Masks.{mask_of}
 use Rattle.lexical_flags.specs.Common.{common}
-use Rattle.lexical_util.proofs.Lower.{ascends, and_all, flag_by_mask, mask_test, common-bit_and}
+use Rattle.lexical_util.proofs.Lower.{start, ascends, and_all, flag_by_mask, mask_test, common-bit_and}
 use Rattle.lexical_util.specs.Edits.{flags_of}
 use Rattle.lexical_util.specs.Groups.{any_flag, bits_of}
 use Rattle.lexical_util.specs.declared.edits.setters.FlagSetter.{FlagSetter}
@@ -53,30 +53,19 @@ fourth_power n = sym (pow-add n 2 2)
 pub eighth_power : (n : ℕ) → n ^ 4 * n ^ 4 ≡ n ^ 8
 eighth_power n = sym (pow-add n 4 4)
 
--- `ByteTells word mask shift` holds if the bits of `word` under `mask` are 0 if and only if the byte at `shift` is 0.
-abbrev pub ByteTells : ℕ → ℕ → ℕ → Type 0
-ByteTells word mask shift = ((bit_and word mask ≡ 0) × (part word shift 8 ≡ 0)) ⊎ ((bit_and word mask ≢ 0) × (part word shift 8 ≢ 0))
-
 zero_factor : (n p : ℕ) → 0 < p → n * p ≡ 0 → n ≡ 0
 zero_factor n p high e = grind arith
 
--- If the bits under a mask are a byte times a power of two, then they are 0 if and only if the byte is 0.
-byte_tells : (word mask shift : ℕ) → bit_and word mask ≡ part word shift 8 * 2 ^ shift → 0 < 2 ^ shift → ByteTells word mask shift
-byte_tells word mask shift is high = let zero = zero_factor (part word shift 8) (2 ^ shift) high in grind (arith, nat_tests)
-
-pub digit_separator_tells : (word : ℕ) → ByteTells word 0x00000000_000000FF_00000000_00000000 64
-digit_separator_tells word = byte_tells word _ 64 (and_high word 8 64) (pow_pos 64)
-
-pub base_prefix_tells : (word : ℕ) → ByteTells word 0x00000000_FF000000_00000000_00000000 88
-base_prefix_tells word = byte_tells word _ 88 (and_high word 8 88) (pow_pos 88)
-
-pub base_suffix_tells : (word : ℕ) → ByteTells word 0x000000FF_00000000_00000000_00000000 96
-base_suffix_tells word = byte_tells word _ 96 (and_high word 8 96) (pow_pos 96)
+-- A byte of a word is not 0 if and only if a bit under its mask, as the code writes it, is 1.
+pub byte_test : (word mask unit : ℕ) → 2 ^ start unit ≡ unit → 255 * unit ≡ mask → IsTrue (not (bit_and word mask == 0)) ↔ (word / unit % 256 ≢ 0)
+byte_test word mask unit is same =
+    let whole : mask ≡ 2 ^ (8 + start unit) - 2 ^ start unit = omega (arith, is, same, pow-add 2 8 (start unit)) in
+    let parts : bit_and word mask ≡ word / unit % 256 * unit = ap (bit_and word) whole ∙ and_high word 8 (start unit) ∙ ap (λ u. word / u % 256 * u) is in
+    let zero = zero_factor (word / unit % 256) unit (rw (← is) (pow_pos (start unit))) in
+    grind (arith, nat_tests)
 
 pub ruleset masks_and_powers = (
-  digit_separator_tells,
-  base_prefix_tells,
-  base_suffix_tells,
+  byte_test,
   flag_by_mask,
   any_by_mask,
   bits_by_mask,

@@ -4,11 +4,10 @@ use Rattle.lexical_value.proofs.Common.{float_worth, format_by, if◌then◌else
 use Rattle.lexical_value.proofs.Common.{is_minus, mantissa, mod-add-div', mod-eq_of_lt, mod-lt, nat_tests, nearest, not, pow-le-pow_right, refl, round, subst}
 use Rattle.lexical_value.proofs.Common.{sym, true, width, within, worth, wrapped, ℕ, ◌%◌, ◌*◌, ◌+◌, ◌-◌, ◌/◌, ◌<◌, ◌^◌, ◌||◌, ◌∙◌, ◌≡◌, ◌≤◌, ◌⊎◌}
 use Rattle.std.proofs.Math.Pow.{mod-mod-pow}
-use Rattle.std.proofs.lemmas.Bool.{false≢true}
 use Rattle.std.proofs.lemmas.Nat.{pow-add, pow_pos}
 use Rattle.std.specs.Float.{Float, Format}
-use Rattle.std.specs.Option.{IsSome, ok_or}
-use Rattle.std.specs.Prelude.{[], None, Option, min, nat_le, nat_lt, option_map}
+use Rattle.std.specs.Option.{IsSome}
+use Rattle.std.specs.Prelude.{[], min, nat_le}
 use Rattle.lexical_value.proofs.ValueLemmas.{whole_denominator, whole_numerator}
 use Rattle.lexical_literal.specs.declared.kind.IntegerKind.TheVariants as integers
 use Rattle.lexical_value.specs.declared.integer.ValueErrorKind.TheVariants as kinds
@@ -24,16 +23,7 @@ lowest_bits n bits = low n (width bits) (omega arith)
 -- A number that wraps and is not too large is worth what its lowest bits are.
 pub lowest_worth : (negative : Bool) (n bits : ℕ) → IsSome (worth (integers.Wraps bits) negative n)
     → worth (integers.Wraps bits) negative n ≡ Some (wrapped (width bits) negative (n % 2 ^ width bits))
-lowest_worth negative n bits = go (nat_lt n (2 ^ width bits)) refl where
-  less : nat_lt n (2 ^ width bits) ≡ true → n < 2 ^ width bits
-  less low = grind (arith, nat_tests)
-
-  own : Bool → Option (Bool × ℕ)
-  own b = if b then Some (wrapped (width bits) negative n) else None
-
-  go : (b : Bool) → nat_lt n (2 ^ width bits) ≡ b → IsSome (own b) → own b ≡ Some (wrapped (width bits) negative (n % 2 ^ width bits))
-  go true low some = ap (λ k. Some (wrapped (width bits) negative k)) (sym (mod-eq_of_lt (less low)))
-  go false high none = absurd (false≢true none)
+lowest_worth negative n bits some = let low : n < 2 ^ width bits = grind (arith, nat_tests) in rw (mod-eq_of_lt low) (grind (arith, nat_tests))
 
 powers : (i j : ℕ) → i ≤ j → 2 ^ i ≤ 2 ^ j
 powers i j within = pow-le-pow_right two within where
@@ -103,68 +93,34 @@ wraps_by bits negative n some = go negative (nat_le (n % 2 ^ bits) (if negative 
 -- A literal of the exact kind is worth the number that it represents.
 pub exact_error : (least largest : ℕ) (r : Record) (l : Literal) (error : ValueErrorKind) → IsNotWorth integers.Exact least largest r.byte l error
     → IsNoInteger least largest r.byte l error
-exact_error least largest r l kinds.Float is = is
 exact_error least largest r l kinds.TooLarge (whole, (sign, above)) = (whole, sign, above)
 exact_error least largest r l kinds.TooSmall (whole, (sign, below)) = (whole, sign, below)
-exact_error least largest r l kinds.Zero is = is
-exact_error least largest r l kinds.Vanishes is = is
-exact_error least largest r l kinds.UnsupportedRadix is = is
-exact_error least largest r l kinds.Special is = is
-exact_error least largest r l kinds.NotWhole is = is
-exact_error least largest r l kinds.TooLong is = is
-
-abbrev value_of : Float → Result Float ValueErrorKind → Float
-value_of x (Ok value) = value
-value_of x (Err error) = x
-
-abbrev error_of : ValueErrorKind → Result Float ValueErrorKind → ValueErrorKind
-error_of e (Ok value) = e
-error_of e (Err error) = error
-
-abbrev is_ok : Result Float ValueErrorKind → Bool
-is_ok (Ok value) = true
-is_ok (Err error) = false
-
-abbrev chosen : Bool → Float → Result Float ValueErrorKind
-chosen known x = if not known then Err kinds.UnsupportedRadix else Ok x
+exact_error least largest r l _ is = is
 
 pub exact_float : (f : Format) (r : Record) (l : Literal) (x : Float) → float_worth exact f r.byte l ≡ Ok x → x ≡ nearest f r.byte l
-exact_float f r l x same = go (is_decimal r.byte || is_binary r.byte) same where
-  go : (known : Bool) → chosen known (nearest f r.byte l) ≡ Ok x → x ≡ nearest f r.byte l
-  go true same = λ i. value_of x (sym same i)
-  go false same = absurd (false≢true (ap is_ok same))
+exact_float f r l x same = grind arith
 
 pub exact_radix : (f : Format) (r : Record) (l : Literal) (error : ValueErrorKind) → float_worth exact f r.byte l ≡ Err error
     → ((is_decimal r.byte || is_binary r.byte) ≡ false) × (error ≡ kinds.UnsupportedRadix)
-exact_radix f r l error same = go (is_decimal r.byte || is_binary r.byte) same where
-  go : (known : Bool) → chosen known (nearest f r.byte l) ≡ Err error → (known ≡ false) × (error ≡ kinds.UnsupportedRadix)
-  go true same = absurd (false≢true (ap is_ok (sym same)))
-  go false same = (refl, λ i. error_of error (sym same i))
+exact_radix f r l error same = grind arith
 
 -- A float, or an integer of the exact kind, is worth the nearest float, if that is within the limits.
 pub limited_worth : (f : Format) (kind : Kind) (r : Record) (l : Literal) (result : Result Float ValueErrorKind)
     → (is_decimal r.byte || is_binary r.byte) ≡ true → (is_exact kind.integers || is_float l) ≡ true
     → within kind.limits (is_minus l.sign) (mantissa r.byte l) (nearest (format_by kind.floats f) r.byte l) ≡ result → float_worth kind f r.byte l ≡ result
-limited_worth f kind r l result known plain same = (λ i. if not (known i) then Err kinds.UnsupportedRadix
-    else (if plain i then within kind.limits (is_minus l.sign) (mantissa r.byte l) (nearest (format_by kind.floats f) r.byte l)
-    else ok_or (option_map (λ w. round f w.0 w.1 1) (integer_worth kind.integers r.byte l))
-    (if is_minus l.sign then kinds.TooSmall else kinds.TooLarge))) ∙ same
+limited_worth f kind r l result known plain same = rw (known, plain) same
 
 -- Without the radixes of floats, there is none.
 pub no_worth : (f : Format) (kind : Kind) (r : Record) (l : Literal) → (is_decimal r.byte || is_binary r.byte) ≡ false
     → float_worth kind f r.byte l ≡ Err kinds.UnsupportedRadix
-no_worth f kind r l unknown = λ i. if not (unknown i) then Err kinds.UnsupportedRadix
-    else (if is_exact kind.integers || is_float l then within kind.limits (is_minus l.sign) (mantissa r.byte l) (nearest (format_by kind.floats f) r.byte l)
-    else ok_or (option_map (λ w. round f w.0 w.1 1) (integer_worth kind.integers r.byte l)) (if is_minus l.sign then kinds.TooSmall else kinds.TooLarge))
+no_worth f kind r l unknown = rw unknown
 
 -- An integer of another kind that is worth itself is worth the nearest float.
 pub kept_float : (f : Format) (kind : Kind) (r : Record) (l : Literal) (x : Float) → (is_decimal r.byte || is_binary r.byte) ≡ true
     → is_exact kind.integers ≡ false → is_float l ≡ false → integer_worth kind.integers r.byte l ≡ Some (is_minus l.sign, integer_size r.byte l)
     → l.fraction ≡ [] → l.exponent ≡ [] → x ≡ nearest f r.byte l → float_worth kind f r.byte l ≡ Ok x
-kept_float f kind r l x known other whole kept fraction exponent near = (λ i. if not (known i) then Err kinds.UnsupportedRadix
-    else (if other i || whole i then within kind.limits (is_minus l.sign) (mantissa r.byte l) (nearest (format_by kind.floats f) r.byte l)
-    else ok_or (option_map (λ w. round f w.0 w.1 1) (kept i)) (if is_minus l.sign then kinds.TooSmall else kinds.TooLarge)))
-    ∙ ap Ok ((λ i. round f (is_minus l.sign) (sym (whole_numerator r l fraction exponent) i) (sym (whole_denominator r l fraction exponent) i)) ∙ sym near)
+kept_float f kind r l x known other whole kept fraction exponent near = rw (known, other, whole, kept)
+    (ap Ok ((λ i. round f (is_minus l.sign) (sym (whole_numerator r l fraction exponent) i) (sym (whole_denominator r l fraction exponent) i)) ∙ sym near))
 
 -- It is worth what it is by the exact kind.
 pub kept_worth : (f : Format) (kind : Kind) (r : Record) (l : Literal) → is_exact kind.integers ≡ false → is_float l ≡ false

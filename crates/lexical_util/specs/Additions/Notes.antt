@@ -1,5 +1,5 @@
 -- The notes on fields that are set but have no effect on any number: a table of three, with four sentences.
-use Rattle.std.specs.Prelude.{ℕ, ◌==◌, ◌&&◌, not, Bool, false, if◌then◌else◌, Option, None, Some, List, [], ◌∷◌, bit_and, bit_or}
+use Rattle.std.specs.Prelude.{ℕ, ◌==◌, ◌&&◌, not, Bool, false, if◌then◌else◌, Option, None, Some, List, [], ◌∷◌, map, bit_and, bit_or}
 use Rattle.std.specs.Bool.{then_some}
 use Rattle.std.specs.List.{list_any}
 use Rattle.std.specs.Option.{option_map_or}
@@ -9,10 +9,9 @@ use Rattle.lexical_flags.specs.Record.{Record, separator_allowed}
 use Rattle.lexical_flags.specs.Roles.{other_case}
 use Rattle.lexical_flags.specs.Additions.Masks.{byte_mask, mask_of}
 use Rattle.lexical_util.specs.Additions.EditMasks.{mask_of_setter}
-use Rattle.lexical_util.specs.Additions.Reasons.{is_cased, mask_of_byte, named}
+use Rattle.lexical_util.specs.Additions.Reasons.{byte_in, is_cased, mask_of_byte}
 use Rattle.lexical_util.specs.declared.edits.setters.FlagSetter.{FlagSetter}
 use Rattle.lexical_util.specs.declared.edits.setters.FlagSetter.TheVariants as setters
-use Rattle.lexical_util.specs.declared.reasons.Byte.TheVariants as bytes
 use Rattle.lexical_util.specs.declared.reasons.NamedByte.{NamedByte}
 use Rattle.lexical_util.specs.declared.reasons.Reason.{Reason}
 use Rattle.lexical_util.specs.declared.reasons.note.Note.{Note}
@@ -27,7 +26,7 @@ mask_of_note note = bit_or (mask_of digit_separator_flags) (byte_mask layout.dig
 -- `separator_note r` is the note on a separator that no flag of `r` allows, or on flags that allow an absent one.
 abbrev pub separator_note : Record → Option Note
 separator_note r =
-    let byte = named bytes.DigitSeparator (r.byte layout.digit_separator) in
+    let byte = byte_in r layout.digit_separator in
     if separator_allowed r then then_some (byte.value == 0) notes.FlagsWithoutSeparator
     else then_some (not (byte.value == 0)) (notes.SeparatorWithoutFlag byte)
 
@@ -50,9 +49,7 @@ unless_blamed reasons (Some note) = then_some (not (is_blamed reasons (mask_of_n
 -- `notes_of r reasons` has three slots for notes on `r` beside `reasons`: on the separator, and on the case flags of the
 -- prefix and of the suffix.
 abbrev pub notes_of : Record → List (Option Reason) → List (Option Note)
-notes_of r reasons =
-    let prefix = named bytes.BasePrefix (r.byte layout.base_prefix) in
-    let suffix = named bytes.BaseSuffix (r.byte layout.base_suffix) in
-    unless_blamed reasons (separator_note r)
-    ∷ unless_blamed reasons (case_note r setters.CaseSensitiveBasePrefix prefix)
-    ∷ unless_blamed reasons (case_note r setters.CaseSensitiveBaseSuffix suffix) ∷ []
+notes_of r reasons = map (unless_blamed reasons) (
+    separator_note r
+    ∷ case_note r setters.CaseSensitiveBasePrefix (byte_in r layout.base_prefix)
+    ∷ case_note r setters.CaseSensitiveBaseSuffix (byte_in r layout.base_suffix) ∷ [])

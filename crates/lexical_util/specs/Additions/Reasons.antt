@@ -1,6 +1,6 @@
 -- Why a word breaks rules, and why it does not accept an exponent character and a decimal point: a table of each.
 use Rattle.std.specs.Prelude.{ℕ, ◌≡◌, ◌⊎◌, ◌==◌, ◌&&◌, not, Bool, true, if◌then◌else◌, Option, None, Some, IfSome}
-use Rattle.std.specs.Prelude.{List, [], ◌∷◌, map, option_map, bit_and, bit_or}
+use Rattle.std.specs.Prelude.{List, [], ◌∷◌, ◌++◌, map, flat_map, option_map, bit_and, bit_or}
 use Rattle.std.specs.Bool.{then_some}
 use Rattle.std.specs.List.{AllByRecursion, list_any}
 use Rattle.std.specs.Option.{option_map_or}
@@ -10,14 +10,15 @@ use Rattle.lexical_flags.specs.Layout as layout
 use Rattle.lexical_flags.specs.Layout.{separator_flags_in}
 use Rattle.lexical_flags.specs.Record.{Record, raw}
 use Rattle.lexical_flags.specs.Roles.{are_disjoint, cased, signs}
-use Rattle.lexical_flags.specs.Rules.{lacks_position}
+use Rattle.lexical_flags.specs.Rules.{Shape, radix_in_range, absent_or_punctuation, roles_differ, not_both, position_allowed, reserved_zero}
+use Rattle.lexical_flags.specs.Rules.{lacks_position, rules_in_order, shape_of}
 use Rattle.lexical_flags.specs.Additions.Masks.{byte_mask, mask_of, reserved_mask}
 use Rattle.lexical_flags.specs.declared.format_flags.parts.Part.{Part}
-use Rattle.lexical_flags.specs.declared.format_flags.parts.Part.TheVariants as parts
 use Rattle.lexical_flags.specs.declared.format_flags.rule.Rule.{Rule}
 use Rattle.lexical_flags.specs.declared.format_flags.rule.Rule.TheVariants as rules
 use Rattle.lexical_util.specs.Edits.{flags_of}
 use Rattle.lexical_util.specs.Additions.EditMasks.{mask_of_setter}
+use Rattle.lexical_util.specs.Additions.FieldEdits.{flag_setter}
 use Rattle.lexical_util.specs.declared.edits.setters.FlagSetter.{FlagSetter}
 use Rattle.lexical_util.specs.declared.edits.setters.FlagSetter.TheVariants as setters
 use Rattle.lexical_util.specs.declared.reasons.Byte.{Byte}
@@ -175,40 +176,45 @@ reason_of r rule cause =
 abbrev pub named : Byte → ℕ → NamedByte
 named name value = record { name = name; value = value }
 
--- `rule_causes word` lists the causes for which a word can break rules, each behind its rule, in the order of the rules.
--- A cause that `word` does not have is `None`.
-abbrev pub rule_causes : ℕ → List (Rule × Option Cause)
-rule_causes word =
-    let r = raw word in
-    let separator = named bytes.DigitSeparator (r.byte layout.digit_separator) in
-    let prefix = named bytes.BasePrefix (r.byte layout.base_prefix) in
-    let suffix = named bytes.BaseSuffix (r.byte layout.base_suffix) in
-    let mantissa_radix = named bytes.MantissaRadix (r.byte layout.mantissa_radix) in
-    let exponent_base = named bytes.ExponentBase (r.byte layout.exponent_base) in
-    let exponent_radix = named bytes.ExponentRadix (r.byte layout.exponent_radix) in
-    (rules.MantissaRadixInRange, out_of_range mantissa_radix)
-    ∷ (rules.ExponentBaseInRange, if_present exponent_base (out_of_range exponent_base))
-    ∷ (rules.ExponentRadixInRange, if_present exponent_radix (out_of_range exponent_radix))
-    ∷ (rules.DigitSeparatorIsPunctuation, if_present separator (not_punctuation r separator))
-    ∷ (rules.BasePrefixIsPunctuation, if_present prefix (not_punctuation r prefix))
-    ∷ (rules.BaseSuffixIsPunctuation, if_present suffix (not_punctuation r suffix))
-    ∷ (rules.PunctuationDiffers, clash r separator prefix)
-    ∷ (rules.PunctuationDiffers, clash r separator suffix)
-    ∷ (rules.PunctuationDiffers, clash r prefix suffix)
-    ∷ (rules.ExponentFlagsAgree, both_set r setters.NoExponentNotation setters.RequiredExponentNotation)
-    ∷ (rules.MantissaSignFlagsAgree, both_set r setters.NoPositiveMantissaSign setters.RequiredMantissaSign)
-    ∷ (rules.ExponentSignFlagsAgree, both_set r setters.NoPositiveExponentSign setters.RequiredExponentSign)
-    ∷ (rules.SpecialCaseFlagsAgree, both_set r setters.NoSpecial setters.CaseSensitiveSpecial)
-    ∷ (rules.SpecialSeparatorFlagsAgree, both_set r setters.NoSpecial setters.SpecialDigitSeparator)
-    ∷ (rules.IntegerConsecutiveIsAllowed, needs_position r parts.Integer)
-    ∷ (rules.FractionConsecutiveIsAllowed, needs_position r parts.Fraction)
-    ∷ (rules.ExponentConsecutiveIsAllowed, needs_position r parts.Exponent)
-    ∷ (rules.ReservedBitsAreZero, reserved_bits word) ∷ []
+-- `name_of b` is the name of the byte `b` of a word, and `byte_in r b` is that byte of `r`, with its name.
+abbrev pub name_of : layout.Byte → Byte
+name_of layout.digit_separator = bytes.DigitSeparator
+name_of layout.base_prefix = bytes.BasePrefix
+name_of layout.base_suffix = bytes.BaseSuffix
+name_of layout.mantissa_radix = bytes.MantissaRadix
+name_of layout.exponent_base = bytes.ExponentBase
+name_of layout.exponent_radix = bytes.ExponentRadix
 
--- `reasons_of word` has a slot for each row of `rule_causes word`, with the reason for its cause, if there is one.
+abbrev pub byte_in : Record → layout.Byte → NamedByte
+byte_in r b = named (name_of b) (r.byte b)
+
+-- `causes_of shape word` has a slot for each cause for which a word is not as `shape` demands. A cause that `word` does
+-- not have is `None`.
+abbrev pub causes_of : Shape → ℕ → List (Option Cause)
+causes_of (radix_in_range layout.mantissa_radix) word = out_of_range (byte_in (raw word) layout.mantissa_radix) ∷ []
+causes_of (radix_in_range b) word = let byte = byte_in (raw word) b in if_present byte (out_of_range byte) ∷ []
+causes_of (absent_or_punctuation b) word =
+    let byte = byte_in (raw word) b in if_present byte (not_punctuation (raw word) byte) ∷ []
+causes_of roles_differ word =
+    let byte = byte_in (raw word) in
+    clash (raw word) (byte layout.digit_separator) (byte layout.base_prefix)
+    ∷ clash (raw word) (byte layout.digit_separator) (byte layout.base_suffix)
+    ∷ clash (raw word) (byte layout.base_prefix) (byte layout.base_suffix) ∷ []
+causes_of (not_both a b) word = both_set (raw word) (flag_setter a) (flag_setter b) ∷ []
+causes_of (position_allowed part) word = needs_position (raw word) part ∷ []
+causes_of reserved_zero word = reserved_bits word ∷ []
+
+-- `slots_of word rule` has the slots of the causes for which `word` breaks `rule`, with reasons in place of the causes.
+abbrev pub slots_of : ℕ → Rule → List (Option Reason)
+slots_of word rule = map (option_map (reason_of (raw word) (Some rule))) (causes_of (shape_of rule) word)
+
+-- `reasons_of word` has the slots of all rules, in their order.
 abbrev pub reasons_of : ℕ → List (Option Reason)
-reasons_of word =
-    map (λ (row : Rule × Option Cause). option_map (reason_of (raw word) (Some row.0)) row.1) (rule_causes word)
+reasons_of word = flat_map (slots_of word) rules_in_order
+
+-- `punctuation_in r` lists the bytes of `r` that are punctuation: separator, prefix and suffix.
+abbrev pub punctuation_in : Record → List NamedByte
+punctuation_in r = map (byte_in r) (layout.digit_separator ∷ layout.base_prefix ∷ layout.base_suffix ∷ [])
 
 -- `options_causes word exponent_byte point_byte` lists the causes for which a word can refuse two options. A cause that
 -- these do not have with `word` is `None`.
@@ -217,18 +223,8 @@ options_causes word exponent_byte point_byte =
     let r = raw word in
     let exponent = named bytes.ExponentCharacter exponent_byte in
     let point = named bytes.DecimalPoint point_byte in
-    let separator = named bytes.DigitSeparator (r.byte layout.digit_separator) in
-    let prefix = named bytes.BasePrefix (r.byte layout.base_prefix) in
-    let suffix = named bytes.BaseSuffix (r.byte layout.base_suffix) in
-    not_punctuation r exponent
-    ∷ not_punctuation r point
-    ∷ clash r exponent point
-    ∷ clash r exponent separator
-    ∷ clash r exponent prefix
-    ∷ clash r exponent suffix
-    ∷ clash r point separator
-    ∷ clash r point prefix
-    ∷ clash r point suffix ∷ []
+    not_punctuation r exponent ∷ not_punctuation r point ∷ clash r exponent point
+    ∷ map (clash r exponent) (punctuation_in r) ++ map (clash r point) (punctuation_in r)
 
 -- `options_reasons_of word exponent_byte point_byte` has a slot for each row of `options_causes`, with the reason for
 -- its cause, if there is one.

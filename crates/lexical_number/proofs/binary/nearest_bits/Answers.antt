@@ -1,7 +1,7 @@
 -- The leading word has the same nearest float.
 use Rattle.std.proofs.Common.{rules}
 use Rattle.lexical_number.proofs.Common.{Bool, IsCutTo, IsNearestBits, arith, eq_of_mul-eq-mul_right, format_of, mul-pos, nearest_of_zero, pow_pos, subst, sym}
-use Rattle.lexical_number.proofs.Common.{ℕ, ◌*◌, ◌+◌, ◌<◌, ◌^◌, ◌∙◌, ◌≡◌}
+use Rattle.lexical_number.proofs.Common.{ℕ, ◌*◌, ◌+◌, ◌<◌, ◌^◌}
 use Rattle.lexical_number.proofs.BinaryLemmas.{far_above, far_below, without}
 use Rattle.lexical_number.proofs.LeadingLemmas.{exact, in_powers}
 use Rattle.lexical_number.proofs.binary.nearest_bits.Goals as goal

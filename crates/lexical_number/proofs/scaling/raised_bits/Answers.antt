@@ -37,4 +37,4 @@ returns c n e l h =
     (c.scales-up.ensures.down ∙ ap (λ x. c.args.places * c.args.radix_bits + (if c.args.negative then x * c.args.base_bits else 0)) (sym same))
     (c.nearest_bits.ensures _ _ (pow_pos _) (raised (c.args.leading.dropped * c.args.radix_bits) (if c.args.negative then 0 else e * c.args.base_bits) _ _
     (ap (λ x. c.args.leading.dropped * c.args.radix_bits + (if c.args.negative then 0 else x * c.args.base_bits)) same ∙ sym c.scales-up.ensures.up)
-    (subst (IsCutTo n c.args.leading.digits c.args.leading.more) (pow_of c.args.radix_bits c.args.leading.dropped) l.cut))))
+    (subst (IsCutTo n c.args.leading.digits c.args.leading.more) (pow_of 2 c.args.radix_bits c.args.leading.dropped) l.cut))))

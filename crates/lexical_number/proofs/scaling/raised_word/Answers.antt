@@ -1,8 +1,8 @@
 -- The digits are all of the number, and a power of two makes a word of them.
 use Rattle.std.proofs.Common.{rules}
-use Rattle.lexical_number.proofs.Common.{Bool, IsCutTo, IsNearestBits, arith, count_leading_zeros, false, format_of, if◌then◌else◌, leading_top, mod-eq_of_lt}
-use Rattle.lexical_number.proofs.Common.{mul-le-mul_left, pow_pos, subst, sym, ℕ, ◌%◌, ◌*◌, ◌+◌, ◌<◌, ◌^◌, ◌∙◌, ◌≡◌, ◌≤◌}
-use Rattle.lexical_number.proofs.BinaryLemmas.{lifted, to_top}
+use Rattle.lexical_number.proofs.Common.{Bool, IsCutTo, IsNearestBits, arith, count_leading_zeros, false, format_of, if◌then◌else◌}
+use Rattle.lexical_number.proofs.Common.{mul-le-mul_left, pow_pos, subst, sym, ℕ, ◌%◌, ◌*◌, ◌+◌, ◌<◌, ◌^◌, ◌∙◌, ◌≤◌}
+use Rattle.lexical_number.proofs.BinaryLemmas.{few, kept, lifted, shifted}
 use Rattle.lexical_number.proofs.ScalingLemmas.{in_radixes}
 use Rattle.lexical_number.proofs.scaling.raised_word.Goals as goal
 
@@ -12,16 +12,6 @@ raised_bits-requires-clause-leading c = (_, c.whole-leading.ensures.leads (2 ^ c
 pub returns-then-digits-eq0 : goal.returns-then-digits-eq0
 returns-then-digits-eq0 c =
     c.raised_bits.ensures c.args.digits c.args.exponent (c.whole-leading.ensures.leads (2 ^ c.args.radix_bits) (pow_pos c.args.radix_bits)) (omega arith)
-
-module _ (digits : ℕ) (some : 0 < digits) (fits : digits < 2 ^ 64) where
-  shifted : (2 ^ 63 ≤ digits * 2 ^ count_leading_zeros 64 digits) × (digits * 2 ^ count_leading_zeros 64 digits < 2 ^ 64)
-  shifted = let t = leading_top 64 digits some fits in to_top digits t.0 (count_leading_zeros 64 digits) 63 t.2 t.3 (omega (arith, t.1))
-
-  few : count_leading_zeros 64 digits ≤ 64
-  few = let t = leading_top 64 digits some fits in omega (arith, t.1)
-
-  kept : digits * 2 ^ count_leading_zeros 64 digits % 2 ^ 64 ≡ digits * 2 ^ count_leading_zeros 64 digits
-  kept = mod-eq_of_lt shifted.1
 
 -- A scale has few bits, on either side.
 small : (x bits : ℕ) → x < 2 ^ 56 → bits ≤ 5 → x * bits ≤ 2 ^ 56 * 5
