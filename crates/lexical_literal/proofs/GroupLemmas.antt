@@ -1,6 +1,7 @@
 -- Groups, counted at once and byte by byte, and runs without empty groups.
 use Rattle.lexical_literal.proofs.Common.{Bool, Condition, Flag, Group, HasRoles, HasSizes, List, None, Notation, Part, Some, [], and_from, and_parts, ap}
-use Rattle.lexical_literal.proofs.Common.{arith, cases_Bool, drop, false, false_from_ne_true, false≢true, follows, gap_fits, get_or, grown, has_size, if◌then◌else◌, inl, length}
+use Rattle.lexical_literal.proofs.Common.{arith, cases_Bool, drop, false, false_from_ne_true, false≢true, follows, gap_fits, get_or, grown, has_size}
+use Rattle.lexical_literal.proofs.Common.{if◌then◌else◌, inl, length}
 use Rattle.lexical_literal.proofs.Common.{inner_fits, inr, is_grouped, is_size, last_fits, most, nat_lt, nat_tests, not, or_left, or_right, refl, separators_in}
 use Rattle.lexical_literal.proofs.Common.{subst, sym, true, unsized, with_rules, ℕ, ◌&&◌, ◌+◌, ◌==◌, ◌||◌, ◌∙◌, ◌∷◌, ◌≡◌, ◌≤◌}
 use Rattle.lexical_literal.specs.Groups.{all_fit, first_fits, group_sizes, one_more, rest_fits}
@@ -38,7 +39,7 @@ module _ (m : Notation) where
   one_more_is : (digits : ℕ) (counts : List ℕ) → more digits (one_more counts) ≡ more (digits + 1) counts
   one_more_is digits x1 = grind arith
 
-  pub none_more : (counts : List ℕ) → more 0 counts ≡ counts
+  none_more : (counts : List ℕ) → more 0 counts ≡ counts
   none_more x0 = grind arith
 
   some_counts : (bytes : List ℕ) → (count : ℕ) × (counts : List ℕ) × (group_sizes m.separator bytes ≡ count ∷ counts)
@@ -48,10 +49,11 @@ module _ (m : Notation) where
     | inr other ↦ (rest.0 + 1, rest.1, rw (other, rest.2) refl)
   ]
 
-  pub counts_digit : (g : Group) (b : ℕ) (run : List ℕ) → m.separator b ≡ false → counted g (b ∷ run) ≡ counted (grown g (Some roles.Digit)) run
+  -- One more digit, one more separator, and the end.
+  counts_digit : (g : Group) (b : ℕ) (run : List ℕ) → m.separator b ≡ false → counted g (b ∷ run) ≡ counted (grown g (Some roles.Digit)) run
   counts_digit g b run other = rw (other, one_more_is g.digits (group_sizes m.separator run)) refl
 
-  pub counts_separator : (g : Group) (b : ℕ) (run : List ℕ) → m.separator b ≡ true
+  counts_separator : (g : Group) (b : ℕ) (run : List ℕ) → m.separator b ≡ true
       → counted g (b ∷ run) ≡ (follows m g (Some roles.Separator) && counted (grown g (Some roles.Separator)) run)
   counts_separator g b run is = let some = some_counts run in let same : g.digits + 0 ≡ g.digits = omega arith in
       rw (is, none_more (group_sizes m.separator run), some.2, same) (either g.separated) where
@@ -89,9 +91,11 @@ module _ (m : Notation) where
   sizes_fit g [] = counts_end g
   sizes_fit g (b ∷ run) = elim (cases_Bool (m.separator b)) [
     | inl is ↦ let rest = sizes_fit (grown g (Some roles.Separator)) run in let step = counts_separator g b run is in rw (step) (rw (is, rest) refl)
-    | inr other ↦ let rest = sizes_fit (grown g (Some roles.Digit)) run in let step = counts_digit g b run other in rw (step) (rw (other, rest) (longer g.separated))
+    | inr other ↦ let rest = sizes_fit (grown g (Some roles.Digit)) run in let step = counts_digit g b run other in
+        rw (step) (rw (other, rest) (longer g.separated))
   ] where
-    longer : (separated : Bool) → ((not separated || nat_lt g.digits (most m g.part)) && counted (record g { separated = separated; digits = g.digits + 1 }) run)
+    longer : (separated : Bool)
+        → ((not separated || nat_lt g.digits (most m g.part)) && counted (record g { separated = separated; digits = g.digits + 1 }) run)
         ≡ counted (record g { separated = separated; digits = g.digits + 1 }) run
     longer true = let some = some_counts run in rw (some.2) (absorbed _ _ (may_grow g.part g.digits some.0 some.1))
     longer false = refl

@@ -1,10 +1,13 @@
 -- Fronts of a text, and where the loop is left.
 use Rattle.lexical_literal.proofs.Common.{Allows, Bool, Found, Group, HasBegun, HasFound, HasLengths, HasRoles, HasSizes, IsAt, IsCountedFront, IsFront}
-use Rattle.lexical_literal.proofs.Common.{IsFronted, IsLiteral, IsLongest, IsMeasured, IsNone, IsReady, IsRefused, IsStopped, IsTrue, IsUnderway, IsValidUpTo, IsWithin, List}
+use Rattle.lexical_literal.proofs.Common.{IsFronted, IsLiteral, IsLongest, IsMeasured, IsNone, IsReady, IsRefused, IsStopped, IsTrue, IsUnderway}
+use Rattle.lexical_literal.proofs.Common.{IsValidUpTo, IsWithin, List}
 use Rattle.lexical_literal.proofs.Common.{Literal, NoFront, NoLiteral, None, Notation, Option, Reads, ReadsFront, Role, Some, Stopped, Summary, [], and_parts}
 use Rattle.lexical_literal.proofs.Common.{ap, append-nil, append_assoc, arith, cases_Bool, cases_lt, common_steps, count, cuts_of, drop, false}
-use Rattle.lexical_literal.proofs.Common.{false_from_ne_true, false≢true, first_group, get_or, goes, group_after, group_allows, grow, grown, has_size, has_sizes}
-use Rattle.lexical_literal.proofs.Common.{if◌then◌else◌, inl, inr, is_accepted, is_complete, is_grouped, is_some, length, length-take-le, no_cuts, not, or_parts, part_of}
+use Rattle.lexical_literal.proofs.Common.{false_from_ne_true, false≢true, first_group, get_or, goes, group_after, group_allows, grow, grown, has_size}
+use Rattle.lexical_literal.proofs.Common.{has_sizes}
+use Rattle.lexical_literal.proofs.Common.{if◌then◌else◌, inl, inr, is_accepted, is_complete, is_grouped, is_some, length, length-take-le, no_cuts}
+use Rattle.lexical_literal.proofs.Common.{not, or_parts, part_of}
 use Rattle.lexical_literal.proofs.Common.{refl, replicate, role_at, slice_get, slice_get-get_or, start, step, subst, sym, take, take-append-drop, take-take}
 use Rattle.lexical_literal.proofs.Common.{take_all, take_more, tally, true, unsized, walk, ℕ, ◌++◌, ◌+◌, ◌<◌, ◌||◌, ◌↔◌, ◌∙◌, ◌∷◌, ◌≡◌, ◌≤◌, ◌⊎◌}
 use Rattle.std.proofs.lemmas.Option.{slice_get_past}

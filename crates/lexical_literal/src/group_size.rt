@@ -158,7 +158,7 @@ pub(crate) const fn grow(grammar: Grammar, group: Group, role: Option<Role>) -> 
 }
 
 // Returns whether `run`, of an integer, has no separators, or has them between groups of the right sizes.
-#[tactic(auto, using(crate::proofs::GroupLemmas::counts_digit, crate::proofs::GroupLemmas::counts_separator, crate::proofs::GroupLemmas::counts_end))]
+#[tactic(auto, using(crate::proofs::GroupLemmas::counts_first, crate::proofs::GroupLemmas::counts_end))]
 #[inline(always)]
 pub(crate) const fn is_grouped(grammar: Grammar, run: &[u8]) -> bool
     ensures { result ≡ is_grouped (notation_of grammar) Part.Integer run.now }

@@ -13,7 +13,8 @@ ghost use Rattle.lexical_literal.specs.Additions.Scan.{HasSizes, IsAt, IsBegun, 
 ghost use Rattle.lexical_literal.specs.Additions.Scan.{IsRunOn, IsSign, IsUsual, at_stage, behind_sign, counts_of, has_first, is_first, is_free, may_read};
 ghost use Rattle.lexical_literal.specs.Additions.GroupSize.{steps_of};
 ghost use Rattle.lexical_literal.specs.Additions.Literal.{AreSums, IsMantissa, IsSummed, cut};
-ghost use Rattle.lexical_literal.specs.Additions.Step.{HasLengths, after_point, awaits_integer, cuts_of, has_digit, is_bare, is_fresh, is_run, is_signed, part_of};
+ghost use Rattle.lexical_literal.specs.Additions.Step.{HasLengths, after_point, awaits_integer, cuts_of, has_digit, is_bare, is_fresh, is_run};
+ghost use Rattle.lexical_literal.specs.Additions.Step.{is_signed, part_of};
 ghost use Rattle.lexical_literal.specs.declared.syntax.Condition.TheVariants as conditions;
 
 use crate::group_size::{group_after, group_allows, has_size, is_grouped};
