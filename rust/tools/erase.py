@@ -93,7 +93,7 @@ REPLACED = [
 ]
 
 # Files in which each function is const in plain Rust. Rattle's `split_at` is not, nor is what calls it.
-CONST = ("lexical_literal/src/stop.rt", "behind.rt", "candidate.rt", "opening.rt", "list.rt", "span.rt", "token.rt", "lexical_literal/src/literal.rt")
+CONST = ("lexical_literal/src/stop.rt", "lexical_literal/src/scan.rt", "behind.rt", "candidate.rt", "opening.rt", "list.rt", "span.rt", "token.rt", "lexical_literal/src/literal.rt")
 
 # Functions that are inlined in plain Rust, and of which the library for C has one copy.
 ONE_COPY = {

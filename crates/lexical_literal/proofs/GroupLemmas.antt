@@ -1,6 +1,7 @@
 -- Groups, counted at once and byte by byte, and runs without empty groups.
 use Rattle.lexical_literal.proofs.Common.{Bool, Condition, Flag, Group, HasRoles, HasSizes, List, None, Notation, Part, Some, [], and_from, and_parts, ap}
-use Rattle.lexical_literal.proofs.Common.{arith, cases_Bool, false, false_from_ne_true, false≢true, follows, gap_fits, grown, has_size, if◌then◌else◌, inl}
+use Rattle.lexical_literal.proofs.Common.{arith, cases_Bool, drop, false, false_from_ne_true, false≢true, follows, gap_fits, get_or, grown, has_size}
+use Rattle.lexical_literal.proofs.Common.{if◌then◌else◌, inl, length}
 use Rattle.lexical_literal.proofs.Common.{inner_fits, inr, is_grouped, is_size, last_fits, most, nat_lt, nat_tests, not, or_left, or_right, refl, separators_in}
 use Rattle.lexical_literal.proofs.Common.{subst, sym, true, unsized, with_rules, ℕ, ◌&&◌, ◌+◌, ◌==◌, ◌||◌, ◌∙◌, ◌∷◌, ◌≡◌, ◌≤◌}
 use Rattle.lexical_literal.specs.Groups.{all_fit, first_fits, group_sizes, one_more, rest_fits}
@@ -24,13 +25,15 @@ abbrev more : ℕ → List ℕ → List ℕ
 more n [] = []
 more n (count ∷ counts) = (n + count) ∷ counts
 
-module _ (m : Notation) (part : Part) where
-  abbrev counts_fit : Bool → List ℕ → Bool
-  counts_fit separated counts = if separated then rest_fits m part counts else all_fit m part counts
+module _ (m : Notation) where
+  -- `counted g run` is true if the groups of `run` have the right sizes, where the first of them has the digits of `g` before it.
+  abbrev pub counted : Group → List ℕ → Bool
+  counted g run = if g.separated then rest_fits m g.part (more g.digits (group_sizes m.separator run))
+      else all_fit m g.part (more g.digits (group_sizes m.separator run))
 
   -- No group behind a separator has more digits than the greatest.
-  at_most : (count : ℕ) → (inner_fits m part count || last_fits m part count) ≡ true → count ≤ most m part
-  at_most count fit = grind arith
+  at_most : (part : Part) (count : ℕ) → (inner_fits m part count || last_fits m part count) ≡ true → count ≤ most m part
+  at_most part count fit = grind arith
 
   -- Groups that are counted at once are those that are counted byte by byte.
   one_more_is : (digits : ℕ) (counts : List ℕ) → more digits (one_more counts) ≡ more (digits + 1) counts
@@ -46,38 +49,60 @@ module _ (m : Notation) (part : Part) where
     | inr other ↦ (rest.0 + 1, rest.1, rw (other, rest.2) refl)
   ]
 
+  -- One more digit, one more separator, and the end.
+  counts_digit : (g : Group) (b : ℕ) (run : List ℕ) → m.separator b ≡ false → counted g (b ∷ run) ≡ counted (grown g (Some roles.Digit)) run
+  counts_digit g b run other = rw (other, one_more_is g.digits (group_sizes m.separator run)) refl
+
+  counts_separator : (g : Group) (b : ℕ) (run : List ℕ) → m.separator b ≡ true
+      → counted g (b ∷ run) ≡ (follows m g (Some roles.Separator) && counted (grown g (Some roles.Separator)) run)
+  counts_separator g b run is = let some = some_counts run in let same : g.digits + 0 ≡ g.digits = omega arith in
+      rw (is, none_more (group_sizes m.separator run), some.2, same) (either g.separated) where
+        either : (separated : Bool) → (if separated then rest_fits m g.part (g.digits ∷ (some_counts run).0 ∷ (some_counts run).1)
+            else all_fit m g.part (g.digits ∷ (some_counts run).0 ∷ (some_counts run).1))
+            ≡ ((if separated then inner_fits m g.part g.digits else first_fits m g.part g.digits)
+            && rest_fits m g.part ((some_counts run).0 ∷ (some_counts run).1))
+        either true = refl
+        either false = refl
+
+  -- The first of some bytes is counted.
+  pub counts_first : (g : Group) (text : List ℕ) → 1 ≤ length text → counted g text ≡ (if m.separator (get_or text 0 0)
+      then (follows m g (Some roles.Separator) && counted (grown g (Some roles.Separator)) (drop 1 text))
+      else counted (grown g (Some roles.Digit)) (drop 1 text))
+  counts_first g [] some = absurd (omega (arith, some))
+  counts_first g (b ∷ run) some = elim (cases_Bool (m.separator b)) [
+    | inl is ↦ let one = counts_separator g b run is in one ∙ rw (is) refl
+    | inr other ↦ let one = counts_digit g b run other in one ∙ rw (other) refl
+  ]
+
+  pub counts_end : (g : Group) → follows m g None ≡ counted g []
+  counts_end g = let same : g.digits + 0 ≡ g.digits = omega arith in rw (same) (either g.separated) where
+    either : (separated : Bool) → (not separated || last_fits m g.part g.digits) ≡ (if separated then last_fits m g.part g.digits else true)
+    either true = refl
+    either false = refl
+
   -- A group of several is not too large for one digit more.
-  may_grow : (digits count : ℕ) (counts : List ℕ) → rest_fits m part ((digits + 1 + count) ∷ counts) ≡ true → nat_lt digits (most m part) ≡ true
-  may_grow digits count x2 fit = grind (arith, at_most, nat_tests)
+  may_grow : (part : Part) (digits count : ℕ) (counts : List ℕ) → rest_fits m part ((digits + 1 + count) ∷ counts) ≡ true → nat_lt digits (most m part) ≡ true
+  may_grow part digits count x2 fit = grind (arith, at_most, nat_tests)
 
   absorbed : (a b : Bool) → (b ≡ true → a ≡ true) → (a && b) ≡ b
   absorbed x0 b if_b = grind arith
 
-  pub sizes_fit : (separated : Bool) (digits : ℕ) (run : List ℕ)
-      → run_fits m (group part separated digits) run ≡ counts_fit separated (more digits (group_sizes m.separator run))
-  sizes_fit true digits [] = ap (last_fits m part) (let sum : digits ≡ digits + 0 = omega arith in sum)
-  sizes_fit false digits [] = refl
-  sizes_fit separated digits (b ∷ run) = elim (cases_Bool (m.separator b)) [
-    | inl is ↦ let rest = sizes_fit true 0 run in let some = some_counts run in rw (is) (closed separated rest some)
-    | inr other ↦ let rest = sizes_fit separated (digits + 1) run in let some = some_counts run in rw (other) (longer separated rest some)
+  sizes_fit : (g : Group) (run : List ℕ) → run_fits m g run ≡ counted g run
+  sizes_fit g [] = counts_end g
+  sizes_fit g (b ∷ run) = elim (cases_Bool (m.separator b)) [
+    | inl is ↦ let rest = sizes_fit (grown g (Some roles.Separator)) run in let step = counts_separator g b run is in rw (step) (rw (is, rest) refl)
+    | inr other ↦ let rest = sizes_fit (grown g (Some roles.Digit)) run in let step = counts_digit g b run other in
+        rw (step) (rw (other, rest) (longer g.separated))
   ] where
-    closed : (separated : Bool) → run_fits m (group part true 0) run ≡ rest_fits m part (more 0 (group_sizes m.separator run))
-        → (count : ℕ) × (counts : List ℕ) × (group_sizes m.separator run ≡ count ∷ counts)
-        → (follows m (group part separated digits) (Some roles.Separator) && run_fits m (group part true 0) run)
-        ≡ counts_fit separated (more digits (0 ∷ group_sizes m.separator run))
-    closed true rest some = let same : digits + 0 ≡ digits = omega arith in rw (rest, none_more (group_sizes m.separator run), some.2, same) refl
-    closed false rest some = let same : digits + 0 ≡ digits = omega arith in rw (rest, none_more (group_sizes m.separator run), some.2, same) refl
-
-    longer : (separated : Bool) → run_fits m (group part separated (digits + 1)) run ≡ counts_fit separated (more (digits + 1) (group_sizes m.separator run))
-        → (count : ℕ) × (counts : List ℕ) × (group_sizes m.separator run ≡ count ∷ counts)
-        → (follows m (group part separated digits) (Some roles.Digit) && run_fits m (group part separated (digits + 1)) run)
-        ≡ counts_fit separated (more digits (one_more (group_sizes m.separator run)))
-    longer true rest some = rw (rest, one_more_is digits (group_sizes m.separator run), some.2) (absorbed _ _ (may_grow digits some.0 some.1))
-    longer false rest some = rw (rest, one_more_is digits (group_sizes m.separator run)) refl
+    longer : (separated : Bool)
+        → ((not separated || nat_lt g.digits (most m g.part)) && counted (record g { separated = separated; digits = g.digits + 1 }) run)
+        ≡ counted (record g { separated = separated; digits = g.digits + 1 }) run
+    longer true = let some = some_counts run in rw (some.2) (absorbed _ _ (may_grow g.part g.digits some.0 some.1))
+    longer false = refl
 
 -- A digit run is grouped if its bytes fit one by one.
 pub grouped_is : (m : Notation) (part : Part) (run : List ℕ) → is_grouped m part run ≡ run_fits m (group part false 0) run
-grouped_is m part run = ap (all_fit m part) (sym (none_more m part (group_sizes m.separator run))) ∙ sym (sizes_fit m part false 0 run)
+grouped_is m part run = ap (all_fit m part) (sym (none_more m (group_sizes m.separator run))) ∙ sym (sizes_fit m (group part false 0) run)
 
 -- No group of several is empty.
 pub not_empty : (m : Notation) (part : Part) → HasSizes m → has_size m part ≡ true → (first_fits m part 0 ≡ false) × (inner_fits m part 0 ≡ false)

@@ -215,3 +215,11 @@ module _ (m : Notation) where
 
     pub as_sized : (l : Literal) (text : List ℕ) → Reads u l text → ends (group_after m (Some first_group) text) ≡ true → Reads m l text
     as_sized l text is end = grind (arith, as_spelled, and_parts, literal_ends, sized_run)
+
+    -- A literal whose integer is grouped may end, where its fraction has no sizes.
+    pub may_end : (l : Literal) (text : List ℕ) → Reads u l text → has_size m parts.Fraction ≡ false → is_grouped m parts.Integer l.integer ≡ true
+        → (g : Group) × (group_after m (Some first_group) text ≡ Some g) × (group_allows m g None ≡ true)
+    may_end l text is none fit = some (group_after m (Some first_group) text) (grind (arith, as_spelled, and_parts, literal_ends, grouped)) where
+      some : (o : Option Group) → ends o ≡ true → (g : Group) × (o ≡ Some g) × (group_allows m g None ≡ true)
+      some None is = absurd (false≢true is)
+      some (Some g) is = (g, refl, is)

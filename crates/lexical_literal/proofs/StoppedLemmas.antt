@@ -1,22 +1,26 @@
 -- Fronts of a text, and where the loop is left.
 use Rattle.lexical_literal.proofs.Common.{Allows, Bool, Found, Group, HasBegun, HasFound, HasLengths, HasRoles, HasSizes, IsAt, IsCountedFront, IsFront}
-use Rattle.lexical_literal.proofs.Common.{IsFronted, IsLiteral, IsLongest, IsMeasured, IsNone, IsReady, IsRefused, IsStopped, IsTrue, IsUnderway, IsValidUpTo, IsWithin, List}
+use Rattle.lexical_literal.proofs.Common.{IsFronted, IsLiteral, IsLongest, IsMeasured, IsNone, IsReady, IsRefused, IsStopped, IsTrue, IsUnderway}
+use Rattle.lexical_literal.proofs.Common.{IsValidUpTo, IsWithin, List}
 use Rattle.lexical_literal.proofs.Common.{Literal, NoFront, NoLiteral, None, Notation, Option, Reads, ReadsFront, Role, Some, Stopped, Summary, [], and_parts}
 use Rattle.lexical_literal.proofs.Common.{ap, append-nil, append_assoc, arith, cases_Bool, cases_lt, common_steps, count, cuts_of, drop, false}
-use Rattle.lexical_literal.proofs.Common.{false_from_ne_true, false≢true, first_group, get_or, goes, group_after, group_allows, grow, grown, has_sizes}
-use Rattle.lexical_literal.proofs.Common.{if◌then◌else◌, inl, inr, is_accepted, is_complete, is_some, length, length-take-le, no_cuts, not, or_parts, part_of}
+use Rattle.lexical_literal.proofs.Common.{false_from_ne_true, false≢true, first_group, get_or, goes, group_after, group_allows, grow, grown, has_size}
+use Rattle.lexical_literal.proofs.Common.{has_sizes}
+use Rattle.lexical_literal.proofs.Common.{if◌then◌else◌, inl, inr, is_accepted, is_complete, is_grouped, is_some, length, length-take-le, no_cuts}
+use Rattle.lexical_literal.proofs.Common.{not, or_parts, part_of}
 use Rattle.lexical_literal.proofs.Common.{refl, replicate, role_at, slice_get, slice_get-get_or, start, step, subst, sym, take, take-append-drop, take-take}
 use Rattle.lexical_literal.proofs.Common.{take_all, take_more, tally, true, unsized, walk, ℕ, ◌++◌, ◌+◌, ◌<◌, ◌||◌, ◌↔◌, ◌∙◌, ◌∷◌, ◌≡◌, ◌≤◌, ◌⊎◌}
 use Rattle.std.proofs.lemmas.Option.{slice_get_past}
 use Rattle.lexical_literal.specs.declared.stop.Begun.{Begun}
 use Rattle.lexical_literal.specs.declared.syntax.Condition.TheVariants as conditions
+use Rattle.lexical_util.specs.declared.format_flags.Part.TheVariants as parts
 use Rattle.lexical_literal.proofs.WalkLemmas.{walk_append, tally_append}
 use Rattle.lexical_literal.proofs.ConditionLemmas.{has_lengths, literal_from, literal_arrives}
 use Rattle.lexical_literal.proofs.LiteralLemmas.{all_cuts}
 use Rattle.lexical_literal.proofs.DecideLemmas.{decides_there, grows}
 use Rattle.lexical_literal.proofs.FitLemmas.{front_of, linked_there}
 use Rattle.lexical_literal.proofs.RefusalLemmas.{other_roles}
-use Rattle.lexical_literal.proofs.SizeLemmas.{all_end, as_sized, as_unsized, ends, group_append, small_after}
+use Rattle.lexical_literal.proofs.SizeLemmas.{all_end, as_sized, as_unsized, ends, group_append, may_end, small_after}
 
 front_shorter : (m : Notation) (text : List ℕ) (k n : ℕ) → k ≤ n → IsFront m (take n text) → IsFront m (take k text)
 front_shorter m text k n below is = record {
@@ -360,6 +364,13 @@ module _ (m : Notation) (ready : IsReady (unsized m)) (sizes : HasSizes m) (text
     refused = λ yes. let is = found.refused yes in
         (is.0, refused_at counted.at group (record { begun = found.begun; grouped = grouped }) is);
   }
+
+  -- What has been found without sizes, if its integer is grouped, and fractions have no sizes.
+  pub begun_grouped : (counted : Begun) (found : HasFound u text counted) (whole : IsTrue counted.complete) → has_size m parts.Fraction ≡ false
+      → is_grouped m parts.Integer (found.literal whole).0.integer ≡ true → HasBegun m text counted
+  begun_grouped counted found whole none fit =
+      let l = found.literal whole in let last = may_end m h sizes l.0 (take counted.at.size text) l.1 none fit in
+      begun_with counted found last.0 last.1 (λ _. last.2)
 
   pub begun_free : (counted : Begun) → HasFound u text counted → has_sizes m ≡ false → HasBegun m text counted
   begun_free counted found none = begun_with counted found first_group (all_end m none first_group (take counted.at.size text))

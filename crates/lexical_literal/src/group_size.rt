@@ -2,10 +2,10 @@
 
 ghost use Rattle.std.specs.Prelude.{◌≡◌, ◌<◌, ◌≤◌, ◌^◌, Some, length, take};
 ghost use Rattle.lexical_literal.specs.Additions.GroupSize.{first_group, group_allows, follows, group_after, grow, grown, most};
-ghost use Rattle.lexical_literal.specs.Groups.{first_fits, has_size, higher, inner_fits, last_fits};
+ghost use Rattle.lexical_literal.specs.Groups.{first_fits, has_size, higher, inner_fits, is_grouped, last_fits};
 ghost use Rattle.lexical_literal.specs.Notation.{notation_of};
 
-use crate::step::role_at;
+use crate::step::{is_separator, role_at};
 use crate::syntax::{Condition, Grammar, has_sizes};
 use lexical_util::format::{Part, Role};
 
@@ -155,6 +155,27 @@ pub(crate) const fn grow(grammar: Grammar, group: Group, role: Option<Role>) -> 
     } else {
         None
     }
+}
+
+// Returns whether `run`, of an integer, has no separators, or has them between groups of the right sizes.
+#[tactic(auto, using(crate::proofs::GroupLemmas::counts_first, crate::proofs::GroupLemmas::counts_end))]
+#[inline(always)]
+pub(crate) const fn is_grouped(grammar: Grammar, run: &[u8]) -> bool
+    ensures { result ≡ is_grouped (notation_of grammar) Part.Integer run.now }
+{
+    let mut group = FIRST;
+    let mut rest = run;
+    while let [byte, more @ ..] = rest {
+        if !is_separator(grammar, *byte) {
+            group = grown(group, Some(Role::Digit));
+        } else if follows(grammar, group, Some(Role::Separator)) {
+            group = grown(group, Some(Role::Separator));
+        } else {
+            return false;
+        }
+        rest = more;
+    }
+    follows(grammar, group, None)
 }
 
 // Returns the group after the first `size` bytes of `text`, or `None` if one of them may not follow.

@@ -4,18 +4,20 @@
 //! decimal, which takes less time where the compiler knows it. Then reading also stops behind a leading zero, and where the digits
 //! of a part are absent, so that fewer paths join.
 
-ghost use Rattle.std.specs.Prelude.{◌≡◌, ◌<◌, ◌≤◌, ◌+◌, ◌-◌, ◌*◌, ◌%◌, ◌^◌, ◌∷◌, [], false, true, IfSome, IsNone, IsTrue, get_or, length, nat_lt, ◌&&◌};
+ghost use Rattle.std.specs.Prelude.{◌≡◌, ◌<◌, ◌≤◌, ◌+◌, ◌-◌, ◌*◌, ◌%◌, ◌^◌, ◌∷◌, [], false, true, IfSome, IsNone, IsTrue, get_or, length, nat_lt, take, ◌&&◌};
 ghost use Rattle.lexical_util.specs.Record.{raw};
+ghost use Rattle.lexical_literal.specs.Literal.{Literal, text_of};
 ghost use Rattle.lexical_literal.specs.Notation.{notation_of, radix_of};
 ghost use Rattle.lexical_literal.specs.Additions.Stop.{HasBegun, HasFound, IsMeasured};
 ghost use Rattle.lexical_literal.specs.Additions.Scan.{HasSizes, IsAt, IsBegun, IsDecimal, IsDigitAt, IsOpened, IsOver, IsPassed, IsReady, IsRefused};
 ghost use Rattle.lexical_literal.specs.Additions.Scan.{IsRunOn, IsSign, IsUsual, at_stage, behind_sign, counts_of, has_first, is_first, is_free, may_read};
 ghost use Rattle.lexical_literal.specs.Additions.GroupSize.{steps_of};
 ghost use Rattle.lexical_literal.specs.Additions.Literal.{AreSums, IsMantissa, IsSummed, cut};
-ghost use Rattle.lexical_literal.specs.Additions.Step.{after_point, awaits_integer, cuts_of, has_digit, is_bare, is_fresh, is_run, is_signed, part_of};
+ghost use Rattle.lexical_literal.specs.Additions.Step.{HasLengths, after_point, awaits_integer, cuts_of, has_digit, is_bare, is_fresh, is_run};
+ghost use Rattle.lexical_literal.specs.Additions.Step.{is_signed, part_of};
 ghost use Rattle.lexical_literal.specs.declared.syntax.Condition.TheVariants as conditions;
 
-use crate::group_size::{group_after, group_allows};
+use crate::group_size::{group_after, group_allows, has_size, is_grouped};
 use crate::literal::{NOTHING, Sum, Sums};
 use crate::step::{
     INTERNAL, Stage, Summary, after_point, allows_minus, allows_plus, awaits_integer, digits_of,
@@ -305,7 +307,7 @@ impl Syntax {
     // Reads a front of `text` with which some literal begins. Unless `fronts` is true, a front that is a literal, but not all of
     // `text`, can have `complete` false, which takes less time.
     #[inline(always)]
-    pub const fn begin(&self, decimal: bool, text: &[u8], fronts: bool) -> Begun
+    pub fn begin(&self, decimal: bool, text: &[u8], fronts: bool) -> Begun
         requires radix { IsTrue decimal → IsDecimal (raw self.now.word) }
         requires usual { IsTrue decimal → IsUsual self.now }
         ensures found { HasBegun (notation_of self.now) text.now result }
@@ -324,9 +326,21 @@ impl Syntax {
     }
 }
 
+// Returns the integer of the literal that has been read.
+#[inline(always)]
+fn integer_of(text: &[u8], begun: Begun) -> &[u8]
+    requires within { begun.at.size ≤ length text.now }
+    requires literal { (l : Literal) × (take begun.at.size text.now ≡ text_of l) × HasLengths l (cuts_of begun.counts) }
+    ensures { (l : Literal) → take begun.at.size text.now ≡ text_of l → HasLengths l (cuts_of begun.counts) → result.now ≡ l.integer }
+{
+    let (front, _) = text.split_at(begun.at.size);
+    let (_, behind) = front.split_at(begun.counts[0] + begun.counts[1]);
+    behind.split_at(begun.counts[2]).0
+}
+
 // Returns what has been read without regard to sizes of groups, or that nothing has if a group has not the right size.
 #[inline(always)]
-const fn sized(grammar: Grammar, text: &[u8], begun: Begun) -> Begun
+fn sized(grammar: Grammar, text: &[u8], begun: Begun) -> Begun
     requires ready { IsReady (steps_of grammar) }
     requires sizes { HasSizes (notation_of grammar) }
     requires found { HasFound (steps_of grammar) text.now begun }
@@ -334,6 +348,9 @@ const fn sized(grammar: Grammar, text: &[u8], begun: Begun) -> Begun
     ensures begun { HasBegun (notation_of grammar) text.now result }
     ensures summed { IsSummed (raw grammar.word) text.now result }
 {
+    if begun.complete && !has_size(grammar, Part::Fraction) && is_grouped(grammar, integer_of(text, begun)) {
+        return begun;
+    }
     match group_after(grammar, text, begun.at.size) {
         Some(group) if !begun.complete || group_allows(grammar, group, None) => begun,
         _ => Begun {

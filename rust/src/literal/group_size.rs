@@ -2,7 +2,7 @@
 
 //! Sizes of digit groups: how many digits are between the separators of a part, and which bytes may follow.
 
-use crate::literal::step::role_at;
+use crate::literal::step::{is_separator, role_at};
 use crate::literal::syntax::{has_sizes, Condition, Grammar};
 use crate::word::{Part, Role};
 
@@ -113,6 +113,24 @@ pub(crate) const fn grow(grammar: &Grammar, group: Group, role: Option<Role>) ->
     } else {
         None
     }
+}
+
+// Returns whether `run`, of an integer, has no separators, or has them between groups of the right sizes.
+#[inline(always)]
+pub(crate) const fn is_grouped(grammar: &Grammar, run: &[u8]) -> bool {
+    let mut group = FIRST;
+    let mut rest = run;
+    while let [byte, more @ ..] = rest {
+        if !is_separator(grammar, *byte) {
+            group = grown(group, Some(Role::Digit));
+        } else if follows(grammar, group, Some(Role::Separator)) {
+            group = grown(group, Some(Role::Separator));
+        } else {
+            return false;
+        }
+        rest = more;
+    }
+    follows(grammar, group, None)
 }
 
 // Returns the group after the first `size` bytes of `text`, or `None` if one of them may not follow.
