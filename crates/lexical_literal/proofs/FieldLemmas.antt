@@ -1,6 +1,6 @@
 -- What the fields of a grammar tell of the word of its format.
 use Rattle.lexical_literal.proofs.Common.{IsUsual, None, Some, Condition, Conditions, [], ◌∷◌, ◌-◌, ◌||◌, and_parts, eqb-true, has, is_same, kept, number_of}
-use Rattle.lexical_literal.proofs.Common.{IsTrue, allowed_ascii, number}
+use Rattle.lexical_literal.proofs.Common.{IsTrue, allowed_ascii}
 use Rattle.lexical_literal.proofs.Common.{Bool, Flag, Part, Record, ap, arith, bit, bit_and, effective_exponent_radix, exponent_character_of, false}
 use Rattle.lexical_literal.proofs.Common.{false≢true, if◌then◌else◌, inl, inr, lacks_options, length, mod-lt, nat_tests, not, notation_of, point_of, radix_of}
 use Rattle.lexical_literal.proofs.Common.{raw, refl, subst, sym, true, used_separator, ℕ, ◌%◌, ◌&&◌, ◌<◌, ◌==◌, ◌^◌, ◌∙◌, ◌≡◌}

@@ -1,9 +1,9 @@
 -- In a syntax, no byte plays two roles.
 use Rattle.lexical_literal.proofs.Common.{AllByRecursion, Bool, ByteSet, Condition, Conditions, Flag, Grammar, HasRoles, HasSizes, IsReady, IsTrue, List, None}
 use Rattle.lexical_literal.proofs.Common.{Option, Options, Part, Record, Role, Some, [], all_conditions, allowed_ascii, and_from, ap, arith, cases_Bool}
-use Rattle.lexical_literal.proofs.Common.{contradiction, exponent_character_of, false, false≢true, first_fault, has, has_size, if◌then◌else◌, inl, inr}
+use Rattle.lexical_literal.proofs.Common.{contradiction, exponent_character_of, false, false≢true, first_fault, has, has_size, inl, inr}
 use Rattle.lexical_literal.proofs.Common.{lacks_options, lt-ltb, nat_le, nat_lt, nat_tests, not, notation_of, number_of, option_map, option_or, point_of}
-use Rattle.lexical_literal.proofs.Common.{radix_of, raw, refl, separators_in, set_of_role, steps_of, sym, true, ℕ, ◌&&◌, ◌<◌, ◌==◌, ◌||◌, ◌↔◌, ◌∙◌, ◌∷◌, ◌≡◌}
+use Rattle.lexical_literal.proofs.Common.{radix_of, raw, refl, separators_in, set_of_role, steps_of, sym, true, ℕ, ◌<◌, ◌==◌, ◌||◌, ◌↔◌, ◌∙◌, ◌∷◌, ◌≡◌}
 use Rattle.lexical_flags.specs.Rules.{Meets, shape_of}
 use Rattle.lexical_flags.specs.declared.format_flags.rule.Rule.{Rule}
 use Rattle.lexical_flags.specs.Record.{separator_allowed}
@@ -18,7 +18,6 @@ use Rattle.lexical_flags.specs.declared.format_flags.rule.Rule.TheVariants as ru
 use Rattle.lexical_util.specs.Additions.ByteRoles as bytes
 use Rattle.lexical_util.specs.Layout as layout
 use Rattle.lexical_util.specs.Roles as sets
-use Rattle.lexical_util.specs.declared.feature_format.roles.Role.TheVariants as roles
 use Rattle.lexical_util.specs.declared.format_flags.Part.TheVariants as parts
 use Rattle.lexical_util.proofs.ByteRoleLemmas.{AreApart, apart_from, one_role}
 use Rattle.lexical_literal.specs.declared.syntax.ConditionsErrorKind.TheVariants as faults

@@ -40,7 +40,8 @@ module _ (m : Notation) (k : Marks) (are : AreMarks k) (next : Option ℕ) where
   by_kind x0 f c = grind arith
 
 -- The bytes to show for an error of a text.
-pub span_within : (g : Grammar) (text : List ℕ) (error : Refusal) → IsRefusal (notation_of g) text error → IsIn (length text) (error.start, error.end, error.code)
+pub span_within : (g : Grammar) (text : List ℕ) (error : Refusal) → IsRefusal (notation_of g) text error
+    → IsIn (length text) (error.start, error.end, error.code)
 span_within g text error is =
     let k = marks_of (notation_of g) (take error.valid_up_to text) in
     let span = subst (IsIn (wrong_end k error.byte)) (sym is.shown)

@@ -153,9 +153,17 @@ impl Spot {
         ensures { result ≡ zeros_shown (notation_of self.now.grammar) (marks_at self.now) self.now.byte }
     {
         if self.is_at(ByteKind::Digit) {
-            (self.first, self.wrong_end(), Error::InvalidLeadingZeros(self.first))
+            (
+                self.first,
+                self.wrong_end(),
+                Error::InvalidLeadingZeros(self.first),
+            )
         } else if self.is_at(ByteKind::Separator) {
-            (self.size, self.wrong_end(), Error::InvalidLeadingZeros(self.size))
+            (
+                self.size,
+                self.wrong_end(),
+                Error::InvalidLeadingZeros(self.size),
+            )
         } else {
             (self.first, self.run, Error::InvalidLeadingZeros(self.first))
         }
@@ -196,7 +204,11 @@ impl Spot {
             Condition::BasePrefix => (self.first, self.first, Error::InvalidDigit(self.first)),
             Condition::NegativeSign => (size, end, Error::InvalidNegativeSign(size)),
             Condition::IntegerGroupSize | Condition::FractionGroupSize => {
-                let end = if self.is_at(ByteKind::Digit) { end } else { size };
+                let end = if self.is_at(ByteKind::Digit) {
+                    end
+                } else {
+                    size
+                };
                 (self.group, end, Error::InvalidDigit(self.group))
             }
             _ => (size, end, Error::InvalidDigit(size)),
@@ -226,7 +238,11 @@ impl Spot {
                 Error::InvalidDigit(size),
             ),
             ReadErrorKind::Separator(_, _) => {
-                let end = if self.is_at(ByteKind::Separator) { end } else { size };
+                let end = if self.is_at(ByteKind::Separator) {
+                    end
+                } else {
+                    size
+                };
                 (self.run, end, Error::InvalidDigit(self.run))
             }
             ReadErrorKind::Missing(Part::Integer) if self.run == size => (

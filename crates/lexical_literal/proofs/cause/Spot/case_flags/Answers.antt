@@ -6,7 +6,8 @@ pub returns-then-goes_on_bare : goal.returns-then-goes_on_bare
 returns-then-goes_on_bare c =
     let m = notation_of c.args.self.now.grammar in
     let other = c.other_case-other.ensures in
-    let allowed = sym c.if-goes_on_bare.true ∙ c.goes_on_bare.ensures ∙ ap (λ byte. goes (bare m) c.args.self.now.read (group_at c.args.self.now) (Some byte)) other in
+    let allowed = sym c.if-goes_on_bare.true ∙ c.goes_on_bare.ensures
+    ∙ ap (λ byte. goes (bare m) c.args.self.now.read (group_at c.args.self.now) (Some byte)) other in
     c.case_mask.ensures ∙ (λ j. mask_of (λ f. allowed j && case_set f m (other j)))
 
 pub returns-else-goes_on_bare : goal.returns-else-goes_on_bare
