@@ -82,8 +82,6 @@ REPLACED = [
     # A grammar is given by reference.
     ("syntax.rt", "const fn grammar(&self) -> Grammar", "const fn as_grammar(&self) -> &Grammar"),
     ("syntax.rt", "        role_facts();\n        self.grammar\n", "        role_facts();\n        &self.grammar\n"),
-    ("cause.rt", "const fn grammar(&self) -> Grammar", "const fn as_grammar(&self) -> &Grammar"),
-    ("cause.rt", "        self.grammar\n", "        &self.grammar\n"),
     ("cause.rt", "            ..grammar\n", "            ..*grammar\n"),
     ("cause.rt", "self.goes_on(other) && self.group_goes_on(other)", "self.goes_on(&other) && self.group_goes_on(&other)"),
     ("span.rt", "        grammar,\n        read,", "        grammar: *grammar,\n        read,"),
@@ -388,6 +386,8 @@ def replaced(path):
     text = path.read_text()
     text = re.sub(r"(?<!const )\bfn (?=\w+[<(])", "const fn ", text) if any(path.match(it) for it in CONST) else text
     text = re.sub(r"(?<!\) )\b(_?grammar|other): Grammar\b", r"\1: &Grammar", text)
+    if path.name in ("cause.rt", "span.rt"):
+        text = re.sub(r"(?<=[ (])self\.grammar(?=[,;])", "&self.grammar", text)
     if path.match("lexical_literal/src/*.rt"):
         text = HIDDEN.sub(lambda it: re.sub(r"\bpub\b(?! ?\()", "pub(crate)", it[2]) + it[1], text)
     for file, old, new in REPLACED:

@@ -1,11 +1,11 @@
 -- The flags that are found are to blame.
 use Rattle.lexical_literal.proofs.Common.{Allows, Blame, Bool, Condition, Flag, Grammar, Group, IsCause, IsReadOf, IsRefusal, IsTrue, IsUnmet, IsValidUpTo}
 use Rattle.lexical_literal.proofs.Common.{IsWeaker, List, Marks, None, Notation, Option, Part, ReadErrorKind, Role, Some, Spot, Summary, adding, all_conditions}
-use Rattle.lexical_literal.proofs.Common.{alone, and_from, and_parts, ap, arith, bare, binds, blame, case_set, cases, cases_Bool, error_of, false, false≢true}
+use Rattle.lexical_literal.proofs.Common.{alone, and_from, and_parts, ap, arith, bare, binds, blame, case_set, cases, cases_Bool, false, false≢true}
 use Rattle.lexical_literal.proofs.Common.{first_unmet, flag_bits, goes, group_allows, group_at, has, has_size, if◌then◌else◌, inl, inr, is_at, is_at_gap}
 use Rattle.lexical_literal.proofs.Common.{is_one_of, kept, length, length-take-le, lets, lowest, marks_of, mask_of, no_condition, not, notation_of}
 use Rattle.lexical_literal.proofs.Common.{number_separator_flags, other_case, otherwise, part_of, place_of, raw, refl, refusal_of, requirement_flags}
-use Rattle.lexical_literal.proofs.Common.{requirements, requiring, role_at, role_next, separators, slice_get, some_unmet, span_of, spot_of, subst, sum_by, sym}
+use Rattle.lexical_literal.proofs.Common.{requirements, requiring, role_at, role_next, separators, shown, slice_get, some_unmet, spot_of, subst, sum_by, sym}
 use Rattle.lexical_literal.proofs.Common.{tail_of, take, true, unmet, unsized, with_rules, zeros, ℕ, ◌&&◌, ◌==◌, ◌||◌, ◌↔◌, ◌∙◌, ◌≡◌, ◌≤◌, ◌⊎◌}
 use Rattle.lexical_literal.specs.Cause.{IsCaseFlag, IsRequirement, Permits, RefusesAlone}
 use Rattle.lexical_util.specs.Layout as layout
@@ -286,7 +286,6 @@ module _ (g : Grammar) (text : List ℕ) (s : Summary) (separated : Bool) (tail 
       let b = blame n s last next in
       let C = unmet n s last next in
       let set = kept C n.number in
-      let c = first_unmet b.mask set in
       let has_unmet : (c : Condition) → has set c ≡ C c =
       has_kept g.conditions (λ c. goes (bare n) s last next && not (goes (requiring c (bare n)) s last next)) in
       let is_size : size ≡ k.size = sym (length-take-le size text within) in
@@ -304,6 +303,5 @@ module _ (g : Grammar) (text : List ℕ) (s : Summary) (separated : Bool) (tail 
             (subst (λ t. (t ≡ true) ↔ IsUnmet n (take size text) next c) (sym (has_unmet c)) (each_unmet n s last (take size text) read next c)));
         numbers = λ j. kept (λ c. sym (has_unmet c) j) n.number;
         mask = is_mask n s last (take size text) read next;
-        span = ap (λ k. span_of n k next b.kind (lowest b.mask) c) same;
-        code = λ j. error_of n (same j) b.kind (lowest b.mask) c (span_of n k next b.kind (lowest b.mask) c).0;
+        shown = ap (λ k. shown n k next b.kind (lowest b.mask) (first_unmet b.mask set)) same;
       }

@@ -1,6 +1,6 @@
 -- The names that several proofs of this crate cite, passed on from one place. Declares nothing.
 pub use Rattle.lexical_literal.specs.Additions.Causes.{IsWeaker, is_at_gap, is_separator, kind_set, lets, place_of}
-pub use Rattle.lexical_literal.specs.Additions.Explained.{alone, blame, cases, grammar_at, group_at, mask_of, otherwise, refusal_of, requirements, separators}
+pub use Rattle.lexical_literal.specs.Additions.Explained.{alone, blame, cases, group_at, mask_of, otherwise, refusal_of, requirements, separators}
 pub use Rattle.lexical_literal.specs.Additions.Explained.{some_unmet, spot_of, unmet, zeros}
 pub use Rattle.lexical_literal.specs.Additions.GroupSize.{IsReadOf, first_group, follows, goes, group_after, group_allows, grow, grown, is_idle, is_size}
 pub use Rattle.lexical_literal.specs.Additions.GroupSize.{makes_empty, most, next_part, role_next, steps_of, unsized, with_rules}
@@ -14,8 +14,8 @@ pub use Rattle.lexical_literal.specs.Additions.Step.{is_lone, is_negative, is_op
 pub use Rattle.lexical_literal.specs.Additions.Step.{may_lead, move_by, needs_exponent, no_condition, no_cuts, part_of, piece_number, piece_of, role_at, start}
 pub use Rattle.lexical_literal.specs.Additions.Step.{step, step_by, takes, takes_in, tally, tally_by, walk, walk_by, with_prefix}
 pub use Rattle.lexical_literal.specs.Additions.Stop.{HasBegun, HasFound, IsCountedFront, IsFronted, IsLongest, IsMeasured, IsStopped, IsUnderway, IsWithin}
-pub use Rattle.lexical_literal.specs.Cause.{Allows, IsCause, IsRefusal, IsUnmet, Marks, adding, bare, binds, case_set, error_of, first_unmet, index_behind}
-pub use Rattle.lexical_literal.specs.Cause.{is_at, is_one_of, lowest, marks_of, number_separator_flags, requirement_flags, requiring, span_of, tail_of}
+pub use Rattle.lexical_literal.specs.Cause.{Allows, IsCause, IsRefusal, IsUnmet, Marks, adding, bare, binds, case_set, first_unmet, index_behind}
+pub use Rattle.lexical_literal.specs.Cause.{is_at, is_one_of, lowest, marks_of, number_separator_flags, requirement_flags, requiring, shown, tail_of}
 pub use Rattle.lexical_literal.specs.Front.{IsFront, IsValidUpTo, NoFront, NoLiteral, ReadsFront}
 pub use Rattle.lexical_literal.specs.Groups.{has_size, has_sizes, higher, inner_fits, is_grouped, last_fits}
 pub use Rattle.lexical_literal.specs.Literal.{IsLiteral, IsSpelled, Literal, Reads, condition, has_leading_zero, is_absent, is_float, is_minus, is_none_or_one}

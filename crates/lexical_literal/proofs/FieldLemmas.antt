@@ -1,6 +1,6 @@
 -- What the fields of a grammar tell of the word of its format.
 use Rattle.lexical_literal.proofs.Common.{IsUsual, None, Some, Condition, Conditions, [], ◌∷◌, ◌-◌, ◌||◌, and_parts, eqb-true, has, is_same, kept, number_of}
-use Rattle.lexical_literal.proofs.Common.{IsTrue, allowed_ascii, number}
+use Rattle.lexical_literal.proofs.Common.{IsTrue, allowed_ascii}
 use Rattle.lexical_literal.proofs.Common.{Bool, Flag, Part, Record, ap, arith, bit, bit_and, effective_exponent_radix, exponent_character_of, false}
 use Rattle.lexical_literal.proofs.Common.{false≢true, if◌then◌else◌, inl, inr, lacks_options, length, mod-lt, nat_tests, not, notation_of, point_of, radix_of}
 use Rattle.lexical_literal.proofs.Common.{raw, refl, subst, sym, true, used_separator, ℕ, ◌%◌, ◌&&◌, ◌<◌, ◌==◌, ◌^◌, ◌∙◌, ◌≡◌}
@@ -117,12 +117,7 @@ module _ (a : Inside) (h : AreFields a) (w : ℕ) (k : Conditions) (eight : leng
   other = record a { flags = w % 2 ^ 64; separator = 0; conditions = k }
 
   other_fit : (b : Byte) → byte_of other b < 2 ^ 8
-  other_fit layout.digit_separator = pow_pos 8
-  other_fit layout.base_prefix = h.bytes layout.base_prefix
-  other_fit layout.base_suffix = h.bytes layout.base_suffix
-  other_fit layout.mantissa_radix = h.bytes layout.mantissa_radix
-  other_fit layout.exponent_base = h.bytes layout.exponent_base
-  other_fit layout.exponent_radix = h.bytes layout.exponent_radix
+  other_fit x0 = let fit = h.bytes x0 in grind arith
 
   pub other_fields : AreFields other
   other_fields = record {
@@ -153,24 +148,25 @@ none_contradicted r = refl
 
 -- The fields of a word in normal form are fields, and the word is made of them.
 module _ (w : ℕ) (fits : w < 2 ^ 128) (normal : IsNormal w) where
-  pub base_normal : effective_exponent_base (raw w) ≡ bytes_of w layout.exponent_base
+  base_normal : effective_exponent_base (raw w) ≡ bytes_of w layout.exponent_base
   base_normal = filled _ _ normal.exponent_base
 
-  pub radix_normal : effective_exponent_radix (raw w) ≡ bytes_of w layout.exponent_radix
+  radix_normal : effective_exponent_radix (raw w) ≡ bytes_of w layout.exponent_radix
   radix_normal = filled _ _ normal.exponent_radix
 
-  pub bytes_are : (a : Inside) → a.exponent_radix ≡ effective_exponent_radix (raw w) → a.exponent_base ≡ effective_exponent_base (raw w)
-      → a.radix ≡ bytes_of w layout.mantissa_radix → a.suffix ≡ bytes_of w layout.base_suffix → a.prefix ≡ bytes_of w layout.base_prefix
-      → a.separator ≡ bytes_of w layout.digit_separator → (b : Byte) → byte_of a b ≡ bytes_of w b
-  bytes_are a radix base mantissa suffix prefix separator layout.digit_separator = separator
-  bytes_are a radix base mantissa suffix prefix separator layout.base_prefix = prefix
-  bytes_are a radix base mantissa suffix prefix separator layout.base_suffix = suffix
-  bytes_are a radix base mantissa suffix prefix separator layout.mantissa_radix = mantissa
-  bytes_are a radix base mantissa suffix prefix separator layout.exponent_base = base ∙ base_normal
-  bytes_are a radix base mantissa suffix prefix separator layout.exponent_radix = radix ∙ radix_normal
+  module _ (a : Inside) (flags : a.flags ≡ w % 2 ^ 64) (radix : a.exponent_radix ≡ effective_exponent_radix (raw w))
+      (base : a.exponent_base ≡ effective_exponent_base (raw w)) (mantissa : a.radix ≡ bytes_of w layout.mantissa_radix)
+      (suffix : a.suffix ≡ bytes_of w layout.base_suffix) (prefix : a.prefix ≡ bytes_of w layout.base_prefix)
+      (separator : a.separator ≡ bytes_of w layout.digit_separator) where
+    bytes : (b : Byte) → byte_of a b ≡ bytes_of w b
+    bytes layout.digit_separator = separator
+    bytes layout.base_prefix = prefix
+    bytes layout.base_suffix = suffix
+    bytes layout.mantissa_radix = mantissa
+    bytes layout.exponent_base = base ∙ base_normal
+    bytes layout.exponent_radix = radix ∙ radix_normal
 
-  module _ (a : Inside) (flags : a.flags ≡ w % 2 ^ 64) (bytes : (b : Byte) → byte_of a b ≡ bytes_of w b) where
-    pub word_is : word_from a.flags (byte_of a) ≡ w
+    word_is : word_from a.flags (byte_of a) ≡ w
     word_is = (λ i. word_from (flags i) (λ b. bytes b i)) ∙ word-fields w fits normal.clean.below_prefix
 
     pub worded_is : worded a ≡ record { word = w; options = options_if a.exponent a.point; conditions = a.conditions }

@@ -1,8 +1,7 @@
 -- What the lengths of its parts tell of a literal, and what a syntax without conditions is.
 use Rattle.std.proofs.Common.{rules}
 use Rattle.lexical_literal.proofs.Common.{Conditions, Grammar, IsUsual, List, and_parts, arith, false, has, has_sizes, is_absent, is_minus, is_present, length}
-use Rattle.lexical_literal.proofs.Common.{nat_tests, not, notation_of, raw, take, true, ℕ, ◌==◌, ◌||◌, ◌≡◌, ◌≢◌}
-use Rattle.lexical_util.specs.Layout as layout
+use Rattle.lexical_literal.proofs.Common.{nat_tests, not, notation_of, take, true, ℕ, ◌==◌, ◌||◌, ◌≡◌, ◌≢◌}
 use Rattle.lexical_literal.specs.Additions.Scan.{are_usual}
 use Rattle.lexical_literal.specs.declared.syntax.Condition.TheVariants as conditions
 

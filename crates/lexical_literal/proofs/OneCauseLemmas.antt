@@ -1,7 +1,7 @@
 -- A refusal has one cause, and a text has one refusal.
 use Rattle.lexical_literal.proofs.Common.{Bool, Condition, Flag, IsCause, IsRefusal, IsUnmet, IsValidUpTo, List, None, Notation, Option, Part, ReadErrorKind}
-use Rattle.lexical_literal.proofs.Common.{Refusal, Some, ap, arith, bit, error_of, first_unmet, flag_bits, has, if◌then◌else◌, is_at, kept, lowest, marks_of}
-use Rattle.lexical_literal.proofs.Common.{nat_tests, raw, refl, slice_get, span_of, subst, sum_by, sym, tail_of, take, true, ℕ, ◌<◌, ◌^◌, ◌↔◌, ◌∙◌, ◌≡◌, ◌≤◌}
+use Rattle.lexical_literal.proofs.Common.{Refusal, Some, ap, arith, bit, first_unmet, flag_bits, has, if◌then◌else◌, is_at, kept, lowest, marks_of}
+use Rattle.lexical_literal.proofs.Common.{nat_tests, raw, refl, slice_get, shown, subst, sum_by, sym, tail_of, take, true, ℕ, ◌<◌, ◌^◌, ◌↔◌, ◌∙◌, ◌≡◌, ◌≤◌}
 use Rattle.lexical_literal.specs.Cause.{IsSeparator, SameBlame}
 use Rattle.std.proofs.Math.Nat.{le_antisymm}
 use Rattle.lexical_util.specs.Layout.{flags}
@@ -63,10 +63,8 @@ module _ (m : Notation) (text : List ℕ) where
       (subst (λ n. (has b.conditions c ≡ true) ↔ IsUnmet m (take n text) (slice_get text n) c) (sym size) (two.conditions c)) in
       let unmet = one.numbers ∙ (λ j. kept (λ c. has_same c j) m.number) ∙ sym two.numbers in
       let byte = one.byte ∙ ap (slice_get text) size ∙ sym two.byte in
-      let span = one.span
-      ∙ (λ j. span_of m (marks_of m (take (size j) text)) (byte j) (same.kind j) (lowest (mask j)) (first_unmet (mask j) (unmet j))) ∙ sym two.span in
-      let code = one.code
-      ∙ (λ j. error_of m (marks_of m (take (size j) text)) (same.kind j) (lowest (mask j)) (first_unmet (mask j) (unmet j)) (span j).0) ∙ sym two.code in
+      let shown = one.shown
+      ∙ (λ j. shown m (marks_of m (take (size j) text)) (byte j) (same.kind j) (lowest (mask j)) (first_unmet (mask j) (unmet j))) ∙ sym two.shown in
       λ j. record {
         valid_up_to = size j;
         byte = byte j;
@@ -74,7 +72,7 @@ module _ (m : Notation) (text : List ℕ) where
         kind = same.kind j;
         mask = mask j;
         conditions = unmet j;
-        start = (span j).0;
-        end = (span j).1;
-        code = code j;
+        start = (shown j).0;
+        end = (shown j).1;
+        code = (shown j).2;
       }

@@ -1,13 +1,14 @@
 -- In a syntax, no byte plays two roles.
 use Rattle.lexical_literal.proofs.Common.{AllByRecursion, Bool, ByteSet, Condition, Conditions, Flag, Grammar, HasRoles, HasSizes, IsReady, IsTrue, List, None}
 use Rattle.lexical_literal.proofs.Common.{Option, Options, Part, Record, Role, Some, [], all_conditions, allowed_ascii, and_from, ap, arith, cases_Bool}
-use Rattle.lexical_literal.proofs.Common.{contradiction, exponent_character_of, false, false≢true, first_fault, has, has_size, if◌then◌else◌, inl, inr}
+use Rattle.lexical_literal.proofs.Common.{contradiction, exponent_character_of, false, false≢true, first_fault, has, has_size, inl, inr}
 use Rattle.lexical_literal.proofs.Common.{lacks_options, lt-ltb, nat_le, nat_lt, nat_tests, not, notation_of, number_of, option_map, option_or, point_of}
-use Rattle.lexical_literal.proofs.Common.{radix_of, raw, refl, separators_in, set_of_role, steps_of, sym, true, ℕ, ◌&&◌, ◌<◌, ◌==◌, ◌||◌, ◌↔◌, ◌∙◌, ◌∷◌, ◌≡◌}
+use Rattle.lexical_literal.proofs.Common.{radix_of, raw, refl, separators_in, set_of_role, steps_of, sym, true, ℕ, ◌<◌, ◌==◌, ◌||◌, ◌↔◌, ◌∙◌, ◌∷◌, ◌≡◌}
 use Rattle.lexical_flags.specs.Rules.{Meets, shape_of}
 use Rattle.lexical_flags.specs.declared.format_flags.rule.Rule.{Rule}
 use Rattle.lexical_flags.specs.Record.{separator_allowed}
 use Rattle.lexical_util.specs.Options.{OptionsFit, OptionsHaveOneRole}
+use Rattle.lexical_literal.specs.Additions.Fields.{exponent_in, point_in}
 use Rattle.lexical_util.specs.Unfoldable.{Disjoint, Holds, Lawful, byte_value, cased}
 use Rattle.lexical_literal.specs.declared.syntax.ConditionsError.{ConditionsError}
 use Rattle.lexical_literal.specs.declared.syntax.ConditionsErrorKind.{ConditionsErrorKind}
@@ -17,26 +18,16 @@ use Rattle.lexical_flags.specs.declared.format_flags.rule.Rule.TheVariants as ru
 use Rattle.lexical_util.specs.Additions.ByteRoles as bytes
 use Rattle.lexical_util.specs.Layout as layout
 use Rattle.lexical_util.specs.Roles as sets
-use Rattle.lexical_util.specs.declared.feature_format.roles.Role.TheVariants as roles
 use Rattle.lexical_util.specs.declared.format_flags.Part.TheVariants as parts
 use Rattle.lexical_util.proofs.ByteRoleLemmas.{AreApart, apart_from, one_role}
 use Rattle.lexical_literal.specs.declared.syntax.ConditionsErrorKind.TheVariants as faults
 use Rattle.lexical_literal.specs.declared.syntax.Condition.TheVariants as conditions
 use Rattle.lexical_literal.proofs.RefusalLemmas.{other_roles}
 
--- The exponent character and the decimal point, or 0 without options.
-abbrev exponent_byte : Option Options → ℕ
-exponent_byte None = 0
-exponent_byte (Some options) = options.exponent
-
-abbrev point_byte : Option Options → ℕ
-point_byte None = 0
-point_byte (Some options) = options.point
-
 -- A byte that plays a role of a syntax plays it in the format with the options.
 own : (word : ℕ) → Lawful word → (o : Option Options) (conditions : Conditions) (role : Role) (byte : ℕ)
     → IsTrue (set_of_role (notation_of (record { word = word; options = o; conditions = conditions })) role byte)
-    → IsTrue (bytes.role_set (raw word) (exponent_byte o) (point_byte o) role byte)
+    → IsTrue (bytes.role_set (raw word) (exponent_in o) (point_in o) role byte)
 unfolding Lawful
 own word lawful o conditions role byte is = grind (arith, nat_tests, false≢true)
 
@@ -65,9 +56,6 @@ module _ (r : Record) (c : Conditions) (none : contradiction r c ≡ None) where
   each_none : (ds : List Condition) → first_fault r c ds ≡ None → AllByRecursion (λ d. fault r c d ≡ None) ds
   each_none [] is = tt
   each_none (d ∷ ds) is = let both = both_none (fault r c d) (first_fault r c ds) is in (both.0, each_none ds both.1)
-
-  abbrev error_of : Condition → ConditionsErrorKind → ConditionsError
-  error_of d kind = record { condition = d; kind = kind }
 
   not_missing : (d : Condition) → has c d ≡ true → fault r c d ≡ None → missing r c d ≡ None
   unfolding fault
@@ -140,7 +128,7 @@ module _ (law : (A B : ByteSet) → Disjoint A B ↔ ((byte : ℕ) → byte < 25
   empty_apart counts [] = tt
   empty_apart counts (B ∷ sets) = ((law (cased counts 0) B).1 (λ byte below in_a in_b. false≢true in_a), empty_apart counts sets)
 
-  apart_of : (word : ℕ) (o : Option Options) → Lawful word → FitIfAny word o → AreApart word (exponent_byte o) (point_byte o)
+  apart_of : (word : ℕ) (o : Option Options) → Lawful word → FitIfAny word o → AreApart word (exponent_in o) (point_in o)
   apart_of word None lawful fit = record {
     exponent_below = omega arith;
     point_below = omega arith;
@@ -165,8 +153,8 @@ module _ (law : (A B : ByteSet) → Disjoint A B ↔ ((byte : ℕ) → byte < 25
   pub ready : (g : Grammar) → IsSyntax g → IsReady (steps_of g)
   ready g is = record {
     roles = other_roles (notation_of g) (steps_of g).flag (steps_of g).condition (has_roles g is);
-    exponent = exponent_byte g.options;
-    point = point_byte g.options;
+    exponent = exponent_in g.options;
+    point = point_in g.options;
     has_exponent = λ has. (chosen g.options is.fit has).0;
     has_point = λ has. (chosen g.options is.fit has).1;
     prefix = (raw g.word).byte layout.base_prefix;
@@ -180,7 +168,7 @@ module _ (law : (A B : ByteSet) → Disjoint A B ↔ ((byte : ℕ) → byte < 25
     no_sizes = refl;
   } where
     chosen : (o : Option Options) → FitIfAny g.word o → lacks_options o ≡ false
-        → (exponent_character_of (raw g.word) o (exponent_byte o) ≡ true) × (point_of o (point_byte o) ≡ true)
+        → (exponent_character_of (raw g.word) o (exponent_in o) ≡ true) × (point_of o (point_in o) ≡ true)
     chosen None fit has = absurd (false≢true (sym has))
     chosen (Some o) fit has =
         let both = accepted g.word o.exponent o.point is.lawful fit in

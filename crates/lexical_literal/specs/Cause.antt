@@ -196,68 +196,52 @@ abbrev pub wrong_end : Marks → Option ℕ → ℕ
 wrong_end k None = k.size
 wrong_end k (Some byte) = k.size + 1
 
--- `zeros_span m k next` has the first index and the end of the bytes to show for leading zeros: the integer, to which `next` may belong, or `next` if it
--- is a separator.
-abbrev pub zeros_span : Notation → Marks → Option ℕ → ℕ × ℕ
-zeros_span m k next =
-    if is_in (m.digit parts.Integer) next then (k.first, wrong_end k next)
-    else (if is_in m.separator next then (k.size, wrong_end k next) else (k.first, k.run))
+-- `at start end error` has the first index and the end of the bytes to show, and the error, which has the first index.
+abbrev pub at : ℕ → ℕ → (ℕ → Error) → ℕ × ℕ × Error
+at start end error = (start, end, error start)
 
--- `requirement_span f m k next` has the first index and the end of the bytes to show for the flag `f`: an exponent, the integer, `next`, or none.
-abbrev pub requirement_span : Flag → Notation → Marks → Option ℕ → ℕ × ℕ
-requirement_span layout.required_exponent_digits m k next = (k.exponent, k.size)
-requirement_span layout.no_integer_leading_zeros m k next = zeros_span m k next
-requirement_span layout.no_float_leading_zeros m k next = zeros_span m k next
-requirement_span layout.no_positive_mantissa_sign m k next = (k.size, wrong_end k next)
-requirement_span layout.no_exponent_notation m k next = (k.size, wrong_end k next)
-requirement_span layout.no_positive_exponent_sign m k next = (k.size, wrong_end k next)
-requirement_span layout.no_exponent_without_fraction m k next = (k.size, wrong_end k next)
-requirement_span _ m k next = (k.size, k.size)
+-- `zeros_shown m k next` are the bytes to show for leading zeros: the integer, to which `next` may belong, or `next` if it is a separator.
+abbrev pub zeros_shown : Notation → Marks → Option ℕ → ℕ × ℕ × Error
+zeros_shown m k next =
+    if is_in (m.digit parts.Integer) next then at k.first (wrong_end k next) errors.InvalidLeadingZeros
+    else (if is_in m.separator next then at k.size (wrong_end k next) errors.InvalidLeadingZeros else at k.first k.run errors.InvalidLeadingZeros)
 
--- `condition_span c m k next` has the first index and the end of the bytes to show for the condition `c`: none, `next`, or the last group.
-abbrev pub condition_span : Condition → Notation → Marks → Option ℕ → ℕ × ℕ
-condition_span conditions.BasePrefix m k next = (k.first, k.first)
-condition_span conditions.BaseSuffix m k next = (k.size, k.size)
-condition_span conditions.NegativeSign m k next = (k.size, wrong_end k next)
-condition_span conditions.LeadingZero m k next = (k.size, wrong_end k next)
-condition_span conditions.DecimalFirstDigit m k next = (k.size, wrong_end k next)
-condition_span _ m k next = (k.group, if is_in (m.digit parts.Integer) next then wrong_end k next else k.size)
+-- `flag_shown f m k next` are the bytes to show for the flag `f`, and the error: an exponent, the integer, `next`, or none.
+abbrev pub flag_shown : Flag → Notation → Marks → Option ℕ → ℕ × ℕ × Error
+flag_shown layout.required_integer_digits m k next = at k.size k.size errors.EmptyInteger
+flag_shown layout.required_fraction_digits m k next = at k.size k.size errors.EmptyFraction
+flag_shown layout.required_exponent_digits m k next = (k.exponent, k.size, errors.EmptyExponent k.size)
+flag_shown layout.required_mantissa_digits m k next = at k.size k.size errors.EmptyMantissa
+flag_shown layout.no_positive_mantissa_sign m k next =
+    at k.size (wrong_end k next) (if m.integers_only then errors.InvalidPositiveSign else errors.InvalidPositiveMantissaSign)
+flag_shown layout.required_mantissa_sign m k next = at k.size k.size (if m.integers_only then errors.MissingSign else errors.MissingMantissaSign)
+flag_shown layout.no_exponent_notation m k next = at k.size (wrong_end k next) errors.InvalidExponent
+flag_shown layout.no_positive_exponent_sign m k next = at k.size (wrong_end k next) errors.InvalidPositiveExponentSign
+flag_shown layout.required_exponent_sign m k next = at k.size k.size errors.MissingExponentSign
+flag_shown layout.no_exponent_without_fraction m k next = at k.size (wrong_end k next) errors.ExponentWithoutFraction
+flag_shown layout.required_exponent_notation m k next = at k.size k.size errors.MissingExponent
+flag_shown _ m k next = zeros_shown m k next
+
+-- `condition_shown c m k next` are the bytes to show for the condition `c`, and the error: none before the integer, the last group, or `next`.
+abbrev pub condition_shown : Condition → Notation → Marks → Option ℕ → ℕ × ℕ × Error
+condition_shown conditions.BasePrefix m k next = at k.first k.first errors.InvalidDigit
+condition_shown conditions.NegativeSign m k next = at k.size (wrong_end k next) errors.InvalidNegativeSign
+condition_shown conditions.IntegerGroupSize m k next = at k.group (if is_in (m.digit parts.Integer) next then wrong_end k next else k.size) errors.InvalidDigit
+condition_shown conditions.FractionGroupSize m k next = at k.group (if is_in (m.digit parts.Integer) next then wrong_end k next else k.size) errors.InvalidDigit
+condition_shown _ m k next = at k.size (wrong_end k next) errors.InvalidDigit
 
 -- `first_unmet mask unmet` is the first of the conditions `unmet` if no flag of `mask` is to blame, and `None` otherwise.
 abbrev pub first_unmet : ℕ → Conditions → Option Condition
 first_unmet mask unmet = if mask == 0 then find (has unmet) all_conditions else None
 
--- `span_of m k next cause f c` has the first index and the end of the bytes to show for `cause`, and its lowest flag `f` or its first condition `c`.
-abbrev pub span_of : Notation → Marks → Option ℕ → ReadErrorKind → Flag → Option Condition → ℕ × ℕ
-span_of m k next causes.Requirement f None = requirement_span f m k next
-span_of m k next causes.Requirement f (Some c) = condition_span c m k next
-span_of m k next (causes.Separator part places.Consecutive) f c = (k.size, wrong_end k next)
-span_of m k next (causes.Separator part place) f c = (k.run, if is_in m.separator next then wrong_end k next else k.size)
-span_of m k next (causes.Missing part) f c = (k.size, k.size)
-span_of m k next _ f c = (k.size, wrong_end k next)
-
--- `requirement_error f m start size` is the error for the flag `f`.
-abbrev pub requirement_error : Flag → Notation → ℕ → ℕ → Error
-requirement_error layout.required_integer_digits m start size = errors.EmptyInteger start
-requirement_error layout.required_fraction_digits m start size = errors.EmptyFraction start
-requirement_error layout.required_exponent_digits m start size = errors.EmptyExponent size
-requirement_error layout.required_mantissa_digits m start size = errors.EmptyMantissa start
-requirement_error layout.no_positive_mantissa_sign m start size =
-    if m.integers_only then errors.InvalidPositiveSign start else errors.InvalidPositiveMantissaSign start
-requirement_error layout.required_mantissa_sign m start size = if m.integers_only then errors.MissingSign start else errors.MissingMantissaSign start
-requirement_error layout.no_exponent_notation m start size = errors.InvalidExponent start
-requirement_error layout.no_positive_exponent_sign m start size = errors.InvalidPositiveExponentSign start
-requirement_error layout.required_exponent_sign m start size = errors.MissingExponentSign start
-requirement_error layout.no_exponent_without_fraction m start size = errors.ExponentWithoutFraction start
-requirement_error layout.required_exponent_notation m start size = errors.MissingExponent start
-requirement_error _ m start size = errors.InvalidLeadingZeros start
-
--- `error_of m k cause f c start` is the error for `cause`, and its lowest flag `f` or its first condition `c`, if the bytes to show begin at `start`.
-abbrev pub error_of : Notation → Marks → ReadErrorKind → Flag → Option Condition → ℕ → Error
-error_of m k causes.Requirement f None start = requirement_error f m start k.size
-error_of m k causes.Requirement f (Some conditions.NegativeSign) start = errors.InvalidNegativeSign start
-error_of m k (causes.Missing parts.Integer) f c start = if k.run == k.size then errors.Empty start else errors.InvalidDigit start
-error_of m k _ f c start = errors.InvalidDigit start
+-- `shown m k next cause f c` are the bytes to show for `cause`, and its lowest flag `f` or its first condition `c`, and the error.
+abbrev pub shown : Notation → Marks → Option ℕ → ReadErrorKind → Flag → Option Condition → ℕ × ℕ × Error
+shown m k next causes.Requirement f None = flag_shown f m k next
+shown m k next causes.Requirement f (Some c) = condition_shown c m k next
+shown m k next (causes.Separator part places.Consecutive) f c = at k.size (wrong_end k next) errors.InvalidDigit
+shown m k next (causes.Separator part place) f c = at k.run (if is_in m.separator next then wrong_end k next else k.size) errors.InvalidDigit
+shown m k next (causes.Missing parts.Integer) f c = at k.size (wrong_end k next) (if k.run == k.size then errors.Empty else errors.InvalidDigit)
+shown m k next _ f c = at k.size (wrong_end k next) errors.InvalidDigit
 
 -- `tail_size byte` is the number of bytes that follow `byte` in its character, if it begins one in UTF-8.
 abbrev pub tail_size : Option ℕ → ℕ
@@ -284,10 +268,8 @@ pub record IsRefusal (m : Notation) (text : List ℕ) (error : Refusal) : Type 0
   pub numbers : error.conditions ≡ record { numbers = map (λ c. if has error.conditions c then m.number c else 0) all_conditions }
   -- No bit of the mask is set but those of flags.
   pub mask : error.mask ≡ sum_by (λ f. if (raw error.mask).flag f then 2 ^ bit f else 0) layout.flags
-  pub span : (error.start, error.end)
-      ≡ span_of m (marks_of m (take error.valid_up_to text)) error.byte error.kind (lowest error.mask) (first_unmet error.mask error.conditions)
-  pub code : error.code
-      ≡ error_of m (marks_of m (take error.valid_up_to text)) error.kind (lowest error.mask) (first_unmet error.mask error.conditions) error.start
+  pub shown : (error.start, error.end, error.code)
+      ≡ shown m (marks_of m (take error.valid_up_to text)) error.byte error.kind (lowest error.mask) (first_unmet error.mask error.conditions)
 
 -- `SameBlame c d a b` holds if the causes `c` and `d` are the same, and `a` and `b` are true of the same flags.
 pub record SameBlame (c d : ReadErrorKind) (a b : Flag → Bool) : Type 0 where

@@ -4,7 +4,7 @@ ghost use Rattle.std.specs.Prelude.{◌≡◌, ◌<◌, ◌^◌, Some, if◌then
 ghost use Rattle.lexical_util.specs.Layout.{Flag, bit};
 ghost use Rattle.lexical_util.specs.Record.{raw};
 ghost use Rattle.lexical_literal.specs.Additions.Causes.{is_at_gap, lets, place_of};
-ghost use Rattle.lexical_literal.specs.Additions.Explained.{alone, blame, cases, grammar_at, group_at, mask_of, refusal_of, requirements, separators, unmet};
+ghost use Rattle.lexical_literal.specs.Additions.Explained.{alone, blame, cases, group_at, mask_of, refusal_of, requirements, separators, unmet};
 ghost use Rattle.lexical_literal.specs.Additions.Explained.{zeros};
 ghost use Rattle.lexical_literal.specs.Additions.GroupSize.{goes, group_allows, role_next, unsized, with_rules};
 ghost use Rattle.lexical_literal.specs.Additions.Step.{part_of, role_at};
@@ -213,13 +213,6 @@ struct Blame {
 }
 
 impl Spot {
-    // Returns the grammar.
-    pub(crate) const fn grammar(&self) -> Grammar
-        ensures { result ≡ grammar_at self.now }
-    {
-        self.grammar
-    }
-
     // Returns the last group of digits.
     const fn last_group(&self) -> Group
         ensures { result ≡ group_at self.now }
@@ -234,7 +227,7 @@ impl Spot {
     // Returns the answers of a text with which no literal goes on.
     const fn refusal(&self) -> Refusal
         requires { self.now.size < 2 ^ 63 }
-        ensures { result ≡ refusal_of (notation_of (grammar_at self.now)) self.now }
+        ensures { result ≡ refusal_of (notation_of self.now.grammar) self.now }
     {
         let Spot {
             byte,
@@ -246,7 +239,7 @@ impl Spot {
         let conditions = self.unmet();
         let number = mask.trailing_zeros();
         let unmet = first_unmet(mask, conditions);
-        let (start, end) = self.span(kind, number, unmet);
+        let (start, end, code) = self.shown(kind, number, unmet);
         Refusal {
             valid_up_to: size,
             byte,
@@ -256,15 +249,15 @@ impl Spot {
             conditions,
             start,
             end,
-            code: self.error(kind, number, unmet, start),
+            code,
         }
     }
 
     // Returns whether the text could go on if the flags of the format were those of `word`, with other conditions.
     const fn allows(&self, word: u128, conditions: Conditions) -> bool
-        ensures { result ≡ goes (with_rules (notation_of (grammar_at self.now)) (raw word).flag (has conditions)) self.now.read (group_at self.now) self.now.byte }
+        ensures { result ≡ goes (with_rules (notation_of self.now.grammar) (raw word).flag (has conditions)) self.now.read (group_at self.now) self.now.byte }
     {
-        let grammar = self.grammar();
+        let grammar = self.grammar;
         let other = Grammar {
             flags: (word % (1 << 64)) as u64,
             separator: 0,
@@ -276,12 +269,12 @@ impl Spot {
 
     // Returns whether the text could go on by the steps of `other`.
     const fn goes_on(&self, other: Grammar) -> bool
-        requires { other.options ≡ (grammar_at self.now).options }
-        ensures { result ≡ lets (unsized (with_rules (notation_of (grammar_at self.now)) (raw other.word).flag (has other.conditions))) self.now.read self.now.byte }
+        requires { other.options ≡ self.now.grammar.options }
+        ensures { result ≡ lets (unsized (with_rules (notation_of self.now.grammar) (raw other.word).flag (has other.conditions))) self.now.read self.now.byte }
     {
         match self.byte {
             None => is_complete(other, self.read),
-            Some(byte) => match role_at(self.grammar(), part_of(self.read.stage), byte) {
+            Some(byte) => match role_at(self.grammar, part_of(self.read.stage), byte) {
                 None => false,
                 Some(role) => matches!(step_as(other, self.read, byte, role), Some(_)),
             },
@@ -290,28 +283,28 @@ impl Spot {
 
     // Returns whether the text could go on behind the last group of digits, with the conditions of `other`.
     const fn group_goes_on(&self, other: Grammar) -> bool
-        ensures { result ≡ group_allows (with_rules (notation_of (grammar_at self.now)) (raw other.word).flag (has other.conditions)) (group_at self.now)
-            (role_next (notation_of (grammar_at self.now)) (group_at self.now).part self.now.byte) }
+        ensures { result ≡ group_allows (with_rules (notation_of self.now.grammar) (raw other.word).flag (has other.conditions)) (group_at self.now)
+            (role_next (notation_of self.now.grammar) (group_at self.now).part self.now.byte) }
     {
         let group = self.last_group();
         let role = match self.byte {
             None => None,
-            Some(byte) => role_at(self.grammar(), group.part, byte),
+            Some(byte) => role_at(self.grammar, group.part, byte),
         };
-        !has_size(other, group.part) || follows(self.grammar(), group, role)
+        !has_size(other, group.part) || follows(self.grammar, group, role)
     }
 
     // Returns the word without the flags that require something.
     #[tactic(auto, using(crate::proofs::CauseLemmas::bare_flags))]
     const fn bare(&self) -> u128
-        ensures { (f : Flag) → (raw result).flag f ≡ (bare (notation_of (grammar_at self.now))).flag f }
+        ensures { (f : Flag) → (raw result).flag f ≡ (bare (notation_of self.now.grammar)).flag f }
     {
-        self.grammar().all_flags() & !REQUIREMENTS
+        self.grammar.all_flags() & !REQUIREMENTS
     }
 
     // Returns whether the text could go on without requirements.
     const fn goes_on_bare(&self) -> bool
-        ensures { result ≡ goes (bare (notation_of (grammar_at self.now))) self.now.read (group_at self.now) self.now.byte }
+        ensures { result ≡ goes (bare (notation_of self.now.grammar)) self.now.read (group_at self.now) self.now.byte }
     {
         self.allows(self.bare(), Conditions::NONE)
     }
@@ -319,7 +312,7 @@ impl Spot {
     // Returns whether the text could go on with the flag that has the number `number`, and no other requirement.
     const fn is_permitted(&self, number: u32) -> bool
         requires { number < 45 }
-        ensures { (f : Flag) → bit f ≡ number → result ≡ goes (adding f (bare (notation_of (grammar_at self.now)))) self.now.read (group_at self.now) self.now.byte }
+        ensures { (f : Flag) → bit f ≡ number → result ≡ goes (adding f (bare (notation_of self.now.grammar))) self.now.read (group_at self.now) self.now.byte }
     {
         self.allows((1 << number) | self.bare(), Conditions::NONE)
     }
@@ -327,7 +320,7 @@ impl Spot {
     // Returns those of `flags` each of which, as the only requirement, refuses what cannot follow.
     const fn refusing(&self, flags: u128) -> u128
         ensures { result ≡ mask_of (λ f. (raw flags).flag f
-            && not (goes (adding f (bare (notation_of (grammar_at self.now)))) self.now.read (group_at self.now) self.now.byte)) }
+            && not (goes (adding f (bare (notation_of self.now.grammar))) self.now.read (group_at self.now) self.now.byte)) }
     {
         let mut mask = flags;
         let mut number = 0;
@@ -342,9 +335,9 @@ impl Spot {
     // Returns the flags that are set and require something.
     #[tactic(auto, using(crate::proofs::CauseLemmas::flag_and, crate::proofs::CauseLemmas::float_mask, crate::proofs::CauseLemmas::requirement_mask))]
     const fn binding(&self) -> u128
-        ensures { (f : Flag) → (raw result).flag f ≡ binds (notation_of (grammar_at self.now)) f }
+        ensures { (f : Flag) → (raw result).flag f ≡ binds (notation_of self.now.grammar) f }
     {
-        let grammar = self.grammar();
+        let grammar = self.grammar;
         let flags = grammar.all_flags();
         if needs_exponent(grammar) {
             flags & FLOAT_REQUIREMENTS
@@ -355,7 +348,7 @@ impl Spot {
 
     // Returns the flags that refuse alone.
     const fn alone(&self) -> u128
-        ensures { result ≡ mask_of (alone (notation_of (grammar_at self.now)) self.now.read (group_at self.now) self.now.byte) }
+        ensures { result ≡ mask_of (alone (notation_of self.now.grammar) self.now.read (group_at self.now) self.now.byte) }
     {
         self.refusing(self.binding())
     }
@@ -363,14 +356,14 @@ impl Spot {
     // Returns the flags on leading zeros that require something.
     #[tactic(auto, using(crate::proofs::CauseLemmas::flag_and, crate::proofs::CauseLemmas::masked_by, crate::proofs::CauseLemmas::zeros_mask))]
     const fn zeros(&self) -> u128
-        ensures { result ≡ mask_of (zeros (notation_of (grammar_at self.now))) }
+        ensures { result ≡ mask_of (zeros (notation_of self.now.grammar)) }
     {
         self.binding() & ZEROS
     }
 
     // Returns the flags to blame for a requirement: those that refuse alone, or else those on leading zeros.
     const fn requirements(&self) -> u128
-        ensures { result ≡ requirements (notation_of (grammar_at self.now)) self.now.read (group_at self.now) self.now.byte }
+        ensures { result ≡ requirements (notation_of self.now.grammar) self.now.read (group_at self.now) self.now.byte }
     {
         let alone = self.alone();
         if alone == 0 && self.unmet().is_none() {
@@ -382,9 +375,9 @@ impl Spot {
 
     // Returns the conditions to blame for a requirement: those that refuse alone.
     const fn unmet(&self) -> Conditions
-        ensures { result ≡ kept (unmet (notation_of (grammar_at self.now)) self.now.read (group_at self.now) self.now.byte) (number_of (grammar_at self.now).conditions) }
+        ensures { result ≡ kept (unmet (notation_of self.now.grammar) self.now.read (group_at self.now) self.now.byte) (number_of self.now.grammar.conditions) }
     {
-        let grammar = self.grammar();
+        let grammar = self.grammar;
         let conditions = grammar.conditions();
         let mut unmet = Conditions::NONE;
         let mut index = 0;
@@ -401,9 +394,9 @@ impl Spot {
     // Returns whether the syntax has a condition that alone refuses what cannot follow.
     #[inline(always)]
     const fn is_unmet(&self, condition: Condition) -> bool
-        ensures { result ≡ unmet (notation_of (grammar_at self.now)) self.now.read (group_at self.now) self.now.byte condition }
+        ensures { result ≡ unmet (notation_of self.now.grammar) self.now.read (group_at self.now) self.now.byte condition }
     {
-        let grammar = self.grammar();
+        let grammar = self.grammar;
         let conditions = grammar.conditions();
         conditions.has(condition)
             && self.goes_on_bare()
@@ -413,7 +406,7 @@ impl Spot {
     // Returns the flags each of which would allow a separator that is not allowed.
     #[tactic(auto, using(crate::proofs::CauseLemmas::no_mask))]
     const fn separators(&self) -> u128
-        ensures { result ≡ mask_of (separators (notation_of (grammar_at self.now)) self.now.read (group_at self.now) self.now.byte) }
+        ensures { result ≡ mask_of (separators (notation_of self.now.grammar) self.now.read (group_at self.now) self.now.byte) }
     {
         if self.is_at_gap() {
             SEPARATORS & !self.refusing(SEPARATORS)
@@ -424,12 +417,12 @@ impl Spot {
 
     // Returns whether what cannot follow is a separator, or follows one.
     const fn is_at_gap(&self) -> bool
-        ensures { result ≡ is_at_gap (notation_of (grammar_at self.now)) self.now.read self.now.byte }
+        ensures { result ≡ is_at_gap (notation_of self.now.grammar) self.now.read self.now.byte }
     {
         match self.byte {
             None => self.read.gap,
             Some(byte) => {
-                let role = role_at(self.grammar(), part_of(self.read.stage), byte);
+                let role = role_at(self.grammar, part_of(self.read.stage), byte);
                 self.read.gap || matches!(role, Some(Role::Separator))
             }
         }
@@ -437,12 +430,12 @@ impl Spot {
 
     // Returns where a separator is not allowed, before or after `byte`.
     const fn place(&self, byte: u8) -> Place
-        ensures { result ≡ place_of (notation_of (grammar_at self.now)) (part_of self.now.read.stage) self.now.read.stage self.now.read.gap
-            (role_at (notation_of (grammar_at self.now)) (part_of self.now.read.stage) byte) }
+        ensures { result ≡ place_of (notation_of self.now.grammar) (part_of self.now.read.stage) self.now.read.stage self.now.read.gap
+            (role_at (notation_of self.now.grammar) (part_of self.now.read.stage) byte) }
     {
-        let role = role_at(self.grammar(), part_of(self.read.stage), byte);
+        let role = role_at(self.grammar, part_of(self.read.stage), byte);
         let is_consecutive = self.read.gap
-            && !has_place(self.grammar(), part_of(self.read.stage), CONSECUTIVE);
+            && !has_place(self.grammar, part_of(self.read.stage), CONSECUTIVE);
         if is_consecutive && matches!(role, Some(Role::Separator)) {
             Place::Consecutive
         } else if has_digit(self.read.stage) {
@@ -454,7 +447,7 @@ impl Spot {
 
     // Returns the flags by which the case of `byte` counts, if its other case may be next.
     const fn case_flags(&self, byte: u8) -> u128
-        ensures { result ≡ mask_of (cases (notation_of (grammar_at self.now)) self.now.read (group_at self.now) byte) }
+        ensures { result ≡ mask_of (cases (notation_of self.now.grammar) self.now.read (group_at self.now) byte) }
     {
         let other = other_case(byte);
         let spot = Spot {
@@ -462,7 +455,7 @@ impl Spot {
             ..*self
         };
         if spot.goes_on_bare() {
-            case_mask(self.grammar(), other)
+            case_mask(self.grammar, other)
         } else {
             0
         }
@@ -470,7 +463,7 @@ impl Spot {
 
     // Returns the kind, and the flags that are to blame.
     const fn blame(&self) -> Blame
-        ensures { result ≡ blame (notation_of (grammar_at self.now)) self.now.read (group_at self.now) self.now.byte }
+        ensures { result ≡ blame (notation_of self.now.grammar) self.now.read (group_at self.now) self.now.byte }
     {
         if self.goes_on_bare() {
             return Blame {

@@ -126,6 +126,7 @@ pub const fn is_separator(grammar: Grammar, byte: u8) -> bool
 }
 
 // Returns whether `byte` is the base prefix.
+#[tactic(auto, using(crate::proofs::FieldLemmas::prefix_is))]
 #[inline(always)]
 pub const fn is_prefix(grammar: Grammar, byte: u8) -> bool
     ensures { result ≡ (steps_of grammar).prefix byte }
@@ -138,6 +139,7 @@ pub const fn is_prefix(grammar: Grammar, byte: u8) -> bool
 }
 
 // Returns whether `byte` is the base suffix.
+#[tactic(auto, using(crate::proofs::FieldLemmas::suffix_is))]
 #[inline(always)]
 pub(crate) const fn is_suffix(grammar: Grammar, byte: u8) -> bool
     ensures { result ≡ (steps_of grammar).suffix byte }
@@ -220,6 +222,7 @@ pub const fn other_case(byte: u8) -> u8
 }
 
 // Returns whether `byte` is the exponent character.
+#[tactic(auto, using(crate::proofs::FieldLemmas::exponent_is))]
 #[inline(always)]
 pub(crate) const fn is_exponent_character(grammar: Grammar, byte: u8) -> bool
     ensures { result ≡ exponent_character_of (raw grammar.word) grammar.options byte }

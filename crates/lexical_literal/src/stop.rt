@@ -3,7 +3,7 @@
 ghost use Rattle.std.specs.Prelude.{◌≡◌, ◌+◌, ◌<◌, ◌≤◌, ◌^◌, IfSome, Some, IsErrAnd, IsNone, IsTrue, None, ℕ, List, [], false, get_or, true};
 ghost use Rattle.std.specs.Prelude.{length, slice_get, take, IfErr, IfOk, IsErr};
 ghost use Rattle.std.specs.Option.{ForSome};
-ghost use Rattle.lexical_literal.specs.Additions.Explained.{grammar_at, refusal_of, tail_byte};
+ghost use Rattle.lexical_literal.specs.Additions.Explained.{refusal_of, tail_byte};
 ghost use Rattle.lexical_literal.specs.Additions.Scan.{IsReady};
 ghost use Rattle.lexical_literal.specs.Additions.Stop.{HasBegun, IsCountedFront, IsFronted, IsLongest, IsMeasured, IsStopped, IsUnderway, IsWithin};
 ghost use Rattle.lexical_literal.specs.Additions.GroupSize.{goes, steps_of};
@@ -229,7 +229,7 @@ impl Stopped {
     fn spot(self, syntax: &Syntax, text: &[u8]) -> Spot
         requires stopped { IsStopped (notation_of syntax.now) text.now self }
         requires refused { NoLiteral (notation_of syntax.now) text.now }
-        ensures refusal { IsRefusal (notation_of syntax.now) text.now (refusal_of (notation_of (grammar_at result)) result) }
+        ensures refusal { IsRefusal (notation_of syntax.now) text.now (refusal_of (notation_of result.grammar) result) }
         ensures size { result.size ≡ self.size }
     {
         let byte = byte_at(text, self.size);

@@ -320,6 +320,7 @@ impl Grammar {
     }
 
     // Returns whether the flag `mask` is set.
+    #[tactic(auto, using(crate::proofs::FieldLemmas::has_is))]
     #[inline(always)]
     pub const fn has(self, mask: u128) -> bool
         requires { 2 ^ bit (flag_of mask) ≡ mask }
@@ -329,6 +330,7 @@ impl Grammar {
     }
 
     // Returns the flags.
+    #[tactic(auto, using(crate::proofs::FieldLemmas::flag_is))]
     #[inline(always)]
     pub(crate) const fn all_flags(self) -> u128
         ensures { (f : Flag) → (raw result).flag f ≡ (raw self.word).flag f }

@@ -177,11 +177,6 @@ struct Blame {
 }
 
 impl Spot {
-    // Returns the grammar.
-    pub(crate) const fn as_grammar(&self) -> &Grammar {
-        &self.grammar
-    }
-
     // Returns the last group of digits.
     const fn last_group(&self) -> Group {
         Group {
@@ -198,23 +193,13 @@ impl Spot {
         let conditions = self.unmet();
         let number = mask.trailing_zeros();
         let unmet = first_unmet(mask, conditions);
-        let (start, end) = self.span(kind, number, unmet);
-        Refusal {
-            valid_up_to: size,
-            byte,
-            tail,
-            kind,
-            mask,
-            conditions,
-            start,
-            end,
-            code: self.error(kind, number, unmet, start),
-        }
+        let (start, end, code) = self.shown(kind, number, unmet);
+        Refusal { valid_up_to: size, byte, tail, kind, mask, conditions, start, end, code }
     }
 
     // Returns whether the text could go on if the flags of the format were those of `word`, with other conditions.
     const fn allows(&self, word: u128, conditions: Conditions) -> bool {
-        let grammar = self.as_grammar();
+        let grammar = &self.grammar;
         let other = Grammar { flags: (word % (1 << 64)) as u64, separator: 0, conditions, ..*grammar };
         self.goes_on(&other) && self.group_goes_on(&other)
     }
@@ -223,7 +208,7 @@ impl Spot {
     const fn goes_on(&self, other: &Grammar) -> bool {
         match self.byte {
             None => is_complete(other, self.read),
-            Some(byte) => match role_at(self.as_grammar(), part_of(self.read.stage), byte) {
+            Some(byte) => match role_at(&self.grammar, part_of(self.read.stage), byte) {
                 None => false,
                 Some(role) => matches!(step_as(other, self.read, byte, role), Some(_)),
             },
@@ -235,14 +220,14 @@ impl Spot {
         let group = self.last_group();
         let role = match self.byte {
             None => None,
-            Some(byte) => role_at(self.as_grammar(), group.part, byte),
+            Some(byte) => role_at(&self.grammar, group.part, byte),
         };
-        !has_size(other, group.part) || follows(self.as_grammar(), group, role)
+        !has_size(other, group.part) || follows(&self.grammar, group, role)
     }
 
     // Returns the word without the flags that require something.
     const fn bare(&self) -> u128 {
-        self.as_grammar().all_flags() & !REQUIREMENTS
+        self.grammar.all_flags() & !REQUIREMENTS
     }
 
     // Returns whether the text could go on without requirements.
@@ -269,7 +254,7 @@ impl Spot {
 
     // Returns the flags that are set and require something.
     const fn binding(&self) -> u128 {
-        let grammar = self.as_grammar();
+        let grammar = &self.grammar;
         let flags = grammar.all_flags();
         if needs_exponent(grammar) {
             flags & FLOAT_REQUIREMENTS
@@ -300,7 +285,7 @@ impl Spot {
 
     // Returns the conditions to blame for a requirement: those that refuse alone.
     const fn unmet(&self) -> Conditions {
-        let grammar = self.as_grammar();
+        let grammar = &self.grammar;
         let conditions = grammar.conditions();
         let mut unmet = Conditions::NONE;
         let mut index = 0;
@@ -317,7 +302,7 @@ impl Spot {
     // Returns whether the syntax has a condition that alone refuses what cannot follow.
     #[inline(always)]
     const fn is_unmet(&self, condition: Condition) -> bool {
-        let grammar = self.as_grammar();
+        let grammar = &self.grammar;
         let conditions = grammar.conditions();
         conditions.has(condition) && self.goes_on_bare() && !self.allows(self.bare(), conditions.only(condition))
     }
@@ -336,7 +321,7 @@ impl Spot {
         match self.byte {
             None => self.read.gap,
             Some(byte) => {
-                let role = role_at(self.as_grammar(), part_of(self.read.stage), byte);
+                let role = role_at(&self.grammar, part_of(self.read.stage), byte);
                 self.read.gap || matches!(role, Some(Role::Separator))
             }
         }
@@ -344,8 +329,8 @@ impl Spot {
 
     // Returns where a separator is not allowed, before or after `byte`.
     const fn place(&self, byte: u8) -> Place {
-        let role = role_at(self.as_grammar(), part_of(self.read.stage), byte);
-        let is_consecutive = self.read.gap && !has_place(self.as_grammar(), part_of(self.read.stage), CONSECUTIVE);
+        let role = role_at(&self.grammar, part_of(self.read.stage), byte);
+        let is_consecutive = self.read.gap && !has_place(&self.grammar, part_of(self.read.stage), CONSECUTIVE);
         if is_consecutive && matches!(role, Some(Role::Separator)) {
             Place::Consecutive
         } else if has_digit(self.read.stage) {
@@ -360,7 +345,7 @@ impl Spot {
         let other = other_case(byte);
         let spot = Spot { byte: Some(other), ..*self };
         if spot.goes_on_bare() {
-            case_mask(self.as_grammar(), other)
+            case_mask(&self.grammar, other)
         } else {
             0
         }

@@ -156,7 +156,7 @@ impl ReadError {
 
     /// Returns the sentence for a condition.
     const fn unmet(&self, condition: Condition) -> ShortText {
-        let Grammar { prefix, suffix, conditions, .. } = *self.spot.as_grammar();
+        let Grammar { prefix, suffix, conditions, .. } = self.spot.grammar;
         let groups = ShortText::of("expected groups of ");
         match condition {
             Condition::BasePrefix => shown(ShortText::of("expected the prefix 0"), prefix),

@@ -117,92 +117,78 @@ impl Spot {
     const fn is_at(&self, kind: ByteKind) -> bool {
         match self.byte {
             None => false,
-            Some(byte) => is_kind(self.as_grammar(), kind, byte),
+            Some(byte) => is_kind(&self.grammar, kind, byte),
         }
     }
 
-    // Returns the first index and the end of the bytes to show for the flag with the number `number`.
-    const fn requirement_span(&self, number: u32) -> (usize, usize) {
+    // Returns the first index and the end of the bytes to show for leading zeros, and the error.
+    const fn zeros_shown(&self) -> (usize, usize, Error) {
+        if self.is_at(ByteKind::Digit) {
+            (self.first, self.wrong_end(), Error::InvalidLeadingZeros(self.first))
+        } else if self.is_at(ByteKind::Separator) {
+            (self.size, self.wrong_end(), Error::InvalidLeadingZeros(self.size))
+        } else {
+            (self.first, self.run, Error::InvalidLeadingZeros(self.first))
+        }
+    }
+
+    // Returns the first index and the end of the bytes to show for the flag with the number `number`, and the error.
+    const fn flag_shown(&self, number: u32) -> (usize, usize, Error) {
         let (size, end) = (self.size, self.wrong_end());
+        let integers = self.grammar.integers_only();
         match number {
-            // `required_exponent_digits`.
-            2 => (self.exponent, size),
-            // `no_integer_leading_zeros` and `no_float_leading_zeros`.
-            12 | 13 if self.is_at(ByteKind::Digit) => (self.first, end),
-            12 | 13 if self.is_at(ByteKind::Separator) => (size, end),
-            12 | 13 => (self.first, self.run),
-            // A plus sign, an exponent, its plus sign, or one without a fraction.
-            4 | 6 | 7 | 9 => (size, end),
-            _ => (size, size),
+            0 => (size, size, Error::EmptyInteger(size)),
+            1 => (size, size, Error::EmptyFraction(size)),
+            2 => (self.exponent, size, Error::EmptyExponent(size)),
+            3 => (size, size, Error::EmptyMantissa(size)),
+            4 if integers => (size, end, Error::InvalidPositiveSign(size)),
+            4 => (size, end, Error::InvalidPositiveMantissaSign(size)),
+            5 if integers => (size, size, Error::MissingSign(size)),
+            5 => (size, size, Error::MissingMantissaSign(size)),
+            6 => (size, end, Error::InvalidExponent(size)),
+            7 => (size, end, Error::InvalidPositiveExponentSign(size)),
+            8 => (size, size, Error::MissingExponentSign(size)),
+            9 => (size, end, Error::ExponentWithoutFraction(size)),
+            14 => (size, size, Error::MissingExponent(size)),
+            _ => self.zeros_shown(),
         }
     }
 
-    // Returns the first index and the end of the bytes to show for a condition.
-    const fn condition_span(&self, condition: Condition) -> (usize, usize) {
+    // Returns the first index and the end of the bytes to show for a condition, and the error.
+    const fn condition_shown(&self, condition: Condition) -> (usize, usize, Error) {
         let (size, end) = (self.size, self.wrong_end());
         match condition {
-            Condition::BasePrefix => (self.first, self.first),
-            Condition::BaseSuffix => (size, size),
-            Condition::NegativeSign | Condition::LeadingZero | Condition::DecimalFirstDigit => (size, end),
-            _ if self.is_at(ByteKind::Digit) => (self.group, end),
-            _ => (self.group, size),
+            Condition::BasePrefix => (self.first, self.first, Error::InvalidDigit(self.first)),
+            Condition::NegativeSign => (size, end, Error::InvalidNegativeSign(size)),
+            Condition::IntegerGroupSize | Condition::FractionGroupSize => {
+                let end = if self.is_at(ByteKind::Digit) { end } else { size };
+                (self.group, end, Error::InvalidDigit(self.group))
+            }
+            _ => (size, end, Error::InvalidDigit(size)),
         }
     }
 
     // Returns the first index and the end of the bytes to show for a kind of error and its lowest flag, or its first condition if
-    // no flag is to blame.
-    pub(crate) const fn span(&self, kind: ReadErrorKind, number: u32, unmet: Option<Condition>) -> (usize, usize) {
-        let (size, end) = (self.size, self.wrong_end());
-        match kind {
-            ReadErrorKind::Requirement => match unmet {
-                None => self.requirement_span(number),
-                Some(condition) => self.condition_span(condition),
-            },
-            ReadErrorKind::Separator(_, Place::Consecutive) | ReadErrorKind::Case | ReadErrorKind::Byte => (size, end),
-            ReadErrorKind::Separator(_, _) if self.is_at(ByteKind::Separator) => (self.run, end),
-            ReadErrorKind::Separator(_, _) => (self.run, size),
-            ReadErrorKind::Missing(_) => (size, size),
-        }
-    }
-
-    // Returns the error for the flag with the number `number`.
-    const fn requirement_error(&self, number: u32, start: usize) -> Error {
-        let integers = self.as_grammar().integers_only();
-        match number {
-            0 => Error::EmptyInteger(start),
-            1 => Error::EmptyFraction(start),
-            2 => Error::EmptyExponent(self.size),
-            3 => Error::EmptyMantissa(start),
-            4 if integers => Error::InvalidPositiveSign(start),
-            4 => Error::InvalidPositiveMantissaSign(start),
-            5 if integers => Error::MissingSign(start),
-            5 => Error::MissingMantissaSign(start),
-            6 => Error::InvalidExponent(start),
-            7 => Error::InvalidPositiveExponentSign(start),
-            8 => Error::MissingExponentSign(start),
-            9 => Error::ExponentWithoutFraction(start),
-            14 => Error::MissingExponent(start),
-            _ => Error::InvalidLeadingZeros(start),
-        }
-    }
-
-    // Returns the error for a kind of error and its lowest flag, or its first condition if no flag is to blame, where the bytes to
-    // show begin at `start`.
-    pub(crate) const fn error(
+    // no flag is to blame, and the error.
+    pub(crate) const fn shown(
         &self,
         kind: ReadErrorKind,
         number: u32,
         unmet: Option<Condition>,
-        start: usize,
-    ) -> Error {
+    ) -> (usize, usize, Error) {
+        let (size, end) = (self.size, self.wrong_end());
         match kind {
             ReadErrorKind::Requirement => match unmet {
-                None => self.requirement_error(number, start),
-                Some(Condition::NegativeSign) => Error::InvalidNegativeSign(start),
-                Some(_) => Error::InvalidDigit(start),
+                None => self.flag_shown(number),
+                Some(condition) => self.condition_shown(condition),
             },
-            ReadErrorKind::Missing(Part::Integer) if self.run == self.size => Error::Empty(start),
-            _ => Error::InvalidDigit(start),
+            ReadErrorKind::Separator(_, Place::Consecutive) => (size, end, Error::InvalidDigit(size)),
+            ReadErrorKind::Separator(_, _) => {
+                let end = if self.is_at(ByteKind::Separator) { end } else { size };
+                (self.run, end, Error::InvalidDigit(self.run))
+            }
+            ReadErrorKind::Missing(Part::Integer) if self.run == size => (size, end, Error::Empty(size)),
+            _ => (size, end, Error::InvalidDigit(size)),
         }
     }
 }

@@ -8,8 +8,8 @@ use Rattle.lexical_util.specs.Roles.{other_case}
 use Rattle.lexical_literal.specs.Additions.Causes.{is_at_gap, place_of}
 use Rattle.lexical_literal.specs.Additions.GroupSize.{goes}
 use Rattle.lexical_literal.specs.Additions.Step.{part_of, role_at}
-use Rattle.lexical_literal.specs.Cause.{Explained, Marks, adding, bare, binds, case_set, error_of, first_unmet, is_one_of}
-use Rattle.lexical_literal.specs.Cause.{lowest, marks_of, number_separator_flags, requiring, span_of}
+use Rattle.lexical_literal.specs.Cause.{Explained, Marks, adding, bare, binds, case_set, first_unmet, is_one_of}
+use Rattle.lexical_literal.specs.Cause.{lowest, marks_of, number_separator_flags, requiring, shown}
 use Rattle.lexical_literal.specs.Notation.{all_conditions, Notation, kept, notation_of}
 use Rattle.lexical_literal.specs.declared.cause.Blame.{Blame}
 use Rattle.lexical_literal.specs.declared.cause.ReadErrorKind.TheVariants as causes
@@ -72,10 +72,6 @@ otherwise m s g (Some byte) =
 abbrev pub blame : Notation → Summary → Group → Option ℕ → Blame
 blame m s g next = if goes (bare m) s g next then record { kind = causes.Requirement; mask = requirements m s g next } else otherwise m s g next
 
--- `grammar_at spot` is the grammar by which the text was read.
-abbrev pub grammar_at : Spot → Grammar
-grammar_at spot = spot.grammar
-
 -- `group_at spot` is the last group of digits before `spot`.
 abbrev pub group_at : Spot → Group
 group_at spot = record { part = part_of spot.read.stage; separated = spot.separated; digits = spot.size - spot.group }
@@ -104,23 +100,21 @@ abbrev pub refusal_of : Notation → Spot → Refusal
 refusal_of m spot =
     let b = blame m spot.read (group_at spot) spot.byte in
     let unmet = kept (unmet m spot.read (group_at spot) spot.byte) m.number in
-    let f = lowest b.mask in
-    let c = first_unmet b.mask unmet in
-    let span = span_of m (marks_at spot) spot.byte b.kind f c in record {
+    let shown = shown m (marks_at spot) spot.byte b.kind (lowest b.mask) (first_unmet b.mask unmet) in record {
       valid_up_to = spot.size;
       byte = spot.byte;
       tail = spot.tail;
       kind = b.kind;
       mask = b.mask;
       conditions = unmet;
-      start = span.0;
-      end = span.1;
-      code = error_of m (marks_at spot) b.kind f c span.0;
+      start = shown.0;
+      end = shown.1;
+      code = shown.2;
     }
 
 -- `explained spot` is the error that was made at `spot`.
 abbrev pub explained : Spot → Explained
-explained spot = record { refusal = refusal_of (notation_of (grammar_at spot)) spot; spot = spot }
+explained spot = record { refusal = refusal_of (notation_of spot.grammar) spot; spot = spot }
 
 -- `tail_byte text size tail place` is the byte of `text` behind the first `size + place` if `place` is at most `tail`, and 0
 -- where there is none.

@@ -1,14 +1,10 @@
 -- The decimal point is a field, which is 0 without options.
-use Rattle.lexical_literal.proofs.Common.{Bool, ap, not, sym, ◌&&◌, ◌==◌, ◌∙◌}
-use Rattle.lexical_literal.proofs.FieldLemmas.{point_is, tested, untested}
+use Rattle.lexical_literal.proofs.Common.{arith, nat_tests}
+use Rattle.lexical_literal.proofs.FieldLemmas.{point_is}
 use Rattle.lexical_literal.proofs.step.is_point.Goals as goal
 
 pub returns-then-byte-grammar : goal.returns-then-byte-grammar
-returns-then-byte-grammar c = ap (λ (same : Bool). same && not (c.args.byte == 0)) (sym (tested c.args.byte c.grammar.inside.point c.if-byte-grammar.true))
-    ∙ point_is c.grammar.inside c.args.grammar c.grammar.invariant c.grammar.view_is c.args.byte
+returns-then-byte-grammar c = let is = point_is c.grammar.inside c.args.grammar c.grammar.invariant c.grammar.view_is c.args.byte in grind (arith, nat_tests)
 
 pub returns-else-byte-grammar : goal.returns-else-byte-grammar
-returns-else-byte-grammar c =
-    let other = untested c.args.byte c.grammar.inside.point c.if-byte-grammar.false in
-    other ∙ ap (λ (same : Bool). same && not (c.args.byte == 0)) (sym other)
-    ∙ point_is c.grammar.inside c.args.grammar c.grammar.invariant c.grammar.view_is c.args.byte
+returns-else-byte-grammar c = let is = point_is c.grammar.inside c.args.grammar c.grammar.invariant c.grammar.view_is c.args.byte in grind (arith, nat_tests)

@@ -1,5 +1,5 @@
 -- The other grammar has the flags of the word.
-use Rattle.lexical_literal.proofs.Common.{Bool, Condition, Flag, Group, Notation, Option, Summary, ap, false, goes, grammar_at, group_allows, group_at, has}
+use Rattle.lexical_literal.proofs.Common.{Bool, Condition, Flag, Group, Notation, Option, Summary, ap, false, goes, group_allows, group_at, has}
 use Rattle.lexical_literal.proofs.Common.{lets, notation_of, role_next, sym, true, unsized, with_rules, ℕ, ◌&&◌, ◌∙◌, ◌≡◌}
 use Rattle.std.proofs.Common.{rules}
 use Rattle.lexical_literal.proofs.FieldLemmas.{other, other_fields, other_flag}
@@ -26,7 +26,7 @@ pub invariant_of-other : goal.invariant_of-other
 invariant_of-other c = other_fields c.grammar.inside c.grammar.invariant c.args.word c.args.conditions (search rules)
 
 pub returns-then-goes_on : goal.returns-then-goes_on
-returns-then-goes_on c = search (rules, then_goes, notation_of, grammar_at, other, has, group_at, other_flag)
+returns-then-goes_on c = search (rules, then_goes, notation_of, other, has, group_at, other_flag)
 
 pub returns-else-goes_on : goal.returns-else-goes_on
-returns-else-goes_on c = search (rules, else_goes, notation_of, grammar_at, other, has, group_at, other_flag)
+returns-else-goes_on c = search (rules, else_goes, notation_of, other, has, group_at, other_flag)

@@ -1,12 +1,10 @@
 -- A separator, the case of a letter, or a byte.
-use Rattle.lexical_literal.proofs.Common.{Blame, Bool, Group, Notation, Option, Some, Summary, ap, arith, bare, blame, cases, false, goes, grammar_at, group_at}
-use Rattle.lexical_literal.proofs.Common.{if◌then◌else◌, mask_of, nat_tests, notation_of, otherwise, part_of, place_of, refl, requirements, role_at, separators}
-use Rattle.lexical_literal.proofs.Common.{sym, true, ℕ, ◌==◌, ◌∙◌, ◌≡◌, ◌≢◌}
+use Rattle.lexical_literal.proofs.Common.{Blame, Bool, Group, Notation, Option, Some, Summary, ap, bare, blame, cases, false, goes, group_at}
+use Rattle.lexical_literal.proofs.Common.{if◌then◌else◌, mask_of, notation_of, otherwise, part_of, place_of, refl, requirements, role_at, separators}
+use Rattle.lexical_literal.proofs.Common.{sym, true, ℕ, ◌==◌, ◌∙◌, ◌≡◌}
 use Rattle.lexical_literal.specs.declared.cause.ReadErrorKind.TheVariants as causes
+use Rattle.lexical_literal.proofs.FieldLemmas.{untested}
 use Rattle.lexical_literal.proofs.cause.Spot.blame.Goals as goal
-
-nonzero : (n : ℕ) → n ≢ 0 → (n == 0) ≡ false
-nonzero n some = grind (arith, nat_tests)
 
 module _ (m : Notation) (s : Summary) (g : Group) (byte : ℕ) where
   -- `by_tests t u` is why the byte cannot follow, if `t` is true of no separators and `u` of no other case.
@@ -24,16 +22,16 @@ module _ (m : Notation) (s : Summary) (g : Group) (byte : ℕ) where
 pub returns-then-separators-ne0 : goal.returns-then-separators-ne0
 returns-then-separators-ne0 c =
     let s = c.args.self.now.read in
-    let m = notation_of (grammar_at c.args.self.now) in
+    let m = notation_of c.args.self.now.grammar in
     let mask = c.separators-separators.ensures ∙ ap (λ next. mask_of (separators m s (group_at c.args.self.now) next)) c.in-Some.is in
     (λ j. record { kind = causes.Separator (c.part_of-then-separators-ne0.ensures j) (c.place.ensures j); mask = mask j })
     ∙ is_blame m s (group_at c.args.self.now) c.in-Some.byte c.args.self.now.byte false _ (sym c.goes_on_bare.ensures ∙ c.if-goes_on_bare.false) c.in-Some.is
-    (nonzero _ (λ zero. c.if-separators-ne0.true (mask ∙ zero))) refl
+    (untested _ 0 (λ zero. c.if-separators-ne0.true (mask ∙ zero))) refl
 
 pub returns-then-mask-eq0 : goal.returns-then-mask-eq0
 returns-then-mask-eq0 c =
     let s = c.args.self.now.read in
-    let m = notation_of (grammar_at c.args.self.now) in
+    let m = notation_of c.args.self.now.grammar in
     let mask = c.separators-separators.ensures ∙ ap (λ next. mask_of (separators m s (group_at c.args.self.now) next)) c.in-Some.is in
     (λ j. record { kind = causes.Byte; mask = c.case_flags-mask.ensures j })
     ∙ is_blame m s (group_at c.args.self.now) c.in-Some.byte c.args.self.now.byte true true (sym c.goes_on_bare.ensures ∙ c.if-goes_on_bare.false) c.in-Some.is
@@ -42,8 +40,8 @@ returns-then-mask-eq0 c =
 pub returns-else-mask-eq0 : goal.returns-else-mask-eq0
 returns-else-mask-eq0 c =
     let s = c.args.self.now.read in
-    let m = notation_of (grammar_at c.args.self.now) in
+    let m = notation_of c.args.self.now.grammar in
     let mask = c.separators-separators.ensures ∙ ap (λ next. mask_of (separators m s (group_at c.args.self.now) next)) c.in-Some.is in
     (λ j. record { kind = causes.Case; mask = c.case_flags-mask.ensures j })
     ∙ is_blame m s (group_at c.args.self.now) c.in-Some.byte c.args.self.now.byte true false (sym c.goes_on_bare.ensures ∙ c.if-goes_on_bare.false) c.in-Some.is
-    (ap (λ n. n == 0) (sym mask ∙ c.if-separators-ne0.false)) (nonzero _ (λ zero. c.if-mask-eq0.false (c.case_flags-mask.ensures ∙ zero)))
+    (ap (λ n. n == 0) (sym mask ∙ c.if-separators-ne0.false)) (untested _ 0 (λ zero. c.if-mask-eq0.false (c.case_flags-mask.ensures ∙ zero)))

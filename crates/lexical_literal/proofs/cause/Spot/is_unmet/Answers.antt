@@ -1,4 +1,4 @@
-use Rattle.lexical_literal.proofs.Common.{Bool, Condition, Conditions, Grammar, ap, arith, bare, false, false≢true, goes, grammar_at, group_at, has, is_same}
+use Rattle.lexical_literal.proofs.Common.{Bool, Condition, Conditions, ap, arith, bare, false, false≢true, goes, group_at, has, is_same}
 use Rattle.lexical_literal.proofs.Common.{not, notation_of, sym, true, with_rules, ◌&&◌, ◌||◌, ◌∙◌, ◌≡◌}
 use Rattle.lexical_literal.proofs.NumberLemmas.{has_only}
 use Rattle.lexical_literal.proofs.cause.Spot.is_unmet.Goals as goal
@@ -13,8 +13,8 @@ both h f x is free = grind arith
 pub returns-then-goes_on_bare : goal.returns-then-goes_on_bare
 returns-then-goes_on_bare c =
     let conditions = c.conditions-conditions.result in
-    let same = c.conditions-conditions.ensures ∙ ap (λ (g : Grammar). g.conditions) c.grammar-grammar.ensures in
-    let m = notation_of (grammar_at c.args.self.now) in
+    let same = c.conditions-conditions.ensures in
+    let m = notation_of c.args.self.now.grammar in
     elim c.if-has.branch [
       | then-has w ↦
           let set = sym c.has.ensures ∙ w.if-has.true in

@@ -1,16 +1,16 @@
 -- Flags that refuse alone, or those on leading zeros.
-use Rattle.lexical_literal.proofs.Common.{Bool, Conditions, Spot, all_conditions, ap, arith, bare, false, goes, grammar_at, group_at, has, if◌then◌else◌, kept}
+use Rattle.lexical_literal.proofs.Common.{Bool, Conditions, Spot, all_conditions, ap, arith, bare, false, goes, group_at, has, if◌then◌else◌, kept}
 use Rattle.lexical_literal.proofs.Common.{list_any, nat_tests, not, notation_of, number_of, requiring, some_unmet, true, unmet, ℕ, ◌&&◌, ◌==◌, ◌∙◌, ◌≡◌}
 use Rattle.lexical_literal.proofs.NumberLemmas.{has_kept}
 use Rattle.lexical_literal.proofs.cause.Spot.requirements.Goals as goal
 
 -- No condition is to blame if none is kept.
-none_is : (t : Spot) (k : Conditions) (is : Bool) → let m = notation_of (grammar_at t) in k
-    ≡ kept (unmet m t.read (group_at t) t.byte) (number_of (grammar_at t).conditions)
+none_is : (t : Spot) (k : Conditions) (is : Bool) → let m = notation_of t.grammar in k
+    ≡ kept (unmet m t.read (group_at t) t.byte) (number_of t.grammar.conditions)
     → is ≡ not (list_any (has k) all_conditions) → is ≡ not (some_unmet m t.read (group_at t) t.byte)
 none_is t k is same none =
-    let m = notation_of (grammar_at t) in
-    none ∙ (λ j. not (list_any (λ d. (ap (λ (k : Conditions). has k d) same ∙ has_kept (grammar_at t).conditions (λ d. goes (bare m) t.read (group_at t) t.byte
+    let m = notation_of t.grammar in
+    none ∙ (λ j. not (list_any (λ d. (ap (λ (k : Conditions). has k d) same ∙ has_kept t.grammar.conditions (λ d. goes (bare m) t.read (group_at t) t.byte
     && not (goes (requiring d (bare m)) t.read (group_at t) t.byte)) d) j) all_conditions))
 
 none_alone : (a z : ℕ) (n : Bool) → a ≡ 0 → n ≡ true → z ≡ (if (a == 0) && n then z else a)

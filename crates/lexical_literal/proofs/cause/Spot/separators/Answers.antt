@@ -1,4 +1,4 @@
-use Rattle.lexical_literal.proofs.Common.{Bool, Flag, SEPARATORS, adding, and_comm, ap, arith, bare, bit_not, goes, grammar_at, group_at, is_one_of, mask_of}
+use Rattle.lexical_literal.proofs.Common.{Bool, Flag, SEPARATORS, adding, and_comm, ap, arith, bare, bit_not, goes, group_at, is_one_of, mask_of}
 use Rattle.lexical_literal.proofs.Common.{not, notation_of, number_separator_flags, raw, refl, sym, w128, ◌&&◌, ◌∙◌, ◌≡◌}
 use Rattle.lexical_literal.proofs.CauseLemmas.{flag_and, flag_not, mask_flags, masked_by, separators_mask}
 use Rattle.lexical_literal.proofs.cause.Spot.separators.Goals as goal
@@ -8,8 +8,8 @@ rest s a = grind arith
 
 pub returns-then-is_at_gap : goal.returns-then-is_at_gap
 returns-then-is_at_gap c =
-    let r = c.refusing.result in
-    let allowed = λ (f : Flag). goes (adding f (bare (notation_of (grammar_at c.args.self.now)))) c.args.self.now.read (group_at c.args.self.now) c.args.self.now.byte in
+    let r = c.refusing.result in let t = c.args.self.now in
+    let allowed = λ (f : Flag). goes (adding f (bare (notation_of t.grammar))) t.read (group_at t) t.byte in
     let others : (f : Flag) → (raw (bit_not w128 r)).flag f ≡ not (is_one_of number_separator_flags f && not (allowed f)) =
     λ f. flag_not f r c.refusing.type_inv ∙ ap not (ap (λ n. (raw n).flag f) c.refusing.ensures
     ∙ mask_flags (λ f. (raw SEPARATORS).flag f && not (allowed f)) f ∙ ap (λ t. t && not (allowed f)) (separators_mask f)) in

@@ -1,5 +1,5 @@
 -- After a condition, and after the last.
-use Rattle.lexical_literal.proofs.Common.{Bool, Condition, Conditions, Grammar, all_conditions, ap, arith, false, get_or, grammar_at, group_at, if◌then◌else◌}
+use Rattle.lexical_literal.proofs.Common.{Bool, Condition, Conditions, all_conditions, ap, arith, false, get_or, group_at, if◌then◌else◌}
 use Rattle.lexical_literal.proofs.Common.{is_same, length, nat_lt, nat_tests, notation_of, number_of, order, sym, true, unmet, ℕ, ◌&&◌, ◌∙◌, ◌≡◌, ◌≤◌}
 use Rattle.lexical_literal.specs.declared.syntax.Condition.TheVariants as conditions
 use Rattle.lexical_literal.proofs.NumberLemmas.{is_kept, number_next}
@@ -10,17 +10,17 @@ last : (d : Condition) (i n : ℕ) (u : Bool) → length all_conditions ≤ i �
 last d i n u end = grind (arith, nat_tests)
 
 pub returns : goal.returns
-returns c = is_kept (unmet (notation_of (grammar_at c.args.self.now)) c.args.self.now.read (group_at c.args.self.now) c.args.self.now.byte)
-    (number_of (grammar_at c.args.self.now).conditions)
+returns c = is_kept (unmet (notation_of c.args.self.now.grammar) c.args.self.now.read (group_at c.args.self.now) c.args.self.now.byte)
+    (number_of c.args.self.now.grammar.conditions)
     c.loop-index.unmet
     c.loop-index.invariant.all (λ d. c.loop-index.invariant.each d ∙ last d c.loop-index.index _ _ c.loop-index-test.false)
 
 pub loop-index-preserved : goal.loop-index-preserved
 loop-index-preserved c =
-    let m = notation_of (grammar_at c.args.self.now) in
+    let m = notation_of c.args.self.now.grammar in
     let X = unmet m c.args.self.now.read (group_at c.args.self.now) c.args.self.now.byte in
-    let N = number_of (grammar_at c.args.self.now).conditions in
-    let same = c.conditions-conditions.ensures ∙ ap (λ (g : Grammar). g.conditions) c.grammar-grammar.ensures in
+    let N = number_of c.args.self.now.grammar.conditions in
+    let same = c.conditions-conditions.ensures in
     let i = c.loop-index.index in
     let at = get_or all_conditions i conditions.BasePrefix in
     let next = λ (d : Condition). number_next X N i (number_of c.loop-index.unmet d) d c.loop-index-test.true (c.loop-index.invariant.each d) in

@@ -1,4 +1,4 @@
-use Rattle.lexical_literal.proofs.Common.{Condition, all_conditions, grammar_at, group_at, if◌then◌else◌, length, nat_lt, notation_of, number_of, order, unmet}
+use Rattle.lexical_literal.proofs.Common.{Condition, all_conditions, group_at, if◌then◌else◌, length, nat_lt, notation_of, number_of, order, unmet}
 use Rattle.lexical_literal.proofs.Common.{◌&&◌, ◌-◌, ◌≡◌}
 use Rattle.lexical_literal.proofs.cause.Spot.unmet.Given as goal
 
@@ -6,8 +6,8 @@ abbrev pub invariant-loop-index : goal.invariant-loop-index
 invariant-loop-index l = record {
   all : length l.unmet.numbers ≡ length all_conditions;
   each : (d : Condition) → number_of l.unmet d
-      ≡ (if nat_lt (order d) l.index && unmet (notation_of (grammar_at l.self)) l.self.read (group_at l.self) l.self.byte d
-      then number_of (grammar_at l.self).conditions d
+      ≡ (if nat_lt (order d) l.index && unmet (notation_of l.self.grammar) l.self.read (group_at l.self) l.self.byte d
+      then number_of l.self.grammar.conditions d
       else 0);
 }
 

@@ -1,5 +1,5 @@
 -- What has been read decides what may follow, and so why what follows is refused.
-use Rattle.lexical_literal.proofs.Common.{Group, IsRefusal, ap, goes, grammar_at, notation_of, refusal_of, slice_get, spot_of, subst, sym, take, ◌∙◌, ◌≡◌}
+use Rattle.lexical_literal.proofs.Common.{Group, IsRefusal, ap, goes, notation_of, refusal_of, slice_get, spot_of, subst, sym, take, ◌∙◌, ◌≡◌}
 use Rattle.lexical_literal.proofs.BlameLemmas.{refusal_at}
 use Rattle.lexical_literal.proofs.StoppedLemmas.{refused_there}
 use Rattle.lexical_literal.proofs.StopLemmas.{goes_too, is_read_of}
@@ -23,7 +23,7 @@ returns-clause-refusal c =
     ∙ ap (λ (group : Group). goes m s group (slice_get text size)) (sym one_group) ∙ refused_there m text c.args.self stopped c.requires.refused in
     let made = c.spot.ensures
     ∙ (λ j. spot_of (of.value j) (c.front_of-front.ensures j) s c.byte_at-byte.result c.tail_at-tail.result group.separated) in
-    subst (λ spot. IsRefusal m text (refusal_of (notation_of (grammar_at spot)) spot)) (sym made)
+    subst (λ spot. IsRefusal m text (refusal_of (notation_of spot.grammar) spot)) (sym made)
     (refusal_at g text s group.separated c.tail_at-tail.result size stopped.valid.within stopped.valid
     (is_read_of m of.ready of.sizes front s group read grouped) refused
     c.byte_at-byte.result c.byte_at-byte.ensures c.tail_at-tail.ensures)

@@ -1,11 +1,7 @@
 -- The parts that were cut are those of the literal.
 use Rattle.lexical_literal.proofs.Common.{Grammar, IsCut, cut, cuts_of, literal_of, notation_of, raw, subst, sym}
-use Rattle.lexical_literal.specs.Syntax.{IsSyntax}
 use Rattle.lexical_literal.proofs.MantissaLemmas.{made_sums}
 use Rattle.lexical_literal.proofs.syntax.Syntax.summed.Goals as goal
-
-pub literal-requires-clause-syntax : goal.literal-requires-clause-syntax
-literal-requires-clause-syntax c = subst IsSyntax (sym c.grammar-grammar.ensures.value) c.grammar-grammar.ensures.syntax
 
 pub literal-requires-clause-cut : goal.literal-requires-clause-cut
 literal-requires-clause-cut c = subst (λ (g : Grammar). IsCut (notation_of g) c.args.text.now (cuts_of c.args.counts)) (sym c.grammar-grammar.ensures.value)
