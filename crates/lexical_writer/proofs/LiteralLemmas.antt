@@ -556,11 +556,3 @@ pub laid : (g : Grammar) (style : Style) (amount : Amount) → IsSyntax g
     → refusal g amount ≡ None → Reads (notation_of g) (laid_out g style amount) (text_of (laid_out g style amount))
     × HasNumber g amount (laid_out g style amount)
 laid g style amount is apart can = (reads g style amount is apart can, has_number g style amount is apart can)
-
-pub written : (g : Grammar) (style : Style) (amount : Amount) → IsSyntax g
-    → ((byte : ℕ) → byte_value byte < (raw g.word).byte layout.mantissa_radix → IsTrue (sets.used_separator (raw g.word) byte) → ⊥)
-    → (result : Result Layout WriteError) → IsLaidOut g style amount result
-    → IfOk result (λ layout. Reads (notation_of g) (literal_of layout) (text_of (literal_of layout)) × HasNumber g amount (literal_of layout))
-written g style amount is apart (Ok layout) out =
-    subst (λ l. Reads (notation_of g) l (text_of l) × HasNumber g amount l) (sym out.1) (laid g style amount is apart out.0)
-written g style amount is apart (Err error) out = tt
