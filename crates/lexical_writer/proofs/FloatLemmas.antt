@@ -3,13 +3,13 @@ use Rattle.lexical_writer.proofs.Common.{Amount, Bool, Err, Float, Grammar, HasN
 use Rattle.lexical_writer.proofs.Common.{IsRounded, IsWorth, Layout, List, Literal, None, Ok, Option, Power, Record, Result, Some, Style, WriteError, [], allows_exponent}
 use Rattle.lexical_writer.proofs.Common.{ap, append_assoc, arith, cond, cons_option, decimals_in, denominator, digit_of, digits_in, div-add-mod', drop, dvd-mul_right}
 use Rattle.lexical_writer.proofs.Common.{effective_exponent_base, effective_exponent_radix, eq-eqb, eq-zero-or-pos, eq_of_mul-eq-mul_right, exponent, false}
-use Rattle.lexical_writer.proofs.Common.{false≢true, filter_map-append, first_error, float_error, given_fraction, if◌then◌else◌, inl, inr, is_binary, is_decimal}
+use Rattle.lexical_writer.proofs.Common.{false≢true, filter_map-append, first_error, float_error, if◌then◌else◌, inl, inr, is_binary, is_decimal}
 use Rattle.lexical_writer.proofs.Common.{is_minus, is_power_of_two, is_present, is_some, is_whole, lacks_options, laid_out, le-ltb, length, length-append}
 use Rattle.lexical_writer.proofs.Common.{literal_of, low, lt-leb, mantissa, mod-eq_of_lt, mod-lt, mod-mod_of_dvd, mul-le-mul_right, mul-mod_left, mul-pos, nat_lt}
-use Rattle.lexical_writer.proofs.Common.{nat_tests, ne_eqb, nearest, not, number, number_after_append, number_from_digits, number_from_digits_after}
+use Rattle.lexical_writer.proofs.Common.{nat_tests, ne_eqb, nearest, not, number_after_append, number_from_digits}
 use Rattle.lexical_writer.proofs.Common.{numerator, one-le-pow, one_if, pow-add, pow-le-pow_right, pow-suc, pow-zero, prec, raised_down, raised_up}
-use Rattle.lexical_writer.proofs.Common.{raw, refl, refusal, replicate, round, round_same, rounded, scale, size_of, subst, suc, sym, take, take-append-drop, true}
-use Rattle.lexical_writer.proofs.Common.{unwrap_or, values_of, with_minus, zero, ℕ, ◌%◌, ◌&&◌, ◌*◌, ◌++◌, ◌+◌, ◌-◌, ◌/◌, ◌<◌, ◌==◌, ◌^◌, ◌∙◌, ◌∷◌}
+use Rattle.lexical_writer.proofs.Common.{raw, refl, refusal, replicate, round, round_same, rounded, scale, subst, suc, sym, take, take-append-drop, true}
+use Rattle.lexical_writer.proofs.Common.{unwrap_or, with_minus, zero, ℕ, ◌%◌, ◌&&◌, ◌*◌, ◌++◌, ◌+◌, ◌-◌, ◌/◌, ◌<◌, ◌==◌, ◌^◌, ◌∙◌, ◌∷◌}
 use Rattle.lexical_writer.proofs.Common.{IsShape, has, units_in, ◌||◌, ◌≡◌, ◌≢◌, ◌≤◌}
 use Rattle.std.proofs.Math.Nat.{div-eq_of_lt-le, div-lt_iff_lt-mul, mod-eq-sub-div-mul}
 use lib.Ieee.{Format, down, fin, hid, inf, is_nan, nan, neg, odd, of_bits, of_fields, ones, top, up}

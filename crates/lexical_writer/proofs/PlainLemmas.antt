@@ -1,11 +1,11 @@
 -- An amount without an exponent has the value of the literal.
 use Rattle.lexical_writer.proofs.Common.{Amount, Bool, Grammar, HasNumber, HasValue, IfOk, IsSyntax, List, Literal, None, Option, Parts, Power, Record, SameFraction}
-use Rattle.lexical_writer.proofs.Common.{Some, [], ap, append-nil, arith, at_least, denominator, digits_in, digits_of, div-add-mod, effective_exponent_base}
-use Rattle.lexical_writer.proofs.Common.{effective_exponent_radix, eq-zero-or-pos, false, false≢true, given_fraction, given_power, if◌then◌else◌, inl, inr}
-use Rattle.lexical_writer.proofs.Common.{is_minus, lacks_options, length, length-digits_of-le, mantissa, max, mod-lt, nat_tests, not, number}
+use Rattle.lexical_writer.proofs.Common.{Some, [], ap, append-nil, arith, at_least, denominator, digits_of, div-add-mod, effective_exponent_base}
+use Rattle.lexical_writer.proofs.Common.{effective_exponent_radix, eq-zero-or-pos, false, given_power, if◌then◌else◌, inl, inr}
+use Rattle.lexical_writer.proofs.Common.{is_minus, lacks_options, length, length-digits_of-le, mod-lt, nat_tests, not, number}
 use Rattle.lexical_writer.proofs.Common.{number_after_append, number_digits_of, number_from_digits, number_from_digits_after, number_of_size, numerator}
-use Rattle.lexical_writer.proofs.Common.{one-le-pow, pow-suc, pow-zero, power, raised_down, raised_up, raw, refl, replicate, scale, size_of, subst, suc, sym}
-use Rattle.lexical_writer.proofs.Common.{true, unwrap_or, values_of, with_sign, zero, ℕ, ℤ, ◌%◌, ◌*◌, ◌++◌, ◌+◌, ◌/◌, ◌<◌, ◌==◌, ◌^◌, ◌||◌, ◌∙◌, ◌≡◌, ◌≤◌, ◌⊎◌}
+use Rattle.lexical_writer.proofs.Common.{one-le-pow, pow-suc, pow-zero, power, raised_down, raised_up, raw, refl, replicate, size_of, subst, suc, sym}
+use Rattle.lexical_writer.proofs.Common.{true, unwrap_or, with_sign, zero, ℕ, ℤ, ◌%◌, ◌*◌, ◌++◌, ◌+◌, ◌/◌, ◌<◌, ◌==◌, ◌^◌, ◌||◌, ◌∙◌, ◌≡◌, ◌≤◌}
 use Rattle.lexical_literal.specs.Parts.{literal_of}
 use Rattle.lexical_util.specs.Layout as layout
 use Rattle.lexical_util.specs.declared.format_flags.Part.TheVariants as part

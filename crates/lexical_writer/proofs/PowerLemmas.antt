@@ -1,11 +1,11 @@
 -- A number times a power, and its digits in a radix and with an exponent base that are powers of the same base.
-use Rattle.lexical_writer.proofs.Common.{Bool, Grammar, IsShape, None, Option, Record, Some, Style, all_below_base_digits_of, ap, arith, cases_lt, count_trailing_zeros}
+use Rattle.lexical_writer.proofs.Common.{Bool, Grammar, IsShape, None, Record, Some, Style, all_below_base_digits_of, ap, arith, cases_lt, count_trailing_zeros}
 use Rattle.lexical_writer.proofs.Common.{decimals_in, digits_of, div-add-mod', div-div-eq-div-mul, effective_exponent_base, eq-zero-or-pos, eq_of_mul-eq-mul_right, false}
 use Rattle.lexical_writer.proofs.Common.{if◌then◌else◌, inl, inr, is_far, is_shown, lacks_options, le_of_mul-le-mul_right, length, length-digits_of-le}
 use Rattle.lexical_writer.proofs.Common.{length-digits_of_step, lt-ltb, lt_of_mul-lt-mul_right, max, min, mod-eq_of_lt, mod-lt, mul-le-mul_right}
 use Rattle.lexical_writer.proofs.Common.{mul-lt-mul_of_pos_right, mul-mod_left, mul-pos, nat_le, nat_lt, nat_tests, not, number_digits_of, one-le-pow, one_if}
 use Rattle.lexical_writer.proofs.Common.{pow-add, pow-le-pow_right, pow-suc, pow-zero, raw, refl, subst, suc, sym, true, zero, ℕ, ◌%◌}
-use Rattle.lexical_writer.proofs.Common.{◌&&◌, ◌*◌, ◌+◌, ◌-◌, ◌/◌, ◌<◌, ◌==◌, ◌^◌, ◌||◌, ◌∙◌, ◌≡◌, ◌≤◌, ◌⊎◌}
+use Rattle.lexical_writer.proofs.Common.{◌&&◌, ◌*◌, ◌+◌, ◌-◌, ◌/◌, ◌<◌, ◌^◌, ◌||◌, ◌∙◌, ◌≡◌, ◌≤◌, ◌⊎◌}
 use Rattle.std.proofs.lemmas.Grind.{div_ceil_times}
 use Rattle.std.proofs.lemmas.Int.Digits.{number_lt}
 use Rattle.std.proofs.lemmas.Nat.Bits.{bit_at-trailing_zeros}

@@ -168,7 +168,12 @@ impl Powers {
         ensures shape { IsShape syntax.now style (self.now.number * self.now.base ^ self.now.power) (self.now.base ^ self.now.zero) result.1.exponent
             result.1.places (self.now.number * self.now.base ^ result.0 * (raw syntax.now.word).byte layout.mantissa_radix ^ result.1.after) }
     {
-        let Powers { top, zero, step, .. } = *self;
+        let Powers {
+            top,
+            zero,
+            step,
+            ..
+        } = *self;
         let far = (top + 4 * self.width < zero) | (top >= zero + 16 * self.width);
         if !is_shown(syntax, style, far) {
             return self.over(zero, !is_whole(syntax) as u64, None);

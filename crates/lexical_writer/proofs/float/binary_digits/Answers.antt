@@ -1,6 +1,6 @@
 -- The digits are those of the float, which has the value of its bits.
 use Rattle.lexical_writer.proofs.Common.{IsShape, ap, arith, digits_in, digits_of, effective_exponent_base, eqb-true, format_of, from_bits, inl, mod-eq_of_lt}
-use Rattle.lexical_writer.proofs.Common.{mul-le-mul_left, nat_tests, number, number_digits_of, number_from_digits, one-le-pow, places, raw, subst, sym, length}
+use Rattle.lexical_writer.proofs.Common.{mul-le-mul_left, number, number_digits_of, number_from_digits, one-le-pow, places, raw, subst, sym, length}
 use Rattle.lexical_writer.proofs.Common.{is_power_of_two, ℕ, ◌%◌, ◌*◌, ◌<◌, ◌^◌, ◌∙◌, ◌≡◌, ◌≤◌}
 use Rattle.lexical_util.specs.Layout as layouts
 use Rattle.lexical_number.proofs.ReadLemmas.{whole_is}

@@ -34,8 +34,11 @@ returns c =
         near = λ _. decimal.ensures.near.0 ∙ round_same (format_of c.args.double) _ (d * raised_up minus 10 e) (raised_down minus 10 e) num den
             (some_down minus 10 e (omega arith)) some (omega (arith, made.value));
         exact = inr (c.requires.plain, radix);
-        whole = λ is. ap (λ n. n % den) (omega (arith, subst (λ minus. num * raised_down minus 10 e ≡ d * raised_up minus 10 e * den)
-            (decimal.ensures.whole is) made.value)) ∙ mul-mod_left (d * 10 ^ e) den;
+        whole = λ is. ap (λ n. n % den) (omega (
+          arith,
+          subst (λ minus. num * raised_down minus 10 e ≡ d * raised_up minus 10 e * den)
+              (decimal.ensures.whole is) made.value,
+        )) ∙ mul-mod_left (d * 10 ^ e) den;
       },
       subst (IsShape s c.args.style num den shape.exponent shape.places) (sym units) c.shape.ensures.shape,
       subst (λ r. places r bytes ≡ length bytes) (sym radix) c.put_word-bytes.ensures.places,

@@ -1,5 +1,5 @@
 -- The first digit of a decimal number is as many digits before the last as it has.
-use Rattle.lexical_writer.proofs.Common.{Bool, ap, arith, digits_of, false, if◌then◌else◌, inl, inr, length, raised_down, raised_up, sym, true, ℕ, ◌*◌, ◌+◌, ◌-◌}
+use Rattle.lexical_writer.proofs.Common.{Bool, ap, arith, digits_of, false, if◌then◌else◌, inl, inr, length, raised_down, raised_up, true, ℕ, ◌*◌, ◌+◌, ◌-◌}
 use Rattle.lexical_writer.proofs.Common.{◌^◌, ◌∙◌, ◌≡◌, ◌≤◌}
 use Rattle.lexical_writer.proofs.AmountLemmas.{powers}
 use Rattle.lexical_writer.proofs.PowerLemmas.{decimal_first}

@@ -1,5 +1,5 @@
 -- The text that is known is that of the literal.
-use Rattle.lexical_writer.proofs.Common.{subst, sym, ◌++◌, ◌∙◌}
+use Rattle.lexical_writer.proofs.Common.{subst, sym, ◌++◌}
 use Rattle.lexical_writer.proofs.integer.WrittenInteger.put.Goals as goal
 
 pub returns-then-is_plain : goal.returns-then-is_plain
