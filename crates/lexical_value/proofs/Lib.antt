@@ -2,4 +2,4 @@ mod Common
 pub mod FloatLemmas
 pub mod KindLemmas
 pub mod ScaledLemmas
-mod ValueLemmas
+pub mod ValueLemmas

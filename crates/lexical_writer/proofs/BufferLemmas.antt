@@ -1,12 +1,13 @@
 -- Texts in buffers.
-use Rattle.lexical_writer.proofs.Common.{[], Form, IsPut, IsTaken, List, Literal, None, ap, append-nil, append_assoc, arith, drop, length, length-append}
-use Rattle.lexical_writer.proofs.Common.{length-drop, length-take, min, refl, subst, sym, take, take-append-drop, text_by, text_of, ℕ, ◌++◌, ◌+◌, ◌-◌, ◌<◌, ◌^◌}
+use Rattle.lexical_writer.proofs.Common.{[], Form, IsIn, IsPut, IsTaken, List, Literal, None, ap, append-nil, append_assoc, arith, drop, length, length-append}
+use Rattle.lexical_writer.proofs.Common.{length-drop, length-take, min, refl, sym, take, take-append-drop, text_by, text_of, ℕ, ◌++◌, ◌+◌, ◌-◌, ◌<◌, ◌^◌}
 use Rattle.lexical_writer.proofs.Common.{◌∙◌, ◌≡◌, ◌≤◌}
 use Rattle.std.proofs.Math.Seq.{take-append_seam}
+use Rattle.lexical_writer.specs.declared.sink.Window.{Window}
 
--- What a buffer has taken of a text, it has taken of the same text.
-pub taken_as : {text same old bytes : List ℕ} {size : ℕ} → text ≡ same → IsTaken text old bytes size → IsTaken same old bytes size
-taken_as {old = old} {bytes = bytes} {size = size} is taken = subst (λ text. IsTaken text old bytes size) is taken
+-- Nothing has been put into a window of length 0.
+pub unused : (window : Window) → window.length ≡ 0 → IsIn window window []
+unused window none = (refl, record { counted = none; long = refl; begins = λ short. refl; unchanged = λ index behind. refl })
 
 -- Before the first byte, nothing has been put.
 pub put_none : (bytes : List ℕ) → IsPut [] bytes 0

@@ -28,7 +28,7 @@ pub use Rattle.lexical_value.specs.Kind.{float_worth, format_by, integer_worth, 
 pub use Rattle.lexical_value.specs.Value.{denominator, numerator, power, scale}
 pub use Rattle.lexical_writer.specs.Amount.{IsDigitsOf, IsExponent, IsFinite, IsFloatOf, IsRaised, IsRounded, IsShape, IsWorth, decimals_in, float_error}
 pub use Rattle.lexical_writer.specs.Amount.{is_far, is_shown, least_places, rounded, units_at, units_in, with_minus}
-pub use Rattle.lexical_writer.specs.Buffer.{IsTaken}
+pub use Rattle.lexical_writer.specs.Buffer.{IsIn, IsTaken}
 pub use Rattle.lexical_writer.specs.Choice.{AreBefore, ArePassed, IsChosen, IsMisread, IsNoToken, IsPassedOver, IsRefused, IsSearched, IsStopped, IsWhole}
 pub use Rattle.lexical_writer.specs.Choice.{bytes_of_word, has_floats, is_asked, is_own, Task, is_short, steps, text_by, ways, whole_of, words_of}
 pub use Rattle.lexical_writer.specs.Private.{IsPut}
@@ -36,7 +36,7 @@ pub use Rattle.lexical_writer.specs.Conversion.{SameFraction, own_amount}
 pub use Rattle.lexical_writer.specs.Digits.{at_least, begins_decimal, character, ends_group, grouped, grouped_front, no_groups, only_if, separated, size_of}
 pub use Rattle.lexical_writer.specs.Digits.{values_of}
 pub use Rattle.lexical_writer.specs.Layout.{HasNumber, HasValue, IsLaidOut, allows_exponent, first_error, given_fraction, given_power, has_exponent, has_point}
-pub use Rattle.lexical_writer.specs.Layout.{integer_literal, laid_out, literal_of, needs_exponent, no_power, number_of_size, one_if, refusal}
+pub use Rattle.lexical_writer.specs.Layout.{integer_literal, laid_out, literal_of, needs_exponent, number_of_size, one_if, refusal}
 pub use Rattle.lexical_writer.specs.declared.layout.Amount.{Amount}
 pub use Rattle.lexical_writer.specs.declared.layout.Layout.{Layout}
 pub use Rattle.lexical_writer.specs.declared.layout.Power.{Power}

@@ -1,8 +1,8 @@
 -- What is written of a literal has its value.
 use Rattle.lexical_writer.proofs.Common.{Amount, Bool, Grammar, HasNumber, List, Literal, None, Parts, Power, Record, SameFraction, Some, Source, [], allows_exponent}
-use Rattle.lexical_writer.proofs.Common.{and_parts, ap, arith, at_least, denominator, digits_in, digits_of, effective_exponent_base, effective_exponent_radix}
+use Rattle.lexical_writer.proofs.Common.{and_parts, ap, arith, at_least, denominator, digits_in, digits_of, effective_exponent_base, effective_exponent_radix, exponent}
 use Rattle.lexical_writer.proofs.Common.{eqb-true, false, filter_map-append, given_fraction, given_power, if◌then◌else◌, is_minus, is_present, length, mantissa}
-use Rattle.lexical_writer.proofs.Common.{nat_tests, no_power, not, number, number_after_append, number_digits_of, number_from_digits, number_from_digits_after}
+use Rattle.lexical_writer.proofs.Common.{nat_tests, not, number, number_after_append, number_digits_of, number_from_digits, number_from_digits_after}
 use Rattle.lexical_writer.proofs.Common.{numerator, one_if, own_amount, pow-suc, pow-zero, raised_down, raised_up, raw, refl, scale, size_of, sym, true, unwrap_or}
 use Rattle.lexical_writer.proofs.Common.{values_of, ℕ, ◌&&◌, ◌*◌, ◌++◌, ◌==◌, ◌^◌, ◌||◌, ◌∙◌, ◌∷◌, ◌≡◌, ◌≤◌}
 use Rattle.std.specs.Borrow.{Bor}
@@ -30,32 +30,63 @@ size_values radix (sources.Number n) two = sym (number_digits_of radix n two)
 size_values radix (sources.Least n least) two = sym (least_number radix least (digits_of radix n) ∙ number_digits_of radix n two)
 size_values radix (sources.Padded padded) two = refl
 
+-- `units_of radix amount` is the number of the digits of an amount, and `places_of radix amount` is how many are behind the point.
+abbrev pub units_of : ℕ → Amount → ℕ
+units_of radix amount = number_from_digits radix (values_of radix amount.integer ++ values_of radix (given_fraction amount))
+
+abbrev pub places_of : ℕ → Amount → ℕ
+places_of radix amount = length (values_of radix (given_fraction amount))
+
+-- `no_power` is an exponent without digits.
+abbrev pub no_power : Power
+no_power = record { negative = false; source = sources.Number 0 }
+
+-- `pair_of radix power` is the sign and the size of an exponent.
+abbrev pub pair_of : ℕ → Power → Bool × ℕ
+pair_of radix power = (power.negative, size_of radix power.source)
+
+-- `HasParts r l n places e` holds if the mantissa of `l` is `n` over the radix to the power of `places`, and its exponent is `e`.
+pub record HasParts (r : Record) (l : Literal) (n places : ℕ) (e : Bool × ℕ) : Type 0 where
+  pub factor : ℕ
+  pub mantissa : mantissa r.byte l ≡ n * factor
+  pub scale : scale r.byte l ≡ r.byte layout.mantissa_radix ^ places * factor
+  pub up : raised_up (is_minus l.exponent_sign) (effective_exponent_base r) (exponent r.byte l) ≡ raised_up e.0 (effective_exponent_base r) e.1
+  pub down : raised_down (is_minus l.exponent_sign) (effective_exponent_base r) (exponent r.byte l) ≡ raised_down e.0 (effective_exponent_base r) e.1
+
+-- The parts of a literal that is written for an amount.
+pub parts_of : (g : Grammar) (amount : Amount) (l : Literal) → 2 ≤ (raw g.word).byte layout.mantissa_radix → HasNumber g amount l
+    → HasParts (raw g.word) l (units_of ((raw g.word).byte layout.mantissa_radix) amount) (places_of ((raw g.word).byte layout.mantissa_radix) amount)
+    (pair_of (effective_exponent_radix (raw g.word)) (given_power amount))
+parts_of g amount l two has =
+    let s = raw g.word in
+    let radix = s.byte layout.mantissa_radix in
+    let b = effective_exponent_base s in
+    let front = values_of radix amount.integer in
+    let factor = zero_scaled radix (number_from_digits radix front) has.zero (values_of radix (given_fraction amount)) in
+    let integer : number radix l.integer ≡ number_from_digits radix front = has.integer ∙ size_values radix amount.integer two in
+    record {
+      factor = factor.0;
+      mantissa = ap (number_from_digits radix) (filter_map-append _ l.integer l.fraction)
+          ∙ number_after_append radix 0 (digits_in radix l.integer) (digits_in radix l.fraction)
+          ∙ (λ j. number_from_digits_after radix (integer j) (has.fraction j)) ∙ factor.1
+          ∙ ap (λ m. m * factor.0) (sym (number_after_append radix 0 front (values_of radix (given_fraction amount))));
+      scale = ap (λ (ds : List ℕ). radix ^ length ds) has.fraction ∙ factor.2;
+      up = λ j. raised_up (has.exponent_sign j) b (has.exponent j);
+      down = λ j. raised_down (has.exponent_sign j) b (has.exponent j);
+    }
+
 -- What has the digits and the exponent of an amount has its value.
 pub same_value : (g : Grammar) (amount : Amount) (l : Literal) (num den : ℕ) → 2 ≤ (raw g.word).byte layout.mantissa_radix → HasNumber g amount l
     → (up down : ℕ) → raised_up (given_power amount).negative (effective_exponent_base (raw g.word))
     (size_of (effective_exponent_radix (raw g.word)) (given_power amount).source) ≡ up
     → raised_down (given_power amount).negative (effective_exponent_base (raw g.word))
     (size_of (effective_exponent_radix (raw g.word)) (given_power amount).source) ≡ down
-    → (number_from_digits ((raw g.word).byte layout.mantissa_radix) (values_of ((raw g.word).byte layout.mantissa_radix) amount.integer
-    ++ values_of ((raw g.word).byte layout.mantissa_radix) (given_fraction amount)) * up) * den
-    ≡ num * ((raw g.word).byte layout.mantissa_radix ^ length (values_of ((raw g.word).byte layout.mantissa_radix) (given_fraction amount)) * down)
+    → (units_of ((raw g.word).byte layout.mantissa_radix) amount * up) * den
+    ≡ num * ((raw g.word).byte layout.mantissa_radix ^ places_of ((raw g.word).byte layout.mantissa_radix) amount * down)
     → num * denominator (raw g.word).byte l ≡ numerator (raw g.word).byte l * den
 same_value g amount l num den two has up down ups downs worth =
-    let s = raw g.word in
-    let radix = s.byte layout.mantissa_radix in
-    let front = values_of radix amount.integer in
-    let rest = values_of radix (given_fraction amount) in
-    let b = effective_exponent_base s in
-    let factor = zero_scaled radix (number_from_digits radix front) has.zero rest in
-    let integer : number radix l.integer ≡ number_from_digits radix front = has.integer ∙ size_values radix amount.integer two in
-    let mantissa_is : mantissa s.byte l ≡ number_from_digits radix (front ++ rest) * factor.0 =
-    ap (number_from_digits radix) (filter_map-append _ l.integer l.fraction)
-    ∙ number_after_append radix 0 (digits_in radix l.integer) (digits_in radix l.fraction)
-    ∙ (λ j. number_from_digits_after radix (integer j) (has.fraction j)) ∙ factor.1 ∙ ap (λ m. m * factor.0) (sym (number_after_append radix 0 front rest)) in
-    let scale_is : scale s.byte l ≡ radix ^ length rest * factor.0 = ap (λ (ds : List ℕ). radix ^ length ds) has.fraction ∙ factor.2 in
-    let up_is = (λ j. raised_up (has.exponent_sign j) b (has.exponent j)) ∙ ups in
-    let down_is = (λ j. raised_down (has.exponent_sign j) b (has.exponent j)) ∙ downs in
-    (λ j. num * (scale_is j * down_is j)) ∙ omega (arith, ap (λ m. m * factor.0) worth) ∙ sym (λ j. (mantissa_is j * up_is j) * den)
+    let p = parts_of g amount l two has in
+    (λ j. num * (p.scale j * (p.down ∙ downs) j)) ∙ omega (arith, ap (λ m. m * p.factor) worth) ∙ sym (λ j. (p.mantissa j * (p.up ∙ ups) j) * den)
 
 no_number : (radix : ℕ) (bytes : List ℕ) (a : Bool) → (a || is_present bytes) ≡ false → number radix bytes ≡ 0
 no_number radix bytes a none = grind arith

@@ -3,13 +3,13 @@ use Rattle.lexical_writer.proofs.Common.{Amount, Bool, Err, Float, Grammar, HasN
 use Rattle.lexical_writer.proofs.Common.{IsRounded, IsWorth, Layout, List, Literal, None, Ok, Option, Power, Record, Result, Some, Style, WriteError, [], allows_exponent}
 use Rattle.lexical_writer.proofs.Common.{ap, append_assoc, arith, cond, cons_option, decimals_in, denominator, digit_of, digits_in, div-add-mod', drop, dvd-mul_right}
 use Rattle.lexical_writer.proofs.Common.{effective_exponent_base, effective_exponent_radix, eq-eqb, eq-zero-or-pos, eq_of_mul-eq-mul_right, exponent, false}
-use Rattle.lexical_writer.proofs.Common.{false≢true, filter_map-append, first_error, float_error, given_fraction, if◌then◌else◌, inl, inr, is_binary, is_decimal}
+use Rattle.lexical_writer.proofs.Common.{false≢true, filter_map-append, first_error, float_error, if◌then◌else◌, inl, inr, is_binary, is_decimal}
 use Rattle.lexical_writer.proofs.Common.{is_minus, is_power_of_two, is_present, is_some, is_whole, lacks_options, laid_out, le-ltb, length, length-append}
 use Rattle.lexical_writer.proofs.Common.{literal_of, low, lt-leb, mantissa, mod-eq_of_lt, mod-lt, mod-mod_of_dvd, mul-le-mul_right, mul-mod_left, mul-pos, nat_lt}
-use Rattle.lexical_writer.proofs.Common.{nat_tests, ne_eqb, nearest, no_power, not, number, number_after_append, number_from_digits, number_from_digits_after}
+use Rattle.lexical_writer.proofs.Common.{nat_tests, ne_eqb, nearest, not, number_after_append, number_from_digits}
 use Rattle.lexical_writer.proofs.Common.{numerator, one-le-pow, one_if, pow-add, pow-le-pow_right, pow-suc, pow-zero, prec, raised_down, raised_up}
-use Rattle.lexical_writer.proofs.Common.{raw, refl, refusal, replicate, round, round_same, rounded, scale, size_of, subst, suc, sym, take, take-append-drop, true}
-use Rattle.lexical_writer.proofs.Common.{unwrap_or, values_of, with_minus, zero, ℕ, ◌%◌, ◌&&◌, ◌*◌, ◌++◌, ◌+◌, ◌-◌, ◌/◌, ◌<◌, ◌==◌, ◌^◌, ◌∙◌, ◌∷◌}
+use Rattle.lexical_writer.proofs.Common.{raw, refl, refusal, replicate, round, round_same, rounded, scale, subst, suc, sym, take, take-append-drop, true}
+use Rattle.lexical_writer.proofs.Common.{unwrap_or, with_minus, zero, ℕ, ◌%◌, ◌&&◌, ◌*◌, ◌++◌, ◌+◌, ◌-◌, ◌/◌, ◌<◌, ◌==◌, ◌^◌, ◌∙◌, ◌∷◌}
 use Rattle.lexical_writer.proofs.Common.{IsShape, has, units_in, ◌||◌, ◌≡◌, ◌≢◌, ◌≤◌}
 use Rattle.std.proofs.Math.Nat.{div-eq_of_lt-le, div-lt_iff_lt-mul, mod-eq-sub-div-mul}
 use lib.Ieee.{Format, down, fin, hid, inf, is_nan, nan, neg, odd, of_bits, of_fields, ones, top, up}
@@ -22,7 +22,7 @@ use Rattle.lexical_literal.specs.declared.syntax.Condition.TheVariants as condit
 use Rattle.std.specs.Prelude.{option_map}
 use Rattle.core.proofs.dec2flt.Patterns.{neg-round}
 use Rattle.lexical_writer.specs.declared.layout.WriteError.TheVariants as errors
-use Rattle.lexical_writer.proofs.ConversionLemmas.{size_values, zero_scaled}
+use Rattle.lexical_writer.proofs.ConversionLemmas.{HasParts, no_power, pair_of, parts_of, places_of, units_of}
 use Rattle.lexical_writer.proofs.DigitLemmas.{zeros_number}
 use Rattle.lexical_writer.proofs.PlainLemmas.{zeros_after}
 
@@ -68,14 +68,6 @@ all_digits radix k bytes all =
 pub present : (digits : List ℕ) → 0 < length digits → is_present digits ≡ true
 present [] some = absurd (omega (arith, some))
 present (digit ∷ digits) some = refl
-
--- `HasParts r l n places negative e` holds if the mantissa of `l` is `n` over the radix to the power of `places`, and its exponent is `e`.
-record HasParts (r : Record) (l : Literal) (n places : ℕ) (negative : Bool) (e : ℕ) : Type 0 where
-  factor : ℕ
-  mantissa : mantissa r.byte l ≡ n * factor
-  scale : scale r.byte l ≡ r.byte layout.mantissa_radix ^ places * factor
-  up : raised_up (is_minus l.exponent_sign) (effective_exponent_base r) (exponent r.byte l) ≡ raised_up negative (effective_exponent_base r) e
-  down : raised_down (is_minus l.exponent_sign) (effective_exponent_base r) (exponent r.byte l) ≡ raised_down negative (effective_exponent_base r) e
 
 pub twos : (i j : ℕ) → i ≤ j → 2 ^ i ≤ 2 ^ j
 twos i j less = pow-le-pow_right (omega arith) less
@@ -134,49 +126,20 @@ pub some_down : (negative : Bool) (b e : ℕ) → 0 < b → 0 < raised_down nega
 some_down true b e some = one-le-pow e b some
 some_down false b e some = omega arith
 
--- `units_of radix amount` is the number of the digits of an amount, `places_of radix amount` is how many are behind the point, and `exponent_of r amount` is the
--- sign and the size of the exponent, if there is one. That of an exponent is `pair_of radix power`.
-abbrev pub pair_of : ℕ → Power → Bool × ℕ
-pair_of radix power = (power.negative, size_of radix power.source)
-
-abbrev pub units_of : ℕ → Amount → ℕ
-units_of radix amount = number_from_digits radix (values_of radix amount.integer ++ values_of radix (given_fraction amount))
-
-abbrev pub places_of : ℕ → Amount → ℕ
-places_of radix amount = length (values_of radix (given_fraction amount))
-
+-- `exponent_of r amount` is the sign and the size of the exponent, if there is one.
 abbrev pub exponent_of : Record → Amount → Option (Bool × ℕ)
 exponent_of r amount = option_map (pair_of (effective_exponent_radix r)) amount.exponent
 
--- The power of an exponent, or of none.
-powers_of : (base radix : ℕ) (power : Option Power) → let e : Bool × ℕ = unwrap_or (option_map (pair_of radix) power) (false, 0) in
-    (raised_up (unwrap_or power no_power).negative base (size_of radix (unwrap_or power no_power).source) ≡ raised_up e.0 base e.1)
-    × (raised_down (unwrap_or power no_power).negative base (size_of radix (unwrap_or power no_power).source) ≡ raised_down e.0 base e.1)
-powers_of base radix (Some p) = (refl, refl)
-powers_of base radix None = (refl, refl)
-
--- The parts of a literal that is written for an amount.
-parts_of : (g : Grammar) (amount : Amount) (l : Literal) → 2 ≤ (raw g.word).byte layout.mantissa_radix → HasNumber g amount l
-    → let e = unwrap_or (exponent_of (raw g.word) amount) (false, 0) in let R = (raw g.word).byte layout.mantissa_radix in
-    HasParts (raw g.word) l (units_of R amount) (places_of R amount) e.0 e.1
-parts_of g amount l two has =
-    let s = raw g.word in
-    let radix = s.byte layout.mantissa_radix in
-    let b = effective_exponent_base s in
-    let front = values_of radix amount.integer in
-    let factor = zero_scaled radix (number_from_digits radix front) has.zero (values_of radix (given_fraction amount)) in
-    let integer : number radix l.integer ≡ number_from_digits radix front = has.integer ∙ size_values radix amount.integer two in
-    let powers = powers_of b (effective_exponent_radix s) amount.exponent in
-    record {
-      factor = factor.0;
-      mantissa = ap (number_from_digits radix) (filter_map-append _ l.integer l.fraction)
-          ∙ number_after_append radix 0 (digits_in radix l.integer) (digits_in radix l.fraction)
-          ∙ (λ j. number_from_digits_after radix (integer j) (has.fraction j)) ∙ factor.1
-          ∙ ap (λ m. m * factor.0) (sym (number_after_append radix 0 front (values_of radix (given_fraction amount))));
-      scale = ap (λ (ds : List ℕ). radix ^ length ds) has.fraction ∙ factor.2;
-      up = (λ j. raised_up (has.exponent_sign j) b (has.exponent j)) ∙ powers.0;
-      down = (λ j. raised_down (has.exponent_sign j) b (has.exponent j)) ∙ powers.1;
-    }
+-- The parts of a literal that is written for an amount, with no exponent as 0.
+shape_parts : (g : Grammar) (amount : Amount) (l : Literal) → 2 ≤ (raw g.word).byte layout.mantissa_radix → HasNumber g amount l
+    → HasParts (raw g.word) l (units_of ((raw g.word).byte layout.mantissa_radix) amount) (places_of ((raw g.word).byte layout.mantissa_radix) amount)
+    (unwrap_or (exponent_of (raw g.word) amount) (false, 0))
+shape_parts g amount l two has = subst (HasParts (raw g.word) l _ _) (same amount.exponent) (parts_of g amount l two has)
+  where
+    same : (power : Option Power) → let radix = effective_exponent_radix (raw g.word) in
+        pair_of radix (unwrap_or power no_power) ≡ unwrap_or (option_map (pair_of radix) power) (false, 0)
+    same (Some p) = refl
+    same None = refl
 
 -- A literal that is written for a float that is not rounded is read as this float.
 pub amount_nearest : (f : Format) (x : Float) (g : Grammar) (style : Style) (l : Literal) → (is_decimal (raw g.word).byte || is_binary (raw g.word).byte) ≡ true
@@ -187,7 +150,7 @@ amount_nearest f x g style l supported plain it has =
     let R = r.byte layout.mantissa_radix in
     let e = unwrap_or (exponent_of r it.amount) (false, 0) in
     let radixes = some_radixes r supported in
-    let p = parts_of g it.amount l radixes.0 has in
+    let p = shape_parts g it.amount l radixes.0 has in
     let above : numerator r.byte l ≡ units_of R it.amount * p.factor * raised_up e.0 B e.1 = (λ i. p.mantissa i * p.up i) in
     let below : denominator r.byte l ≡ R ^ places_of R it.amount * p.factor * raised_down e.0 B e.1 = (λ i. p.scale i * p.down i) in
     let some = some_denominator r l (let two = radixes.0 in omega (arith, two)) radixes.1 in
@@ -203,7 +166,7 @@ pub amount_rounded : (f : Format) (x : Float) (g : Grammar) (style : Style) (n :
 amount_rounded f x g style n l supported wished it has =
     let r = raw g.word in
     let R = r.byte layout.mantissa_radix in
-    let p = parts_of g it.amount l (some_radixes r supported).0 has in
+    let p = shape_parts g it.amount l (some_radixes r supported).0 has in
     let unit = R ^ places_of R it.amount in
     let places : places_of R it.amount ≡ n = elim it.shape.last [
       | inl same ↦ same ∙ ap (λ o. unwrap_or o (one_if (not (is_some (exponent_of r it.amount) || lacks_options g.options)))) wished

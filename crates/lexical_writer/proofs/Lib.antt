@@ -4,13 +4,11 @@ mod GroupLemmas
 mod LiteralLemmas
 mod ConversionLemmas
 mod PlainLemmas
-mod UnitsLemmas
 mod FloatLemmas
 mod ChoiceLemmas
 mod OrderLemmas
 mod RoundedLemmas
 mod AmountLemmas
 mod BufferLemmas
-mod ShortLemmas
 mod DecimalLemmas
-mod BinaryLemmas
+mod PowerLemmas

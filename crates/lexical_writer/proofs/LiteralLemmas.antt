@@ -1,10 +1,10 @@
 -- What is laid out is a literal with the digits of the amount.
-use Rattle.lexical_writer.proofs.Common.{AllBelowBase, Amount, Bool, ByteSet, Conditions, Err, Grammar, HasNumber, IfOk, IsLaidOut, IsSyntax, IsTrue, Layout}
-use Rattle.lexical_writer.proofs.Common.{List, Literal, None, Notation, Ok, Option, Options, Part, Pattern, Reads, Record, Result, Some, Style, WriteError, []}
+use Rattle.lexical_writer.proofs.Common.{AllBelowBase, Amount, Bool, ByteSet, Conditions, Grammar, HasNumber, IsSyntax, IsTrue}
+use Rattle.lexical_writer.proofs.Common.{List, Literal, None, Notation, Option, Options, Part, Pattern, Reads, Record, Some, Style, []}
 use Rattle.lexical_writer.proofs.Common.{all_below_base_digits_of, and_from, ap, arith, at_least, begins_decimal, begins_with, byte_value, cases_lt, character}
 use Rattle.lexical_writer.proofs.Common.{cond, digits_in, digits_of, effective_exponent_radix, eq-eqb, exponent_character_of, false, false≢true, given_fraction}
 use Rattle.lexical_writer.proofs.Common.{given_power, grouped, has, has_exponent, has_leading_zero, has_point, if◌then◌else◌, inl, inr, is_absent, is_float}
-use Rattle.lexical_writer.proofs.Common.{is_grouped, is_minus, is_none_or_one, is_plus, is_present, is_some, lacks_options, laid_out, length, literal_of}
+use Rattle.lexical_writer.proofs.Common.{is_grouped, is_minus, is_none_or_one, is_plus, is_present, is_some, lacks_options, laid_out, length}
 use Rattle.lexical_writer.proofs.Common.{lt-ltb, ltb-true, max, mod-lt, nat_le, nat_lt, nat_tests, no_groups, not, notation_of, number, number_digits_of}
 use Rattle.lexical_writer.proofs.Common.{number_from_digits, one_if, only_if, option_to_list, point_of, raw, refl, refusal, separators_in, size_of, subst, sym}
 use Rattle.lexical_writer.proofs.Common.{text_of, true, unwrap_or, values_of, ℕ, ◌%◌, ◌&&◌, ◌*◌, ◌++◌, ◌+◌, ◌-◌, ◌<◌, ◌==◌, ◌||◌, ◌∙◌, ◌∷◌, ◌≡◌, ◌≤◌, ◌⊎◌}
@@ -556,11 +556,3 @@ pub laid : (g : Grammar) (style : Style) (amount : Amount) → IsSyntax g
     → refusal g amount ≡ None → Reads (notation_of g) (laid_out g style amount) (text_of (laid_out g style amount))
     × HasNumber g amount (laid_out g style amount)
 laid g style amount is apart can = (reads g style amount is apart can, has_number g style amount is apart can)
-
-pub written : (g : Grammar) (style : Style) (amount : Amount) → IsSyntax g
-    → ((byte : ℕ) → byte_value byte < (raw g.word).byte layout.mantissa_radix → IsTrue (sets.used_separator (raw g.word) byte) → ⊥)
-    → (result : Result Layout WriteError) → IsLaidOut g style amount result
-    → IfOk result (λ layout. Reads (notation_of g) (literal_of layout) (text_of (literal_of layout)) × HasNumber g amount (literal_of layout))
-written g style amount is apart (Ok layout) out =
-    subst (λ l. Reads (notation_of g) l (text_of l) × HasNumber g amount l) (sym out.1) (laid g style amount is apart out.0)
-written g style amount is apart (Err error) out = tt

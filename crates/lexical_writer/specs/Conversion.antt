@@ -1,5 +1,5 @@
 -- How a literal of one format is written as a literal of another one: by its own digits, or by its value.
-use Rattle.std.specs.Prelude.{ℕ, ◌≡◌, ◌<◌, ◌≤◌, ◌-◌, ◌*◌, ◌/◌, ◌%◌, ◌^◌, ◌==◌, ◌&&◌, ◌||◌, ◌⊎◌, not, max, nat_le, true, false}
+use Rattle.std.specs.Prelude.{ℕ, ◌≡◌, ◌<◌, ◌≤◌, ◌-◌, ◌*◌, ◌/◌, ◌%◌, ◌^◌, ◌==◌, ◌&&◌, ◌||◌, ◌⊎◌, not, nat_le, true, false}
 use Rattle.std.specs.Prelude.{Bool, if◌then◌else◌, is_ok, Some, None, Result, Ok, Err}
 use Rattle.std.specs.Result.{MatchResult}
 use Rattle.lexical_util.specs.Layout as layout
@@ -61,15 +61,11 @@ own_amount parts = record {
   }) else None;
 }
 
--- `IsTimes r l n units` holds if `units` is the value of `l` in the format `r`, without its sign, times `10 ^ n`.
-abbrev pub IsTimes : Record → Literal → ℕ → ℕ → Type 0
-IsTimes r l n units = units * denominator r.byte l ≡ numerator r.byte l * 10 ^ n
-
 -- `IsUnits r l n it` holds if `it` is what is known of the value of the float `l` times `10 ^ n`: it is this whole number, or it is not whole.
 -- Nothing is known of some numbers above `2 ^ 90 - 1`, and if the radix and the base are neither both 10 nor both powers of two.
 abbrev pub IsUnits : Record → Literal → ℕ → Units → Type 0
-IsUnits r l n (found.Whole units) = IsTimes r l n units
-IsUnits r l n found.Broken = (units : ℕ) → IsTimes r l n units → ⊥
+IsUnits r l n (found.Whole units) = units * denominator r.byte l ≡ numerator r.byte l * 10 ^ n
+IsUnits r l n found.Broken = (units : ℕ) → units * denominator r.byte l ≡ numerator r.byte l * 10 ^ n → ⊥
 IsUnits r l n found.Unknown =
     ((is_decimal r.byte || is_binary r.byte) ≡ false) ⊎ IsHuge (numerator r.byte l * 10 ^ n) (denominator r.byte l)
 
@@ -85,12 +81,12 @@ abbrev pub most_places : Grammar → ℕ
 most_places g = if lacks_options g.options || not ((raw g.word).byte layout.mantissa_radix == 10) then 0 else 255
 
 -- `by_units negative integers places it` is a float that is known to be a number of units of the last of `places` digits behind the point,
--- as an amount without an exponent. Unless literals are integers, at least one digit is behind the point. Otherwise, it is why there is none.
+-- as an amount without an exponent, and with a fraction unless literals are integers. Otherwise, it is why there is none.
 abbrev pub by_units : Bool → Bool → ℕ → Units → Result Amount WriteError
 by_units negative integers places (found.Whole units) = Ok (record {
   negative = negative;
   integer = sources.Number (units / 10 ^ places);
-  fraction = if integers then None else Some (sources.Least (units % 10 ^ places) (max places 1));
+  fraction = if integers then None else Some (sources.Least (units % 10 ^ places) places);
   exponent = None;
 })
 by_units negative integers places found.Broken = Err (if integers then errors.Fraction else errors.Radix)

@@ -61,13 +61,9 @@ options_of g = unwrap_or g.options (record { exponent = 0; point = 0 })
 abbrev pub given_fraction : Amount → Source
 given_fraction amount = unwrap_or amount.fraction (sources.Number 0)
 
--- `no_power` is an exponent without digits.
-abbrev pub no_power : Power
-no_power = record { negative = false; source = sources.Number 0 }
-
 -- `given_power amount` is the exponent of `amount`, or one without digits if it has none.
 abbrev pub given_power : Amount → Power
-given_power amount = unwrap_or amount.exponent no_power
+given_power amount = unwrap_or amount.exponent (record { negative = false; source = sources.Number 0 })
 
 -- `either size other` is `size`, or `other` if `size` is 0.
 abbrev pub either : ℕ → ℕ → ℕ

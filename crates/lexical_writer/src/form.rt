@@ -1,6 +1,7 @@
 //! How the digits of a float are written.
 
-ghost use Rattle.std.specs.Prelude.{◌≡◌, ◌*◌, ◌%◌, ◌^◌, ◌<◌, ◌≤◌, ◌++◌, ◌⊎◌, ℕ, true, is_some, length, length as count, None, nat_lt, option_map, unwrap_or};
+ghost use Rattle.std.specs.Prelude.{◌≡◌, ◌+◌, ◌-◌, ◌*◌, ◌/◌, ◌%◌, ◌^◌, ◌<◌, ◌≤◌, ◌++◌, ◌⊎◌, ℕ, suc, true, is_some, length, length as count, None, nat_lt};
+ghost use Rattle.std.specs.Prelude.{if◌then◌else◌, option_map, unwrap_or};
 ghost use Rattle.std.specs.Int.Digits.{digits_of, number_from_digits};
 ghost use Rattle.lexical_util.specs.Layout as layout;
 ghost use Rattle.lexical_util.specs.Record.{effective_exponent_base, raw};
@@ -110,49 +111,111 @@ pub(crate) fn is_shown(syntax: &Syntax, style: Style, far: bool) -> bool
         && ((plain && needs_exponent(syntax)) || is_wanted(style.exponent, plain && far))
 }
 
-// Returns the exponents of ten above and below the line of a decimal number.
-#[inline(always)]
-const fn tens_of(decimal: Decimal) -> (usize, usize)
-    requires { decimal.exponent ≤ 340 }
-    ensures limit { (result.0 ≤ 340) × (result.1 ≤ 340) }
-    ensures one { (result.0 ≡ 0) ⊎ (result.1 ≡ 0) }
-    ensures none { decimal.exponent ≡ 0 → (result.0 ≡ 0) × (result.1 ≡ 0) }
-    ensures up { raised_up decimal.negative 10 decimal.exponent ≡ 10 ^ result.0 }
-    ensures down { raised_down decimal.negative 10 decimal.exponent ≡ 10 ^ result.1 }
-{
-    if decimal.negative {
-        (0, decimal.exponent as usize)
-    } else {
-        (decimal.exponent as usize, 0)
+// A number without its sign: `number` times `base` to the power of `power - zero`. Its first digit in this base is that of the power
+// `top - zero`. A digit of its radix has `width` digits of the base, and its exponent base is the base to the power of `step`. Proofs
+// alone read the base.
+#[allow(dead_code)]
+#[derive(Debug, Clone, Copy)]
+pub(crate) struct Powers {
+    pub(crate) number: u64,
+    pub(crate) base: u64,
+    pub(crate) power: u64,
+    pub(crate) top: u64,
+    pub(crate) zero: u64,
+    pub(crate) width: u64,
+    pub(crate) step: u64,
+    ghost limits: { (power < 4000) × (top < 4064) × (zero ≤ 1200) },
+    ghost bases: { (2 ≤ base) × (1 ≤ width) × (width ≤ 5) × (1 ≤ step) × (step ≤ 5) × (zero / step * step ≡ zero) },
+    ghost first: { 0 < number → (base ^ top ≤ number * base ^ power) × (number * base ^ power < base ^ suc top) },
+    ghost last: { 0 < number → 0 < number % base },
+    ghost none: { number ≡ 0 → (power ≡ zero) × (top ≡ zero) },
+}
+
+impl Powers {
+    // Returns by how many digits of the base the number is moved, and its shape, over a power of the base, with an exponent and at
+    // least so many digits behind the point.
+    #[inline(always)]
+    fn over(&self, low: u64, least: u64, exponent: Option<(bool, u64)>) -> (u64, Shape)
+        requires { (least ≤ 1) × (low ≤ 4069) × (self.now.number ≡ 0 → low ≤ self.now.zero) }
+        ensures moved { result.0 < self.now.width }
+        ensures exact { self.now.number * self.now.base ^ result.0 * (self.now.base ^ self.now.width) ^ result.1.after * self.now.base ^ low
+            ≡ self.now.number * self.now.base ^ self.now.power * (self.now.base ^ self.now.width) ^ result.1.places }
+        ensures last { (result.1.places ≡ least) ⊎ ((least ≤ result.1.places) × (0 < self.now.number * self.now.base ^ result.0
+            * (self.now.base ^ self.now.width) ^ result.1.after % self.now.base ^ self.now.width)) }
+        ensures exponent { result.1.exponent ≡ exponent }
+    {
+        let places = low
+            .saturating_sub(self.power)
+            .div_ceil(self.width)
+            .max(least);
+        let up = self.power + self.width * places - low;
+        let shape = Shape {
+            after: (up / self.width) as usize,
+            places: places as usize,
+            exponent,
+        };
+        (up % self.width, shape)
+    }
+
+    // Returns by how many digits of the base the number is moved, and its shape. It is far from 1 if it is below the radix to the power
+    // of -4, or at least that to the power of 16.
+    #[inline(always)]
+    pub(crate) fn shape(&self, syntax: &Syntax, style: Style) -> (u64, Shape)
+        requires radix { (raw syntax.now.word).byte layout.mantissa_radix ≡ self.now.base ^ self.now.width }
+        requires base { effective_exponent_base (raw syntax.now.word) ≡ self.now.base ^ self.now.step }
+        requires plain { decimals_in syntax.now style.decimals ≡ None }
+        ensures moved { result.0 < self.now.width }
+        ensures shape { IsShape syntax.now style (self.now.number * self.now.base ^ self.now.power) (self.now.base ^ self.now.zero) result.1.exponent
+            result.1.places (self.now.number * self.now.base ^ result.0 * (raw syntax.now.word).byte layout.mantissa_radix ^ result.1.after) }
+    {
+        let Powers {
+            top,
+            zero,
+            step,
+            ..
+        } = *self;
+        let far = (top + 4 * self.width < zero) | (top >= zero + 16 * self.width);
+        if !is_shown(syntax, style, far) {
+            return self.over(zero, !is_whole(syntax) as u64, None);
+        }
+        let (exponent, none) = (top / step, zero / step);
+        let power = Some((exponent < none, exponent.abs_diff(none)));
+        self.over(exponent * step, 0, power)
     }
 }
 
-// Returns the shape of a decimal number of so many digits, times ten to an exponent.
+// Returns an exponent of ten, plus 400.
 #[inline(always)]
-pub(crate) fn decimal_shape(length: usize, decimal: Decimal, syntax: &Syntax, style: Style) -> Shape
+const fn raised(decimal: Decimal) -> u64
+    requires { decimal.exponent ≤ 340 }
+    ensures { result ≡ (if decimal.negative then 400 - decimal.exponent else 400 + decimal.exponent) }
+{
+    if decimal.negative {
+        400 - decimal.exponent
+    } else {
+        400 + decimal.exponent
+    }
+}
+
+// Returns a decimal number of so many digits.
+#[inline(always)]
+pub(crate) const fn decimal_powers(length: usize, decimal: Decimal) -> Powers
     requires length { length ≡ count (digits_of 10 decimal.digits) }
     requires limits { (length ≤ 64) × (decimal.exponent ≤ 340) }
     requires last { ((decimal.digits ≡ 0) × (decimal.exponent ≡ 0)) ⊎ (0 < decimal.digits % 10) }
-    requires radix { ((raw syntax.now.word).byte layout.mantissa_radix ≡ 10) × (effective_exponent_base (raw syntax.now.word) ≡ 10) }
-    requires plain { decimals_in syntax.now style.decimals ≡ None }
-    ensures { IsShape syntax.now style (decimal.digits * raised_up decimal.negative 10 decimal.exponent)
-        (raised_down decimal.negative 10 decimal.exponent) result.exponent result.places (decimal.digits * 10 ^ result.after) }
+    ensures bases { (result.base ≡ 10) × (result.width ≡ 1) × (result.step ≡ 1) }
+    ensures number { result.number ≡ decimal.digits }
+    ensures value { result.number * result.base ^ result.power * raised_down decimal.negative 10 decimal.exponent
+        ≡ decimal.digits * raised_up decimal.negative 10 decimal.exponent * result.base ^ result.zero }
 {
-    let (up, down) = tens_of(decimal);
-    let last = length.saturating_sub(1);
-    let (negative, size) = (up + last < down, (up + last).abs_diff(down) as u64);
-    let far = size > if negative { 4 } else { 15 };
-    if is_shown(syntax, style, far) {
-        return Shape {
-            after: 0,
-            places: last,
-            exponent: Some((negative, size)),
-        };
-    }
-    let places = down.max(!is_whole(syntax) as usize);
-    Shape {
-        after: up + places - down,
-        places,
-        exponent: None,
+    let power = raised(decimal);
+    Powers {
+        number: decimal.digits,
+        base: 10,
+        power,
+        top: power + length.saturating_sub(1) as u64,
+        zero: 400,
+        width: 1,
+        step: 1,
     }
 }

@@ -1,12 +1,12 @@
 //! Integers are written.
 
-ghost use Rattle.std.specs.Prelude.{◌≡◌, false, true, Some, IfErr, IfOk};
+ghost use Rattle.std.specs.Prelude.{◌≡◌, ◌++◌, ℕ, List, false, true, Some, IfErr, IfOk};
 ghost use Rattle.lexical_util.specs.Record.{bytes_of, raw};
 ghost use Rattle.lexical_literal.specs.Literal.{Reads, is_float, text_of};
 ghost use Rattle.lexical_literal.specs.Notation.{notation_of};
 ghost use Rattle.lexical_literal.specs.Syntax.{IsSyntax};
 ghost use Rattle.lexical_value.specs.Integer.{IsInteger};
-ghost use Rattle.lexical_writer.specs.Buffer.{IsTaken};
+ghost use Rattle.lexical_writer.specs.Buffer.{IsIn, IsTaken};
 ghost use Rattle.lexical_writer.specs.Layout.{HasNumber, HasValue, integer_literal, laid_out, literal_of, number_of_size, plain_text, refusal, whole};
 ghost use Rattle.lexical_writer.specs.Layout.{needs_exponent, whole_refusal};
 
@@ -14,7 +14,7 @@ use crate::digits::put_if_any;
 use crate::layout::{Amount, Layout, Style, WriteError, needs_exponent, sign_of};
 use crate::patterns::{integer_pattern, no_groups};
 use crate::run::{Run, Source};
-use crate::sink::Window;
+use crate::sink::{Sink, Window};
 use lexical_literal::syntax::{Condition, Syntax};
 use lexical_number::integer::Integer;
 use lexical_util::format::{base_prefix, base_suffix};
@@ -106,21 +106,8 @@ impl WrittenInteger {
     }
 
     /// Writes the text to the beginning of a buffer, as far as it has room, and returns its length, as [`Layout::write`] does.
-    #[tactic(auto, using(crate::proofs::BufferLemmas::taken_as))]
     pub fn write(&self, buffer: &mut [u8]) -> usize
         ensures { IsTaken (text_of (integer_literal self.now)) buffer.old buffer.new result }
-    {
-        if self.is_plain() {
-            self.write_plain(buffer)
-        } else {
-            self.lay_out().write(buffer)
-        }
-    }
-
-    // Writes a sign, if there is one, and decimal digits, as `write` does.
-    #[inline(always)]
-    fn write_plain(&self, buffer: &mut [u8]) -> usize
-        ensures { IsTaken (plain_text self.now) buffer.old buffer.new result }
     {
         let mut window = Window {
             bytes: buffer,
@@ -130,22 +117,42 @@ impl WrittenInteger {
         window.length
     }
 
-    // Writes them to a buffer.
+    // Writes the text to a buffer.
     #[inline(always)]
     fn fill(&self, window: &mut Window)
         requires { window.old.length ≡ 0 }
-        ensures { (window.new.bytes.ghost_name ≡ window.old.bytes.ghost_name)
-            × IsTaken (plain_text self.now) window.old.bytes.now window.new.bytes.now window.new.length }
+        ensures { IsIn window.old window.new (text_of (integer_literal self.now)) }
+    {
+        self.put(window);
+    }
+
+    // Writes the text.
+    #[inline(always)]
+    pub(crate) fn put<S: Sink>(&self, sink: &mut S)
+        ensures { (start : S) → (text : List ℕ) → S.has start sink.old text
+            → S.has start sink.new (text ++ text_of (integer_literal self.now)) }
+    {
+        if self.is_plain() {
+            self.put_plain(sink);
+        } else {
+            self.lay_out().put(sink);
+        }
+    }
+
+    // Writes a sign, if there is one, and decimal digits.
+    #[inline(always)]
+    fn put_plain<S: Sink>(&self, sink: &mut S)
+        ensures { (start : S) → (text : List ℕ) → S.has start sink.old text → S.has start sink.new (text ++ plain_text self.now) }
     {
         let required = self.syntax.format().view().required_mantissa_sign();
-        put_if_any(window, sign_of(self.negative, required));
+        put_if_any(sink, sign_of(self.negative, required));
         let digits = Run {
             source: Source::Number(self.size),
             radix: 10,
             least: 1,
             pattern: no_groups(self.style.lowercase),
         };
-        digits.put(window);
+        digits.put(sink);
     }
 
     // Returns whether the text is known to have only decimal digits, without zeros before them, behind a sign if it has one.

@@ -12,7 +12,7 @@ ghost use Rattle.lexical_writer.specs.Digits.{at_least, grouped, no_groups, only
 ghost use Rattle.lexical_writer.specs.Layout.{HasNumber, IsLaidOut, allows_exponent, base_byte, first_error, fraction_pattern, fraction_text};
 ghost use Rattle.lexical_writer.specs.Layout.{has_exponent, has_point, integer_pattern, integer_text, laid_out};
 ghost use Rattle.lexical_writer.specs.Layout.{least_digits, led_digits, literal_of, needs_exponent, number_of_size, one_if, refusal, sign_of};
-ghost use Rattle.lexical_writer.specs.Buffer.{IsTaken};
+ghost use Rattle.lexical_writer.specs.Buffer.{IsIn, IsTaken};
 
 use crate::digits::{only_if, put_if_any, without_zeros};
 use crate::patterns::{fraction_pattern, integer_pattern, no_groups};
@@ -158,8 +158,7 @@ impl Layout<'_> {
     // Writes the text to a buffer.
     fn fill(&self, window: &mut Window)
         requires { window.old.length ≡ 0 }
-        ensures { (window.new.bytes.ghost_name ≡ window.old.bytes.ghost_name)
-            × IsTaken (text_of (literal_of self.now)) window.old.bytes.now window.new.bytes.now window.new.length }
+        ensures { IsIn window.old window.new (text_of (literal_of self.now)) }
     {
         self.put(window);
     }
@@ -248,15 +247,6 @@ impl<'a> Amount<'a> {
         ensures lawful { IsSyntax syntax.now }
     {
         byte_facts();
-        self.plan(syntax, style)
-    }
-
-    // Returns the parts of the literal, or why the number cannot be written.
-    #[inline(always)]
-    fn plan(&self, syntax: &Syntax, style: Style) -> Result<Layout<'a>, WriteError>
-        ensures lawful { IsSyntax syntax.now }
-        ensures parts { IsLaidOut syntax.now style self.now result }
-    {
         match self.refusal(syntax) {
             Some(refusal) => Err(refusal),
             None => Ok(self.parts(syntax, style)),

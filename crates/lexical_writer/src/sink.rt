@@ -16,19 +16,17 @@ pub trait Sink {
         ensures { (start : Self) → (text : List ℕ) → has start self.old text → has start self.new (text ++ bytes.now) };
 }
 
-// A buffer, and the number of bytes that it would have taken if it were long enough.
+/// A buffer, and the number of bytes that it would have taken if it were long enough.
 #[derive(Drop)]
-pub(crate) struct Window<'a> {
+pub struct Window<'a> {
     pub(crate) bytes: &'a mut [u8],
     pub(crate) length: usize,
 }
 
 impl Sink for Window<'_> {
-    ghost use Rattle.std.specs.Prelude.{◌≡◌};
-    ghost use Rattle.lexical_writer.specs.Buffer.{IsTaken};
+    ghost use Rattle.lexical_writer.specs.Buffer.{IsIn};
 
-    ghost has = { λ start window text. (window.bytes.ghost_name ≡ start.bytes.ghost_name)
-        × IsTaken text start.bytes.now window.bytes.now window.length };
+    ghost has = { IsIn };
 
     fn put(&mut self, byte: u8) {
         if self.length < self.bytes.len() {

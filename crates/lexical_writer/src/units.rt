@@ -47,33 +47,14 @@ fn fewest(literal: &Literal, most: u8) -> (u16, Units)
     requires { is_float literal.now.literal ≡ true }
     ensures { IsFewest (raw literal.now.format) literal.now.literal most result.0 result.1 }
 {
-    // Most values are whole.
-    match units_at(literal, 0) {
-        Units::Broken => search(literal, most),
-        other => (0, other),
-    }
-}
-
-// Returns what `fewest` does, of a float that is not whole. With more digits than enough, it is whole, too.
-fn search(literal: &Literal, most: u8) -> (u16, Units)
-    requires float { is_float literal.now.literal ≡ true }
-    requires broken { IsUnits (raw literal.now.format) literal.now.literal 0 found.Broken }
-    ensures { IsFewest (raw literal.now.format) literal.now.literal most result.0 result.1 }
-{
-    let mut low = 1;
-    let mut high = most as u16 + 1;
-    let mut it = Units::Broken;
-    while low < high {
-        let middle = (low + high) / 2;
-        match units_at(literal, middle as u8) {
-            Units::Broken => low = middle + 1,
-            other => {
-                high = middle;
-                it = other;
-            }
+    let mut places = 0;
+    while places <= most as u16 {
+        match units_at(literal, places as u8) {
+            Units::Broken => places += 1,
+            other => return (places, other),
         }
     }
-    (high, it)
+    (places, Units::Broken)
 }
 
 // Returns what is before and behind the point of a number of units of the last of so many digits behind it.
@@ -108,7 +89,7 @@ fn amount_of(
         fraction: if integers {
             None
         } else {
-            Some(Source::Least(fraction, (places as usize).max(1)))
+            Some(Source::Least(fraction, places as usize))
         },
         exponent: None,
     })

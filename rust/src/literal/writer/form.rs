@@ -75,26 +75,68 @@ pub(crate) fn is_shown(syntax: &Syntax, style: Style, far: bool) -> bool {
     allows_exponent(syntax) && ((plain && needs_exponent(syntax)) || is_wanted(style.exponent, plain && far))
 }
 
-// Returns the exponents of ten above and below the line of a decimal number.
-#[inline(always)]
-const fn tens_of(decimal: Decimal) -> (usize, usize) {
-    if decimal.negative {
-        (0, decimal.exponent as usize)
-    } else {
-        (decimal.exponent as usize, 0)
+// A number without its sign: `number` times `base` to the power of `power - zero`. Its first digit in this base is that of the power
+// `top - zero`. A digit of its radix has `width` digits of the base, and its exponent base is the base to the power of `step`. Proofs
+// alone read the base.
+#[allow(dead_code)]
+#[derive(Debug, Clone, Copy)]
+pub(crate) struct Powers {
+    pub(crate) number: u64,
+    pub(crate) base: u64,
+    pub(crate) power: u64,
+    pub(crate) top: u64,
+    pub(crate) zero: u64,
+    pub(crate) width: u64,
+    pub(crate) step: u64,
+}
+
+impl Powers {
+    // Returns by how many digits of the base the number is moved, and its shape, over a power of the base, with an exponent and at
+    // least so many digits behind the point.
+    #[inline(always)]
+    fn over(&self, low: u64, least: u64, exponent: Option<(bool, u64)>) -> (u64, Shape) {
+        let places = low.saturating_sub(self.power).div_ceil(self.width).max(least);
+        let up = self.power + self.width * places - low;
+        let shape = Shape { after: (up / self.width) as usize, places: places as usize, exponent };
+        (up % self.width, shape)
+    }
+
+    // Returns by how many digits of the base the number is moved, and its shape. It is far from 1 if it is below the radix to the power
+    // of -4, or at least that to the power of 16.
+    #[inline(always)]
+    pub(crate) fn shape(&self, syntax: &Syntax, style: Style) -> (u64, Shape) {
+        let Powers { top, zero, step, .. } = *self;
+        let far = (top + 4 * self.width < zero) | (top >= zero + 16 * self.width);
+        if !is_shown(syntax, style, far) {
+            return self.over(zero, !is_whole(syntax) as u64, None);
+        }
+        let (exponent, none) = (top / step, zero / step);
+        let power = Some((exponent < none, exponent.abs_diff(none)));
+        self.over(exponent * step, 0, power)
     }
 }
 
-// Returns the shape of a decimal number of so many digits, times ten to an exponent.
+// Returns an exponent of ten, plus 400.
 #[inline(always)]
-pub(crate) fn decimal_shape(length: usize, decimal: Decimal, syntax: &Syntax, style: Style) -> Shape {
-    let (up, down) = tens_of(decimal);
-    let last = length.saturating_sub(1);
-    let (negative, size) = (up + last < down, (up + last).abs_diff(down) as u64);
-    let far = size > if negative { 4 } else { 15 };
-    if is_shown(syntax, style, far) {
-        return Shape { after: 0, places: last, exponent: Some((negative, size)) };
+const fn raised(decimal: Decimal) -> u64 {
+    if decimal.negative {
+        400 - decimal.exponent
+    } else {
+        400 + decimal.exponent
     }
-    let places = down.max(!is_whole(syntax) as usize);
-    Shape { after: up + places - down, places, exponent: None }
+}
+
+// Returns a decimal number of so many digits.
+#[inline(always)]
+pub(crate) const fn decimal_powers(length: usize, decimal: Decimal) -> Powers {
+    let power = raised(decimal);
+    Powers {
+        number: decimal.digits,
+        base: 10,
+        power,
+        top: power + length.saturating_sub(1) as u64,
+        zero: 400,
+        width: 1,
+        step: 1,
+    }
 }

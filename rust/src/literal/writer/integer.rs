@@ -8,7 +8,7 @@ use crate::literal::writer::digits::put_if_any;
 use crate::literal::writer::layout::{needs_exponent, sign_of, Amount, Layout, Style, WriteError};
 use crate::literal::writer::patterns::{integer_pattern, no_groups};
 use crate::literal::writer::run::{Run, Source};
-use crate::literal::writer::sink::Window;
+use crate::literal::writer::sink::{Sink, Window};
 use crate::word::{base_prefix, base_suffix};
 
 /// An integer, by its sign and its size, that is written as a literal of a syntax in a style.
@@ -65,29 +65,35 @@ impl WrittenInteger {
 
     /// Writes the text to the beginning of a buffer, as far as it has room, and returns its length, as [`Layout::write`] does.
     pub fn write(&self, buffer: &mut [u8]) -> usize {
-        if self.is_plain() {
-            self.write_plain(buffer)
-        } else {
-            self.lay_out().write(buffer)
-        }
-    }
-
-    // Writes a sign, if there is one, and decimal digits, as `write` does.
-    #[inline(always)]
-    fn write_plain(&self, buffer: &mut [u8]) -> usize {
         let mut window = Window { bytes: buffer, length: 0 };
         self.fill(&mut window);
         window.length
     }
 
-    // Writes them to a buffer.
+    // Writes the text to a buffer.
     #[inline(always)]
     fn fill(&self, window: &mut Window) {
+        self.put(window);
+    }
+
+    // Writes the text.
+    #[inline(always)]
+    pub(crate) fn put<S: Sink>(&self, sink: &mut S) {
+        if self.is_plain() {
+            self.put_plain(sink);
+        } else {
+            self.lay_out().put(sink);
+        }
+    }
+
+    // Writes a sign, if there is one, and decimal digits.
+    #[inline(always)]
+    fn put_plain<S: Sink>(&self, sink: &mut S) {
         let required = self.syntax.format().view().required_mantissa_sign();
-        put_if_any(window, sign_of(self.negative, required));
+        put_if_any(sink, sign_of(self.negative, required));
         let digits =
             Run { source: Source::Number(self.size), radix: 10, least: 1, pattern: no_groups(self.style.lowercase) };
-        digits.put(window);
+        digits.put(sink);
     }
 
     // Returns whether the text is known to have only decimal digits, without zeros before them, behind a sign if it has one.

@@ -211,12 +211,6 @@ impl<'a> Amount<'a> {
     /// If no literal has this form, returns why.
     #[inline]
     pub fn lay_out(&self, syntax: &Syntax, style: Style) -> Result<Layout<'a>, WriteError> {
-        self.plan(syntax, style)
-    }
-
-    // Returns the parts of the literal, or why the number cannot be written.
-    #[inline(always)]
-    fn plan(&self, syntax: &Syntax, style: Style) -> Result<Layout<'a>, WriteError> {
         match self.refusal(syntax) {
             Some(refusal) => Err(refusal),
             None => Ok(self.parts(syntax, style)),

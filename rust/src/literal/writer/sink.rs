@@ -11,9 +11,9 @@ pub trait Sink {
     fn put_all(&mut self, bytes: &[u8]);
 }
 
-// A buffer, and the number of bytes that it would have taken if it were long enough.
+/// A buffer, and the number of bytes that it would have taken if it were long enough.
 #[derive(Debug)]
-pub(crate) struct Window<'a> {
+pub struct Window<'a> {
     pub(crate) bytes: &'a mut [u8],
     pub(crate) length: usize,
 }

@@ -33,29 +33,14 @@ fn units_at(literal: &Literal, places: u8) -> Units {
 
 // Returns the fewest digits behind a decimal point with which a float may be whole, and what is known with these.
 fn fewest(literal: &Literal, most: u8) -> (u16, Units) {
-    // Most values are whole.
-    match units_at(literal, 0) {
-        Units::Broken => search(literal, most),
-        other => (0, other),
-    }
-}
-
-// Returns what `fewest` does, of a float that is not whole. With more digits than enough, it is whole, too.
-fn search(literal: &Literal, most: u8) -> (u16, Units) {
-    let mut low = 1;
-    let mut high = most as u16 + 1;
-    let mut it = Units::Broken;
-    while low < high {
-        let middle = (low + high) / 2;
-        match units_at(literal, middle as u8) {
-            Units::Broken => low = middle + 1,
-            other => {
-                high = middle;
-                it = other;
-            }
+    let mut places = 0;
+    while places <= most as u16 {
+        match units_at(literal, places as u8) {
+            Units::Broken => places += 1,
+            other => return (places, other),
         }
     }
-    (high, it)
+    (places, Units::Broken)
 }
 
 // Returns what is before and behind the point of a number of units of the last of so many digits behind it.
@@ -77,7 +62,7 @@ fn amount_of(negative: bool, integers: bool, places: u16, it: Units) -> Result<A
     Ok(Amount {
         negative,
         integer: Source::Number(integer),
-        fraction: if integers { None } else { Some(Source::Least(fraction, (places as usize).max(1))) },
+        fraction: if integers { None } else { Some(Source::Least(fraction, places as usize)) },
         exponent: None,
     })
 }

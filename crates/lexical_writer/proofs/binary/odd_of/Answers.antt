@@ -2,7 +2,7 @@
 use Rattle.lexical_writer.proofs.Common.{ap, arith, count_trailing_zeros, format_of, one-le-pow, ◌%◌, ◌*◌, ◌+◌, ◌-◌, ◌/◌, ◌^◌}
 use Rattle.lexical_number.proofs.ReadLemmas.{same_size, units_size}
 use Rattle.lexical_number.proofs.ShortestLemmas.{low_most}
-use Rattle.lexical_writer.proofs.BinaryLemmas.{odd, shifted, without_twos}
+use Rattle.lexical_writer.proofs.PowerLemmas.{odd, shifted, without_twos}
 use Rattle.lexical_writer.proofs.binary.odd_of.Goals as goal
 
 pub returns-then-units-eq0-clause-size : goal.returns-then-units-eq0-clause-size

@@ -1,6 +1,6 @@
 -- Each form before is passed over.
 use Rattle.lexical_writer.proofs.Common.{Form, IsChosen, IsPassedOver, IsSearched, IsStopped, ap, arith, bytes_of_word, false≢true, inl}
-use Rattle.lexical_writer.proofs.Common.{Some, WriteError, is_asked, length, refl, slice_get, slice_get_read, steps, subst, sym, take, unwrap_or, ℕ, ◌+◌, ◌<◌, ◌∙◌, ◌≡◌, ◌≤◌}
+use Rattle.lexical_writer.proofs.Common.{Some, WriteError, is_asked, length, refl, slice_get, slice_get_read, steps, subst, sym, take, ℕ, ◌+◌, ◌<◌, ◌∙◌, ◌≡◌, ◌≤◌}
 use Rattle.lexical_writer.proofs.OrderLemmas.{searched_more, searched_next, searched_skip}
 use Rattle.lexical_writer.proofs.choice.choose.Goals as goal
 use Rattle.lexical_writer.proofs.choice.choose.Goals.{then-is_asked+in-Err-2, else-is_asked}

@@ -12,7 +12,8 @@ use Rattle.lexical_util.specs.declared.format_flags.Part.TheVariants as part
 use Rattle.lexical_literal.specs.declared.syntax.Condition.TheVariants as conditions
 use Rattle.lexical_writer.specs.declared.layout.Style.{Style}
 use Rattle.lexical_writer.specs.declared.layout.WriteError.TheVariants as errors
-use Rattle.lexical_writer.proofs.FloatLemmas.{amount_nearest, amount_rounded, error_of, if_numbered, minus_whole, minus_worth, not_refused, pair_of}
+use Rattle.lexical_writer.proofs.FloatLemmas.{amount_nearest, amount_rounded, error_of, if_numbered, minus_whole, minus_worth, not_refused}
+use Rattle.lexical_writer.proofs.ConversionLemmas.{pair_of}
 use Rattle.lexical_writer.proofs.LiteralLemmas.{radixes}
 use Rattle.lexical_writer.proofs.float.format_float.Goals as goal
 

@@ -1,13 +1,14 @@
 -- The text is a sign and decimal digits.
 use Rattle.lexical_writer.proofs.Common.{Bool, Grammar, None, Pattern, Record, Style, ap, append-nil, arith, at_least, digits_of, effective_exponent_radix}
 use Rattle.lexical_writer.proofs.Common.{false, false≢true, grouped, has, has_exponent, has_point, if◌then◌else◌, is_some, laid_out, max, nat_lt, nat_tests}
-use Rattle.lexical_writer.proofs.Common.{no_groups, no_power, not, number_of_size, one_if, only_if, option_to_list, raw, refl, size_of, sym, text_of, true, ℕ}
+use Rattle.lexical_writer.proofs.Common.{no_groups, not, number_of_size, one_if, only_if, option_to_list, raw, refl, size_of, sym, text_of, true, ℕ}
 use Rattle.lexical_writer.proofs.Common.{◌&&◌, ◌++◌, ◌==◌, ◌||◌, ◌∙◌, ◌≡◌, ◌≤◌}
 use Rattle.lexical_writer.specs.Layout.{after_zero, base_byte, either, fraction_text, group_size, integer_pattern, integer_text, least_digits, led_digits}
 use Rattle.lexical_writer.specs.Layout.{options_of, pattern_of, sign_of}
 use Rattle.lexical_literal.specs.Notation.{number_of}
 use Rattle.lexical_util.specs.Layout as layout
 use Rattle.lexical_literal.specs.declared.syntax.Condition.TheVariants as conditions
+use Rattle.lexical_writer.proofs.ConversionLemmas.{no_power}
 use Rattle.lexical_writer.proofs.integer.WrittenInteger.is_plain.Goals as goal
 
 -- Groups without a last one are none.

@@ -1,22 +1,20 @@
 -- What is laid out is a literal with the digits of the amount.
-use Rattle.lexical_writer.proofs.Common.{HasNumber, IfOk, IfOk-weaker, Layout, Reads, literal_of, notation_of, text_of}
-use Rattle.lexical_writer.proofs.LiteralLemmas.{written}
+use Rattle.lexical_writer.proofs.Common.{HasNumber, Literal, Reads, laid_out, notation_of, subst, sym, text_of, ◌∙◌}
+use Rattle.lexical_writer.proofs.LiteralLemmas.{laid}
 use Rattle.lexical_writer.proofs.layout.Amount.lay_out.Goals as goal
 
-abbrev IsGood : goal.After-plan → Layout → Type 0
-IsGood c layout = Reads (notation_of c.args.syntax.now) (literal_of layout) (text_of (literal_of layout))
-    × HasNumber c.args.syntax.now c.args.self.now (literal_of layout)
-
-both : (c : goal.After-plan) → IfOk c.plan.result (IsGood c)
+both : (c : goal.After-parts) → let l = laid_out c.args.syntax.now c.args.style c.args.self.now in
+    Reads (notation_of c.args.syntax.now) l (text_of l) × HasNumber c.args.syntax.now c.args.self.now l
 both c =
     let facts = c.byte_facts.ensures in
-    let word = c.args.syntax.now.word in
-    let lawful = c.plan.ensures.lawful.lawful in
-    written c.args.syntax.now c.args.style c.args.self.now c.plan.ensures.lawful
-    (λ byte below used. facts.separator word byte lawful (facts.mantissa_digit word byte lawful below) used) c.plan.result c.plan.ensures.parts
+    let g = c.args.syntax.now in
+    let lawful = c.refusal.ensures.lawful.lawful in
+    laid g c.args.style c.args.self.now c.refusal.ensures.lawful
+    (λ byte below used. facts.separator g.word byte lawful (facts.mantissa_digit g.word byte lawful below) used) (sym c.refusal.ensures.refusal ∙ c.in-None.is)
 
-pub returns-clause-literal : goal.returns-clause-literal
-returns-clause-literal c = IfOk-weaker c.plan.result (IsGood c) _ (λ layout is. is.0) (both c)
+pub returns-in-None-clause-literal : goal.returns-in-None-clause-literal
+returns-in-None-clause-literal c =
+    subst (λ (l : Literal). Reads (notation_of c.args.syntax.now) l (text_of l)) (sym c.parts.ensures) (both c).0
 
-pub returns-clause-number : goal.returns-clause-number
-returns-clause-number c = IfOk-weaker c.plan.result (IsGood c) _ (λ layout is. is.1) (both c)
+pub returns-in-None-clause-number : goal.returns-in-None-clause-number
+returns-in-None-clause-number c = subst (HasNumber c.args.syntax.now c.args.self.now) (sym c.parts.ensures) (both c).1
