@@ -1,21 +1,21 @@
 -- The names that most proofs of this crate cite, passed on from one place. Declares nothing.
-pub use Rattle.lexical_forms.specs.Additions.Forms.{AreBelow, AreFalse, ArePassed, GoesTo, GoesWithin, IsExcluded, IsInside, IsFoundForm, IsFoundFrontForm}
+pub use Rattle.lexical_forms.specs.Additions.Forms.{AreFalse, ArePassed, GoesTo, GoesWithin, IsExcluded, IsInside, IsFoundForm, IsFoundFrontForm}
 pub use Rattle.lexical_forms.specs.Additions.Forms.{IsFrontIn, IsLed, IsLongestPast, IsLow, IsOpened, IsPassed, IsPast, IsSilentAt}
 pub use Rattle.lexical_forms.specs.Additions.Forms.{IsOpenedTo, IsRefusedAt, IsSpare, IsStoppedBefore, IsStoppedBehind, IsStranger, LacksLetter, LacksZero, Leads}
 pub use Rattle.lexical_forms.specs.Additions.Forms.{NoFrontPast, NonePast, PlaysNoRole, behind, further}
 pub use Rattle.lexical_forms.specs.Additions.Forms.{special_separator, spells}
-pub use Rattle.lexical_forms.specs.Additions.Token.{AreBare, Counts, HasNoWord, HasSumsOf, IsAsked, IsBestYet, IsCounted, IsEnd, IsEnded, IsFirstYet, IsLowPast, IsMade}
+pub use Rattle.lexical_forms.specs.Additions.Token.{AreBare, Counts, HasNoWord, HasSumsOf, IsAsked, IsCounted, IsEnd, IsEnded, IsFirstYet, IsMade}
 pub use Rattle.lexical_forms.specs.Additions.Token.{IsOverFrom, IsOwn, IsPicked, IsWinner, IsYet, NoCandidate, NoOwn, NoneLonger, go_on_with, goes_on, has_float, has_prefix, is_longer}
 pub use Rattle.lexical_forms.specs.Additions.Token.{is_in_word, suffixed, whole}
 pub use Rattle.lexical_forms.specs.FormList.{FormList, have_openings}
 pub use Rattle.lexical_forms.specs.Forms.{Begins, HasFront, IsErrorIn, IsErrorOfForm, IsFirst, IsFormError, IsGreatest, IsReadByForms, NoForm}
 pub use Rattle.lexical_forms.specs.Opening.{spelling}
-pub use Rattle.lexical_forms.specs.Forms.{HasOpening, Reaches, ReadsForm, ReadsIn, is_other_prefix, reach, reached, refusal_in, sign_size}
+pub use Rattle.lexical_forms.specs.Forms.{Reaches, ReadsForm, ReadsIn, is_other_prefix, reach, reached, refusal_in, sign_size}
 pub use Rattle.lexical_forms.specs.Specials.{is_spelled, letter_of, signed, special_behind, special_of}
-pub use Rattle.lexical_forms.specs.Suffix.{begins, byte_before, is_followed, is_stopped, is_word_byte, kind_with, meets, more_of, stop_end, suffix_size}
+pub use Rattle.lexical_forms.specs.Suffix.{begins, byte_before, is_followed, is_word_byte, kind_with, meets, more_of, stop_end, suffix_size}
 pub use Rattle.lexical_forms.specs.Suffix.{suffix_words, word_size}
 pub use Rattle.lexical_forms.specs.Token.{HasNone, IsAhead, IsCandidate, IsChosen, IsCut, IsFollowed, IsOver, IsReadByTokens, IsRefused, IsToken}
-pub use Rattle.lexical_forms.specs.Token.{IsTokenError, gives_back, is_alone, is_shorter, lets_words, takes_point, tried}
+pub use Rattle.lexical_forms.specs.Token.{IsTokenError, gives_back, is_alone, is_shorter, is_stopped, takes_point, tried}
 pub use Rattle.lexical_forms.specs.declared.form.Form.{Form}
 pub use Rattle.lexical_forms.specs.declared.list.Furthest.{Furthest}
 pub use Rattle.lexical_forms.specs.declared.list.PointsBack.{PointsBack}

@@ -6,7 +6,8 @@ use Rattle.lexical_forms.proofs.Common.{gives_back, if◌then◌else◌, is_floa
 use Rattle.lexical_forms.proofs.Common.{more_of, nat_tests, notation_of, refl, slice_get_past, subst, suffix_size, sym, take, take-append-drop}
 use Rattle.lexical_forms.proofs.Common.{take_all, takes_point, text_of, tried, true, word_size, ℕ, ◌&&◌, ◌++◌, ◌+◌, ◌-◌, ◌∙◌, ◌∷◌, ◌≡◌, ◌≤◌}
 use Rattle.lexical_forms.specs.declared.suffix.Suffixes.{Suffixes}
-use Rattle.lexical_forms.proofs.LongestLemmas.{all_tried, at_all, before_at, first_below, first_of}
+use Rattle.lexical_forms.proofs.FormLemmas.{all_at}
+use Rattle.lexical_forms.proofs.LongestLemmas.{all_tried, before_at, first_below, first_of}
 use Rattle.lexical_forms.proofs.LeadingLemmas.{IsBare, are_bare, less_or_same, suffix_within}
 use Rattle.lexical_forms.proofs.BehindLemmas.{plain_of}
 
@@ -29,7 +30,7 @@ module _ (list : FormList) (t : Tokens) (text : List ℕ) (token : Token) (is : 
 
   module _ (bare : AreBare list t) where
     own_bare : IsBare is.form
-    own_bare = at_all (λ (it : Form × Bool). IsBare it.0) (tried list t) token.form (is.form, is.chosen.needs) is.chosen.at
+    own_bare = all_at (λ (it : Form × Bool). IsBare it.0) (tried list t) token.form (is.form, is.chosen.needs) is.chosen.at
         (all_tried IsBare list t (are_bare list.forms bare.0) (are_bare t.forms.now bare.1))
 
     reads_plain : Reads (notation_of is.form.syntax) token.literal.literal (take is.size text)

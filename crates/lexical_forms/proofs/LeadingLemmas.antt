@@ -126,19 +126,7 @@ piece_same text size a k less =
     ap (λ n. take k (drop a (take n text))) split ∙ ap (take k) (drop-take a (size - a) text) ∙ take-take k (size - a) (drop a text) (omega (arith, less))
 
 total : (l : Literal) (c : Cuts) → HasLengths l c → before_exponent c + c pieces.Exponent ≤ length (text_of l)
-total l c has =
-    let a = has.sign in let b = has.prefix in let d = has.integer in let e = has.point in let f = has.fraction in
-    let g = has.exponent_character in let h = has.exponent_sign in let i = has.exponent in
-    let z = length-append l.exponent l.suffix in
-    let y = length-append l.exponent_sign (l.exponent ++ l.suffix) in
-    let x = length-append l.exponent_character (l.exponent_sign ++ (l.exponent ++ l.suffix)) in
-    let w = length-append l.fraction (l.exponent_character ++ (l.exponent_sign ++ (l.exponent ++ l.suffix))) in
-    let v = length-append l.point (l.fraction ++ (l.exponent_character ++ (l.exponent_sign ++ (l.exponent ++ l.suffix)))) in
-    let u = length-append l.integer (l.point ++ (l.fraction ++ (l.exponent_character ++ (l.exponent_sign ++ (l.exponent ++ l.suffix))))) in
-    let t = length-append l.prefix (l.integer ++ (l.point ++ (l.fraction ++ (l.exponent_character ++ (l.exponent_sign ++ (l.exponent ++ l.suffix)))))) in
-    let s = length-append l.sign
-    (l.prefix ++ (l.integer ++ (l.point ++ (l.fraction ++ (l.exponent_character ++ (l.exponent_sign ++ (l.exponent ++ l.suffix))))))) in
-    omega (arith, a, b, d, e, f, g, h, i, s, t, u, v, w, x, y, z)
+total l c has = simp length-append (omega arith)
 
 pub sums_of_front : (r : Record) (text : List ℕ) (size : ℕ) (c : Cuts) (sums : Sums) → (m : Notation) (l : Literal) → size ≤ length text
     → Reads m l (take size text) → HasLengths l c → AreSums r (cut text c) sums → AreSums r (cut (take size text) c) sums

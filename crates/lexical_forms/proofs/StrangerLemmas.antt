@@ -124,11 +124,11 @@ module _ (m : Notation) (text : List ℕ) where
   -- a byte that plays no role, and its other case neither,
   pub silent_out : (i : ℕ) → IsSilentAt m text i → IsExcluded m text i
   silent_out i silent = record {
-    inside = let inside = silent.inside in omega (arith, inside);
-    none = no_role_excludes m text i silent.inside silent.own;
-    within = λ more past inside front. let low = near_no_role m text more inside front i silent.own in omega (arith, past, low);
+    inside = let inside = silent.0 in omega (arith, inside);
+    none = no_role_excludes m text i silent.0 silent.1.0;
+    within = λ more past inside front. let low = near_no_role m text more inside front i silent.1.0 in omega (arith, past, low);
     there = reach_other i
-        (ap (is_in (is_other_prefix m)) (slice_get-get_or text i 0 silent.inside) ∙ no_other (get_or text i 0) (silent.other.none roles.Prefix));
+        (ap (is_in (is_other_prefix m)) (slice_get-get_or text i 0 silent.0) ∙ no_other (get_or text i 0) (silent.1.1.none roles.Prefix));
   }
 
   -- a letter that is not that of the prefix,
@@ -196,7 +196,7 @@ module _ (g : Grammar) (b : ℕ) where
   abbrev m : Notation
   m = notation_of g
 
-  spare_of : (c : ℕ) → m.digit parts.Integer c ≡ false → m.digit parts.Exponent c ≡ false → signs c ≡ false
+  pub spare_of : (c : ℕ) → m.digit parts.Integer c ≡ false → m.digit parts.Exponent c ≡ false → signs c ≡ false
       → cased true ((raw g.word).byte layout.digit_separator) c ≡ false → m.suffix c ≡ false → m.point c ≡ false → m.exponent_character c ≡ false
       → IsSpare m c
   spare_of c integer exponent sign separator suffix point character roles.Digit other = grind arith

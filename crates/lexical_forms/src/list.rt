@@ -255,7 +255,7 @@ impl<'a> Forms<'a> {
     pub const fn with_tokens(self, tokens: &'a Tokens) -> Forms<'a>
         ensures { result ≡ record self.entry { tokens = Some tokens.entry } }
     {
-        let ends = let_end(self.forms) && let_end(tokens.forms);
+        let ends = self.ends && let_end(tokens.forms);
         Forms {
             tokens: Some(tokens),
             ends,
@@ -487,7 +487,7 @@ impl<'a> Forms<'a> {
     fn reached(&self, text: &[u8], form: usize, stop: Stopped) -> Furthest
         requires { IsSomeAnd (slice_get self.now.forms form) (IsRefusedAt text.now stop) }
         ensures form { result.form ≡ form }
-        ensures stop { result.stop ≡ stop }
+        ensures here { IsSomeAnd (slice_get self.now.forms form) (IsRefusedAt text.now result.stop) }
         ensures reach { IsSomeAnd (slice_get self.now.forms form) (λ g. Reaches text.now g result.reach) }
     {
         self.as_slice()[form].reached(text, form, stop)

@@ -42,11 +42,13 @@ returns-in-Ok c =
     let own = c.of_form-literal.result in (
       found.size,
       c.in-Ok.ensures.longest,
-      subst (λ o. IsSomeAnd o (ReadsForm (take found.size text) own)) (sym form.0) (
-        c.of_form-literal.ensures.format ∙ is.0,
-        subst (λ o. IsSomeAnd o (λ (g : Form). own.kind ≡ g.kind)) form.0 c.of_form-literal.ensures.kind,
-        subst (λ l. ReadsIn g l (take found.size text)) (sym c.of_form-literal.ensures.literal) (read_in g text found read.literal form.1 is.1).reads,
+      subst (λ o. IsSomeAnd o (λ (g : Form). ReadsForm (take found.size text) own g × (own.opened ≡ g.opening.size))) (sym form.0) (
+        (
+          c.of_form-literal.ensures.format ∙ is.0,
+          subst (λ o. IsSomeAnd o (λ (g : Form). own.kind ≡ g.kind)) form.0 c.of_form-literal.ensures.kind,
+          subst (λ l. ReadsIn g l (take found.size text)) (sym c.of_form-literal.ensures.literal) (read_in g text found read.literal form.1 is.1).reads,
+        ),
+        subst (λ o. IsSomeAnd o (λ (g : Form). own.opened ≡ g.opening.size)) form.0 c.of_form-literal.ensures.opened,
       ),
-      c.of_form-literal.ensures.opened,
       c.split_at.ensures.back,
     )
