@@ -51,16 +51,10 @@ module _ (g : Form) where
     one_reach a b one other = one.2 ∙ ap (reached g text) (one_valid (ReadsIn g) text one.0 other.0 one.1 other.1) ∙ sym other.2
 
     reached_before : (size : ℕ) → size < n → reached g text size ≡ size
-    reached_before size short = go (nat_lt size n) refl where
-      go : (b : Bool) → nat_lt size n ≡ b → (if b then size else n + reach m rest (size - n)) ≡ size
-      go true is = refl
-      go false is = absurd (grind (arith, nat_tests))
+    reached_before size short = grind (arith, nat_tests)
 
     reached_behind : (size : ℕ) → n ≤ size → reached g text size ≡ n + reach m rest (size - n)
-    reached_behind size past = go (nat_lt size n) refl where
-      go : (b : Bool) → nat_lt size n ≡ b → (if b then size else n + reach m rest (size - n)) ≡ n + reach m rest (size - n)
-      go true is = absurd (grind (arith, nat_tests))
-      go false is = refl
+    reached_behind size past = grind (arith, nat_tests)
 
     reached_near : (size : ℕ) → (size ≤ reached g text size) × (reached g text size ≤ size + 1)
     reached_near size = go (nat_lt size n) refl where

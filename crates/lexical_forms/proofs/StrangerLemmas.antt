@@ -66,30 +66,16 @@ none_start m (byte ∷ text) none l reads = none (length (byte ∷ text)) (omega
 -- How far a syntax goes where `n` bytes are right.
 module _ (m : Notation) (text : List ℕ) where
   pub reach_most : (n : ℕ) → reach m text n ≤ n + 1
-  reach_most n = go _ where
-    go : (b : Bool) → (if b then n + 1 else n) ≤ n + 1
-    go true = omega arith
-    go false = omega arith
+  reach_most n = grind arith
 
   pub reach_least : (n : ℕ) → n ≤ reach m text n
-  reach_least n = go _ where
-    go : (b : Bool) → n ≤ (if b then n + 1 else n)
-    go true = omega arith
-    go false = omega arith
+  reach_least n = grind arith
 
   reach_far : (n : ℕ) → (n ≡ sign_size text + 1 → ⊥) → reach m text n ≤ n
-  reach_far n other = go (n == sign_size text + 1) _ refl where
-    go : (a b : Bool) → (n == sign_size text + 1) ≡ a → (if a && b then n + 1 else n) ≤ n
-    go true b is = absurd (other (grind (arith, nat_tests)))
-    go false b is = omega arith
+  reach_far n other = grind (arith, nat_tests)
 
   reach_other : (n : ℕ) → is_in (is_other_prefix m) (slice_get text n) ≡ false → reach m text n ≤ n
-  reach_other n none = go _ _ _ none where
-    go : (a b c : Bool) → c ≡ false → (if a && (b && c) then n + 1 else n) ≤ n
-    go a b true is = absurd (false≢true (sym is))
-    go true true false is = omega arith
-    go true false false is = omega arith
-    go false b false is = omega arith
+  reach_other n none = grind arith
 
   -- It goes up to `size` at most.
   pub goes_no_further : (size : ℕ) → IsExcluded m text size → (n : ℕ) → IsValidUpTo m text n → reach m text n ≤ size

@@ -211,7 +211,7 @@ impl Suffixes {
         if whole == 0 {
             return 0;
         }
-        if is_one_at(self.any, text, 0) {
+        if matches!(byte_at(text, 0), Some(byte) if has_byte(self.any, byte)) {
             return whole;
         }
         let words = if float { self.floats } else { self.integers };
@@ -386,14 +386,6 @@ const fn stop_admits(bytes: &[u8], byte: Option<u8>) -> bool
         [] => true,
         _ => matches!(byte, Some(byte) if has_byte(bytes, byte)),
     }
-}
-
-// Returns whether the byte at `index` is one of `bytes`.
-#[inline(always)]
-const fn is_one_at(bytes: &[u8], text: &[u8], index: usize) -> bool
-    ensures { result ≡ is_in (λ byte. list_any (λ it. it == byte) bytes.now) (slice_get text.now index) }
-{
-    matches!(byte_at(text, index), Some(byte) if has_byte(bytes, byte))
 }
 
 // Returns whether `byte` is one of `bytes`.
