@@ -57,12 +57,8 @@ module _ (g : Form) where
     reached_behind size past = grind (arith, nat_tests)
 
     reached_near : (size : ℕ) → (size ≤ reached g text size) × (reached g text size ≤ size + 1)
-    reached_near size = go (nat_lt size n) refl where
-      go : (b : Bool) → nat_lt size n ≡ b → (size ≤ (if b then size else n + reach m rest (size - n))) × ((if b then size else n + reach m rest
-          (size - n)) ≤ size + 1)
-      go true is = (omega arith, omega arith)
-      go false is = let low : n ≤ size = grind (arith, nat_tests) in
-          let least = reach_least m rest (size - n) in let most = reach_most m rest (size - n) in (omega (arith, low, least), omega (arith, low, most))
+    reached_near size =
+        let least = reach_least m rest (size - n) in let most = reach_most m rest (size - n) in (grind (arith, nat_tests), grind (arith, nat_tests))
 
     module _ (stop : Stopped) (refused : IsRefusedAt text stop g) (k : ℕ) (reaches : Reaches text g k) where
       reached_there : k ≡ reached g text stop.size

@@ -102,8 +102,7 @@ pub no_front_past : (m : Notation) (text : List ℕ) (size : ℕ) → IsWithin m
 no_front_past m text size is more past inside l reads = is more past inside (begins_whole (Reads m) (take more text) l reads)
 
 pub less_or_same : (b : Bool) (n : ℕ) → (if b then n - 1 else n) ≤ n
-less_or_same true n = omega arith
-less_or_same false n = omega arith
+less_or_same b n = grind arith
 
 pub no_longer : (s e a b : ℕ) → s ≤ a → e ≤ b → is_shorter a b s e ≡ false
 no_longer s e a b less end = grind (arith, nat_tests)

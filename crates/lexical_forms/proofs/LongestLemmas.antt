@@ -144,14 +144,6 @@ shorter s e a b less end = grind (arith, nat_tests)
 not_both_ways : (s e a b : ℕ) → is_shorter s e a b ≡ true → is_shorter a b s e ≡ false
 not_both_ways s e a b up = grind (arith, nat_tests)
 
-both_of : (a b : Bool) → (a && b) ≡ true → IsTrue a
-both_of true b on = refl
-both_of false b on = absurd (false≢true on)
-
-less_of : (a : Bool) (m n : ℕ) → (a && nat_lt m n) ≡ true → m < n
-less_of true m n on = grind (arith, nat_tests)
-less_of false m n on = absurd (false≢true on)
-
 -- A candidate has a byte, and ends behind its literal.
 some_size : (list : FormList) (t : Tokens) (text : List ℕ) (it : Form × Bool) (s e : ℕ) → IsCandidate t.gives_points_back it.1 text it.0 s e → 0 < s
 some_size list t text it s e is =
@@ -254,7 +246,7 @@ module _ (list : FormList) (t : Tokens) (text : List ℕ) where
           -- It is longer.
           module _ (long : least < c.size) (up : is_longer found.best c ≡ true) (clear : Bool)
               (none : IsTrue clear → All (λ it. HasNoWord text c.end it.0) all) (past : ℕ)
-              (past_is : past ≡ (if clear && nat_lt found.past c.size then c.size else found.past)) where
+              (past_is : (past ≡ found.past) ⊎ (IsTrue clear × (found.past < c.size) × (past ≡ c.size))) where
             abbrev next : Longest
             next = record { best = Some (i, c); reach = new; past = past; clear = clear }
 
@@ -269,26 +261,28 @@ module _ (list : FormList) (t : Tokens) (text : List ℕ) where
             below_it (Some best) up s e none =
                 (below_up best.1.size best.1.end s e c.size c.end none up, above_up best.1.size best.1.end s e c.size c.end none up)
 
-            passed_by : (b : Bool) → clear && nat_lt found.past c.size ≡ b → past ≡ (if b then c.size else found.past)
-                → All (λ it. (s e : ℕ) → Counts list t text least it s e → s ≤ past → is_shorter c.size c.end s e ≡ false) all
-            passed_by false off same k d below s e counts low =
-                (below_it found.best up s e (old.passed k d below s e counts (omega (arith, low, same)))).1
-            passed_by true on same k d below s e counts low =
-                let low : s ≤ c.size = omega (arith, low, same) in
-                no_longer s e c.size c.end low (end_within (get_or all k d) s e c.end (none (both_of clear _ on) k d below) (omega (arith, low, made.ready.order)) counts.1)
+            abbrev IsPastOf : Type 0
+            IsPastOf = (past ≡ found.past) ⊎ (IsTrue clear × (found.past < c.size) × (past ≡ c.size))
 
-            less_by : (b : Bool) → clear && nat_lt found.past c.size ≡ b → past ≡ (if b then c.size else found.past) → found.past ≤ past
-            less_by false off same = omega (arith, same)
-            less_by true on same = let less = less_of clear found.past c.size on in omega (arith, same, less)
+            passed_by : IsPastOf → All (λ it. (s e : ℕ) → Counts list t text least it s e → s ≤ past → is_shorter c.size c.end s e ≡ false) all
+            passed_by (inl same) k d below s e counts low =
+                (below_it found.best up s e (old.passed k d below s e counts (omega (arith, low, same)))).1
+            passed_by (inr (on, less, same)) k d below s e counts low =
+                let low : s ≤ c.size = omega (arith, low, same) in
+                no_longer s e c.size c.end low (end_within (get_or all k d) s e c.end (none on k d below) (omega (arith, low, made.ready.order)) counts.1)
+
+            less_by : IsPastOf → found.past ≤ past
+            less_by (inl same) = omega (arith, same)
+            less_by (inr (on, less, same)) = omega (arith, same, less)
 
             low_before : (best : Option (ℕ × Candidate)) → is_longer best c ≡ true
                 → found.past ≤ unwrap_or (option_map (λ (best : ℕ × Candidate). best.1.end) best) least → found.past ≤ c.end
             low_before None up low = omega (arith, low, long, made.ready.order)
             low_before (Some best) up low = let above = end_above best.1.size best.1.end c.size c.end up in omega (arith, low, above)
 
-            low_by : (b : Bool) → clear && nat_lt found.past c.size ≡ b → past ≡ (if b then c.size else found.past) → past ≤ c.end
-            low_by false off same = let low = low_before found.best up old.low in omega (arith, same, low)
-            low_by true on same = omega (arith, same, made.ready.order)
+            low_by : IsPastOf → past ≤ c.end
+            low_by (inl same) = let low = low_before found.best up old.low in omega (arith, same, low)
+            low_by (inr (on, less, same)) = omega (arith, same, made.ready.order)
 
             pub gained : IsYet list t text least (i + 1) next
             gained = record {
@@ -300,9 +294,9 @@ module _ (list : FormList) (t : Tokens) (text : List ℕ) where
               others = more_at (λ it. (s e : ℕ) → Counts list t text least it s e → is_shorter c.size c.end s e ≡ false) all i it at
                   (λ k d below s e counts. (below_it found.best up s e (old.others k d below s e counts)).1)
                   (λ s e counts. none_longer s e counts.1);
-              passed = passed_by (clear && nat_lt found.past c.size) refl past_is;
-              low = low_by (clear && nat_lt found.past c.size) refl past_is;
-              over = over_more past (less_by (clear && nat_lt found.past c.size) refl past_is);
+              passed = passed_by past_is;
+              low = low_by past_is;
+              over = over_more past (less_by past_is);
               clear = λ on. ((i, c), refl, none on);
             }
 

@@ -88,9 +88,7 @@ module _ (m : Notation) (text : List ℕ) where
   ]
 
   no_other : (byte : ℕ) → m.prefix (other_case byte) ≡ false → is_other_prefix m byte ≡ false
-  no_other byte none = go (m.prefix byte) _ none where
-    go : (a b : Bool) → b ≡ false → (not a && b) ≡ false
-    go a b is = grind arith
+  no_other byte none = ap (λ b. not (m.prefix byte) && b) none ∙ grind arith
 
   -- What excludes that the text is a literal: a zero that is not there,
   pub zero_out : LacksZero m text → IsExcluded m text (sign_size text)
@@ -102,10 +100,7 @@ module _ (m : Notation) (text : List ℕ) where
   } where
     sign_within : (text : List ℕ) → sign_size text ≤ length text
     sign_within [] = omega arith
-    sign_within (byte ∷ text) = go (signs byte) where
-      go : (b : Bool) → (if b then 1 else 0) ≤ length (byte ∷ text)
-      go true = omega arith
-      go false = omega arith
+    sign_within (byte ∷ text) = grind arith
 
   -- a byte that plays no role, and its other case neither,
   pub silent_out : (i : ℕ) → IsSilentAt m text i → IsExcluded m text i

@@ -84,12 +84,10 @@ pub not_both : (b : Bool) → b ≡ false → IsTrue b → ⊥
 not_both b off on = grind arith
 
 both_hold : (b : Bool) (n : ℕ) → (b && (n == 0)) ≡ true → IsTrue b × (n ≡ 0)
-both_hold true n on = (refl, grind (arith, nat_tests))
-both_hold false n on = grind arith
+both_hold b n on = (grind (arith, nat_tests), grind (arith, nat_tests))
 
 more_than_none : (b : Bool) (n s : ℕ) → (b && (n == 0)) ≡ false → IsTrue b → s < s + n
-more_than_none true n s off on = grind (arith, nat_tests)
-more_than_none false n s off on = grind arith
+more_than_none b n s off on = grind (arith, nat_tests)
 
 -- A literal has a byte.
 pub literal_size : (form : Form) (text : List ℕ) (l : Literal) → ReadsIn form l text → 0 < length text

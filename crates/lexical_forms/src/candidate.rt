@@ -566,7 +566,7 @@ fn is_longer(best: Option<(usize, Candidate)>, candidate: Candidate) -> bool
 // Returns the larger of two sizes, of which the second one counts only behind a candidate that is clear.
 #[inline(always)]
 const fn past_of(past: usize, clear: bool, size: usize) -> usize
-    ensures { result ≡ (if clear && nat_lt past size then size else past) }
+    ensures { (result ≡ past) ⊎ (IsTrue clear × (past < size) × (result ≡ size)) }
 {
     if clear && past < size { size } else { past }
 }
