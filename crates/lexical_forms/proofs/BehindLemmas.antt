@@ -3,8 +3,8 @@ use Rattle.lexical_forms.proofs.Common.{Begins, BeginsBy, Bool, Form, Found, Goe
 use Rattle.lexical_forms.proofs.Common.{IsOpened, IsOpenedTo, IsPassed, IsRefusal, IsRefusedAt, IsStopped, IsStoppedBefore, IsStoppedBehind, IsValidUpTo}
 use Rattle.lexical_forms.proofs.Common.{IsWithin, List, Literal, NoFrontBy, NoFrontPast, NoLiteral, None, NoneBy, NonePast, Notation, Reaches, Reads}
 use Rattle.lexical_forms.proofs.Common.{ReadsFront, ReadsFrontBy, ReadsIn, Refusal, Some, Stopped, [], ap, arith, behind, cases_lt, drop, false}
-use Rattle.lexical_forms.proofs.Common.{if◌then◌else◌, inl, inr, length, nat_lt, nat_tests, not, notation_of, reach, reached, refl, subst, sym, take}
-use Rattle.lexical_forms.proofs.Common.{take_all, true, ℕ, ◌++◌, ◌+◌, ◌-◌, ◌<◌, ◌==◌, ◌∙◌, ◌≡◌, ◌≤◌}
+use Rattle.lexical_forms.proofs.Common.{inl, inr, length, nat_tests, not, notation_of, reach, reached, subst, sym, take}
+use Rattle.lexical_forms.proofs.Common.{take_all, ℕ, ◌++◌, ◌+◌, ◌-◌, ◌<◌, ◌==◌, ◌∙◌, ◌≡◌, ◌≤◌}
 use Rattle.lexical_forms.proofs.OpeningLemmas.{behind_take, front_opened, no_opening, none_empty, not_longer, not_opened, one_valid, opened_front}
 use Rattle.lexical_forms.proofs.OpeningLemmas.{front_behind, past_behind, rest_size, valid_behind, valid_inside}
 use Rattle.lexical_forms.proofs.StrangerLemmas.{goes_no_further, none_start, reach_least, reach_most, start_out}

@@ -2,11 +2,11 @@
 use Rattle.lexical_forms.proofs.Common.{All, All-from_recursion, BeginsBy, Bool, Bor, Candidate, Form, FormList, Found, HasFront, HasNoWord, HasSumsOf, IsFrontIn}
 use Rattle.lexical_forms.proofs.Common.{IsGreatest, IsOver, IsPicked, map, slice_get_within, tried}
 use Rattle.lexical_forms.proofs.Common.{IsMade, IsOpenedTo, IsSomeAnd, IsTrue, IsWithin, List, None, Option, PlaysNoRole, PointsBack, Reads, ReadsIn, Some, Tokens, [], ap, arith, behind}
-use Rattle.lexical_forms.proofs.Common.{byte_before, cases_lt, drop, false, false≢true, get_or, get_or-drop, Grammar, Part, gives_back, has_float, inl, nat_lt, radix_of, signs, inr, is_in, is_word_byte, kind_with}
+use Rattle.lexical_forms.proofs.Common.{byte_before, cases_lt, drop, false, false≢true, get_or, get_or-drop, Grammar, Part, gives_back, has_float, inl, nat_lt, signs, inr, is_in, is_word_byte, kind_with}
 use Rattle.lexical_forms.proofs.Common.{length, length-drop, list_any, more_of, nat_tests, not, notation_of, option_map, other_case, raw, refl, slice_get}
 use Rattle.lexical_forms.proofs.Common.{slice_get-get_or, spells, subst, suffix_size, sym, take, takes_point, true, unwrap_or, ℕ, ◌&&◌, ◌++◌, ◌+◌, ◌-◌}
 use Rattle.lexical_forms.proofs.Common.{◌<◌, ◌==◌, ◌||◌, ◌∙◌, ◌∷◌, ◌≡◌, ◌≤◌}
-use Rattle.lexical_forms.specs.Additions.Forms.{IsOutside, LetEnd, LetsEnd, ends_at, is_end}
+use Rattle.lexical_forms.specs.Additions.Forms.{IsOutside, LetsEnd, ends_at, is_end}
 use Rattle.lexical_forms.specs.Additions.Token.{IsBegunFirst, IsEndedAt, IsLast}
 use Rattle.lexical_forms.specs.declared.list.PointsBack.TheVariants as points
 use Rattle.lexical_base.proofs.ValueLemmas.{value_is}

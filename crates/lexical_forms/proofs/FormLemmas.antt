@@ -2,10 +2,9 @@
 use Rattle.lexical_forms.proofs.Common.{All, All-more, ArePassed, Bool, Form, Found, Furthest, GoesTo, HasFront}
 use Rattle.lexical_forms.proofs.Common.{IsCountedFront, IsErrorOfForm, IsFormError, IsFoundForm, IsFoundFrontForm, IsFrontIn, IsGreatest, IsLed}
 use Rattle.lexical_forms.proofs.Common.{IsLongestPast, IsLow, IsPassed, IsPast, IsRefusedAt, IsSomeAnd, Leads, List, NoForm, NoFrontBy, NoFrontPast, None}
-use Rattle.lexical_forms.proofs.Common.{NonePast, Notation, Ok, Option, Reaches, Read, ReadsForm, ReadsIn, Some, Stopped, [], ap, arith}
-use Rattle.lexical_forms.proofs.Common.{behind, cases_lt, common_steps, get_or_from_slice_get, false, false≢true, further, get_or, get_or-take, have_openings, if◌then◌else◌, inl}
+use Rattle.lexical_forms.proofs.Common.{NonePast, Notation, Ok, Option, Reaches, Read, ReadsForm, ReadsIn, Some, Stopped, [], arith}
+use Rattle.lexical_forms.proofs.Common.{cases_lt, common_steps, get_or_from_slice_get, false, false≢true, further, get_or, get_or-take, have_openings, if◌then◌else◌, inl}
 use Rattle.lexical_forms.proofs.Common.{inr, length, length-take-le, nat_lt, nat_tests, reached, refl, slice_get, slice_get-get_or, slice_get_within}
-use Rattle.lexical_forms.proofs.Common.{◌∙◌}
 use Rattle.lexical_forms.proofs.Common.{subst, sym, take, take_all, true, ℕ, ◌+◌, ◌<◌, ◌||◌, ◌∷◌, ◌≡◌, ◌≤◌, ◌⊎◌}
 use Rattle.lexical_forms.specs.Additions.Forms.{IsBest}
 use Rattle.lexical_forms.proofs.BehindLemmas.{front_in, goes_most, no_size, none_empty_in, none_in, one_reach}
@@ -274,9 +273,13 @@ module _ (forms : List Form) (text : List ℕ) where
       → size < more → IsPassed (get_or forms i d) text size → IsLed forms text (i + 1) more furthest
   led_past i limit more size d None inside old less past passed = λ k e below. elim (cases_lt k i) [
     | inl before ↦ (let one = old k e before in (one.0, omega (arith, one.1, less), one.2))
-    | inr last ↦ (size, past, here_at (λ g. IsPassed g text size) forms k e
-        (subst (λ k. IsSomeAnd (slice_get forms k) (λ g. IsPassed g text size)) (let same : i ≡ k = omega (arith, below, last) in same)
-        (at_index (λ g. IsPassed g text size) forms forms d i refl inside passed)))
+    | inr last ↦ (
+      size,
+      past,
+      here_at (λ g. IsPassed g text size) forms k e
+          (subst (λ k. IsSomeAnd (slice_get forms k) (λ g. IsPassed g text size)) (let same : i ≡ k = omega (arith, below, last) in same)
+          (at_index (λ g. IsPassed g text size) forms forms d i refl inside passed)),
+    )
   ]
   led_past i limit more size d (Some best) inside old less past passed = record {
     here = old.here;
@@ -345,7 +348,10 @@ module _ (forms : List Form) (text : List ℕ) where
   pub error_is : (best : Furthest) → Leads forms text (length forms) 0 best → (error : FormError) → error.form ≡ best.form
       → IsSomeAnd (slice_get forms best.form) (IsErrorOfForm text error) → IsFormError forms text error
   error_is best is error same own = record {
-    furthest = (best.reach, subst (λ k. IsGreatest (Reaches text) forms k best.reach) (sym same)
-        (best_all (Reaches text) forms (length forms) 0 best.form best.reach is.furthest (omega arith) refl));
+    furthest = (
+      best.reach,
+      subst (λ k. IsGreatest (Reaches text) forms k best.reach) (sym same)
+          (best_all (Reaches text) forms (length forms) 0 best.form best.reach is.furthest (omega arith) refl),
+    );
     refusal = subst (λ k. IsSomeAnd (slice_get forms k) (IsErrorOfForm text error)) (sym same) own;
   }

@@ -2,13 +2,13 @@
 use Rattle.lexical_forms.proofs.Common.{All, All-append, All-more, All-take, Bool, Candidate, Counts, Form, FormList, GoesWithin, HasNone, HasNoWord, IsAhead}
 use Rattle.lexical_forms.proofs.Common.{IsAsked, IsCandidate, IsFirstYet, IsMade, IsOver, IsPicked, IsSomeAnd, IsTrue}
 use Rattle.lexical_forms.proofs.Common.{IsWinner, IsYet, List, None, NoneLonger, Option, ReadsIn, Some, Tokens, [], ap, arith, cases_lt, drop, false}
-use Rattle.lexical_forms.proofs.Common.{false≢true, get_or, get_or-take, gives_back, if◌then◌else◌, inl, inr, is_float, is_longer, is_shorter, length}
-use Rattle.lexical_forms.proofs.Common.{length-append, length-take, length-take-le, map, more_of, nat_le, nat_lt, nat_tests, refl, slice_get, slice_get-get_or}
-use Rattle.lexical_forms.proofs.Common.{slice_get_within, subst, sym, take, take_all, tried, true, ℕ, ◌&&◌, ◌++◌, ◌+◌, ◌-◌, ◌<◌, ◌∙◌, ◌∷◌, ◌≡◌, ◌≤◌, ◌⊎◌}
+use Rattle.lexical_forms.proofs.Common.{false≢true, get_or, get_or-take, gives_back, inl, inr, is_float, is_longer, is_shorter, length}
+use Rattle.lexical_forms.proofs.Common.{length-append, length-take, length-take-le, map, more_of, nat_tests, refl, slice_get, slice_get-get_or}
+use Rattle.lexical_forms.proofs.Common.{slice_get_within, subst, sym, take, take_all, tried, true, ℕ, ◌++◌, ◌+◌, ◌-◌, ◌<◌, ◌∙◌, ◌∷◌, ◌≡◌, ◌≤◌, ◌⊎◌}
 use Rattle.lexical_forms.proofs.LeadingLemmas.{less_or_same, no_longer, suffix_within, sums_of_front, word_within}
 use Rattle.lexical_forms.proofs.BehindLemmas.{found_in, inner_is}
 use Rattle.lexical_forms.proofs.FormLemmas.{all_at, some_of}
-use Rattle.lexical_forms.proofs.OpeningLemmas.{begins_whole, front_behind, not_longer, rest_size}
+use Rattle.lexical_forms.proofs.OpeningLemmas.{begins_whole, front_behind, rest_size}
 use Rattle.lexical_forms.proofs.TokenLemmas.{above_up, below_up, for_some, is_none, literal_size, no_some, none_below, same_end, same_size, some_is}
 use Rattle.lexical_forms.proofs.Common.{AreSums, Found, HasSumsOf, IsFrontIn, IsOpenedTo, IsOverFrom, IsWithin, PointsBack, Reads, behind, cut, cuts_of}
 use Rattle.lexical_forms.proofs.Common.{get_or_from_slice_get, notation_of, option_map, raw, unwrap_or}

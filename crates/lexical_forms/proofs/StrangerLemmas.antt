@@ -2,7 +2,7 @@
 use Rattle.lexical_forms.proofs.Common.{All, All-get_or, AreFalse, Bool, ByteSet, Grammar, IsExcluded, IsFront, IsSilentAt, IsSpare}
 use Rattle.lexical_forms.proofs.Common.{IsStranger, IsTrue, IsWithin, LacksLetter, LacksZero, Reads, take_all}
 use Rattle.lexical_forms.proofs.Common.{IsValidUpTo, List, NoLiteral, Notation, PlaysNoRole, Role, [], ap}
-use Rattle.lexical_forms.proofs.Common.{arith, cases_lt, false, false≢true, get_or, if◌then◌else◌, inl, inr, is_in, is_none_or_one, is_other_prefix, not, ◌&&◌}
+use Rattle.lexical_forms.proofs.Common.{arith, cases_lt, false, false≢true, get_or, inl, inr, is_in, is_none_or_one, is_other_prefix, not, ◌&&◌}
 use Rattle.lexical_forms.proofs.Common.{is_none_or_prefix, le_antisymm, length, nat_lt, nat_tests, notation_of, other_case, position}
 use Rattle.lexical_forms.proofs.Common.{radix_of, raw, reach, refl, set_of_role, sign_size, signs, slice_get, slice_get-get_or, subst, sym, take, text_of, true}
 use Rattle.lexical_forms.proofs.Common.{unwrap_or, ℕ, ◌++◌, ◌+◌, ◌<◌, ◌==◌, ◌∙◌, ◌∷◌, ◌≡◌, ◌≤◌}

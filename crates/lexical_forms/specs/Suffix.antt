@@ -2,7 +2,7 @@
 use Rattle.std.specs.Prelude.{ℕ, ◌+◌, ◌-◌, ◌==◌, ◌&&◌, ◌||◌, Bool, false, if◌then◌else◌, nat_le, nat_lt, List, [], Option, Some, None}
 use Rattle.std.specs.Prelude.{drop, filter, fold, length, map, max, option_map, slice_get, unwrap_or}
 use Rattle.std.specs.Borrow.{Bor}
-use Rattle.std.specs.Char.{eq_ignore_ascii_case, is_ascii_alphanumeric, is_ascii_digit}
+use Rattle.std.specs.Char.{eq_ignore_ascii_case, is_ascii_alphanumeric}
 use Rattle.std.specs.List.{find, list_any, prefix_len, starts_with}
 use Rattle.lexical_util.specs.Ascii.{ByteSet}
 use Rattle.lexical_literal.specs.Cause.{is_in}

@@ -1,7 +1,7 @@
 -- The front has the parts that were counted.
 use Rattle.lexical_forms.proofs.Common.{Form, IsFrontIn, IsSomeAnd, ReadsForm, ReadsIn, Some, ap, arith, behind, front_cut, front_read}
 use Rattle.lexical_forms.proofs.Common.{List, drop, length, length-take-le, ℕ, slice_get, subst, sym, take, ◌-◌, ◌∙◌, ◌≡◌}
-use Rattle.lexical_forms.proofs.FormLemmas.{form_at, inside_of}
+use Rattle.lexical_forms.proofs.FormLemmas.{form_at}
 use Rattle.lexical_forms.proofs.BehindLemmas.{front_in, inner_is, read_in}
 use Rattle.lexical_forms.proofs.list.Forms.read_front.Goals as goal
 

@@ -1,7 +1,7 @@
 -- The literal of the first form, behind which no form goes on.
 use Rattle.lexical_forms.proofs.Common.{Form, FormList, HasFront, IsGreatest, IsSomeAnd, ReadsForm, arith, drop, get_or}
 use Rattle.lexical_forms.proofs.Common.{slice_get, slice_get-get_or, subst, sym, take, ℕ, ◌-◌, ◌∙◌, ◌≡◌, ap}
-use Rattle.lexical_forms.proofs.EndLemmas.{first_is, made_first, greatest_ended, kind_ended}
+use Rattle.lexical_forms.proofs.EndLemmas.{made_first, greatest_ended, kind_ended}
 use Rattle.lexical_forms.specs.Additions.Token.{IsEndedAt}
 use Rattle.lexical_forms.proofs.list.Forms.read_prefix.Goals as goal
 
