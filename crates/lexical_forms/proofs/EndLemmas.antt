@@ -2,7 +2,8 @@
 use Rattle.lexical_forms.proofs.Common.{All, All-from_recursion, BeginsBy, Bool, Bor, Candidate, Form, FormList, Found, HasFront, HasNoWord, HasSumsOf, IsFrontIn}
 use Rattle.lexical_forms.proofs.Common.{IsGreatest, IsOver, IsPicked, map, slice_get_within, tried}
 use Rattle.lexical_forms.proofs.Common.{IsMade, IsOpenedTo, IsSomeAnd, IsTrue, IsWithin, List, None, Option, PlaysNoRole, PointsBack, Reads, ReadsIn, Some, Tokens, [], ap, arith, behind}
-use Rattle.lexical_forms.proofs.Common.{byte_before, cases_lt, drop, false, false≢true, get_or, get_or-drop, Grammar, Part, gives_back, has_float, inl, nat_lt, signs, inr, is_in, is_word_byte, kind_with}
+use Rattle.lexical_forms.proofs.Common.{byte_before, cases_lt, drop, false, false≢true, get_or, get_or-drop, Grammar, Part, gives_back, has_float, inl}
+use Rattle.lexical_forms.proofs.Common.{nat_lt, signs, inr, is_in, is_word_byte, kind_with}
 use Rattle.lexical_forms.proofs.Common.{length, length-drop, list_any, more_of, nat_tests, not, notation_of, option_map, other_case, raw, refl, slice_get}
 use Rattle.lexical_forms.proofs.Common.{slice_get-get_or, spells, subst, suffix_size, sym, take, takes_point, true, unwrap_or, ℕ, ◌&&◌, ◌++◌, ◌+◌, ◌-◌}
 use Rattle.lexical_forms.proofs.Common.{◌<◌, ◌==◌, ◌||◌, ◌∙◌, ◌∷◌, ◌≡◌, ◌≤◌}
@@ -82,7 +83,8 @@ no_sign byte on = (grind (arith, nat_tests), grind (arith, nat_tests))
 
 -- It plays no role in a grammar none of whose bytes ends a number.
 pub plays_none : (a : Inside) (g : Grammar) → AreFields a → worded a ≡ g → IsSyntax g
-    → list_any is_end (a.separator ∷ a.prefix ∷ a.suffix ∷ a.exponent ∷ a.point ∷ []) ≡ false → (byte : ℕ) → is_end byte ≡ true → PlaysNoRole (notation_of g) byte
+    → list_any is_end (a.separator ∷ a.prefix ∷ a.suffix ∷ a.exponent ∷ a.point ∷ []) ≡ false
+    → (byte : ℕ) → is_end byte ≡ true → PlaysNoRole (notation_of g) byte
 plays_none a g fields same syntax none byte on =
     let p = no_one (is_end a.separator) _ none in let q = no_one (is_end a.prefix) _ p.1 in let r = no_one (is_end a.suffix) _ q.1 in
     let s = no_one (is_end a.exponent) _ r.1 in let t = no_one (is_end a.point) _ s.1 in
@@ -179,7 +181,10 @@ module _ (list : FormList) (text : List ℕ) (begun : Begun) (is : IsBegunFirst 
       own.0 more past inside (record {
         more = front.more;
         literal = front.literal;
-        reads = (no_opening form.opening _ is.may.bare, subst (λ k. Reads (notation_of form.syntax) front.literal (drop k (take more text ++ front.more))) (sym is.may.bare) front.reads);
+        reads = (
+          no_opening form.opening _ is.may.bare,
+          subst (λ k. Reads (notation_of form.syntax) front.literal (drop k (take more text ++ front.more))) (sym is.may.bare) front.reads,
+        );
       })
 
   abbrev front_found : Found

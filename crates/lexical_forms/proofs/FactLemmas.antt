@@ -1,10 +1,9 @@
 -- What the parts of a token are, and which tokens are a whole text.
-use Rattle.lexical_forms.proofs.Common.{AreBare, Bool, Bor, Form, FormList, IsCandidate, IsFirst, IsSomeAnd, IsToken, List, Literal, None}
-use Rattle.lexical_forms.proofs.Common.{Option, Reads, ReadsForm, ReadsIn, Some, Token, Tokens, [], ap, arith, drop, drop-drop, false, false≢true}
-use Rattle.lexical_forms.proofs.Common.{get_or, slice_get}
-use Rattle.lexical_forms.proofs.Common.{gives_back, if◌then◌else◌, is_float, is_shorter, is_in, kind_with, length, length-drop, length-take, min}
-use Rattle.lexical_forms.proofs.Common.{more_of, nat_tests, notation_of, refl, slice_get_past, subst, suffix_size, sym, take, take-append-drop}
-use Rattle.lexical_forms.proofs.Common.{take_all, takes_point, text_of, tried, true, word_size, ℕ, ◌&&◌, ◌++◌, ◌+◌, ◌-◌, ◌∙◌, ◌∷◌, ◌≡◌, ◌≤◌}
+use Rattle.lexical_forms.proofs.Common.{AreBare, Bool, Bor, Form, FormList, IsCandidate, IsFirst, IsSomeAnd, IsToken, List, Literal, None, Option, Reads}
+use Rattle.lexical_forms.proofs.Common.{ReadsForm, ReadsIn, Some, Token, Tokens, [], ap, arith, drop, drop-drop, false, false≢true, get_or, gives_back}
+use Rattle.lexical_forms.proofs.Common.{if◌then◌else◌, is_float, is_in, is_shorter, kind_with, length, length-drop, length-take, min, more_of, nat_tests}
+use Rattle.lexical_forms.proofs.Common.{notation_of, refl, slice_get, slice_get_past, subst, suffix_size, sym, take, take-append-drop, take_all, takes_point}
+use Rattle.lexical_forms.proofs.Common.{text_of, tried, true, word_size, ℕ, ◌&&◌, ◌++◌, ◌+◌, ◌-◌, ◌∙◌, ◌∷◌, ◌≡◌, ◌≤◌}
 use Rattle.lexical_forms.specs.declared.suffix.Suffixes.{Suffixes}
 use Rattle.lexical_forms.proofs.FormLemmas.{all_at}
 use Rattle.lexical_forms.proofs.LongestLemmas.{all_tried, before_at, first_below, first_of}

@@ -3,7 +3,8 @@ use Rattle.lexical_forms.proofs.Common.{All, All-more, ArePassed, Bool, Form, Fo
 use Rattle.lexical_forms.proofs.Common.{IsCountedFront, IsErrorOfForm, IsFormError, IsFoundForm, IsFoundFrontForm, IsFrontIn, IsGreatest, IsLed}
 use Rattle.lexical_forms.proofs.Common.{IsLongestPast, IsLow, IsPassed, IsPast, IsRefusedAt, IsSomeAnd, Leads, List, NoForm, NoFrontBy, NoFrontPast, None}
 use Rattle.lexical_forms.proofs.Common.{NonePast, Notation, Ok, Option, Reaches, Read, ReadsForm, ReadsIn, Some, Stopped, [], arith}
-use Rattle.lexical_forms.proofs.Common.{cases_lt, common_steps, get_or_from_slice_get, false, false≢true, further, get_or, get_or-take, have_openings, if◌then◌else◌, inl}
+use Rattle.lexical_forms.proofs.Common.{cases_lt, common_steps, get_or_from_slice_get, false, false≢true, further, get_or, get_or-take}
+use Rattle.lexical_forms.proofs.Common.{have_openings, if◌then◌else◌, inl}
 use Rattle.lexical_forms.proofs.Common.{inr, length, length-take-le, nat_lt, nat_tests, reached, refl, slice_get, slice_get-get_or, slice_get_within}
 use Rattle.lexical_forms.proofs.Common.{subst, sym, take, take_all, true, ℕ, ◌+◌, ◌<◌, ◌||◌, ◌∷◌, ◌≡◌, ◌≤◌, ◌⊎◌}
 use Rattle.lexical_forms.specs.Additions.Forms.{IsBest}
@@ -70,7 +71,8 @@ module _ (P : Form → ℕ → Type 0) (forms : List Form) where
       inside = let inside = old.inside in omega (arith, inside);
       each = λ k d below m is more. elim (cases_lt k i) [
         | inl before ↦ old.each k d before m is more
-        | inr last ↦ (few m (last_up_to i most k d low below last m is) more less, λ before. absurd (let inside = old.inside in omega (arith, before, last, inside)))
+        | inr last ↦ (few m (last_up_to i most k d low below last m is) more less, λ before. absurd (let inside = old.inside in
+            omega (arith, before, last, inside)))
       ];
     } where
       few : (m : ℕ) → m ≤ most → limit ≤ m → (most ≤ n) ⊎ (most < limit) → m ≤ n

@@ -1,15 +1,10 @@
 -- Tokens that are found by reading the forms of a list once.
-use Rattle.lexical_forms.proofs.Common.{All, AreSums, Bool, Bor, Cuts, Form}
-use Rattle.lexical_forms.proofs.Common.{HasLengths, HasSums}
-use Rattle.lexical_forms.proofs.Common.{IsTrue, IsWithin, List, Literal, NoFront, NoFrontPast, None, Notation, Option, PlaysNoRole}
-use Rattle.lexical_forms.proofs.Common.{Reads, have_openings, Record, Some}
-use Rattle.lexical_forms.proofs.Common.{[], ap, append-nil, arith, before_exponent}
-use Rattle.lexical_forms.proofs.Common.{begins, cond, cut, drop, drop-take, false, filter, fold, get_or}
-use Rattle.lexical_forms.proofs.Common.{go_on_with, has, has_prefix, if◌then◌else◌, is_in}
-use Rattle.lexical_forms.proofs.Common.{is_in_word, is_shorter, is_word_byte, length, length-append, length-take-le, map, max}
-use Rattle.lexical_forms.proofs.Common.{more_of, nat_le, nat_tests, refl, sign_size, slice_get, slice_get-get_or}
-use Rattle.lexical_forms.proofs.Common.{slice_get_within, subst, suffix_size, suffix_words, sym, take, take-take, text_of, true}
-use Rattle.lexical_forms.proofs.Common.{word_size, ℕ, ◌&&◌, ◌++◌, ◌+◌, ◌-◌, ◌<◌, ◌∙◌, ◌∷◌, ◌≡◌, ◌≤◌}
+use Rattle.lexical_forms.proofs.Common.{All, AreSums, Bool, Bor, Cuts, Form, HasLengths, HasSums, IsTrue, IsWithin, List, Literal, NoFront, NoFrontPast, None}
+use Rattle.lexical_forms.proofs.Common.{Notation, Option, PlaysNoRole, Reads, Record, Some, [], ap, append-nil, arith, before_exponent, begins, cond, cut}
+use Rattle.lexical_forms.proofs.Common.{drop, drop-take, false, filter, fold, get_or, go_on_with, has, has_prefix, have_openings, if◌then◌else◌, is_in}
+use Rattle.lexical_forms.proofs.Common.{is_in_word, is_shorter, is_word_byte, length, length-append, length-take-le, map, max, more_of, nat_le, nat_tests}
+use Rattle.lexical_forms.proofs.Common.{refl, sign_size, slice_get, slice_get-get_or, slice_get_within, subst, suffix_size, suffix_words, sym, take}
+use Rattle.lexical_forms.proofs.Common.{take-take, text_of, true, word_size, ℕ, ◌&&◌, ◌++◌, ◌+◌, ◌-◌, ◌<◌, ◌∙◌, ◌∷◌, ◌≡◌, ◌≤◌}
 use Rattle.lexical_forms.proofs.ExcludeLemmas.{BeginsPrefixed, front_sign, no_role_excludes, prefix_begins}
 use Rattle.lexical_forms.proofs.FormLemmas.{no_one, plain_at}
 use Rattle.lexical_forms.proofs.OpeningLemmas.{begins_whole, front_byte}

@@ -1,17 +1,16 @@
 -- Tokens: the longest candidate of the forms that have been asked.
-use Rattle.lexical_forms.proofs.Common.{All, All-append, All-more, All-take, Bool, Candidate, Counts, Form, FormList, GoesWithin, HasNone, HasNoWord, IsAhead}
-use Rattle.lexical_forms.proofs.Common.{IsAsked, IsCandidate, IsFirstYet, IsMade, IsOver, IsPicked, IsSomeAnd, IsTrue}
-use Rattle.lexical_forms.proofs.Common.{IsWinner, IsYet, List, None, NoneLonger, Option, ReadsIn, Some, Tokens, [], ap, arith, cases_lt, drop, false}
-use Rattle.lexical_forms.proofs.Common.{false≢true, get_or, get_or-take, gives_back, inl, inr, is_float, is_longer, is_shorter, length}
-use Rattle.lexical_forms.proofs.Common.{length-append, length-take, length-take-le, map, more_of, nat_tests, refl, slice_get, slice_get-get_or}
-use Rattle.lexical_forms.proofs.Common.{slice_get_within, subst, sym, take, take_all, tried, true, ℕ, ◌++◌, ◌+◌, ◌-◌, ◌<◌, ◌∙◌, ◌∷◌, ◌≡◌, ◌≤◌, ◌⊎◌}
+use Rattle.lexical_forms.proofs.Common.{All, All-append, All-more, All-take, AreSums, Bool, Candidate, Counts, Form, FormList, Found, GoesWithin, HasNoWord}
+use Rattle.lexical_forms.proofs.Common.{HasNone, HasSumsOf, IsAhead, IsAsked, IsCandidate, IsFirstYet, IsFrontIn, IsMade, IsOpenedTo, IsOver, IsOverFrom}
+use Rattle.lexical_forms.proofs.Common.{IsPicked, IsSomeAnd, IsTrue, IsWinner, IsWithin, IsYet, List, None, NoneLonger, Option, PointsBack, Reads, ReadsIn}
+use Rattle.lexical_forms.proofs.Common.{Some, Tokens, [], ap, arith, behind, cases_lt, cut, cuts_of, drop, false, false≢true, get_or, get_or-take}
+use Rattle.lexical_forms.proofs.Common.{get_or_from_slice_get, gives_back, inl, inr, is_float, is_longer, is_shorter, length, length-append, length-take}
+use Rattle.lexical_forms.proofs.Common.{length-take-le, map, more_of, nat_tests, notation_of, option_map, raw, refl, slice_get, slice_get-get_or}
+use Rattle.lexical_forms.proofs.Common.{slice_get_within, subst, sym, take, take_all, tried, true, unwrap_or, ℕ, ◌++◌, ◌+◌, ◌-◌, ◌<◌, ◌∙◌, ◌∷◌, ◌≡◌, ◌≤◌, ◌⊎◌}
 use Rattle.lexical_forms.proofs.LeadingLemmas.{less_or_same, no_longer, suffix_within, sums_of_front, word_within}
 use Rattle.lexical_forms.proofs.BehindLemmas.{found_in, inner_is}
 use Rattle.lexical_forms.proofs.FormLemmas.{all_at, some_of}
 use Rattle.lexical_forms.proofs.OpeningLemmas.{begins_whole, front_behind, rest_size}
 use Rattle.lexical_forms.proofs.TokenLemmas.{above_up, below_up, for_some, is_none, literal_size, no_some, none_below, same_end, same_size, some_is}
-use Rattle.lexical_forms.proofs.Common.{AreSums, Found, HasSumsOf, IsFrontIn, IsOpenedTo, IsOverFrom, IsWithin, PointsBack, Reads, behind, cut, cuts_of}
-use Rattle.lexical_forms.proofs.Common.{get_or_from_slice_get, notation_of, option_map, raw, unwrap_or}
 use Rattle.lexical_forms.specs.Additions.Token.{NotLonger}
 use Rattle.lexical_literal.specs.Additions.Literal.{IsSummed}
 use Rattle.lexical_literal.specs.Additions.Stop.{HasBegun}
@@ -82,7 +81,8 @@ first_below list t i k d form at below =
 
 pub all_tried : (P : Form → Type 0) (list : FormList) (t : Tokens) → All P list.forms → All P t.forms.now → All (λ it. P it.0) (tried list t)
 all_tried P list t first second = All-append (λ (it : Form × Bool). P it.0) (map (λ form. (form, false)) list.forms) (map (λ form. (form, true)) t.forms.now)
-    (All-map (λ (it : Form × Bool). P it.0) (λ form. (form, false)) list.forms first) (All-map (λ (it : Form × Bool). P it.0) (λ form. (form, true)) t.forms.now second)
+    (All-map (λ (it : Form × Bool). P it.0) (λ form. (form, false)) list.forms first)
+    (All-map (λ (it : Form × Bool). P it.0) (λ form. (form, true)) t.forms.now second)
 
 -- The form that was picked is the one at its index.
 pub picked_at : (list : FormList) (t : Tokens) (text : List ℕ) (index : ℕ) (it : Form) (needs : Bool) (c : Candidate)

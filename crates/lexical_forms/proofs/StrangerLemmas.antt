@@ -1,11 +1,10 @@
 -- A stranger: a byte that plays no role behind the base prefix, and its other case neither.
-use Rattle.lexical_forms.proofs.Common.{All, All-get_or, AreFalse, Bool, ByteSet, Grammar, IsExcluded, IsFront, IsSilentAt, IsSpare}
-use Rattle.lexical_forms.proofs.Common.{IsStranger, IsTrue, IsWithin, LacksLetter, LacksZero, Reads, take_all}
-use Rattle.lexical_forms.proofs.Common.{IsValidUpTo, List, NoLiteral, Notation, PlaysNoRole, Role, [], ap}
-use Rattle.lexical_forms.proofs.Common.{arith, cases_lt, false, false≢true, get_or, inl, inr, is_in, is_none_or_one, is_other_prefix, not, ◌&&◌}
-use Rattle.lexical_forms.proofs.Common.{is_none_or_prefix, le_antisymm, length, nat_lt, nat_tests, notation_of, other_case, position}
-use Rattle.lexical_forms.proofs.Common.{radix_of, raw, reach, refl, set_of_role, sign_size, signs, slice_get, slice_get-get_or, subst, sym, take, text_of, true}
-use Rattle.lexical_forms.proofs.Common.{unwrap_or, ℕ, ◌++◌, ◌+◌, ◌<◌, ◌==◌, ◌∙◌, ◌∷◌, ◌≡◌, ◌≤◌}
+use Rattle.lexical_forms.proofs.Common.{All, All-get_or, AreFalse, Bool, ByteSet, Grammar, IsExcluded, IsFront, IsSilentAt, IsSpare, IsStranger, IsTrue}
+use Rattle.lexical_forms.proofs.Common.{IsValidUpTo, IsWithin, LacksLetter, LacksZero, List, NoLiteral, Notation, PlaysNoRole, Reads, Role, [], ap, arith}
+use Rattle.lexical_forms.proofs.Common.{cases_lt, false, false≢true, get_or, inl, inr, is_in, is_none_or_one, is_none_or_prefix, is_other_prefix, le_antisymm}
+use Rattle.lexical_forms.proofs.Common.{length, nat_lt, nat_tests, not, notation_of, other_case, position, radix_of, raw, reach, refl, set_of_role, sign_size}
+use Rattle.lexical_forms.proofs.Common.{signs, slice_get, slice_get-get_or, subst, sym, take, take_all, text_of, true, unwrap_or, ℕ, ◌&&◌, ◌++◌, ◌+◌, ◌<◌}
+use Rattle.lexical_forms.proofs.Common.{◌==◌, ◌∙◌, ◌∷◌, ◌≡◌, ◌≤◌}
 use Rattle.lexical_base.specs.Digits.{byte_value, digit_characters, uppercase}
 use Rattle.lexical_util.specs.Layout as layout
 use Rattle.lexical_util.specs.Unfoldable.{cased}

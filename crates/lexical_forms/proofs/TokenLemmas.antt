@@ -1,14 +1,12 @@
 -- Tokens: the best of the candidates of several forms.
-use Rattle.lexical_forms.proofs.Common.{Bool, Candidate, Form, FormList, Found, GoesTo, HasLengths, HasSumsOf, IfSome, IsAhead}
-use Rattle.lexical_forms.proofs.Common.{IsCandidate, IsChosen, IsCounted, IsCut, IsEnd, IsFirst, IsFollowed, IsFrontIn, IsMade, IsMeasured, IsNone}
-use Rattle.lexical_forms.proofs.Common.{IsOver}
-use Rattle.lexical_forms.proofs.Common.{IsOwn}
-use Rattle.lexical_forms.proofs.Common.{IsPicked, IsRefused, IsSomeAnd, IsToken, IsTokenError, IsTrue, List, Literal, NoCandidate, NoForm, NoOwn}
-use Rattle.lexical_forms.proofs.Common.{None, NonePast, NoneBy, Option, PointsBack, Read, ReadsForm, ReadsIn, Some, [], ◌∷◌}
-use Rattle.lexical_forms.proofs.Common.{Token, Tokens, ap, arith, cuts_of, drop, false, gives_back, goes_on, has_float, if◌then◌else◌}
-use Rattle.lexical_forms.proofs.Common.{inl, inr, is_ascii_digit, is_float, is_in, is_shorter, is_stopped, is_word_byte, kind_with, length, length-take-le}
-use Rattle.lexical_forms.proofs.Common.{more_of, nat_tests, notation_of, refl, slice_get, stop_end, subst, suffix_size, suffix_words}
-use Rattle.lexical_forms.proofs.Common.{suffixed, sym, take, take_all, true, whole, ℕ, ◌&&◌, ◌+◌, ◌-◌, ◌<◌, ◌==◌, ◌||◌, ◌∙◌, ◌≡◌, ◌≤◌, ◌⊎◌}
+use Rattle.lexical_forms.proofs.Common.{Bool, Candidate, Form, FormList, Found, GoesTo, HasLengths, HasSumsOf, IfSome, IsAhead, IsCandidate, IsChosen}
+use Rattle.lexical_forms.proofs.Common.{IsCounted, IsCut, IsEnd, IsFirst, IsFollowed, IsFrontIn, IsMade, IsMeasured, IsNone, IsOver, IsOwn, IsPicked}
+use Rattle.lexical_forms.proofs.Common.{IsRefused, IsSomeAnd, IsToken, IsTokenError, IsTrue, List, Literal, NoCandidate, NoForm, NoOwn, None, NoneBy}
+use Rattle.lexical_forms.proofs.Common.{NonePast, Option, PointsBack, Read, ReadsForm, ReadsIn, Some, Token, Tokens, [], ap, arith, cuts_of, drop, false}
+use Rattle.lexical_forms.proofs.Common.{gives_back, goes_on, has_float, if◌then◌else◌, inl, inr, is_ascii_digit, is_float, is_in, is_shorter, is_stopped}
+use Rattle.lexical_forms.proofs.Common.{is_word_byte, kind_with, length, length-take-le, more_of, nat_tests, notation_of, refl, slice_get, stop_end, subst}
+use Rattle.lexical_forms.proofs.Common.{suffix_size, suffix_words, suffixed, sym, take, take_all, true, whole, ℕ, ◌&&◌, ◌+◌, ◌-◌, ◌<◌, ◌==◌, ◌||◌, ◌∙◌, ◌∷◌}
+use Rattle.lexical_forms.proofs.Common.{◌≡◌, ◌≤◌, ◌⊎◌}
 use Rattle.lexical_forms.specs.declared.token.TokenError.{TokenError}
 use Rattle.lexical_literal.specs.declared.literal.Sums.{Sums}
 use Rattle.lexical_forms.specs.declared.token.TokenError.TheVariants as errors

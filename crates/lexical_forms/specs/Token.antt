@@ -1,6 +1,6 @@
 -- Tokens: numbers that a text begins with, each with its suffix, and whatever follows.
-use Rattle.std.specs.Prelude.{ℕ, ◌≡◌, ◌+◌, ◌-◌, ◌==◌, ◌&&◌, ◌||◌, ◌<◌, ◌⊎◌, Bool, true, false, if◌then◌else◌, nat_lt, IsTrue, IsSomeAnd, List, Option, Some}
-use Rattle.std.specs.Prelude.{[], ◌++◌, None, All, Result, Ok, Err, drop, length, map, not, option_map, slice_get, take, unwrap_or}
+use Rattle.std.specs.Prelude.{All, Bool, Err, IsSomeAnd, IsTrue, List, None, Ok, Option, Result, Some, [], drop, false, if◌then◌else◌, length, map, nat_lt}
+use Rattle.std.specs.Prelude.{not, option_map, slice_get, take, true, unwrap_or, ℕ, ◌&&◌, ◌++◌, ◌+◌, ◌-◌, ◌<◌, ◌==◌, ◌||◌, ◌≡◌, ◌⊎◌}
 use Rattle.std.specs.Borrow.{Bor}
 use Rattle.std.specs.Char.{is_ascii_alphabetic, is_ascii_digit}
 use Rattle.std.specs.List.{list_any}
@@ -11,8 +11,7 @@ use Rattle.lexical_forms.specs.Forms.{HasFront, IsFormError, IsGreatest, NoForm,
 use Rattle.lexical_literal.specs.Front.{IsValidBy}
 use Rattle.lexical_literal.specs.Literal.{Literal, is_float}
 use Rattle.lexical_literal.specs.Notation.{notation_of}
-use Rattle.lexical_forms.specs.Suffix.{byte_before, is_followed, is_word_byte, kind_with, meets, more_of, stop_end}
-use Rattle.lexical_forms.specs.Suffix.{suffix_size, suffix_words, word_size}
+use Rattle.lexical_forms.specs.Suffix.{byte_before, is_followed, is_word_byte, kind_with, meets, more_of, stop_end, suffix_size, suffix_words, word_size}
 use Rattle.lexical_forms.specs.declared.form.Form.{Form}
 use Rattle.lexical_forms.specs.declared.list.PointsBack.{PointsBack}
 use Rattle.lexical_forms.specs.declared.list.PointsBack.TheVariants as points

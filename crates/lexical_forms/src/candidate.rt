@@ -1,12 +1,12 @@
 //! The candidates of forms for a token, and the token that the longest of them makes.
 
-ghost use Rattle.std.specs.Prelude.{◌≡◌, ◌<◌, ◌≤◌, ◌+◌, ◌-◌, ◌==◌, ◌&&◌, ◌||◌, ◌⊎◌, ℕ, All, Bool, IfSome, IsNone, IsSomeAnd, IsTrue, None, Some, drop, false};
-ghost use Rattle.std.specs.Prelude.{if◌then◌else◌, length, nat_le, nat_lt, slice_get, take, true};
+ghost use Rattle.std.specs.Prelude.{◌≡◌, ◌<◌, ◌≤◌, ◌+◌, ◌-◌, ◌==◌, ◌&&◌, ◌||◌, ◌⊎◌, ℕ, All, Bool, IsNone, IsSomeAnd, IsTrue, None, Some, drop, false};
+ghost use Rattle.std.specs.Prelude.{length, nat_le, slice_get, take, true};
 ghost use Rattle.std.specs.Char.{is_ascii_alphabetic, is_ascii_digit};
 ghost use Rattle.std.specs.Option.{ForSome};
 ghost use Rattle.lexical_forms.specs.Additions.Forms.{GoesTo, GoesWithin, IsFrontIn, IsOpenedTo, further};
-ghost use Rattle.lexical_forms.specs.Additions.Token.{HasNoWord, IsAsked, IsAskedFirst, IsBegunFirst, IsEnd, IsEnded, IsEndedAt, IsMade, IsOverFrom, IsOwn, IsPicked};
-ghost use Rattle.lexical_forms.specs.Additions.Token.{IsReady, IsWinner, IsYet, MayEnd, NoCandidate, NoOwn, goes_on, has_float, is_longer, suffixed, whole};
+ghost use Rattle.lexical_forms.specs.Additions.Token.{HasNoWord, IsAsked, IsAskedFirst, IsBegunFirst, IsEnd, IsEnded, IsEndedAt, IsMade, IsOverFrom, IsOwn};
+ghost use Rattle.lexical_forms.specs.Additions.Token.{IsPicked, IsReady, IsWinner, IsYet, MayEnd, NoCandidate, NoOwn, goes_on, is_longer, suffixed, whole};
 ghost use Rattle.lexical_literal.specs.Cause.{is_in};
 ghost use Rattle.lexical_literal.specs.Additions.Literal.{AreSums, IsCut, IsSummed, cut};
 ghost use Rattle.lexical_literal.specs.Additions.Stop.{HasBegun, IsWithin};

@@ -1,7 +1,7 @@
 //! Words that stand directly behind a number, such as `u8`, and bytes that may not follow it.
 
-ghost use Rattle.std.specs.Prelude.{◌≡◌, ◌==◌, ◌&&◌, ◌||◌, [], ◌+◌, ◌≤◌, Some, false, filter, fold, if◌then◌else◌, length, map, max, nat_le, option_map, slice_get};
-ghost use Rattle.std.specs.Prelude.{unwrap_or};
+ghost use Rattle.std.specs.Prelude.{◌≡◌, ◌==◌, ◌&&◌, ◌||◌, [], ◌+◌, ◌≤◌, Some, false, filter, fold, if◌then◌else◌, length, map, max, nat_le, option_map};
+ghost use Rattle.std.specs.Prelude.{slice_get, unwrap_or};
 ghost use Rattle.std.specs.Char.{eq_ignore_ascii_case, is_ascii_digit};
 ghost use Rattle.std.specs.Borrow.{Bor};
 ghost use Rattle.std.specs.List.{find, list_any};

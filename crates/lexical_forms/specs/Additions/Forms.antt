@@ -157,8 +157,8 @@ pub record IsPassed (g : Form) (text : List ℕ) (size : ℕ) : Type 0 where
 abbrev pub ArePassed : List Form → List ℕ → ℕ → ℕ → Type 0
 ArePassed forms text asked limit = (k : ℕ) (d : Form) → k < asked → (size : ℕ) × (size < limit) × IsPassed (get_or forms k d) text size
 
--- `IsBest P forms asked limit index n` holds if `P` holds of the form with this index and of `n`, and if `P` holds, of the first `asked` forms, of none before and
--- as great a number, and of none and a greater one, where numbers below `limit` do not count.
+-- `IsBest P forms asked limit index n` holds if `P` holds of the form with this index and of `n`, and if `P` holds, of the first `asked` forms, of none before
+-- and as great a number, and of none and a greater one, where numbers below `limit` do not count.
 pub record IsBest (P : Form → ℕ → Type 0) (forms : List Form) (asked limit index n : ℕ) : Type 0 where
   pub here : IsSomeAnd (slice_get forms index) (λ form. P form n)
   pub inside : index < asked

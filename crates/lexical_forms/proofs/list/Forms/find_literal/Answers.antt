@@ -1,5 +1,6 @@
 -- The first form that reads the text, or the form whose error is that of the list.
-use Rattle.lexical_forms.proofs.Common.{All-more, ArePassed, FormList, Furthest, IfSome, IsLed, IsRefusedAt, IsSomeAnd, Leads, List, NoForm, None, NoneBy, Option, Reaches}
+use Rattle.lexical_forms.proofs.Common.{All-more, ArePassed, FormList, Furthest, IfSome, IsLed, IsRefusedAt, IsSomeAnd, Leads, List, NoForm}
+use Rattle.lexical_forms.proofs.Common.{None, NoneBy, Option, Reaches}
 use Rattle.lexical_forms.proofs.Common.{ReadsIn, Stopped, arith, get_or, length, length-take-le, nat_tests, refl, slice_get, subst, sym, take, ℕ, ◌+◌, ◌≡◌, ◌≤◌}
 use Rattle.lexical_forms.proofs.BehindLemmas.{none_in}
 use Rattle.lexical_forms.proofs.FormLemmas.{all_passed, all_tried, at_index, first_none, found_is, leads_first, leads_past}
@@ -8,7 +9,8 @@ use Rattle.lexical_forms.proofs.list.Forms.find_literal.Goals as goal
 use Rattle.lexical_forms.proofs.list.Forms.find_literal.Goals.{in-Some, in_default, in-Err, in-Ok+in-Err-read}
 
 no_form : (list self : FormList) (text : List ℕ) (i : ℕ) → list ≡ self → length list.forms ≤ i → NoForm (take i list.forms) text → NoForm self.forms text
-no_form list self text i same end none = subst (λ (l : FormList). NoForm l.forms text) same (all_tried list.forms text i end (λ g. NoneBy (ReadsIn g) text) none)
+no_form list self text i same end none =
+    subst (λ (l : FormList). NoForm l.forms text) same (all_tried list.forms text i end (λ g. NoneBy (ReadsIn g) text) none)
 
 pub loop-form-init : goal.loop-form-init
 loop-form-init c =

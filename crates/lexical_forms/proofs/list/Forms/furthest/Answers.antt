@@ -15,7 +15,8 @@ pub loop-form-init : goal.loop-form-init
 loop-form-init c =
     let forms = c.self.inside.forms.now in let text = c.args.text.now in
     leads_first forms text 0 0 c.reached-furthest.result c.reached-furthest.ensures.form
-    (subst (λ (l : FormList). IsSomeAnd (slice_get l.forms 0) (IsRefusedAt text c.reached-furthest.result.stop)) (sym c.self.view_is) c.reached-furthest.ensures.here)
+    (subst (λ (l : FormList). IsSomeAnd (slice_get l.forms 0) (IsRefusedAt text c.reached-furthest.result.stop)) (sym c.self.view_is)
+    c.reached-furthest.ensures.here)
     (subst (λ (l : FormList). IsSomeAnd (slice_get l.forms 0) (λ g. Reaches text g c.reached-furthest.result.reach)) (sym c.self.view_is)
     c.reached-furthest.ensures.reach) (λ k d below. absurd (omega (arith, below)))
 

@@ -9,7 +9,8 @@ reached-requires c = subst (IsRefusedAt c.args.text.now c.args.stop) (sym c.inde
     c.as_slice.ensures.list c.requires).1
 
 pub returns-clause-here : goal.returns-clause-here
-returns-clause-here c = subst (λ stop. IsSomeAnd (slice_get c.args.self.now.forms c.args.form) (IsRefusedAt c.args.text.now stop)) (sym c.reached.ensures.stop) c.requires
+returns-clause-here c =
+    subst (λ stop. IsSomeAnd (slice_get c.args.self.now.forms c.args.form) (IsRefusedAt c.args.text.now stop)) (sym c.reached.ensures.stop) c.requires
 
 pub returns-clause-reach : goal.returns-clause-reach
 returns-clause-reach c =

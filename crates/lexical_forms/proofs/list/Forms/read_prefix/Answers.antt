@@ -18,7 +18,8 @@ returns-in-Some c =
     let kind = kind_ended first.suffixes made.result.suffix.now first.kind
     (made.ensures.suffix ∙ ap (λ n. take n (drop size text)) (let none : candidate.end - size ≡ 0 = omega (arith, end) in none)) in
     subst (λ (l : FormList). (n : ℕ) × IsGreatest (HasFront text) l.forms 0 n
-    × IsSomeAnd (slice_get l.forms 0) (λ form. ReadsForm (take n text) literal form × (literal.opened ≡ form.opening.size)) × (made.result.rest.now ≡ drop n text))
+    × IsSomeAnd (slice_get l.forms 0) (λ form. ReadsForm (take n text) literal form × (literal.opened ≡ form.opening.size))
+    × (made.result.rest.now ≡ drop n text))
     c.self.view_is (
       size,
       greatest_ended list text candidate e,

@@ -6,7 +6,8 @@ use Rattle.lexical_forms.specs.Additions.Token.{IsEndedAt}
 use Rattle.lexical_forms.proofs.list.Forms.token.Goals as goal
 
 pub made-requires : goal.made-requires
-made-requires c = (made_first _ _ _ c.self.view_is c.index-self-0.result c.in-Some-ended.candidate (c.ended.ensures c.in-Some-ended.candidate c.in-Some-ended.is)).ready
+made-requires c =
+    (made_first _ _ _ c.self.view_is c.index-self-0.result c.in-Some-ended.candidate (c.ended.ensures c.in-Some-ended.candidate c.in-Some-ended.is)).ready
 
 pub returns-else-is_stopped : goal.returns-else-is_stopped
 returns-else-is_stopped c =
