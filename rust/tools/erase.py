@@ -173,13 +173,6 @@ REPLACED += [
       for it in "cut format has_negative_exponent mantissa places scale".split()],
     # A syntax that is not lawful can have any radix.
     ("lexical_number/src/small.rt", "MOST[radix as usize] as usize", "if radix <= 36 { MOST[radix as usize] as usize } else { 0 }"),
-    # Lists are also made at run time. Bytes that end a number are neither digits nor signs, so only these bytes of a grammar can be one.
-    ("exclude.rt", "    lets_all_end(form, &ENDS)\n", "    let it = form.syntax.grammar();\n    let own = [it.separator, it.prefix, it.suffix, it.exponent, it.point];\n"
-     "    !(have_end(&own) || have_end(&form.opening.bytes) || have_end(more_of(form.suffixes)))\n"),
-    ("exclude.rt", "const fn lets_all_end(form: &Form, bytes: &[u8]) -> bool\n", "const fn have_end(bytes: &[u8]) -> bool { match bytes { [] => false, [byte, rest @ ..] => is_end(*byte) || have_end(rest) } }\n"
-     "#[allow(dead_code)]\nconst fn lets_all_end(form: &Form, bytes: &[u8]) -> bool\n"),
-    ("exclude.rt", "const ENDS: [u8; 12]", "#[allow(dead_code)]\nconst ENDS: [u8; 12]"),
-    ("list.rt", "let ends = let_end(self.forms) && let_end(", "let ends = self.ends && let_end("),
     # Programs have one copy of these.
     ("lexical_literal/src/stop.rt", "self.begin(false, text, false)", "self.begin_any(text, false)"),
     ("lexical_literal/src/stop.rt", "self.begin(false, text, true)", "self.begin_any(text, true)"),

@@ -3,8 +3,8 @@ use Rattle.lexical_forms.proofs.Common.{Begins, BeginsBy, Bool, Form, Found, Goe
 use Rattle.lexical_forms.proofs.Common.{IsOpened, IsOpenedTo, IsPassed, IsRefusal, IsRefusedAt, IsStopped, IsStoppedBefore, IsStoppedBehind, IsValidUpTo}
 use Rattle.lexical_forms.proofs.Common.{IsWithin, List, Literal, NoFrontBy, NoFrontPast, NoLiteral, None, NoneBy, NonePast, Notation, Reaches, Reads}
 use Rattle.lexical_forms.proofs.Common.{ReadsFront, ReadsFrontBy, ReadsIn, Refusal, Some, Stopped, [], ap, arith, behind, cases_lt, drop, false}
-use Rattle.lexical_forms.proofs.Common.{if◌then◌else◌, inl, inr, length, nat_lt, nat_tests, not, notation_of, reach, reached, refl, subst, sym, take}
-use Rattle.lexical_forms.proofs.Common.{take_all, true, ℕ, ◌++◌, ◌+◌, ◌-◌, ◌<◌, ◌==◌, ◌∙◌, ◌≡◌, ◌≤◌}
+use Rattle.lexical_forms.proofs.Common.{inl, inr, length, nat_tests, not, notation_of, reach, reached, subst, sym, take}
+use Rattle.lexical_forms.proofs.Common.{take_all, ℕ, ◌++◌, ◌+◌, ◌-◌, ◌<◌, ◌==◌, ◌∙◌, ◌≡◌, ◌≤◌}
 use Rattle.lexical_forms.proofs.OpeningLemmas.{behind_take, front_opened, no_opening, none_empty, not_longer, not_opened, one_valid, opened_front}
 use Rattle.lexical_forms.proofs.OpeningLemmas.{front_behind, past_behind, rest_size, valid_behind, valid_inside}
 use Rattle.lexical_forms.proofs.StrangerLemmas.{goes_no_further, none_start, reach_least, reach_most, start_out}
@@ -51,24 +51,14 @@ module _ (g : Form) where
     one_reach a b one other = one.2 ∙ ap (reached g text) (one_valid (ReadsIn g) text one.0 other.0 one.1 other.1) ∙ sym other.2
 
     reached_before : (size : ℕ) → size < n → reached g text size ≡ size
-    reached_before size short = go (nat_lt size n) refl where
-      go : (b : Bool) → nat_lt size n ≡ b → (if b then size else n + reach m rest (size - n)) ≡ size
-      go true is = refl
-      go false is = absurd (grind (arith, nat_tests))
+    reached_before size short = grind (arith, nat_tests)
 
     reached_behind : (size : ℕ) → n ≤ size → reached g text size ≡ n + reach m rest (size - n)
-    reached_behind size past = go (nat_lt size n) refl where
-      go : (b : Bool) → nat_lt size n ≡ b → (if b then size else n + reach m rest (size - n)) ≡ n + reach m rest (size - n)
-      go true is = absurd (grind (arith, nat_tests))
-      go false is = refl
+    reached_behind size past = grind (arith, nat_tests)
 
     reached_near : (size : ℕ) → (size ≤ reached g text size) × (reached g text size ≤ size + 1)
-    reached_near size = go (nat_lt size n) refl where
-      go : (b : Bool) → nat_lt size n ≡ b → (size ≤ (if b then size else n + reach m rest (size - n))) × ((if b then size else n + reach m rest
-          (size - n)) ≤ size + 1)
-      go true is = (omega arith, omega arith)
-      go false is = let low : n ≤ size = grind (arith, nat_tests) in
-          let least = reach_least m rest (size - n) in let most = reach_most m rest (size - n) in (omega (arith, low, least), omega (arith, low, most))
+    reached_near size =
+        let least = reach_least m rest (size - n) in let most = reach_most m rest (size - n) in (grind (arith, nat_tests), grind (arith, nat_tests))
 
     module _ (stop : Stopped) (refused : IsRefusedAt text stop g) (k : ℕ) (reaches : Reaches text g k) where
       reached_there : k ≡ reached g text stop.size

@@ -1,21 +1,20 @@
 -- The names that most proofs of this crate cite, passed on from one place. Declares nothing.
-pub use Rattle.lexical_forms.specs.Additions.Forms.{AreBelow, AreFalse, ArePassed, GoesTo, GoesWithin, IsExcluded, IsInside, IsFoundForm, IsFoundFrontForm}
-pub use Rattle.lexical_forms.specs.Additions.Forms.{IsFrontIn, IsLed, IsLongestPast, IsLow, IsOpened, IsPassed, IsPast, IsSilentAt}
-pub use Rattle.lexical_forms.specs.Additions.Forms.{IsOpenedTo, IsRefusedAt, IsSpare, IsStoppedBefore, IsStoppedBehind, IsStranger, LacksLetter, LacksZero, Leads}
-pub use Rattle.lexical_forms.specs.Additions.Forms.{NoFrontPast, NonePast, PlaysNoRole, behind, further}
-pub use Rattle.lexical_forms.specs.Additions.Forms.{special_separator, spells}
-pub use Rattle.lexical_forms.specs.Additions.Token.{AreBare, Counts, HasNoWord, HasSumsOf, IsAsked, IsBestYet, IsCounted, IsEnd, IsEnded, IsFirstYet, IsLowPast, IsMade}
-pub use Rattle.lexical_forms.specs.Additions.Token.{IsOverFrom, IsOwn, IsPicked, IsWinner, IsYet, NoCandidate, NoOwn, NoneLonger, go_on_with, goes_on, has_float, has_prefix, is_longer}
-pub use Rattle.lexical_forms.specs.Additions.Token.{is_in_word, suffixed, whole}
+pub use Rattle.lexical_forms.specs.Additions.Forms.{AreFalse, ArePassed, GoesTo, GoesWithin, IsExcluded, IsFoundForm, IsFoundFrontForm, IsFrontIn, IsInside}
+pub use Rattle.lexical_forms.specs.Additions.Forms.{IsLed, IsLongestPast, IsLow, IsOpened, IsOpenedTo, IsPassed, IsPast, IsRefusedAt, IsSilentAt, IsSpare}
+pub use Rattle.lexical_forms.specs.Additions.Forms.{IsStoppedBefore, IsStoppedBehind, IsStranger, LacksLetter, LacksZero, Leads, NoFrontPast, NonePast}
+pub use Rattle.lexical_forms.specs.Additions.Forms.{PlaysNoRole, behind, further, special_separator, spells}
+pub use Rattle.lexical_forms.specs.Additions.Token.{AreBare, Counts, HasNoWord, HasSumsOf, IsAsked, IsCounted, IsEnd, IsEnded, IsFirstYet, IsMade, IsOverFrom}
+pub use Rattle.lexical_forms.specs.Additions.Token.{IsOwn, IsPicked, IsWinner, IsYet, NoCandidate, NoOwn, NoneLonger, go_on_with, goes_on, has_float}
+pub use Rattle.lexical_forms.specs.Additions.Token.{has_prefix, is_in_word, is_longer, suffixed, whole}
 pub use Rattle.lexical_forms.specs.FormList.{FormList, have_openings}
-pub use Rattle.lexical_forms.specs.Forms.{Begins, HasFront, IsErrorIn, IsErrorOfForm, IsFirst, IsFormError, IsGreatest, IsReadByForms, NoForm}
+pub use Rattle.lexical_forms.specs.Forms.{Begins, HasFront, IsErrorIn, IsErrorOfForm, IsFirst, IsFormError, IsGreatest, IsReadByForms, NoForm, Reaches}
+pub use Rattle.lexical_forms.specs.Forms.{ReadsForm, ReadsIn, is_other_prefix, reach, reached, refusal_in, sign_size}
 pub use Rattle.lexical_forms.specs.Opening.{spelling}
-pub use Rattle.lexical_forms.specs.Forms.{HasOpening, Reaches, ReadsForm, ReadsIn, is_other_prefix, reach, reached, refusal_in, sign_size}
 pub use Rattle.lexical_forms.specs.Specials.{is_spelled, letter_of, signed, special_behind, special_of}
-pub use Rattle.lexical_forms.specs.Suffix.{begins, byte_before, is_followed, is_stopped, is_word_byte, kind_with, meets, more_of, stop_end, suffix_size}
-pub use Rattle.lexical_forms.specs.Suffix.{suffix_words, word_size}
+pub use Rattle.lexical_forms.specs.Suffix.{begins, byte_before, is_followed, is_word_byte, kind_with, meets, more_of, stop_end, suffix_size, suffix_words}
+pub use Rattle.lexical_forms.specs.Suffix.{word_size}
 pub use Rattle.lexical_forms.specs.Token.{HasNone, IsAhead, IsCandidate, IsChosen, IsCut, IsFollowed, IsOver, IsReadByTokens, IsRefused, IsToken}
-pub use Rattle.lexical_forms.specs.Token.{IsTokenError, gives_back, is_alone, is_shorter, lets_words, takes_point, tried}
+pub use Rattle.lexical_forms.specs.Token.{IsTokenError, gives_back, is_alone, is_shorter, is_stopped, takes_point, tried}
 pub use Rattle.lexical_forms.specs.declared.form.Form.{Form}
 pub use Rattle.lexical_forms.specs.declared.list.Furthest.{Furthest}
 pub use Rattle.lexical_forms.specs.declared.list.PointsBack.{PointsBack}
@@ -48,10 +47,10 @@ pub use Rattle.lexical_util.specs.Record.{Record, raw}
 pub use Rattle.lexical_util.specs.Roles.{other_case, signs}
 pub use Rattle.lexical_util.specs.declared.feature_format.roles.Role.{Role}
 pub use Rattle.lexical_util.specs.declared.format_flags.Part.{Part}
-pub use Rattle.std.proofs.Common.{All, Bool, Err, IfSome, IsNone, IsSomeAnd, IsTrue, List, None, Ok, Option, Some, [], ap, append-nil, arith, cond, drop, false}
-pub use Rattle.std.proofs.Common.{filter, fold, get_or, if◌then◌else◌, inl, inr, length, length-append, map, max, min, nat_eq, nat_le, nat_lt, not, option_map}
-pub use Rattle.std.proofs.Common.{position, refl, rules, slice_get, subst, sym, take, true, unwrap_or, ℕ, ◌&&◌, ◌*◌, ◌++◌, ◌+◌, ◌-◌, ◌<◌, ◌==◌, ◌||◌, ◌∙◌, ◌∷◌}
-pub use Rattle.std.proofs.Common.{◌≡◌, ◌≤◌, ◌⊎◌}
+pub use Rattle.std.proofs.Common.{All, Bool, Err, IfSome, IsNone, IsSomeAnd, IsTrue, List, None, Ok, Option, Some, [], ap, append-nil, arith, cond, drop}
+pub use Rattle.std.proofs.Common.{false, filter, fold, get_or, if◌then◌else◌, inl, inr, length, length-append, map, max, min, nat_eq, nat_le, nat_lt, not}
+pub use Rattle.std.proofs.Common.{option_map, position, refl, rules, slice_get, subst, sym, take, true, unwrap_or, ℕ, ◌&&◌, ◌*◌, ◌++◌, ◌+◌, ◌-◌, ◌<◌, ◌==◌}
+pub use Rattle.std.proofs.Common.{◌||◌, ◌∙◌, ◌∷◌, ◌≡◌, ◌≤◌, ◌⊎◌}
 pub use Rattle.std.proofs.Math.Nat.{le_antisymm}
 pub use Rattle.std.proofs.lemmas.Bool.{cases_lt, false≢true}
 pub use Rattle.std.proofs.lemmas.Bool.Decides.{nat_tests}

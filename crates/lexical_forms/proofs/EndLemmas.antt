@@ -2,18 +2,29 @@
 use Rattle.lexical_forms.proofs.Common.{All, All-from_recursion, BeginsBy, Bool, Bor, Candidate, Form, FormList, Found, HasFront, HasNoWord, HasSumsOf, IsFrontIn}
 use Rattle.lexical_forms.proofs.Common.{IsGreatest, IsOver, IsPicked, map, slice_get_within, tried}
 use Rattle.lexical_forms.proofs.Common.{IsMade, IsOpenedTo, IsSomeAnd, IsTrue, IsWithin, List, None, Option, PlaysNoRole, PointsBack, Reads, ReadsIn, Some, Tokens, [], ap, arith, behind}
-use Rattle.lexical_forms.proofs.Common.{byte_before, cases_lt, drop, false, false≢true, get_or, get_or-drop, gives_back, has_float, inl, inr, is_in, is_word_byte, kind_with}
+use Rattle.lexical_forms.proofs.Common.{byte_before, cases_lt, drop, false, false≢true, get_or, get_or-drop, Grammar, Part, gives_back, has_float, inl}
+use Rattle.lexical_forms.proofs.Common.{nat_lt, signs, inr, is_in, is_word_byte, kind_with}
 use Rattle.lexical_forms.proofs.Common.{length, length-drop, list_any, more_of, nat_tests, not, notation_of, option_map, other_case, raw, refl, slice_get}
 use Rattle.lexical_forms.proofs.Common.{slice_get-get_or, spells, subst, suffix_size, sym, take, takes_point, true, unwrap_or, ℕ, ◌&&◌, ◌++◌, ◌+◌, ◌-◌}
 use Rattle.lexical_forms.proofs.Common.{◌<◌, ◌==◌, ◌||◌, ◌∙◌, ◌∷◌, ◌≡◌, ◌≤◌}
-use Rattle.lexical_forms.specs.Additions.Forms.{ENDS, IsOutside, LetEnd, LetsEnd, ends_at, is_end}
+use Rattle.lexical_forms.specs.Additions.Forms.{IsOutside, LetsEnd, ends_at, is_end}
 use Rattle.lexical_forms.specs.Additions.Token.{IsBegunFirst, IsEndedAt, IsLast}
 use Rattle.lexical_forms.specs.declared.list.PointsBack.TheVariants as points
+use Rattle.lexical_base.proofs.ValueLemmas.{value_is}
+use Rattle.lexical_base.specs.Digits.{byte_value}
+use Rattle.lexical_util.specs.Layout as layout
+use Rattle.lexical_util.specs.Unfoldable.{cased}
+use Rattle.lexical_util.specs.declared.format_flags.Part.TheVariants as parts
+use Rattle.lexical_literal.proofs.FieldLemmas.{byte_is, exponent_is, point_is, prefix_is, radix_fits, suffix_is, untested}
+use Rattle.lexical_literal.specs.Additions.Fields.{AreFields, worded}
+use Rattle.lexical_literal.specs.Syntax.{IsSyntax}
+use Rattle.lexical_literal.specs.declared.syntax.Grammar.TheInside.{Inside}
 use Rattle.lexical_forms.proofs.BehindLemmas.{front_in}
-use Rattle.lexical_forms.proofs.FormLemmas.{all_at}
+use Rattle.lexical_forms.proofs.FormLemmas.{all_at, no_one}
 use Rattle.lexical_forms.proofs.LeadingLemmas.{no_longer, over, suffix_within, word_within}
 use Rattle.lexical_forms.proofs.LongestLemmas.{all_tried, end_within, first_at, read_front, read_sums, size_within}
 use Rattle.lexical_forms.proofs.OpeningLemmas.{begins_whole, front_behind, front_byte, no_opening}
+use Rattle.lexical_forms.proofs.StrangerLemmas.{silent_of, spare_of}
 use Rattle.lexical_forms.proofs.TokenLemmas.{kept, some_is, with_suffix}
 use Rattle.lexical_literal.specs.Additions.Literal.{IsSummed}
 use Rattle.lexical_literal.specs.Additions.Stop.{HasBegun}
@@ -21,14 +32,6 @@ use Rattle.lexical_forms.specs.declared.suffix.Suffixes.{Suffixes}
 use Rattle.lexical_literal.specs.declared.kind.Kind.{Kind}
 use Rattle.lexical_literal.specs.declared.stop.Begun.{Begun}
 use Rattle.std.specs.List.{AllByRecursion}
-
--- What holds of all bytes of a list holds of one of them.
-pick : (P : ℕ → Type 0) (bytes : List ℕ) → AllByRecursion P bytes → (byte : ℕ) → list_any (λ it. it == byte) bytes ≡ true → P byte
-pick P [] all byte one = absurd (false≢true one)
-pick P (first ∷ bytes) all byte one = go (first == byte) refl (pick P bytes all.1 byte) one where
-  go : (b : Bool) → (first == byte) ≡ b → (list_any (λ it. it == byte) bytes ≡ true → P byte) → (b || list_any (λ it. it == byte) bytes) ≡ true → P byte
-  go true same rest one = subst P (let is : first ≡ byte = grind (arith, nat_tests) in is) all.0
-  go false other rest one = rest one
 
 -- It is of no word, and not the point.
 end_is : (byte : ℕ) → is_end byte ≡ true → (is_word_byte byte ≡ false) × ((byte == 46) ≡ false)
@@ -55,6 +58,45 @@ none_at (first ∷ bytes) byte (ℕ.suc index) none below = none_at bytes byte i
 not_spelled : (own byte : ℕ) (either : Bool) → is_word_byte byte ≡ false → (own == byte) ≡ false → ((byte == own) || (either && (byte == other_case own))) ≡ false
 not_spelled own byte either none other = grind (arith, nat_tests)
 
+-- It is none of bytes of which none ends a number.
+not_same : (own byte : ℕ) → is_end own ≡ false → is_end byte ≡ true → (own == byte) ≡ false
+not_same own byte off on = untested own byte (λ same. false≢true (sym off ∙ ap is_end same ∙ on))
+
+pub none_among : (bytes : List ℕ) (byte : ℕ) → list_any is_end bytes ≡ false → is_end byte ≡ true → list_any (λ it. it == byte) bytes ≡ false
+none_among [] byte none on = refl
+none_among (first ∷ bytes) byte none on =
+    let parts = no_one (is_end first) (list_any is_end bytes) none in
+    let own = not_same first byte parts.0 on in let rest = none_among bytes byte parts.1 on in grind arith
+
+apart : (counts : Bool) (own byte : ℕ) → is_end own ≡ false → is_end byte ≡ true → cased counts own byte ≡ false
+unfolding cased
+apart counts own byte off on = both_off (not (own == 0)) _ (not_spelled own byte (not counts) (end_is byte on).0 (not_same own byte off on))
+
+no_value : (byte : ℕ) → is_end byte ≡ true → byte_value byte ≡ 255
+no_value byte on = value_is byte (grind (arith, nat_tests)) ∙ grind (arith, nat_tests)
+
+below_radix : (v radix : ℕ) → v ≡ 255 → radix ≤ 36 → nat_lt v radix ≡ false
+below_radix v radix value most = grind (arith, nat_tests)
+
+no_sign : (byte : ℕ) → is_end byte ≡ true → (byte ≡ 48 → ⊥) × (signs byte ≡ false)
+no_sign byte on = (grind (arith, nat_tests), grind (arith, nat_tests))
+
+-- It plays no role in a grammar none of whose bytes ends a number.
+pub plays_none : (a : Inside) (g : Grammar) → AreFields a → worded a ≡ g → IsSyntax g
+    → list_any is_end (a.separator ∷ a.prefix ∷ a.suffix ∷ a.exponent ∷ a.point ∷ []) ≡ false
+    → (byte : ℕ) → is_end byte ≡ true → PlaysNoRole (notation_of g) byte
+plays_none a g fields same syntax none byte on =
+    let p = no_one (is_end a.separator) _ none in let q = no_one (is_end a.prefix) _ p.1 in let r = no_one (is_end a.suffix) _ q.1 in
+    let s = no_one (is_end a.exponent) _ r.1 in let t = no_one (is_end a.point) _ s.1 in
+    let no_digit = λ (part : Part). below_radix (byte_value byte) _ (no_value byte on) (radix_fits g part _ refl syntax).1 in
+    silent_of g byte byte (no_sign byte on).0
+    (spare_of g byte byte (no_digit parts.Integer) (no_digit parts.Exponent) (no_sign byte on).1
+    (subst (λ own. cased true own byte ≡ false) (byte_is a g fields same layout.digit_separator) (apart true a.separator byte p.0 on))
+    (sym (suffix_is a g fields same byte) ∙ apart _ a.suffix byte r.0 on)
+    (sym (point_is a g fields same byte) ∙ ap (λ is. is && not (byte == 0)) (untested byte a.point (λ is. false≢true (sym t.0 ∙ ap is_end (sym is) ∙ on))))
+    (sym (exponent_is a g fields same byte) ∙ apart _ a.exponent byte s.0 on))
+    (sym (prefix_is a g fields same byte) ∙ apart _ a.prefix byte q.0 on)
+
 -- Where such a byte is behind the first bytes, or nothing, no form goes on that lets the number end.
 module _ (text : List ℕ) (size : ℕ) (on : ends_at text size ≡ true) where
   abbrev byte : ℕ
@@ -65,7 +107,7 @@ module _ (text : List ℕ) (size : ℕ) (on : ends_at text size ≡ true) where
 
   module _ (form : Form) (lets : LetsEnd form) where
     outside : size < length text → IsOutside form byte
-    outside inside = pick (IsOutside form) ENDS lets byte (is_byte inside)
+    outside inside = lets byte (is_byte inside)
 
     no_word : HasNoWord text size form
     no_word = go (slice_get text size) refl on where
@@ -73,7 +115,7 @@ module _ (text : List ℕ) (size : ℕ) (on : ends_at text size ≡ true) where
           → is_in (λ byte. list_any (λ it. it == byte) (more_of form.suffixes) || is_word_byte byte) o ≡ false
       go None at on = refl
       go (Some byte) at on =
-          let word = (pick (IsOutside form) ENDS lets byte on).word in let other = (end_is byte on).0 in grind arith
+          let word = (lets byte on).word in let other = (end_is byte on).0 in grind arith
 
     pub within : (m : ℕ) → size < m → m ≤ length text → BeginsBy (ReadsIn form) (take m text) → ⊥
     within more past inside front =
@@ -113,9 +155,11 @@ none_opened form text bare = record {
   differs = λ short. absurd (omega (arith, short, bare));
 }
 
-module _ (list : FormList) (text : List ℕ) (form : Form) (at : slice_get list.forms 0 ≡ Some form) (bare : form.opening.size ≡ 0) (begun : Begun)
-    (found : HasBegun (notation_of form.syntax) text begun) (complete : IsTrue begun.complete) (summed : IsSummed (raw form.syntax.word) text begun)
-    (lets : LetEnd list.forms list.tokens) (on : ends_at text begun.at.size ≡ true) where
+module _ (list : FormList) (text : List ℕ) (begun : Begun) (is : IsBegunFirst list text begun) (complete : IsTrue begun.complete)
+    (on : ends_at text begun.at.size ≡ true) where
+  abbrev form : Form
+  form = is.may.form
+
   abbrev size : ℕ
   size = begun.at.size
 
@@ -123,21 +167,24 @@ module _ (list : FormList) (text : List ℕ) (form : Form) (at : slice_get list.
   candidate = record { size = size; counts = begun.counts; sums = Some begun.sums; end = size }
 
   own_lasts : All (IsLast text size) list.forms
-  own_lasts = lasts text size on list.forms lets.own
+  own_lasts = lasts text size on list.forms is.may.lets.own
 
   own : IsLast text size form
-  own = all_at (IsLast text size) list.forms 0 form at own_lasts
+  own = all_at (IsLast text size) list.forms 0 form is.may.at own_lasts
 
   opened : IsOpenedTo form.opening text 0
-  opened = none_opened form text bare
+  opened = none_opened form text is.may.bare
 
   over_own : IsWithin (notation_of form.syntax) text size
   over_own more past inside front =
-      let whole : behind form text ≡ text = ap (λ k. drop k text) bare in
+      let whole : behind form text ≡ text = ap (λ k. drop k text) is.may.bare in
       own.0 more past inside (record {
         more = front.more;
         literal = front.literal;
-        reads = (no_opening form.opening _ bare, subst (λ k. Reads (notation_of form.syntax) front.literal (drop k (take more text ++ front.more))) (sym bare) front.reads);
+        reads = (
+          no_opening form.opening _ is.may.bare,
+          subst (λ k. Reads (notation_of form.syntax) front.literal (drop k (take more text ++ front.more))) (sym is.may.bare) front.reads,
+        );
       })
 
   abbrev front_found : Found
@@ -148,7 +195,7 @@ module _ (list : FormList) (text : List ℕ) (form : Form) (at : slice_get list.
 
   is_front : IsFrontIn text front_found form
   is_front = subst (λ n. IsFrontIn text (record { size = n; counts = begun.counts }) form) all_of
-      (read_front form text text 0 opened (omega (arith, bare)) refl begun found complete over_own)
+      (read_front form text text 0 opened (let bare = is.may.bare in omega (arith, bare)) refl begun is.found complete over_own)
 
   made_with : (back : PointsBack) → IsMade back false text form candidate
   made_with back =
@@ -158,18 +205,18 @@ module _ (list : FormList) (text : List ℕ) (form : Form) (at : slice_get list.
       ap (λ end. Some (record { size = size; counts = begun.counts; sums = Some begun.sums; end = end })) (sym none) in
       with_suffix back false text form front_found is_front front_found kept (Some begun.sums)
       (subst (λ n. HasSumsOf form (take n text) begun.counts (Some begun.sums)) all_of
-      (read_sums form text text 0 opened (omega (arith, bare)) refl begun found complete over_own summed))
-      (Some candidate) same (λ c some. subst (λ (c : Candidate). c.end ≤ length text) (some_is candidate c some) found.begun.begun.within) candidate refl
+      (read_sums form text text 0 opened (let bare = is.may.bare in omega (arith, bare)) refl begun is.found complete over_own is.summed))
+      (Some candidate) same (λ c some. subst (λ (c : Candidate). c.end ≤ length text) (some_is candidate c some) is.found.begun.begun.within) candidate refl
 
   pub ended_is : IsEndedAt list text candidate
   ended_is = record {
     form = form;
-    at = at;
+    at = is.may.at;
     end = refl;
     front = (is_front.front.literal, front_in form text front_found is_front);
     made = made_with;
     own = own_lasts;
-    tokens = λ t some. lasts text size on t.now.forms.now (lets.needing t some);
+    tokens = λ t some. lasts text size on t.now.forms.now (is.may.lets.needing t some);
   }
 
 module _ (list : FormList) (text : List ℕ) (c : Candidate) (e : IsEndedAt list text c) where
@@ -198,10 +245,7 @@ module _ (list : FormList) (text : List ℕ) (c : Candidate) (e : IsEndedAt list
           let size = size_within list t.now text it c.size s end last.0 has in let same = e.end in
           no_longer s end c.size c.end size (end_within list t.now text it s end c.end (subst (λ n. HasNoWord text n it.0) (sym same) last.1) (omega (arith, size, same)) has);
     };
-    counted = made.counted;
-    sums = made.sums;
-    order = let same = e.end in omega (arith, same);
-    within = made.within;
+    ready = made.ready;
   }
 
   pub greatest_ended : IsGreatest (HasFront text) list.forms 0 c.size
@@ -232,8 +276,8 @@ module _ (self list : FormList) (text : List ℕ) (view : list ≡ self) (d : Fo
       → (g.opening.size ≡ 0) × HasBegun (notation_of g.syntax) text begun × IsSummed (raw g.syntax.word) text begun
   begun_first begun e =
       let own = subst (λ (l : FormList). IsBegunFirst l text begun) (sym view) e in
-      let same = some_is _ _ (sym own.at ∙ slice_get-get_or list.forms 0 d (slice_get_within list.forms 0 own.form own.at)) in (
-        subst (λ (g : Form). g.opening.size ≡ 0) same own.bare,
+      let same = some_is _ _ (sym own.may.at ∙ slice_get-get_or list.forms 0 d (slice_get_within list.forms 0 own.may.form own.may.at)) in (
+        subst (λ (g : Form). g.opening.size ≡ 0) same own.may.bare,
         subst (λ (g : Form). HasBegun (notation_of g.syntax) text begun) same own.found,
         subst (λ (g : Form). IsSummed (raw g.syntax.word) text begun) same own.summed,
       )

@@ -1,12 +1,12 @@
 -- What the parts of a token are, and which tokens are a whole text.
-use Rattle.lexical_forms.proofs.Common.{AreBare, Bool, Bor, Form, FormList, IsCandidate, IsFirst, IsSomeAnd, IsToken, List, Literal, None}
-use Rattle.lexical_forms.proofs.Common.{Option, Reads, ReadsForm, ReadsIn, Some, Token, Tokens, [], ap, arith, drop, drop-drop, false, false≢true}
-use Rattle.lexical_forms.proofs.Common.{get_or, slice_get}
-use Rattle.lexical_forms.proofs.Common.{gives_back, if◌then◌else◌, is_float, is_shorter, is_in, kind_with, length, length-drop, length-take, min}
-use Rattle.lexical_forms.proofs.Common.{more_of, nat_tests, notation_of, refl, slice_get_past, subst, suffix_size, sym, take, take-append-drop}
-use Rattle.lexical_forms.proofs.Common.{take_all, takes_point, text_of, tried, true, word_size, ℕ, ◌&&◌, ◌++◌, ◌+◌, ◌-◌, ◌∙◌, ◌∷◌, ◌≡◌, ◌≤◌}
+use Rattle.lexical_forms.proofs.Common.{AreBare, Bool, Bor, Form, FormList, IsCandidate, IsFirst, IsSomeAnd, IsToken, List, Literal, None, Option, Reads}
+use Rattle.lexical_forms.proofs.Common.{ReadsForm, ReadsIn, Some, Token, Tokens, [], ap, arith, drop, drop-drop, false, false≢true, get_or, gives_back}
+use Rattle.lexical_forms.proofs.Common.{if◌then◌else◌, is_float, is_in, is_shorter, kind_with, length, length-drop, length-take, min, more_of, nat_tests}
+use Rattle.lexical_forms.proofs.Common.{notation_of, refl, slice_get, slice_get_past, subst, suffix_size, sym, take, take-append-drop, take_all, takes_point}
+use Rattle.lexical_forms.proofs.Common.{text_of, tried, true, word_size, ℕ, ◌&&◌, ◌++◌, ◌+◌, ◌-◌, ◌∙◌, ◌∷◌, ◌≡◌, ◌≤◌}
 use Rattle.lexical_forms.specs.declared.suffix.Suffixes.{Suffixes}
-use Rattle.lexical_forms.proofs.LongestLemmas.{all_tried, at_all, before_at, first_below, first_of}
+use Rattle.lexical_forms.proofs.FormLemmas.{all_at}
+use Rattle.lexical_forms.proofs.LongestLemmas.{all_tried, before_at, first_below, first_of}
 use Rattle.lexical_forms.proofs.LeadingLemmas.{IsBare, are_bare, less_or_same, suffix_within}
 use Rattle.lexical_forms.proofs.BehindLemmas.{plain_of}
 
@@ -29,7 +29,7 @@ module _ (list : FormList) (t : Tokens) (text : List ℕ) (token : Token) (is : 
 
   module _ (bare : AreBare list t) where
     own_bare : IsBare is.form
-    own_bare = at_all (λ (it : Form × Bool). IsBare it.0) (tried list t) token.form (is.form, is.chosen.needs) is.chosen.at
+    own_bare = all_at (λ (it : Form × Bool). IsBare it.0) (tried list t) token.form (is.form, is.chosen.needs) is.chosen.at
         (all_tried IsBare list t (are_bare list.forms bare.0) (are_bare t.forms.now bare.1))
 
     reads_plain : Reads (notation_of is.form.syntax) token.literal.literal (take is.size text)

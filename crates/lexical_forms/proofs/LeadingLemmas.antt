@@ -1,15 +1,10 @@
 -- Tokens that are found by reading the forms of a list once.
-use Rattle.lexical_forms.proofs.Common.{All, AreSums, Bool, Bor, Cuts, Form}
-use Rattle.lexical_forms.proofs.Common.{HasLengths, HasSums}
-use Rattle.lexical_forms.proofs.Common.{IsTrue, IsWithin, List, Literal, NoFront, NoFrontPast, None, Notation, Option, PlaysNoRole}
-use Rattle.lexical_forms.proofs.Common.{Reads, have_openings, Record, Some}
-use Rattle.lexical_forms.proofs.Common.{[], ap, append-nil, arith, before_exponent}
-use Rattle.lexical_forms.proofs.Common.{begins, cond, cut, drop, drop-take, false, filter, fold, get_or}
-use Rattle.lexical_forms.proofs.Common.{go_on_with, has, has_prefix, if◌then◌else◌, is_in}
-use Rattle.lexical_forms.proofs.Common.{is_in_word, is_shorter, is_word_byte, length, length-append, length-take-le, map, max}
-use Rattle.lexical_forms.proofs.Common.{more_of, nat_le, nat_tests, refl, sign_size, slice_get, slice_get-get_or}
-use Rattle.lexical_forms.proofs.Common.{slice_get_within, subst, suffix_size, suffix_words, sym, take, take-take, text_of, true}
-use Rattle.lexical_forms.proofs.Common.{word_size, ℕ, ◌&&◌, ◌++◌, ◌+◌, ◌-◌, ◌<◌, ◌∙◌, ◌∷◌, ◌≡◌, ◌≤◌}
+use Rattle.lexical_forms.proofs.Common.{All, AreSums, Bool, Bor, Cuts, Form, HasLengths, HasSums, IsTrue, IsWithin, List, Literal, NoFront, NoFrontPast, None}
+use Rattle.lexical_forms.proofs.Common.{Notation, Option, PlaysNoRole, Reads, Record, Some, [], ap, append-nil, arith, before_exponent, begins, cond, cut}
+use Rattle.lexical_forms.proofs.Common.{drop, drop-take, false, filter, fold, get_or, go_on_with, has, has_prefix, have_openings, if◌then◌else◌, is_in}
+use Rattle.lexical_forms.proofs.Common.{is_in_word, is_shorter, is_word_byte, length, length-append, length-take-le, map, max, more_of, nat_le, nat_tests}
+use Rattle.lexical_forms.proofs.Common.{refl, sign_size, slice_get, slice_get-get_or, slice_get_within, subst, suffix_size, suffix_words, sym, take}
+use Rattle.lexical_forms.proofs.Common.{take-take, text_of, true, word_size, ℕ, ◌&&◌, ◌++◌, ◌+◌, ◌-◌, ◌<◌, ◌∙◌, ◌∷◌, ◌≡◌, ◌≤◌}
 use Rattle.lexical_forms.proofs.ExcludeLemmas.{BeginsPrefixed, front_sign, no_role_excludes, prefix_begins}
 use Rattle.lexical_forms.proofs.FormLemmas.{no_one, plain_at}
 use Rattle.lexical_forms.proofs.OpeningLemmas.{begins_whole, front_byte}
@@ -102,8 +97,7 @@ pub no_front_past : (m : Notation) (text : List ℕ) (size : ℕ) → IsWithin m
 no_front_past m text size is more past inside l reads = is more past inside (begins_whole (Reads m) (take more text) l reads)
 
 pub less_or_same : (b : Bool) (n : ℕ) → (if b then n - 1 else n) ≤ n
-less_or_same true n = omega arith
-less_or_same false n = omega arith
+less_or_same b n = grind arith
 
 pub no_longer : (s e a b : ℕ) → s ≤ a → e ≤ b → is_shorter a b s e ≡ false
 no_longer s e a b less end = grind (arith, nat_tests)
@@ -126,19 +120,7 @@ piece_same text size a k less =
     ap (λ n. take k (drop a (take n text))) split ∙ ap (take k) (drop-take a (size - a) text) ∙ take-take k (size - a) (drop a text) (omega (arith, less))
 
 total : (l : Literal) (c : Cuts) → HasLengths l c → before_exponent c + c pieces.Exponent ≤ length (text_of l)
-total l c has =
-    let a = has.sign in let b = has.prefix in let d = has.integer in let e = has.point in let f = has.fraction in
-    let g = has.exponent_character in let h = has.exponent_sign in let i = has.exponent in
-    let z = length-append l.exponent l.suffix in
-    let y = length-append l.exponent_sign (l.exponent ++ l.suffix) in
-    let x = length-append l.exponent_character (l.exponent_sign ++ (l.exponent ++ l.suffix)) in
-    let w = length-append l.fraction (l.exponent_character ++ (l.exponent_sign ++ (l.exponent ++ l.suffix))) in
-    let v = length-append l.point (l.fraction ++ (l.exponent_character ++ (l.exponent_sign ++ (l.exponent ++ l.suffix)))) in
-    let u = length-append l.integer (l.point ++ (l.fraction ++ (l.exponent_character ++ (l.exponent_sign ++ (l.exponent ++ l.suffix))))) in
-    let t = length-append l.prefix (l.integer ++ (l.point ++ (l.fraction ++ (l.exponent_character ++ (l.exponent_sign ++ (l.exponent ++ l.suffix)))))) in
-    let s = length-append l.sign
-    (l.prefix ++ (l.integer ++ (l.point ++ (l.fraction ++ (l.exponent_character ++ (l.exponent_sign ++ (l.exponent ++ l.suffix))))))) in
-    omega (arith, a, b, d, e, f, g, h, i, s, t, u, v, w, x, y, z)
+total l c has = simp length-append (omega arith)
 
 pub sums_of_front : (r : Record) (text : List ℕ) (size : ℕ) (c : Cuts) (sums : Sums) → (m : Notation) (l : Literal) → size ≤ length text
     → Reads m l (take size text) → HasLengths l c → AreSums r (cut text c) sums → AreSums r (cut (take size text) c) sums

@@ -1,36 +1,28 @@
 -- Tokens: the longest candidate of the forms that have been asked.
-use Rattle.lexical_forms.proofs.Common.{All, All-append, All-more, All-take, Bool, Candidate, Counts, Form, FormList, GoesWithin, HasNone, HasNoWord, IsAhead}
-use Rattle.lexical_forms.proofs.Common.{IsAsked, IsBestYet, IsCandidate, IsFirstYet, IsLowPast, IsMade, IsOver, IsPicked, IsSomeAnd, IsTrue}
-use Rattle.lexical_forms.proofs.Common.{IsWinner, IsYet, List, None, NoneLonger, Option, ReadsIn, Some, Tokens, [], ap, arith, cases_lt, drop, false}
-use Rattle.lexical_forms.proofs.Common.{false≢true, get_or, get_or-take, gives_back, if◌then◌else◌, inl, inr, is_float, is_longer, is_shorter, length}
-use Rattle.lexical_forms.proofs.Common.{length-append, length-take, length-take-le, map, more_of, nat_le, nat_lt, nat_tests, refl, slice_get, slice_get-get_or}
-use Rattle.lexical_forms.proofs.Common.{slice_get_within, subst, sym, take, take_all, tried, true, ℕ, ◌&&◌, ◌++◌, ◌+◌, ◌-◌, ◌<◌, ◌∙◌, ◌∷◌, ◌≡◌, ◌≤◌, ◌⊎◌}
+use Rattle.lexical_forms.proofs.Common.{All, All-append, All-more, All-take, AreSums, Bool, Candidate, Counts, Form, FormList, Found, GoesWithin, HasNoWord}
+use Rattle.lexical_forms.proofs.Common.{HasNone, HasSumsOf, IsAhead, IsAsked, IsCandidate, IsFirstYet, IsFrontIn, IsMade, IsOpenedTo, IsOver, IsOverFrom}
+use Rattle.lexical_forms.proofs.Common.{IsPicked, IsSomeAnd, IsTrue, IsWinner, IsWithin, IsYet, List, None, NoneLonger, Option, PointsBack, Reads, ReadsIn}
+use Rattle.lexical_forms.proofs.Common.{Some, Tokens, [], ap, arith, behind, cases_lt, cut, cuts_of, drop, false, false≢true, get_or, get_or-take}
+use Rattle.lexical_forms.proofs.Common.{get_or_from_slice_get, gives_back, inl, inr, is_float, is_longer, is_shorter, length, length-append, length-take}
+use Rattle.lexical_forms.proofs.Common.{length-take-le, map, more_of, nat_tests, notation_of, option_map, raw, refl, slice_get, slice_get-get_or}
+use Rattle.lexical_forms.proofs.Common.{slice_get_within, subst, sym, take, take_all, tried, true, unwrap_or, ℕ, ◌++◌, ◌+◌, ◌-◌, ◌<◌, ◌∙◌, ◌∷◌, ◌≡◌, ◌≤◌, ◌⊎◌}
 use Rattle.lexical_forms.proofs.LeadingLemmas.{less_or_same, no_longer, suffix_within, sums_of_front, word_within}
 use Rattle.lexical_forms.proofs.BehindLemmas.{found_in, inner_is}
-use Rattle.lexical_forms.proofs.OpeningLemmas.{begins_whole, front_behind, not_longer, rest_size}
+use Rattle.lexical_forms.proofs.FormLemmas.{all_at, some_of}
+use Rattle.lexical_forms.proofs.OpeningLemmas.{begins_whole, front_behind, rest_size}
 use Rattle.lexical_forms.proofs.TokenLemmas.{above_up, below_up, for_some, is_none, literal_size, no_some, none_below, same_end, same_size, some_is}
-use Rattle.lexical_forms.proofs.Common.{AreSums, Found, HasSumsOf, IsFrontIn, IsOpenedTo, IsOverFrom, IsWithin, PointsBack, Reads, behind, cut, cuts_of}
-use Rattle.lexical_forms.proofs.Common.{notation_of, raw}
+use Rattle.lexical_forms.specs.Additions.Token.{NotLonger}
 use Rattle.lexical_literal.specs.Additions.Literal.{IsSummed}
 use Rattle.lexical_literal.specs.Additions.Stop.{HasBegun}
 use Rattle.lexical_literal.specs.declared.stop.Begun.{Begun}
 use Rattle.lexical_forms.specs.declared.candidate.Longest.{Longest}
 use Rattle.std.proofs.lemmas.List.{length-map}
+use Rattle.std.proofs.lemmas.List.Elements.{All-map}
+use Rattle.std.proofs.lemmas.Option.{slice_get-map}
 
 -- What holds of the first elements and of the next one holds of one more.
 pub more_at : {X : Type 0} (P : X → Type 0) (xs : List X) (i : ℕ) (x : X) → slice_get xs i ≡ Some x → All P (take i xs) → P x → All P (take (i + 1) xs)
-more_at P xs i x at old own =
-    let inside = slice_get_within xs i x at in
-    All-more P xs i x inside old (subst P (some_is _ _ (sym at ∙ slice_get-get_or xs i x inside)) own)
-
--- What holds of all elements holds of the one at an index.
-pub at_all : {X : Type 0} (P : X → Type 0) (xs : List X) (i : ℕ) (x : X) → slice_get xs i ≡ Some x → All P xs → P x
-at_all P xs i x at all =
-    let inside = slice_get_within xs i x at in subst P (some_is _ _ (sym (slice_get-get_or xs i x inside) ∙ at)) (all i x inside)
-
-pub here_is : {X : Type 0} (P : X → Type 0) (o : Option X) → IsSomeAnd o P → (x : X) × (o ≡ Some x) × P x
-here_is P (Some x) is = (x, refl, is)
-here_is P None is = absurd is
+more_at P xs i x at old own = All-more P xs i x (slice_get_within xs i x at) old (subst P (sym (get_or_from_slice_get xs i x x at)) own)
 
 -- The forms of a list are the first, and those that need a suffix follow them.
 pub first_at : (fs : List Form) (more : List (Form × Bool)) (k : ℕ) (d : Form) → k < length fs
@@ -40,9 +32,7 @@ first_at (f ∷ fs) more ℕ.zero d below = refl
 first_at (f ∷ fs) more (ℕ.suc k) d below = first_at fs more k d (omega (arith, below))
 
 map_at : (b : Bool) (fs : List Form) (k : ℕ) (d : Form) → k < length fs → slice_get {X = Form × Bool} (map (λ form. (form, b)) fs) k ≡ Some (get_or fs k d, b)
-map_at b [] k d below = absurd (omega (arith, below))
-map_at b (f ∷ fs) ℕ.zero d below = refl
-map_at b (f ∷ fs) (ℕ.suc k) d below = map_at b fs k d (omega (arith, below))
+map_at b fs k d below = slice_get-map (λ form. (form, b)) fs k ∙ ap (option_map (λ (form : Form). (form, b))) (slice_get-get_or fs k d below)
 
 pub second_at : (fs gs : List Form) (k : ℕ) (d : Form) → length fs ≤ k → k < length fs + length gs
     → slice_get {X = Form × Bool} (map (λ form. (form, false)) fs ++ map (λ form. (form, true)) gs) k ≡ Some (get_or gs (k - length fs) d, true)
@@ -75,7 +65,7 @@ pub before_at : {X : Type 0} (P : X → Type 0) (xs : List X) (i k : ℕ) (x : X
 before_at P xs i k x below at all =
     let inside = slice_get_within xs k x at in
     let long : k < length (take i xs) = (let size = length-take i xs in grind (arith, size)) in
-    subst P (get_or-take i xs k x below ∙ some_is _ _ (sym (slice_get-get_or xs k x inside) ∙ at)) (all k x long)
+    subst P (get_or-take i xs k x below ∙ get_or_from_slice_get xs k x x at) (all k x long)
 
 -- A form before one of the list is one of the list.
 pub first_below : (list : FormList) (t : Tokens) (i k : ℕ) (d form : Form) → slice_get (tried list t) i ≡ Some (form, false)
@@ -89,15 +79,10 @@ first_below list t i k d form at below =
           ∙ ap (λ (f : Form). Some (f, false)) (sym (get_or-take i list.forms k d less)),
     )
 
-mapped : (P : Form → Type 0) (b : Bool) (fs : List Form) → All P fs → All (λ (it : Form × Bool). P it.0) (map (λ form. (form, b)) fs)
-mapped P b fs all k d below =
-    let inside : k < length fs = omega (arith, below, length-map {B = Form × Bool} fs (λ (form : Form). (form, b))) in
-    subst (λ (it : Form × Bool). P it.0) (some_is _ _ (sym (map_at b fs k d.0 inside)
-    ∙ slice_get-get_or {X = Form × Bool} (map (λ form. (form, b)) fs) k d below)) (all k d.0 inside)
-
 pub all_tried : (P : Form → Type 0) (list : FormList) (t : Tokens) → All P list.forms → All P t.forms.now → All (λ it. P it.0) (tried list t)
 all_tried P list t first second = All-append (λ (it : Form × Bool). P it.0) (map (λ form. (form, false)) list.forms) (map (λ form. (form, true)) t.forms.now)
-    (mapped P false list.forms first) (mapped P true t.forms.now second)
+    (All-map (λ (it : Form × Bool). P it.0) (λ form. (form, false)) list.forms first)
+    (All-map (λ (it : Form × Bool). P it.0) (λ form. (form, true)) t.forms.now second)
 
 -- The form that was picked is the one at its index.
 pub picked_at : (list : FormList) (t : Tokens) (text : List ℕ) (index : ℕ) (it : Form) (needs : Bool) (c : Candidate)
@@ -153,24 +138,11 @@ module _ (form : Form) (text part : List ℕ) (opened : ℕ) (is : IsOpenedTo fo
       subst (λ t. IsWithin (notation_of form.syntax) t begun.at.size) part_is within (ahead.size - form.opening.size) (omega (arith, opened_is, past, further))
       (let inside = ahead.valid.within in omega (arith, all, inside)) (front_behind text form ahead.size more ahead.valid.within ahead.valid.front)
 
--- `NotLonger best s e` holds if there is a best candidate, and if one of this size and end is not longer.
-abbrev NotLonger : Option (ℕ × Candidate) → ℕ → ℕ → Type 0
-NotLonger None s e = ⊥
-NotLonger (Some best) s e = is_shorter best.1.size best.1.end s e ≡ false
-
 shorter : (s e a b : ℕ) → s < a → e ≤ b → is_shorter s e a b ≡ true
 shorter s e a b less end = grind (arith, nat_tests)
 
 not_both_ways : (s e a b : ℕ) → is_shorter s e a b ≡ true → is_shorter a b s e ≡ false
 not_both_ways s e a b up = grind (arith, nat_tests)
-
-both_of : (a b : Bool) → (a && b) ≡ true → IsTrue a
-both_of true b on = refl
-both_of false b on = absurd (false≢true on)
-
-less_of : (a : Bool) (m n : ℕ) → (a && nat_lt m n) ≡ true → m < n
-less_of true m n on = grind (arith, nat_tests)
-less_of false m n on = absurd (false≢true on)
 
 -- A candidate has a byte, and ends behind its literal.
 some_size : (list : FormList) (t : Tokens) (text : List ℕ) (it : Form × Bool) (s e : ℕ) → IsCandidate t.gives_points_back it.1 text it.0 s e → 0 < s
@@ -208,7 +180,8 @@ module _ (list : FormList) (t : Tokens) (text : List ℕ) where
   module _ (least : ℕ) where
     pub start : IsYet list t text least 0 (record { best = None; reach = 0; past = least; clear = false })
     start = record {
-      best = λ k d below. absurd (omega (arith, below));
+      best = λ best same. absurd (no_some best same);
+      others = λ k d below. absurd (omega (arith, below));
       passed = λ k d below s e counts low. let more = counts.0 in omega (arith, more, low);
       low = omega arith;
       over = λ k d below. absurd (omega (arith, below));
@@ -217,21 +190,12 @@ module _ (list : FormList) (t : Tokens) (text : List ℕ) where
 
     module _ (i : ℕ) (it : Form × Bool) (at : slice_get all i ≡ Some it) (found : Longest) (old : IsYet list t text least i found) where
       -- The form is passed over.
-      passed_best : GoesWithin text found.past it.0 → (best : Option (ℕ × Candidate)) → NoneLonger list t text least best found.past it
-          → IsBestYet list t text least i best → IsBestYet list t text least (i + 1) best
-      passed_best within None none is = more_at (λ it. (s e : ℕ) → Counts list t text least it s e → ⊥) all i it at is
-          (λ s e counts. none s e counts (size_within it found.past s e within counts.1))
-      passed_best within (Some best) none is = record {
-        here = is.here;
-        long = is.long;
-        before = is.before;
-        others = more_at (λ it. (s e : ℕ) → Counts list t text least it s e → is_shorter best.1.size best.1.end s e ≡ false) all i it at is.others
-            (λ s e counts. none s e counts (size_within it found.past s e within counts.1));
-      }
-
       pub pass : GoesWithin text found.past it.0 → IsYet list t text least (i + 1) found
       pass within = record {
-        best = passed_best within found.best (at_all (NoneLonger list t text least found.best found.past) all i it at old.passed) old.best;
+        best = old.best;
+        others = more_at (NoneLonger list t text least found.best) all i it at old.others (λ s e counts.
+            all_at (λ it. (s e : ℕ) → Counts list t text least it s e → s ≤ found.past → NotLonger found.best s e) all i it at old.passed s e counts
+            (size_within it found.past s e within counts.1));
         passed = old.passed;
         low = old.low;
         over = more_at (λ it. (end : ℕ) → found.reach ≤ end → found.past ≤ end → IsAhead t.gives_points_back text end it.0 → ⊥) all i it at old.over
@@ -250,20 +214,10 @@ module _ (list : FormList) (t : Tokens) (text : List ℕ) where
             (λ end far behind. asked.over end (omega (arith, far, other)))
 
         -- The best one stays.
-        stays_best : (best : Option (ℕ × Candidate)) → ((s e : ℕ) → Counts list t text least it s e → NotLonger best s e)
-            → IsBestYet list t text least i best → IsBestYet list t text least (i + 1) best
-        stays_best None none is = more_at (λ it. (s e : ℕ) → Counts list t text least it s e → ⊥) all i it at is none
-        stays_best (Some best) none is = record {
-          here = is.here;
-          long = is.long;
-          before = is.before;
-          others = more_at (λ it. (s e : ℕ) → Counts list t text least it s e → is_shorter best.1.size best.1.end s e ≡ false) all i it at is.others none;
-        }
-
-        stays : ((s e : ℕ) → Counts list t text least it s e → NotLonger found.best s e)
-            → IsYet list t text least (i + 1) (record found { reach = new })
+        stays : NoneLonger list t text least found.best it → IsYet list t text least (i + 1) (record found { reach = new })
         stays none = record {
-          best = stays_best found.best none old.best;
+          best = old.best;
+          others = more_at (NoneLonger list t text least found.best) all i it at old.others none;
           passed = old.passed;
           low = old.low;
           over = over_more found.past (omega arith);
@@ -289,13 +243,10 @@ module _ (list : FormList) (t : Tokens) (text : List ℕ) where
                 up_of None up = false≢true (sym up)
                 up_of (Some best) up = up
 
-          own_end : c.size ≤ c.end
-          own_end = let end = made.candidate.end_is in omega (arith, end)
-
           -- It is longer.
           module _ (long : least < c.size) (up : is_longer found.best c ≡ true) (clear : Bool)
               (none : IsTrue clear → All (λ it. HasNoWord text c.end it.0) all) (past : ℕ)
-              (past_is : past ≡ (if clear && nat_lt found.past c.size then c.size else found.past)) where
+              (past_is : (past ≡ found.past) ⊎ (IsTrue clear × (found.past < c.size) × (past ≡ c.size))) where
             abbrev next : Longest
             next = record { best = Some (i, c); reach = new; past = past; clear = clear }
 
@@ -310,58 +261,49 @@ module _ (list : FormList) (t : Tokens) (text : List ℕ) where
             below_it (Some best) up s e none =
                 (below_up best.1.size best.1.end s e c.size c.end none up, above_up best.1.size best.1.end s e c.size c.end none up)
 
-            of_best : (best : Option (ℕ × Candidate)) → IsBestYet list t text least i best → All (λ it. (s e : ℕ) → Counts list t text least it s e → NotLonger best s e) (take i all)
-            of_best None is = is
-            of_best (Some best) is = is.others
+            abbrev IsPastOf : Type 0
+            IsPastOf = (past ≡ found.past) ⊎ (IsTrue clear × (found.past < c.size) × (past ≡ c.size))
 
-            gained_best : IsBestYet list t text least (i + 1) (Some (i, c))
-            gained_best = record {
-              here = subst (λ o. IsSomeAnd o (λ it. IsMade t.gives_points_back it.1 text it.0 c)) (sym at) made;
-              long = long;
-              before = λ k d below s e counts. (below_it found.best up s e (of_best found.best old.best k d below s e counts)).0;
-              others = more_at (λ it. (s e : ℕ) → Counts list t text least it s e → is_shorter c.size c.end s e ≡ false) all i it at
-                  (λ k d below s e counts. (below_it found.best up s e (of_best found.best old.best k d below s e counts)).1)
-                  (λ s e counts. none_longer s e counts.1);
-            }
-
-            not_longer_of : (best : Option (ℕ × Candidate)) (it : Form × Bool) → NoneLonger list t text least best found.past it
-                → (s e : ℕ) → Counts list t text least it s e → s ≤ found.past → NotLonger best s e
-            not_longer_of None it none s e counts low = none s e counts low
-            not_longer_of (Some best) it none s e counts low = none s e counts low
-
-            passed_by : (b : Bool) → clear && nat_lt found.past c.size ≡ b → past ≡ (if b then c.size else found.past)
-                → All (NoneLonger list t text least (Some (i, c)) past) all
-            passed_by false off same k d below s e counts low = (below_it found.best up s e
-                (not_longer_of found.best (get_or all k d) (old.passed k d below) s e counts (omega (arith, low, same)))).1
-            passed_by true on same k d below s e counts low =
+            passed_by : IsPastOf → All (λ it. (s e : ℕ) → Counts list t text least it s e → s ≤ past → is_shorter c.size c.end s e ≡ false) all
+            passed_by (inl same) k d below s e counts low =
+                (below_it found.best up s e (old.passed k d below s e counts (omega (arith, low, same)))).1
+            passed_by (inr (on, less, same)) k d below s e counts low =
                 let low : s ≤ c.size = omega (arith, low, same) in
-                no_longer s e c.size c.end low (end_within (get_or all k d) s e c.end (none (both_of clear _ on) k d below) (omega (arith, low, own_end)) counts.1)
+                no_longer s e c.size c.end low (end_within (get_or all k d) s e c.end (none on k d below) (omega (arith, low, made.ready.order)) counts.1)
 
-            less_by : (b : Bool) → clear && nat_lt found.past c.size ≡ b → past ≡ (if b then c.size else found.past) → found.past ≤ past
-            less_by false off same = omega (arith, same)
-            less_by true on same = let less = less_of clear found.past c.size on in omega (arith, same, less)
+            less_by : IsPastOf → found.past ≤ past
+            less_by (inl same) = omega (arith, same)
+            less_by (inr (on, less, same)) = omega (arith, same, less)
 
-            low_before : (best : Option (ℕ × Candidate)) → is_longer best c ≡ true → IsLowPast list t text least best found.past → found.past ≤ c.end
-            low_before None up low = omega (arith, low, long, own_end)
+            low_before : (best : Option (ℕ × Candidate)) → is_longer best c ≡ true
+                → found.past ≤ unwrap_or (option_map (λ (best : ℕ × Candidate). best.1.end) best) least → found.past ≤ c.end
+            low_before None up low = omega (arith, low, long, made.ready.order)
             low_before (Some best) up low = let above = end_above best.1.size best.1.end c.size c.end up in omega (arith, low, above)
 
-            low_by : (b : Bool) → clear && nat_lt found.past c.size ≡ b → past ≡ (if b then c.size else found.past) → past ≤ c.end
-            low_by false off same = let low = low_before found.best up old.low in omega (arith, same, low)
-            low_by true on same = omega (arith, same, own_end)
+            low_by : IsPastOf → past ≤ c.end
+            low_by (inl same) = let low = low_before found.best up old.low in omega (arith, same, low)
+            low_by (inr (on, less, same)) = omega (arith, same, made.ready.order)
 
             pub gained : IsYet list t text least (i + 1) next
             gained = record {
-              best = gained_best;
-              passed = passed_by (clear && nat_lt found.past c.size) refl past_is;
-              low = low_by (clear && nat_lt found.past c.size) refl past_is;
-              over = over_more past (less_by (clear && nat_lt found.past c.size) refl past_is);
+              best = for_some (λ (best : ℕ × Candidate). IsFirstYet list t text least best.0 best.1) (i, c) (record {
+                here = subst (λ o. IsSomeAnd o (λ it. IsMade t.gives_points_back it.1 text it.0 c)) (sym at) made;
+                long = long;
+                before = λ k d below s e counts. (below_it found.best up s e (old.others k d below s e counts)).0;
+              });
+              others = more_at (λ it. (s e : ℕ) → Counts list t text least it s e → is_shorter c.size c.end s e ≡ false) all i it at
+                  (λ k d below s e counts. (below_it found.best up s e (old.others k d below s e counts)).1)
+                  (λ s e counts. none_longer s e counts.1);
+              passed = passed_by past_is;
+              low = low_by past_is;
+              over = over_more past (less_by past_is);
               clear = λ on. ((i, c), refl, none on);
             }
 
     -- All forms have been asked.
     module _ (i : ℕ) (end : length all ≤ i) (found : Longest) (is : IsYet list t text least i found) (sure : IsTrue found.clear ⊎ (least ≡ 0)) where
       -- Candidates that do not count are none, or shorter.
-      uncounted : (best : ℕ × Candidate) → found.best ≡ Some best → IsFirstYet list t text least i best.0 best.1
+      uncounted : (best : ℕ × Candidate) → found.best ≡ Some best → IsFirstYet list t text least best.0 best.1
           → All (λ it. (s e : ℕ) → s ≤ least → HasIt it s e → (is_shorter s e best.1.size best.1.end ≡ true)) all
       uncounted best at yet k d below s e low has = go sure where
         go : IsTrue found.clear ⊎ (least ≡ 0) → is_shorter s e best.1.size best.1.end ≡ true
@@ -370,13 +312,13 @@ module _ (list : FormList) (t : Tokens) (text : List ℕ) where
             let own = is.clear clear in
             let same : own.0 ≡ best = some_is own.0 best (sym own.1 ∙ at) in
             let none = subst (λ (best : ℕ × Candidate). HasNoWord text best.1.end (get_or all k d).0) same (own.2 k d below) in
-            let made = (here_is (λ it. IsMade t.gives_points_back it.1 text it.0 best.1) (slice_get all best.0) yet.here).2 in
-            let order = made.candidate.end_is in let long = yet.long in
+            let made = (some_of (λ it. IsMade t.gives_points_back it.1 text it.0 best.1) (slice_get all best.0) yet.here).2 in
+            let order = made.ready.order in let long = yet.long in
             let less = end_within (get_or all k d) s e best.1.end none (omega (arith, low, long, order)) has in
             shorter s e best.1.size best.1.end (omega (arith, low, long)) less
 
-      best_at : (best : ℕ × Candidate) → found.best ≡ Some best → IsFirstYet list t text least i best.0 best.1
-      best_at best at = subst (IsBestYet list t text least i) at is.best
+      all_others : All (NoneLonger list t text least found.best) all
+      all_others = subst (All (NoneLonger list t text least found.best)) (take_all i all end) is.others
 
       pub winner : IsWinner list t text found
       winner = record {
@@ -386,19 +328,16 @@ module _ (list : FormList) (t : Tokens) (text : List ℕ) where
       } where
         without_best : found.best ≡ None → HasNone list t text
         without_best none = go sure where
-          counted : All (λ it. (s e : ℕ) → Counts list t text least it s e → ⊥) all
-          counted = subst (λ xs. All (λ it. (s e : ℕ) → Counts list t text least it s e → ⊥) xs) (take_all i all end) (subst (IsBestYet list t text least i) none is.best)
-
           go : IsTrue found.clear ⊎ (least ≡ 0) → HasNone list t text
           go (inl clear) k d below s e has = absurd (no_some _ (sym none ∙ (is.clear clear).1))
-          go (inr zero) k d below s e has = counted k d below s e (let some = some_size list t text (get_or all k d) s e has in omega (arith, some, zero), has)
+          go (inr zero) k d below s e has = subst (λ o. NotLonger o s e) none (all_others k d below s e
+              (let some = some_size list t text (get_or all k d) s e has in omega (arith, some, zero), has))
 
         picked : (best : ℕ × Candidate) → found.best ≡ Some best → (form : Form) × IsPicked list t text best.0 form best.1
         picked best at =
-            let yet = best_at best at in
-            let here = here_is (λ it. IsMade t.gives_points_back it.1 text it.0 best.1) (slice_get all best.0) yet.here in
-            let made = here.2 in
-            let order = made.candidate.end_is in (
+            let yet = is.best best at in
+            let here = some_of (λ it. IsMade t.gives_points_back it.1 text it.0 best.1) (slice_get all best.0) yet.here in
+            let made = here.2 in (
               here.0.0,
               record {
                 chosen = record {
@@ -410,30 +349,23 @@ module _ (list : FormList) (t : Tokens) (text : List ℕ) where
                     | inr low ↦ in_front best at yet k d below s e low has
                   ];
                   others = λ k d below s e has. elim (cases_lt least s) [
-                    | inl more ↦ others_all best yet k d below s e (more, has)
+                    | inl more ↦ subst (λ o. NotLonger o s e) at (all_others k d below s e (more, has))
                     | inr low ↦ not_both_ways s e best.1.size best.1.end (uncounted best at yet k d below s e low has)
                   ];
                 };
-                counted = made.counted;
-                sums = made.sums;
-                order = omega (arith, order);
-                within = made.within;
+                ready = made.ready;
               },
             ) where
-              others_all : (best : ℕ × Candidate) → IsFirstYet list t text least i best.0 best.1
-                  → All (λ it. (s e : ℕ) → Counts list t text least it s e → is_shorter best.1.size best.1.end s e ≡ false) all
-              others_all best yet = subst (λ xs. All (λ it. (s e : ℕ) → Counts list t text least it s e → is_shorter best.1.size best.1.end s e ≡ false) xs)
-                  (take_all i all end) yet.others
-
-              in_front : (best : ℕ × Candidate) → found.best ≡ Some best → IsFirstYet list t text least i best.0 best.1
+              in_front : (best : ℕ × Candidate) → found.best ≡ Some best → IsFirstYet list t text least best.0 best.1
                   → All (λ it. (s e : ℕ) → s ≤ least → HasIt it s e → is_shorter s e best.1.size best.1.end ≡ true) (take best.0 all)
               in_front best at yet = All-take (λ it. (s e : ℕ) → s ≤ least → HasIt it s e → is_shorter s e best.1.size best.1.end ≡ true) best.0 all
                   (uncounted best at yet)
 
         over_at : (best : ℕ × Candidate) → found.best ≡ Some best → found.reach ≤ best.1.end → IsOver list t text best.1.end
         over_at best at reach k d below =
-            let past : found.past ≤ best.1.end = subst (λ o. IsLowPast list t text least o found.past) at is.low in
-            at_all (λ (it : Form × Bool). IsAhead t.gives_points_back text best.1.end it.0 → ⊥) all k (get_or list.forms k d, false)
+            let past : found.past ≤ best.1.end =
+            subst (λ o. found.past ≤ unwrap_or (option_map (λ (best : ℕ × Candidate). best.1.end) o) least) at is.low in
+            all_at (λ (it : Form × Bool). IsAhead t.gives_points_back text best.1.end it.0 → ⊥) all k (get_or list.forms k d, false)
             (first_at list.forms (map (λ form. (form, true)) t.forms.now) k d below)
             (λ k d below. (subst (λ xs. All (λ (it : Form × Bool). (end : ℕ) → found.reach ≤ end → found.past ≤ end
             → IsAhead t.gives_points_back text end it.0 → ⊥) xs) (take_all i all end) is.over) k d below best.1.end reach past)

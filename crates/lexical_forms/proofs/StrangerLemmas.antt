@@ -1,11 +1,10 @@
 -- A stranger: a byte that plays no role behind the base prefix, and its other case neither.
-use Rattle.lexical_forms.proofs.Common.{All, All-get_or, AreFalse, Bool, ByteSet, Grammar, IsExcluded, IsFront, IsSilentAt, IsSpare}
-use Rattle.lexical_forms.proofs.Common.{IsStranger, IsTrue, IsWithin, LacksLetter, LacksZero, Reads, take_all}
-use Rattle.lexical_forms.proofs.Common.{IsValidUpTo, List, NoLiteral, Notation, PlaysNoRole, Role, [], ap}
-use Rattle.lexical_forms.proofs.Common.{arith, cases_lt, false, false≢true, get_or, if◌then◌else◌, inl, inr, is_in, is_none_or_one, is_other_prefix, not, ◌&&◌}
-use Rattle.lexical_forms.proofs.Common.{is_none_or_prefix, le_antisymm, length, nat_lt, nat_tests, notation_of, other_case, position}
-use Rattle.lexical_forms.proofs.Common.{radix_of, raw, reach, refl, set_of_role, sign_size, signs, slice_get, slice_get-get_or, subst, sym, take, text_of, true}
-use Rattle.lexical_forms.proofs.Common.{unwrap_or, ℕ, ◌++◌, ◌+◌, ◌<◌, ◌==◌, ◌∙◌, ◌∷◌, ◌≡◌, ◌≤◌}
+use Rattle.lexical_forms.proofs.Common.{All, All-get_or, AreFalse, Bool, ByteSet, Grammar, IsExcluded, IsFront, IsSilentAt, IsSpare, IsStranger, IsTrue}
+use Rattle.lexical_forms.proofs.Common.{IsValidUpTo, IsWithin, LacksLetter, LacksZero, List, NoLiteral, Notation, PlaysNoRole, Reads, Role, [], ap, arith}
+use Rattle.lexical_forms.proofs.Common.{cases_lt, false, false≢true, get_or, inl, inr, is_in, is_none_or_one, is_none_or_prefix, is_other_prefix, le_antisymm}
+use Rattle.lexical_forms.proofs.Common.{length, nat_lt, nat_tests, not, notation_of, other_case, position, radix_of, raw, reach, refl, set_of_role, sign_size}
+use Rattle.lexical_forms.proofs.Common.{signs, slice_get, slice_get-get_or, subst, sym, take, take_all, text_of, true, unwrap_or, ℕ, ◌&&◌, ◌++◌, ◌+◌, ◌<◌}
+use Rattle.lexical_forms.proofs.Common.{◌==◌, ◌∙◌, ◌∷◌, ◌≡◌, ◌≤◌}
 use Rattle.lexical_base.specs.Digits.{byte_value, digit_characters, uppercase}
 use Rattle.lexical_util.specs.Layout as layout
 use Rattle.lexical_util.specs.Unfoldable.{cased}
@@ -66,30 +65,16 @@ none_start m (byte ∷ text) none l reads = none (length (byte ∷ text)) (omega
 -- How far a syntax goes where `n` bytes are right.
 module _ (m : Notation) (text : List ℕ) where
   pub reach_most : (n : ℕ) → reach m text n ≤ n + 1
-  reach_most n = go _ where
-    go : (b : Bool) → (if b then n + 1 else n) ≤ n + 1
-    go true = omega arith
-    go false = omega arith
+  reach_most n = grind arith
 
   pub reach_least : (n : ℕ) → n ≤ reach m text n
-  reach_least n = go _ where
-    go : (b : Bool) → n ≤ (if b then n + 1 else n)
-    go true = omega arith
-    go false = omega arith
+  reach_least n = grind arith
 
   reach_far : (n : ℕ) → (n ≡ sign_size text + 1 → ⊥) → reach m text n ≤ n
-  reach_far n other = go (n == sign_size text + 1) _ refl where
-    go : (a b : Bool) → (n == sign_size text + 1) ≡ a → (if a && b then n + 1 else n) ≤ n
-    go true b is = absurd (other (grind (arith, nat_tests)))
-    go false b is = omega arith
+  reach_far n other = grind (arith, nat_tests)
 
   reach_other : (n : ℕ) → is_in (is_other_prefix m) (slice_get text n) ≡ false → reach m text n ≤ n
-  reach_other n none = go _ _ _ none where
-    go : (a b c : Bool) → c ≡ false → (if a && (b && c) then n + 1 else n) ≤ n
-    go a b true is = absurd (false≢true (sym is))
-    go true true false is = omega arith
-    go true false false is = omega arith
-    go false b false is = omega arith
+  reach_other n none = grind arith
 
   -- It goes up to `size` at most.
   pub goes_no_further : (size : ℕ) → IsExcluded m text size → (n : ℕ) → IsValidUpTo m text n → reach m text n ≤ size
@@ -102,9 +87,7 @@ module _ (m : Notation) (text : List ℕ) where
   ]
 
   no_other : (byte : ℕ) → m.prefix (other_case byte) ≡ false → is_other_prefix m byte ≡ false
-  no_other byte none = go (m.prefix byte) _ none where
-    go : (a b : Bool) → b ≡ false → (not a && b) ≡ false
-    go a b is = grind arith
+  no_other byte none = ap (λ b. not (m.prefix byte) && b) none ∙ grind arith
 
   -- What excludes that the text is a literal: a zero that is not there,
   pub zero_out : LacksZero m text → IsExcluded m text (sign_size text)
@@ -116,19 +99,16 @@ module _ (m : Notation) (text : List ℕ) where
   } where
     sign_within : (text : List ℕ) → sign_size text ≤ length text
     sign_within [] = omega arith
-    sign_within (byte ∷ text) = go (signs byte) where
-      go : (b : Bool) → (if b then 1 else 0) ≤ length (byte ∷ text)
-      go true = omega arith
-      go false = omega arith
+    sign_within (byte ∷ text) = grind arith
 
   -- a byte that plays no role, and its other case neither,
   pub silent_out : (i : ℕ) → IsSilentAt m text i → IsExcluded m text i
   silent_out i silent = record {
-    inside = let inside = silent.inside in omega (arith, inside);
-    none = no_role_excludes m text i silent.inside silent.own;
-    within = λ more past inside front. let low = near_no_role m text more inside front i silent.own in omega (arith, past, low);
+    inside = let inside = silent.0 in omega (arith, inside);
+    none = no_role_excludes m text i silent.0 silent.1.0;
+    within = λ more past inside front. let low = near_no_role m text more inside front i silent.1.0 in omega (arith, past, low);
     there = reach_other i
-        (ap (is_in (is_other_prefix m)) (slice_get-get_or text i 0 silent.inside) ∙ no_other (get_or text i 0) (silent.other.none roles.Prefix));
+        (ap (is_in (is_other_prefix m)) (slice_get-get_or text i 0 silent.0) ∙ no_other (get_or text i 0) (silent.1.1.none roles.Prefix));
   }
 
   -- a letter that is not that of the prefix,
@@ -196,7 +176,7 @@ module _ (g : Grammar) (b : ℕ) where
   abbrev m : Notation
   m = notation_of g
 
-  spare_of : (c : ℕ) → m.digit parts.Integer c ≡ false → m.digit parts.Exponent c ≡ false → signs c ≡ false
+  pub spare_of : (c : ℕ) → m.digit parts.Integer c ≡ false → m.digit parts.Exponent c ≡ false → signs c ≡ false
       → cased true ((raw g.word).byte layout.digit_separator) c ≡ false → m.suffix c ≡ false → m.point c ≡ false → m.exponent_character c ≡ false
       → IsSpare m c
   spare_of c integer exponent sign separator suffix point character roles.Digit other = grind arith

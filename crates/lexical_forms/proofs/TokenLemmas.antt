@@ -1,15 +1,12 @@
 -- Tokens: the best of the candidates of several forms.
-use Rattle.lexical_forms.proofs.Common.{Bool, Candidate, Form, FormList, Found, GoesTo, HasLengths, HasSumsOf, IfSome, IsAhead}
-use Rattle.lexical_forms.proofs.Common.{lets_words}
-use Rattle.lexical_forms.proofs.Common.{IsCandidate, IsChosen, IsCounted, IsCut, IsEnd, IsFirst, IsFollowed, IsFrontIn, IsMade, IsMeasured, IsNone}
-use Rattle.lexical_forms.proofs.Common.{IsOver}
-use Rattle.lexical_forms.proofs.Common.{IsOwn}
-use Rattle.lexical_forms.proofs.Common.{IsPicked, IsRefused, IsSomeAnd, IsToken, IsTokenError, IsTrue, List, Literal, NoCandidate, NoForm, NoOwn}
-use Rattle.lexical_forms.proofs.Common.{None, NonePast, NoneBy, Option, PointsBack, Read, ReadsForm, ReadsIn, Some, [], ◌∷◌}
-use Rattle.lexical_forms.proofs.Common.{Token, Tokens, ap, arith, cuts_of, drop, false, gives_back, goes_on, has_float, if◌then◌else◌}
-use Rattle.lexical_forms.proofs.Common.{inl, inr, is_ascii_digit, is_float, is_in, is_shorter, is_stopped, is_word_byte, kind_with, length, length-take-le}
-use Rattle.lexical_forms.proofs.Common.{more_of, nat_tests, notation_of, refl, slice_get, stop_end, subst, suffix_size, suffix_words}
-use Rattle.lexical_forms.proofs.Common.{suffixed, sym, take, take_all, true, whole, ℕ, ◌&&◌, ◌+◌, ◌-◌, ◌<◌, ◌==◌, ◌||◌, ◌∙◌, ◌≡◌, ◌≤◌, ◌⊎◌}
+use Rattle.lexical_forms.proofs.Common.{Bool, Candidate, Form, FormList, Found, GoesTo, HasLengths, HasSumsOf, IfSome, IsAhead, IsCandidate, IsChosen}
+use Rattle.lexical_forms.proofs.Common.{IsCounted, IsCut, IsEnd, IsFirst, IsFollowed, IsFrontIn, IsMade, IsMeasured, IsNone, IsOver, IsOwn, IsPicked}
+use Rattle.lexical_forms.proofs.Common.{IsRefused, IsSomeAnd, IsToken, IsTokenError, IsTrue, List, Literal, NoCandidate, NoForm, NoOwn, None, NoneBy}
+use Rattle.lexical_forms.proofs.Common.{NonePast, Option, PointsBack, Read, ReadsForm, ReadsIn, Some, Token, Tokens, [], ap, arith, cuts_of, drop, false}
+use Rattle.lexical_forms.proofs.Common.{gives_back, goes_on, has_float, if◌then◌else◌, inl, inr, is_ascii_digit, is_float, is_in, is_shorter, is_stopped}
+use Rattle.lexical_forms.proofs.Common.{is_word_byte, kind_with, length, length-take-le, more_of, nat_tests, notation_of, refl, slice_get, stop_end, subst}
+use Rattle.lexical_forms.proofs.Common.{suffix_size, suffix_words, suffixed, sym, take, take_all, true, whole, ℕ, ◌&&◌, ◌+◌, ◌-◌, ◌<◌, ◌==◌, ◌||◌, ◌∙◌, ◌∷◌}
+use Rattle.lexical_forms.proofs.Common.{◌≡◌, ◌≤◌, ◌⊎◌}
 use Rattle.lexical_forms.specs.declared.token.TokenError.{TokenError}
 use Rattle.lexical_literal.specs.declared.literal.Sums.{Sums}
 use Rattle.lexical_forms.specs.declared.token.TokenError.TheVariants as errors
@@ -51,8 +48,8 @@ module _ (back : PointsBack) (needs : Bool) (text : List ℕ) (form : Form) (c :
   same_float : is_float other.literal ≡ is_float made.candidate.literal
   same_float =
       let read = subst (λ n. ReadsIn form other.literal (take n text)) same_size other.reads in
-      sym (float_in form (take c.size text) c.counts made.counted other.literal read)
-      ∙ float_in form (take c.size text) c.counts made.counted made.candidate.literal made.candidate.reads
+      sym (float_in form (take c.size text) c.counts made.ready.counted other.literal read)
+      ∙ float_in form (take c.size text) c.counts made.ready.counted made.candidate.literal made.candidate.reads
 
   pub same_end : e ≡ c.end
   same_end = other.end_is
@@ -85,12 +82,10 @@ pub not_both : (b : Bool) → b ≡ false → IsTrue b → ⊥
 not_both b off on = grind arith
 
 both_hold : (b : Bool) (n : ℕ) → (b && (n == 0)) ≡ true → IsTrue b × (n ≡ 0)
-both_hold true n on = (refl, grind (arith, nat_tests))
-both_hold false n on = grind arith
+both_hold b n on = (grind (arith, nat_tests), grind (arith, nat_tests))
 
 more_than_none : (b : Bool) (n s : ℕ) → (b && (n == 0)) ≡ false → IsTrue b → s < s + n
-more_than_none true n s off on = grind (arith, nat_tests)
-more_than_none false n s off on = grind arith
+more_than_none b n s off on = grind (arith, nat_tests)
 
 -- A literal has a byte.
 pub literal_size : (form : Form) (text : List ℕ) (l : Literal) → ReadsIn form l text → 0 < length text
@@ -233,9 +228,12 @@ module _ (back : PointsBack) (needs : Bool) (text : List ℕ) (form : Form) (fou
           let e = some_is (own_with sums) c is_c in
           subst (IsMade back needs text form) e (record {
             candidate = candidate_of (λ needed. more_than_none needs more own.size off needed);
-            counted = owned.counted;
-            sums = are;
-            within = subst (λ (c : Candidate). c.end ≤ length text) (sym e) (within c some);
+            ready = record {
+              counted = owned.counted;
+              sums = are;
+              order = omega arith;
+              within = subst (λ (c : Candidate). c.end ≤ length text) (sym e) (within c some);
+            };
           })
 
     pub without_suffix : (sums : Option Sums) → suffixed form.suffixes needs text own sums ≡ None → NoCandidate back needs text form
@@ -270,7 +268,7 @@ module _ (list : FormList) (t : Tokens) (text : List ℕ) where
     pub token_is : (token : Token) → token.form ≡ index → (token.literal.format ≡ form.syntax.word) × ReadsIn form token.literal.literal (take c.size text)
         → token.literal.kind ≡ kind_with form.suffixes token.suffix.now form.kind → token.literal.opened ≡ form.opening.size
         → token.suffix.now ≡ take (c.end - c.size) (drop c.size text) → token.rest.now ≡ drop c.end text
-        → IsFollowed list t text c.end ⊎ (IsOver list t text c.end × (is_stopped (lets_words t form text c.end) form.suffixes text c.end ≡ false))
+        → IsFollowed list t text c.end ⊎ (IsOver list t text c.end × (is_stopped t form text c.end ≡ false))
         → IsToken list t text token
     token_is token same literal kind opened suffix rest ended = record {
       form = form;
@@ -289,7 +287,7 @@ module _ (list : FormList) (t : Tokens) (text : List ℕ) where
       pub gone_on : (i : ℕ) × IsSomeAnd (slice_get list.forms i) (IsAhead t.gives_points_back text c.end) → IsRefused list t text
       gone_on ahead = inr (index, form, c.size, c.end, inr (is.chosen, apart, ahead.0, ahead.1))
 
-      module _ (over : IsOver list t text c.end) (stopped : is_stopped (lets_words t form text c.end) form.suffixes text c.end ≡ true) where
+      module _ (over : IsOver list t text c.end) (stopped : is_stopped t form text c.end ≡ true) where
         cut : (digit : Bool) → ((c.size == c.end) && is_in is_ascii_digit (slice_get text c.size)) ≡ digit → IsCut list t text index form c.size c.end digit
         cut digit same = record { chosen = is.chosen; not_followed = apart; over = over; stopped = stopped; digit_is = same }
 
@@ -299,8 +297,8 @@ module _ (list : FormList) (t : Tokens) (text : List ℕ) where
         module _ (other : ((c.size == c.end) && is_in is_ascii_digit (slice_get text c.size)) ≡ false) where
           pub ended : (error : TokenError) → IsEnd form text index c error → IsTokenError list t text error
           ended (errors.UnknownSuffix i start end suffixes) e =
-              let l = is.counted.literal in
-              let reads : ReadsIn form l (take c.size text) = (is.counted.opened, is.counted.reads) in
+              let l = is.ready.counted.literal in
+              let reads : ReadsIn form l (take c.size text) = (is.ready.counted.opened, is.ready.counted.reads) in
               let here = sym e.2 in (
                 form,
                 c.end,
@@ -311,7 +309,7 @@ module _ (list : FormList) (t : Tokens) (text : List ℕ) where
                 (
                   l,
                   subst (λ n. ReadsIn form l (take n text)) here reads,
-                  e.4 ∙ ap (suffix_words form.suffixes) (float_in form (take c.size text) c.counts is.counted l reads),
+                  e.4 ∙ ap (suffix_words form.suffixes) (float_in form (take c.size text) c.counts is.ready.counted l reads),
                 ),
               )
           ended (errors.Stopped i start end) e =

@@ -102,14 +102,11 @@ pub record IsFormError (forms : List Form) (text : List ℕ) (error : FormError)
 abbrev pub special_by : FormList → List ℕ → Option Special
 special_by list text = option_and_then (λ (form : Form). special_of (notation_of form.syntax) list.specials text) (slice_get list.forms 0)
 
--- `HasOpening forms index read` holds if the opening before `read` has as many bytes as that of the form with this index.
-abbrev pub HasOpening : List Form → ℕ → Read → Type 0
-HasOpening forms index read = IsSomeAnd (slice_get forms index) (λ form. read.opened ≡ form.opening.size)
-
 -- `IsReadByForms list text result` holds if `result` is the literal `text` of the first form that has it, and the index of this form, or, if `text` is a
 -- literal of no form, the special value `text`, or else the error of `text`.
 abbrev pub IsReadByForms : FormList → List ℕ → Result Number FormError → Type 0
-IsReadByForms list text (Ok (numbers.Literal literal form)) = IsFirst list.forms text form literal × HasOpening list.forms form literal
+IsReadByForms list text (Ok (numbers.Literal literal form)) =
+    IsFirst list.forms text form literal × IsSomeAnd (slice_get list.forms form) (λ it. literal.opened ≡ it.opening.size)
 IsReadByForms list text (Ok (numbers.Special special)) = NoForm list.forms text × (special_by list text ≡ Some special)
 IsReadByForms list text (Err error) = NoForm list.forms text × (special_by list text ≡ None) × IsFormError list.forms text error
 
@@ -117,6 +114,6 @@ IsReadByForms list text (Err error) = NoForm list.forms text × (special_by list
 -- index, and the rest of `text`, or the error of a text for which there is no such front.
 abbrev pub IsFrontByForms : FormList → List ℕ → Result (Number × Bor (List ℕ)) FormError → Type 0
 IsFrontByForms list text (Ok (numbers.Literal literal form, rest)) = (size : ℕ) × IsGreatest (HasFront text) list.forms form size
-    × IsSomeAnd (slice_get list.forms form) (ReadsForm (take size text) literal) × HasOpening list.forms form literal × (rest.now ≡ drop size text)
+    × IsSomeAnd (slice_get list.forms form) (λ it. ReadsForm (take size text) literal it × (literal.opened ≡ it.opening.size)) × (rest.now ≡ drop size text)
 IsFrontByForms list text (Ok (numbers.Special special, rest)) = ⊥
 IsFrontByForms list text (Err error) = All (λ form. NoFrontBy (ReadsIn form) text) list.forms × IsFormError list.forms text error

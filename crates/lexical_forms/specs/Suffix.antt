@@ -2,7 +2,7 @@
 use Rattle.std.specs.Prelude.{ℕ, ◌+◌, ◌-◌, ◌==◌, ◌&&◌, ◌||◌, Bool, false, if◌then◌else◌, nat_le, nat_lt, List, [], Option, Some, None}
 use Rattle.std.specs.Prelude.{drop, filter, fold, length, map, max, option_map, slice_get, unwrap_or}
 use Rattle.std.specs.Borrow.{Bor}
-use Rattle.std.specs.Char.{eq_ignore_ascii_case, is_ascii_alphanumeric, is_ascii_digit}
+use Rattle.std.specs.Char.{eq_ignore_ascii_case, is_ascii_alphanumeric}
 use Rattle.std.specs.List.{find, list_any, prefix_len, starts_with}
 use Rattle.lexical_util.specs.Ascii.{ByteSet}
 use Rattle.lexical_literal.specs.Cause.{is_in}
@@ -68,10 +68,3 @@ admits bytes byte = (length bytes == 0) || is_in (λ other. list_any (λ it. it 
 abbrev pub meets : List ℕ → ℕ → Stop → Bool
 meets text end stop =
     admits stop.last.now (byte_before text end) && admits stop.next.now (slice_get text end) && admits stop.second.now (slice_get text (end + 1))
-
--- `is_stopped words suffixes text end` is true if what is behind the number that ends at `end` of `text` may not follow it: a byte of a
--- word, or a digit alone if any word may follow, as `words` tells, or a stop of the form.
-abbrev pub is_stopped : Bool → Option (Bor Suffixes) → List ℕ → ℕ → Bool
-is_stopped words suffixes text end =
-    is_in (if words then is_ascii_digit else is_word_byte) (slice_get text end)
-    || list_any (meets text end) (unwrap_or (option_map (λ (it : Bor Suffixes). it.now.stops.now) suffixes) [])

@@ -1,8 +1,9 @@
 -- Tokens: numbers that a text begins with, each with its suffix, and whatever follows.
-use Rattle.std.specs.Prelude.{ℕ, ◌≡◌, ◌+◌, ◌-◌, ◌==◌, ◌&&◌, ◌||◌, ◌<◌, ◌⊎◌, Bool, true, false, if◌then◌else◌, nat_lt, IsTrue, IsSomeAnd, List, Option, Some}
-use Rattle.std.specs.Prelude.{[], ◌++◌, None, All, Result, Ok, Err, drop, length, map, not, slice_get, take}
+use Rattle.std.specs.Prelude.{All, Bool, Err, IsSomeAnd, IsTrue, List, None, Ok, Option, Result, Some, [], drop, false, if◌then◌else◌, length, map, nat_lt}
+use Rattle.std.specs.Prelude.{not, option_map, slice_get, take, true, unwrap_or, ℕ, ◌&&◌, ◌++◌, ◌+◌, ◌-◌, ◌<◌, ◌==◌, ◌||◌, ◌≡◌, ◌⊎◌}
 use Rattle.std.specs.Borrow.{Bor}
 use Rattle.std.specs.Char.{is_ascii_alphabetic, is_ascii_digit}
+use Rattle.std.specs.List.{list_any}
 use Rattle.lexical_util.specs.Ascii.{ByteSet}
 use Rattle.lexical_literal.specs.Cause.{is_in}
 use Rattle.lexical_forms.specs.FormList.{FormList}
@@ -10,12 +11,12 @@ use Rattle.lexical_forms.specs.Forms.{HasFront, IsFormError, IsGreatest, NoForm,
 use Rattle.lexical_literal.specs.Front.{IsValidBy}
 use Rattle.lexical_literal.specs.Literal.{Literal, is_float}
 use Rattle.lexical_literal.specs.Notation.{notation_of}
-use Rattle.lexical_forms.specs.Suffix.{byte_before, is_followed, is_stopped, is_word_byte, kind_with, more_of, stop_end}
-use Rattle.lexical_forms.specs.Suffix.{suffix_size, suffix_words, word_size}
+use Rattle.lexical_forms.specs.Suffix.{byte_before, is_followed, is_word_byte, kind_with, meets, more_of, stop_end, suffix_size, suffix_words, word_size}
 use Rattle.lexical_forms.specs.declared.form.Form.{Form}
 use Rattle.lexical_forms.specs.declared.list.PointsBack.{PointsBack}
 use Rattle.lexical_forms.specs.declared.list.PointsBack.TheVariants as points
 use Rattle.lexical_forms.specs.declared.list.Tokens.{Tokens}
+use Rattle.lexical_forms.specs.declared.suffix.Suffixes.{Suffixes}
 use Rattle.lexical_forms.specs.declared.token.Token.{Token}
 use Rattle.lexical_forms.specs.declared.token.TokenError.{TokenError}
 use Rattle.lexical_forms.specs.declared.token.TokenError.TheVariants as errors
@@ -58,10 +59,6 @@ is_shorter size end other_size other_end = nat_lt end other_end || ((end == othe
 abbrev pub tried : FormList → Tokens → List (Form × Bool)
 tried list t = map (λ form. (form, false)) list.forms ++ map (λ form. (form, true)) t.forms.now
 
--- `Has back text it size end` holds if the form of `it` has this candidate.
-abbrev pub Has : PointsBack → List ℕ → Form × Bool → ℕ → ℕ → Type 0
-Has back text it size end = IsCandidate back it.1 text it.0 size end
-
 -- `IsAhead back text end form` holds if some literal of `form` begins with more than the first `end` bytes of `text`, and not only with a
 -- point that stands alone in a list that gives points back.
 pub record IsAhead (back : PointsBack) (text : List ℕ) (end : ℕ) (form : Form) : Type 0 where
@@ -70,10 +67,13 @@ pub record IsAhead (back : PointsBack) (text : List ℕ) (end : ℕ) (form : For
   pub further : end < size
   pub more : (is_alone back text end size && is_in (notation_of form.syntax).point (slice_get text end)) ≡ false
 
--- `lets_words t form text end` is true if any word may follow the number of `form` that ends at `end`: where the list says so, and the number does not end
--- in the decimal point of the form.
-abbrev pub lets_words : Tokens → Form → List ℕ → ℕ → Bool
-lets_words t form text end = t.any_word_follows && not (is_in (notation_of form.syntax).point (byte_before text end))
+-- `is_stopped t form text end` is true if what is behind the number of `form` that ends at `end` may not follow it: a stop of the form, or a byte of a word,
+-- but only a digit if the list lets any word follow, and the number does not end in the decimal point of the form.
+abbrev pub is_stopped : Tokens → Form → List ℕ → ℕ → Bool
+is_stopped t form text end =
+    let words = t.any_word_follows && not (is_in (notation_of form.syntax).point (byte_before text end)) in
+    is_in (if words then is_ascii_digit else is_word_byte) (slice_get text end)
+    || list_any (meets text end) (unwrap_or (option_map (λ (it : Bor Suffixes). it.now.stops.now) form.suffixes) [])
 
 -- `part_size text stop` is the number of bytes up to the end of the word at `stop`, and at least 1 unless `text` is empty.
 abbrev pub part_size : List ℕ → ℕ → ℕ
@@ -85,9 +85,9 @@ module _ (list : FormList) (t : Tokens) (text : List ℕ) where
   pub record IsChosen (index : ℕ) (form : Form) (size end : ℕ) : Type 0 where
     pub needs : Bool
     pub at : slice_get (tried list t) index ≡ Some (form, needs)
-    pub own : Has t.gives_points_back text (form, needs) size end
-    pub before : All (λ it. (s e : ℕ) → Has t.gives_points_back text it s e → is_shorter s e size end ≡ true) (take index (tried list t))
-    pub others : All (λ it. (s e : ℕ) → Has t.gives_points_back text it s e → is_shorter size end s e ≡ false) (tried list t)
+    pub own : IsCandidate t.gives_points_back needs text form size end
+    pub before : All (λ it. (s e : ℕ) → IsCandidate t.gives_points_back it.1 text it.0 s e → is_shorter s e size end ≡ true) (take index (tried list t))
+    pub others : All (λ it. (s e : ℕ) → IsCandidate t.gives_points_back it.1 text it.0 s e → is_shorter size end s e ≡ false) (tried list t)
 
   -- `IsFollowed end` holds if a word that may follow a number is behind `end`.
   abbrev pub IsFollowed : ℕ → Type 0
@@ -109,7 +109,7 @@ module _ (list : FormList) (t : Tokens) (text : List ℕ) where
     pub opened : token.literal.opened ≡ form.opening.size
     pub suffix : token.suffix.now ≡ take (end - size) (drop size text)
     pub rest : token.rest.now ≡ drop end text
-    pub ended : IsFollowed end ⊎ (IsOver end × (is_stopped (lets_words t form text end) form.suffixes text end ≡ false))
+    pub ended : IsFollowed end ⊎ (IsOver end × (is_stopped t form text end ≡ false))
 
   -- `IsCut index form size end digit` holds if `form`, with this index, has the longest candidate, no word that may follow is behind it and no literal
   -- goes on, and what follows may not: directly behind a literal without a suffix a digit, if `digit` is true, or something else.
@@ -117,13 +117,13 @@ module _ (list : FormList) (t : Tokens) (text : List ℕ) where
     pub chosen : IsChosen index form size end
     pub not_followed : IsFollowed end → ⊥
     pub over : IsOver end
-    pub stopped : is_stopped (lets_words t form text end) form.suffixes text end ≡ true
+    pub stopped : is_stopped t form text end ≡ true
     pub digit_is : ((size == end) && is_in is_ascii_digit (slice_get text size)) ≡ digit
 
   -- `HasNone` holds if no form has a candidate, and `IsRefused` if none has one, if a literal goes on behind the longest, or if a digit is directly
   -- behind it. Then a form is to blame.
   abbrev pub HasNone : Type 0
-  HasNone = All (λ it. (s e : ℕ) → Has t.gives_points_back text it s e → ⊥) (tried list t)
+  HasNone = All (λ it. (s e : ℕ) → IsCandidate t.gives_points_back it.1 text it.0 s e → ⊥) (tried list t)
 
   abbrev pub IsRefused : Type 0
   IsRefused = HasNone ⊎ ((index : ℕ) × (form : Form) × (size : ℕ) × (end : ℕ) × (IsCut index form size end true ⊎ (IsChosen index form size end

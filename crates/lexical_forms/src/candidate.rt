@@ -1,12 +1,12 @@
 //! The candidates of forms for a token, and the token that the longest of them makes.
 
-ghost use Rattle.std.specs.Prelude.{◌≡◌, ◌<◌, ◌≤◌, ◌+◌, ◌-◌, ◌==◌, ◌&&◌, ◌||◌, ◌⊎◌, ℕ, All, Bool, IfSome, IsNone, IsSomeAnd, IsTrue, None, Some, drop, false};
-ghost use Rattle.std.specs.Prelude.{if◌then◌else◌, length, nat_le, nat_lt, slice_get, take, true};
+ghost use Rattle.std.specs.Prelude.{◌≡◌, ◌<◌, ◌≤◌, ◌+◌, ◌-◌, ◌==◌, ◌&&◌, ◌||◌, ◌⊎◌, ℕ, All, Bool, IsNone, IsSomeAnd, IsTrue, None, Some, drop, false};
+ghost use Rattle.std.specs.Prelude.{length, nat_le, slice_get, take, true};
 ghost use Rattle.std.specs.Char.{is_ascii_alphabetic, is_ascii_digit};
 ghost use Rattle.std.specs.Option.{ForSome};
 ghost use Rattle.lexical_forms.specs.Additions.Forms.{GoesTo, GoesWithin, IsFrontIn, IsOpenedTo, further};
-ghost use Rattle.lexical_forms.specs.Additions.Token.{HasNoWord, HasSumsOf, IsAsked, IsAskedFirst, IsCounted, IsEnd, IsEnded, IsBegunFirst, IsEndedAt, IsMade, IsOverFrom, IsOwn, IsPicked};
-ghost use Rattle.lexical_forms.specs.Additions.Token.{IsWinner, IsYet, MayEnd, NoCandidate, NoOwn, goes_on, has_float, is_longer, suffixed, whole};
+ghost use Rattle.lexical_forms.specs.Additions.Token.{HasNoWord, IsAsked, IsAskedFirst, IsBegunFirst, IsEnd, IsEnded, IsEndedAt, IsMade, IsOverFrom, IsOwn};
+ghost use Rattle.lexical_forms.specs.Additions.Token.{IsPicked, IsReady, IsWinner, IsYet, MayEnd, NoCandidate, NoOwn, goes_on, is_longer, suffixed, whole};
 ghost use Rattle.lexical_literal.specs.Cause.{is_in};
 ghost use Rattle.lexical_literal.specs.Additions.Literal.{AreSums, IsCut, IsSummed, cut};
 ghost use Rattle.lexical_literal.specs.Additions.Stop.{HasBegun, IsWithin};
@@ -14,8 +14,8 @@ ghost use Rattle.lexical_literal.specs.Read.{exact};
 ghost use Rattle.lexical_literal.specs.Additions.Step.{cuts_of};
 ghost use Rattle.lexical_literal.specs.Notation.{notation_of};
 ghost use Rattle.lexical_forms.specs.Forms.{IsGreatest, ReadsIn};
-ghost use Rattle.lexical_forms.specs.Suffix.{is_stopped, kind_with, stop_end};
-ghost use Rattle.lexical_forms.specs.Token.{IsAhead, IsOver, IsReadByTokens, IsRefused, IsTokenError, is_alone, is_shorter, lets_words, part_size};
+ghost use Rattle.lexical_forms.specs.Suffix.{kind_with, stop_end};
+ghost use Rattle.lexical_forms.specs.Token.{IsAhead, IsOver, IsReadByTokens, IsRefused, IsTokenError, is_alone, is_shorter, is_stopped, part_size};
 ghost use Rattle.lexical_forms.specs.Token.{tried};
 ghost use Rattle.lexical_forms.specs.declared.form.Form.{Form};
 ghost use Rattle.lexical_util.specs.Record.{raw};
@@ -500,7 +500,7 @@ impl Form {
 
     // Returns whether what is behind the number that ends at `end` may not follow it. No word may follow a decimal point.
     pub(crate) fn is_stopped(&self, tokens: &Tokens, text: &[u8], end: usize) -> bool
-        ensures { result ≡ is_stopped (lets_words tokens.now self.now text.now end) self.now.suffixes text.now end }
+        ensures { result ≡ is_stopped tokens.now self.now text.now end }
     {
         let words = tokens.any_word_follows
             && !is_decimal_point(self.syntax, byte_before(text, end));
@@ -523,10 +523,7 @@ impl Form {
     // Returns the token with this candidate.
     #[inline(always)]
     pub(crate) fn made<'t>(&self, text: &'t [u8], form: usize, candidate: Candidate) -> Token<'t>
-        requires counted { IsCounted self.now (take candidate.size text.now) candidate.counts }
-        requires sums { HasSumsOf self.now (take candidate.size text.now) candidate.counts candidate.sums }
-        requires order { candidate.size ≤ candidate.end }
-        requires within { candidate.end ≤ length text.now }
+        requires { IsReady self.now text.now candidate }
         ensures form { result.form ≡ form }
         ensures literal { (result.literal.format ≡ self.now.syntax.word) × ReadsIn self.now result.literal.literal (take candidate.size text.now) }
         ensures kind { result.literal.kind ≡ kind_with self.now.suffixes result.suffix.now self.now.kind }
@@ -569,7 +566,7 @@ fn is_longer(best: Option<(usize, Candidate)>, candidate: Candidate) -> bool
 // Returns the larger of two sizes, of which the second one counts only behind a candidate that is clear.
 #[inline(always)]
 const fn past_of(past: usize, clear: bool, size: usize) -> usize
-    ensures { result ≡ (if clear && nat_lt past size then size else past) }
+    ensures { (result ≡ past) ⊎ (IsTrue clear × (past < size) × (result ≡ size)) }
 {
     if clear && past < size { size } else { past }
 }
@@ -685,10 +682,7 @@ const fn begins_name(text: &[u8], index: usize) -> bool
         None => false,
         Some(letter) => {
             letter.is_ascii_alphabetic()
-                && match byte_after(text, index) {
-                    None => false,
-                    Some(byte) => byte == b'.' || byte.is_ascii_alphabetic(),
-                }
+                && matches!(byte_after(text, index), Some(byte) if byte == b'.' || byte.is_ascii_alphabetic())
         }
     }
 }

@@ -1,9 +1,9 @@
 //! What excludes that a text is a literal of a form: its first bytes, or a byte that plays no role in the form.
 
 ghost use Rattle.std.specs.Prelude.{◌≡◌, ◌+◌, ◌<◌, ◌≤◌, Bool, IfSome, IsTrue, get_or, length};
-ghost use Rattle.std.specs.List.{AllByRecursion};
-ghost use Rattle.lexical_forms.specs.Additions.Forms.{AreFalse, IsExcluded, IsSilentAt, IsStranger, LacksLetter, LacksZero};
-ghost use Rattle.lexical_forms.specs.Additions.Forms.{IsOutside, LetsEnd, NoFrontPast, PlaysNoRole, ends_at, is_end};
+ghost use Rattle.std.specs.List.{list_any};
+ghost use Rattle.lexical_forms.specs.Additions.Forms.{AreFalse, IsExcluded, IsSilent, IsSilentAt, IsStranger, LacksLetter, LacksZero};
+ghost use Rattle.lexical_forms.specs.Additions.Forms.{LetsEnd, NoFrontPast, PlaysNoRole, ends_at, is_end};
 ghost use Rattle.lexical_forms.specs.Forms.{is_other_prefix, reach, sign_size};
 ghost use Rattle.lexical_literal.specs.Cause.{is_in};
 ghost use Rattle.lexical_forms.specs.Additions.Token.{has_prefix};
@@ -13,7 +13,7 @@ ghost use Rattle.lexical_util.specs.Roles.{cased, other_case};
 ghost use Rattle.lexical_literal.specs.Notation.{notation_of};
 
 use crate::form::Form;
-use crate::suffix::{has_byte, more_of};
+use crate::suffix::more_of;
 use lexical_literal::step::{is_digit, is_prefix, other_case, role_at};
 use lexical_literal::stop::byte_at;
 use lexical_literal::syntax::{Condition, Grammar};
@@ -91,10 +91,12 @@ const fn is_stranger_at(grammar: Grammar, text: &[u8], index: usize) -> bool
 // begins with a zero.
 #[inline(always)]
 const fn is_silent(grammar: Grammar, byte: u8) -> bool
-    ensures own { IsTrue result → PlaysNoRole (notation_of grammar) byte }
-    ensures other { IsTrue result → PlaysNoRole (notation_of grammar) (other_case byte) }
+    ensures { IsTrue result → IsSilent (notation_of grammar) byte }
 {
-    byte > b'9' && is_stranger(grammar, byte) && is_apart(grammar.prefix, byte, other_case(byte))
+    if byte <= b'9' || !is_stranger(grammar, byte) {
+        return false;
+    }
+    is_apart(grammar.prefix, byte, other_case(byte))
 }
 
 // Returns whether `byte` plays no role behind the base prefix, and its other case neither.
@@ -103,14 +105,17 @@ const fn is_stranger(grammar: Grammar, byte: u8) -> bool
     ensures { IsTrue result → IsStranger (notation_of grammar) byte }
 {
     let other = other_case(byte);
-    !is_digit(grammar, Part::Integer, byte)
-        && !is_digit(grammar, Part::Exponent, byte)
-        && byte != b'+'
-        && byte != b'-'
-        && is_apart(grammar.separator, byte, other)
-        && is_apart(grammar.suffix, byte, other)
-        && is_apart(grammar.exponent, byte, other)
-        && is_apart(grammar.point, byte, other)
+    if is_digit(grammar, Part::Integer, byte)
+        || is_digit(grammar, Part::Exponent, byte)
+        || byte == b'+'
+        || byte == b'-'
+        || !is_apart(grammar.separator, byte, other)
+        || !is_apart(grammar.suffix, byte, other)
+        || !is_apart(grammar.exponent, byte, other)
+    {
+        return false;
+    }
+    is_apart(grammar.point, byte, other)
 }
 
 // Returns whether `byte` is not `own`, and its other case neither.
@@ -143,10 +148,7 @@ pub(crate) const fn reach(grammar: Grammar, text: &[u8], size: usize) -> usize
 const fn has_other_prefix(grammar: Grammar, byte: Option<u8>) -> bool
     ensures { result ≡ is_in (is_other_prefix (notation_of grammar)) byte }
 {
-    match byte {
-        None => false,
-        Some(byte) => { !is_prefix(grammar, byte) && is_prefix(grammar, other_case(byte)) }
-    }
+    matches!(byte, Some(byte) if !is_prefix(grammar, byte) && is_prefix(grammar, other_case(byte)))
 }
 
 // Returns the length of the sign with which `text` begins.
@@ -212,11 +214,6 @@ const fn has_prefix(grammar: Grammar, text: &[u8], index: usize) -> bool
     index + 1 < text.len() && text[index] == b'0' && is_prefix(grammar, text[index + 1])
 }
 
-// The bytes that end a number unless a form goes on with them: white space, operators, and what closes or separates.
-const ENDS: [u8; 12] = [
-    9, 10, 13, b' ', b')', b'*', b',', b'/', b';', b'=', b']', b'}',
-];
-
 // Returns whether `text` ends behind the first `size` bytes, or a byte follows that ends a number.
 #[inline(always)]
 pub(crate) const fn ends_at(text: &[u8], size: usize) -> bool
@@ -228,7 +225,7 @@ pub(crate) const fn ends_at(text: &[u8], size: usize) -> bool
     }
 }
 
-// Returns whether `byte` ends a number.
+// Returns whether `byte` ends a number unless a form goes on with it: white space, operators, and what closes or separates.
 #[inline(always)]
 const fn is_end(byte: u8) -> bool
     ensures { result ≡ is_end byte }
@@ -239,30 +236,23 @@ const fn is_end(byte: u8) -> bool
     )
 }
 
-// Returns whether the form goes on with no byte that ends a number.
+// Returns whether the form goes on with no byte that ends a number. Such bytes are neither digits nor signs.
 pub(crate) const fn lets_end(form: &Form) -> bool
     ensures { IsTrue result → LetsEnd form.now }
 {
-    lets_all_end(form, &ENDS)
+    let it = form.syntax.grammar();
+    let own = [it.separator, it.prefix, it.suffix, it.exponent, it.point];
+    !(have_end(&own) || have_end(&form.opening.bytes) || have_end(more_of(form.suffixes)))
 }
 
-// Returns whether the form goes on with none of `bytes`.
-const fn lets_all_end(form: &Form, bytes: &[u8]) -> bool
-    ensures { IsTrue result → AllByRecursion (IsOutside form.now) bytes.now }
+// Returns whether one of `bytes` ends a number.
+const fn have_end(bytes: &[u8]) -> bool
+    ensures { result ≡ list_any is_end bytes.now }
 {
     match bytes {
-        [] => true,
-        [byte, rest @ ..] => is_outside(form, *byte) && lets_all_end(form, rest),
+        [] => false,
+        [byte, rest @ ..] => is_end(*byte) || have_end(rest),
     }
-}
-
-// Returns whether `byte` plays no role in the form, and is neither in its opening nor in a word behind it.
-const fn is_outside(form: &Form, byte: u8) -> bool
-    ensures { IsTrue result → IsOutside form.now byte }
-{
-    has_no_role(form.syntax.grammar(), byte)
-        && !has_byte(&form.opening.bytes, byte)
-        && !has_byte(more_of(form.suffixes), byte)
 }
 
 // Returns whether a zero and a letter are behind the sign.

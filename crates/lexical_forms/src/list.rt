@@ -255,7 +255,7 @@ impl<'a> Forms<'a> {
     pub const fn with_tokens(self, tokens: &'a Tokens) -> Forms<'a>
         ensures { result ≡ record self.entry { tokens = Some tokens.entry } }
     {
-        let ends = let_end(self.forms) && let_end(tokens.forms);
+        let ends = self.ends && let_end(tokens.forms);
         Forms {
             tokens: Some(tokens),
             ends,
@@ -353,24 +353,12 @@ impl<'a> Forms<'a> {
                 let it = &self.as_slice()[form];
                 let (front, rest) = text.split_at(size);
                 let (_, inside) = front.split_at(it.opening.size());
-                let literal = self.of_form(form, it.syntax.summed(inside, counts));
+                let literal = it.syntax.summed(inside, counts);
+                let literal = literal.with_kind(it.kind).behind(it.opening.size);
                 Ok((Number::Literal { literal, form }, rest))
             }
             Err(error) => Err(error),
         }
-    }
-
-    // Returns a literal with the kind of the form with the index `form`, behind its opening.
-    #[inline(always)]
-    fn of_form<'t>(&self, form: usize, literal: Literal<'t>) -> Literal<'t>
-        requires { form < length self.now.forms }
-        ensures format { result.format ≡ literal.entry.format }
-        ensures literal { result.literal ≡ literal.entry.literal }
-        ensures kind { IsSomeAnd (slice_get self.now.forms form) (λ form. result.kind ≡ form.kind) }
-        ensures opened { IsSomeAnd (slice_get self.now.forms form) (λ form. result.opened ≡ form.opening.size) }
-    {
-        let it = &self.as_slice()[form];
-        literal.with_kind(it.kind).behind(it.opening.size)
     }
 
     // Returns the special value that `text` is, if it is one.
@@ -487,7 +475,7 @@ impl<'a> Forms<'a> {
     fn reached(&self, text: &[u8], form: usize, stop: Stopped) -> Furthest
         requires { IsSomeAnd (slice_get self.now.forms form) (IsRefusedAt text.now stop) }
         ensures form { result.form ≡ form }
-        ensures stop { result.stop ≡ stop }
+        ensures here { IsSomeAnd (slice_get self.now.forms form) (IsRefusedAt text.now result.stop) }
         ensures reach { IsSomeAnd (slice_get self.now.forms form) (λ g. Reaches text.now g result.reach) }
     {
         self.as_slice()[form].reached(text, form, stop)

@@ -1,12 +1,14 @@
 //! Words that stand directly behind a number, such as `u8`, and bytes that may not follow it.
 
-ghost use Rattle.std.specs.Prelude.{◌≡◌, ◌==◌, ◌&&◌, [], ◌+◌, ◌≤◌, Some, false, filter, fold, if◌then◌else◌, length, map, max, nat_le, option_map, slice_get};
-ghost use Rattle.std.specs.Prelude.{unwrap_or};
+ghost use Rattle.std.specs.Prelude.{◌≡◌, ◌==◌, ◌&&◌, ◌||◌, [], ◌+◌, ◌≤◌, Some, false, filter, fold, if◌then◌else◌, length, map, max, nat_le, option_map};
+ghost use Rattle.std.specs.Prelude.{slice_get, unwrap_or};
 ghost use Rattle.std.specs.Char.{eq_ignore_ascii_case, is_ascii_digit};
+ghost use Rattle.std.specs.Borrow.{Bor};
 ghost use Rattle.std.specs.List.{find, list_any};
 ghost use Rattle.lexical_literal.specs.Cause.{is_in};
 ghost use Rattle.lexical_forms.specs.Additions.Token.{is_in_word};
-ghost use Rattle.lexical_forms.specs.Suffix.{admits, begins, byte_before, is_followed, is_stopped, is_word_byte, kind_with, meets, more_of, suffix_size};
+ghost use Rattle.lexical_forms.specs.declared.suffix.Suffixes.{Suffixes};
+ghost use Rattle.lexical_forms.specs.Suffix.{admits, begins, byte_before, is_followed, is_word_byte, kind_with, meets, more_of, suffix_size};
 ghost use Rattle.lexical_forms.specs.Suffix.{suffix_words, word_size};
 
 use lexical_literal::kind::Kind;
@@ -209,7 +211,7 @@ impl Suffixes {
         if whole == 0 {
             return 0;
         }
-        if is_one_at(self.any, text, 0) {
+        if matches!(byte_at(text, 0), Some(byte) if has_byte(self.any, byte)) {
             return whole;
         }
         let words = if float { self.floats } else { self.integers };
@@ -286,7 +288,8 @@ pub(crate) const fn is_stopped(
     text: &[u8],
     end: usize,
 ) -> bool
-    ensures { result ≡ is_stopped words suffixes.entry text.now end }
+    ensures { result ≡ (is_in (if words then is_ascii_digit else is_word_byte) (slice_get text.now end)
+        || list_any (meets text.now end) (unwrap_or (option_map (λ (it : Bor Suffixes). it.now.stops.now) suffixes.entry) [])) }
 {
     (if words {
         has_digit_at(text, end)
@@ -324,20 +327,14 @@ pub(crate) const fn is_wide(suffixes: Option<&'static Suffixes>) -> bool
 pub(crate) const fn has_word_byte(text: &[u8], index: usize) -> bool
     ensures { result ≡ is_in is_word_byte (slice_get text.now index) }
 {
-    match byte_at(text, index) {
-        None => false,
-        Some(byte) => is_word_byte(byte),
-    }
+    matches!(byte_at(text, index), Some(byte) if is_word_byte(byte))
 }
 
 // Returns whether the byte at `index` is a digit.
 pub(crate) const fn has_digit_at(text: &[u8], index: usize) -> bool
     ensures { result ≡ is_in is_ascii_digit (slice_get text.now index) }
 {
-    match byte_at(text, index) {
-        None => false,
-        Some(byte) => byte.is_ascii_digit(),
-    }
+    matches!(byte_at(text, index), Some(byte) if byte.is_ascii_digit())
 }
 
 // Returns whether one of the stops is behind the number that ends at `end`.
@@ -387,21 +384,7 @@ const fn stop_admits(bytes: &[u8], byte: Option<u8>) -> bool
 {
     match bytes {
         [] => true,
-        _ => match byte {
-            None => false,
-            Some(byte) => has_byte(bytes, byte),
-        },
-    }
-}
-
-// Returns whether the byte at `index` is one of `bytes`.
-#[inline(always)]
-const fn is_one_at(bytes: &[u8], text: &[u8], index: usize) -> bool
-    ensures { result ≡ is_in (λ byte. list_any (λ it. it == byte) bytes.now) (slice_get text.now index) }
-{
-    match byte_at(text, index) {
-        None => false,
-        Some(byte) => has_byte(bytes, byte),
+        _ => matches!(byte, Some(byte) if has_byte(bytes, byte)),
     }
 }
 

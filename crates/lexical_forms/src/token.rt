@@ -182,10 +182,7 @@ impl Form {
         ensures { result ≡ gives_back back self.now text.now size }
     {
         is_decimal_point(self.syntax, byte_before(text, size))
-            && match byte_at(text, size) {
-                None => false,
-                Some(byte) => takes_point(back, byte),
-            }
+            && matches!(byte_at(text, size), Some(byte) if takes_point(back, byte))
     }
 }
 
@@ -206,10 +203,7 @@ const fn takes_point(back: PointsBack, byte: u8) -> bool
 pub(crate) fn is_decimal_point(syntax: Syntax, byte: Option<u8>) -> bool
     ensures { result ≡ is_in (notation_of syntax).point byte }
 {
-    match byte {
-        None => false,
-        Some(byte) => is_point(syntax.grammar(), byte),
-    }
+    matches!(byte, Some(byte) if is_point(syntax.grammar(), byte))
 }
 
 // Returns whether a literal with these parts is a float.

@@ -484,10 +484,7 @@ const fn begins_name(text: &[u8], index: usize) -> bool {
         None => false,
         Some(letter) => {
             letter.is_ascii_alphabetic()
-                && match byte_after(text, index) {
-                    None => false,
-                    Some(byte) => byte == b'.' || byte.is_ascii_alphabetic(),
-                }
+                && matches!(byte_after(text, index), Some(byte) if byte == b'.' || byte.is_ascii_alphabetic())
         }
     }
 }

@@ -5,7 +5,7 @@
 use crate::literal::form::Form;
 use crate::literal::step::{is_digit, is_prefix, other_case, role_at};
 use crate::literal::stop::byte_at;
-use crate::literal::suffix::{has_byte, more_of};
+use crate::literal::suffix::more_of;
 use crate::literal::syntax::{Condition, Grammar};
 use crate::word::Part;
 
@@ -66,21 +66,27 @@ const fn is_stranger_at(grammar: &Grammar, text: &[u8], index: usize) -> bool {
 // begins with a zero.
 #[inline(always)]
 const fn is_silent(grammar: &Grammar, byte: u8) -> bool {
-    byte > b'9' && is_stranger(grammar, byte) && is_apart(grammar.prefix, byte, other_case(byte))
+    if byte <= b'9' || !is_stranger(grammar, byte) {
+        return false;
+    }
+    is_apart(grammar.prefix, byte, other_case(byte))
 }
 
 // Returns whether `byte` plays no role behind the base prefix, and its other case neither.
 #[inline(always)]
 const fn is_stranger(grammar: &Grammar, byte: u8) -> bool {
     let other = other_case(byte);
-    !is_digit(grammar, Part::Integer, byte)
-        && !is_digit(grammar, Part::Exponent, byte)
-        && byte != b'+'
-        && byte != b'-'
-        && is_apart(grammar.separator, byte, other)
-        && is_apart(grammar.suffix, byte, other)
-        && is_apart(grammar.exponent, byte, other)
-        && is_apart(grammar.point, byte, other)
+    if is_digit(grammar, Part::Integer, byte)
+        || is_digit(grammar, Part::Exponent, byte)
+        || byte == b'+'
+        || byte == b'-'
+        || !is_apart(grammar.separator, byte, other)
+        || !is_apart(grammar.suffix, byte, other)
+        || !is_apart(grammar.exponent, byte, other)
+    {
+        return false;
+    }
+    is_apart(grammar.point, byte, other)
 }
 
 // Returns whether `byte` is not `own`, and its other case neither.
@@ -101,10 +107,7 @@ pub(crate) const fn reach(grammar: &Grammar, text: &[u8], size: usize) -> usize 
 
 // Returns whether `byte` is the base prefix in its other case alone.
 const fn has_other_prefix(grammar: &Grammar, byte: Option<u8>) -> bool {
-    match byte {
-        None => false,
-        Some(byte) => !is_prefix(grammar, byte) && is_prefix(grammar, other_case(byte)),
-    }
+    matches!(byte, Some(byte) if !is_prefix(grammar, byte) && is_prefix(grammar, other_case(byte)))
 }
 
 // Returns the length of the sign with which `text` begins.
@@ -150,10 +153,6 @@ const fn has_prefix(grammar: &Grammar, text: &[u8], index: usize) -> bool {
     index + 1 < text.len() && text[index] == b'0' && is_prefix(grammar, text[index + 1])
 }
 
-// The bytes that end a number unless a form goes on with them: white space, operators, and what closes or separates.
-#[allow(dead_code)]
-const ENDS: [u8; 12] = [9, 10, 13, b' ', b')', b'*', b',', b'/', b';', b'=', b']', b'}'];
-
 // Returns whether `text` ends behind the first `size` bytes, or a byte follows that ends a number.
 #[inline(always)]
 pub(crate) const fn ends_at(text: &[u8], size: usize) -> bool {
@@ -163,39 +162,25 @@ pub(crate) const fn ends_at(text: &[u8], size: usize) -> bool {
     }
 }
 
-// Returns whether `byte` ends a number.
+// Returns whether `byte` ends a number unless a form goes on with it: white space, operators, and what closes or separates.
 #[inline(always)]
 const fn is_end(byte: u8) -> bool {
     matches!(byte, 9 | 10 | 13 | b' ' | b')' | b'*' | b',' | b'/' | b';' | b'=' | b']' | b'}')
 }
 
-// Returns whether the form goes on with no byte that ends a number.
+// Returns whether the form goes on with no byte that ends a number. Such bytes are neither digits nor signs.
 pub(crate) const fn lets_end(form: &Form) -> bool {
     let it = form.syntax.as_grammar();
     let own = [it.separator, it.prefix, it.suffix, it.exponent, it.point];
     !(have_end(&own) || have_end(&form.opening.bytes) || have_end(more_of(form.suffixes)))
 }
 
-// Returns whether the form goes on with none of `bytes`.
+// Returns whether one of `bytes` ends a number.
 const fn have_end(bytes: &[u8]) -> bool {
     match bytes {
         [] => false,
         [byte, rest @ ..] => is_end(*byte) || have_end(rest),
     }
-}
-#[allow(dead_code)]
-const fn lets_all_end(form: &Form, bytes: &[u8]) -> bool {
-    match bytes {
-        [] => true,
-        [byte, rest @ ..] => is_outside(form, *byte) && lets_all_end(form, rest),
-    }
-}
-
-// Returns whether `byte` plays no role in the form, and is neither in its opening nor in a word behind it.
-const fn is_outside(form: &Form, byte: u8) -> bool {
-    has_no_role(form.syntax.as_grammar(), byte)
-        && !has_byte(&form.opening.bytes, byte)
-        && !has_byte(more_of(form.suffixes), byte)
 }
 
 // Returns whether a zero and a letter are behind the sign.

@@ -259,18 +259,12 @@ impl<'a> Forms<'a> {
                 let it = &self.as_slice()[form];
                 let (front, rest) = text.split_at(size);
                 let (_, inside) = front.split_at(it.opening.size());
-                let literal = self.of_form(form, it.syntax.summed(inside, counts));
+                let literal = it.syntax.summed(inside, counts);
+                let literal = literal.with_kind(it.kind).behind(it.opening.size);
                 Ok((Number::Literal { literal, form }, rest))
             }
             Err(error) => Err(error),
         }
-    }
-
-    // Returns a literal with the kind of the form with the index `form`, behind its opening.
-    #[inline(always)]
-    const fn of_form<'t>(&self, form: usize, literal: Literal<'t>) -> Literal<'t> {
-        let it = &self.as_slice()[form];
-        literal.with_kind(it.kind).behind(it.opening.size)
     }
 
     // Returns the special value that `text` is, if it is one.

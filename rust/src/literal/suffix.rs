@@ -157,7 +157,7 @@ impl Suffixes {
         if whole == 0 {
             return 0;
         }
-        if is_one_at(self.any, text, 0) {
+        if matches!(byte_at(text, 0), Some(byte) if has_byte(self.any, byte)) {
             return whole;
         }
         let words = if float { self.floats } else { self.integers };
@@ -247,18 +247,12 @@ pub(crate) const fn is_wide(suffixes: Option<&'static Suffixes>) -> bool {
 // Returns whether the byte at `index` is one of a word.
 #[cfg_attr(not(peltzivar_small), inline(always))]
 pub(crate) const fn has_word_byte(text: &[u8], index: usize) -> bool {
-    match byte_at(text, index) {
-        None => false,
-        Some(byte) => is_word_byte(byte),
-    }
+    matches!(byte_at(text, index), Some(byte) if is_word_byte(byte))
 }
 
 // Returns whether the byte at `index` is a digit.
 pub(crate) const fn has_digit_at(text: &[u8], index: usize) -> bool {
-    match byte_at(text, index) {
-        None => false,
-        Some(byte) => byte.is_ascii_digit(),
-    }
+    matches!(byte_at(text, index), Some(byte) if byte.is_ascii_digit())
 }
 
 // Returns whether one of the stops is behind the number that ends at `end`.
@@ -298,19 +292,7 @@ pub(crate) const fn byte_before(text: &[u8], index: usize) -> Option<u8> {
 const fn stop_admits(bytes: &[u8], byte: Option<u8>) -> bool {
     match bytes {
         [] => true,
-        _ => match byte {
-            None => false,
-            Some(byte) => has_byte(bytes, byte),
-        },
-    }
-}
-
-// Returns whether the byte at `index` is one of `bytes`.
-#[inline(always)]
-const fn is_one_at(bytes: &[u8], text: &[u8], index: usize) -> bool {
-    match byte_at(text, index) {
-        None => false,
-        Some(byte) => has_byte(bytes, byte),
+        _ => matches!(byte, Some(byte) if has_byte(bytes, byte)),
     }
 }
 

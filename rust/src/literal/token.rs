@@ -158,10 +158,7 @@ impl Form {
     #[cfg_attr(not(peltzivar_small), inline(always))]
     pub(crate) const fn gives_back(&self, back: PointsBack, text: &[u8], size: usize) -> bool {
         is_decimal_point(self.syntax, byte_before(text, size))
-            && match byte_at(text, size) {
-                None => false,
-                Some(byte) => takes_point(back, byte),
-            }
+            && matches!(byte_at(text, size), Some(byte) if takes_point(back, byte))
     }
 }
 
@@ -178,10 +175,7 @@ const fn takes_point(back: PointsBack, byte: u8) -> bool {
 // Returns whether `byte` is the decimal point.
 #[cfg_attr(not(peltzivar_small), inline(always))]
 pub(crate) const fn is_decimal_point(syntax: Syntax, byte: Option<u8>) -> bool {
-    match byte {
-        None => false,
-        Some(byte) => is_point(syntax.as_grammar(), byte),
-    }
+    matches!(byte, Some(byte) if is_point(syntax.as_grammar(), byte))
 }
 
 // Returns whether a literal with these parts is a float.

@@ -1,5 +1,5 @@
 -- What one pass over several forms finds.
-use Rattle.std.specs.Prelude.{ℕ, ◌≡◌, ◌+◌, ◌-◌, ◌<◌, ◌≤◌, ◌⊎◌, false, if◌then◌else◌, nat_lt, IfErr, IfOk, IsErr, IsSomeAnd, IsTrue, List, Option}
+use Rattle.std.specs.Prelude.{ℕ, ◌≡◌, ◌-◌, ◌<◌, ◌≤◌, ◌⊎◌, false, if◌then◌else◌, nat_lt, IfErr, IfOk, IsErr, IsSomeAnd, IsTrue, List, Option}
 use Rattle.std.specs.Prelude.{◌==◌, ◌&&◌, ◌||◌, not, Bool, get_or, Some, None, Result, All, drop, length, slice_get, take, [], ◌∷◌, option_map, true, unwrap_or}
 use Rattle.std.specs.Borrow.{Bor}
 use Rattle.std.specs.List.{AllByRecursion, list_any}
@@ -12,7 +12,7 @@ use Rattle.lexical_util.specs.Roles.{other_case}
 use Rattle.lexical_util.specs.declared.feature_format.roles.Role.{Role}
 use Rattle.lexical_util.specs.declared.feature_format.roles.Role.TheVariants as roles
 use Rattle.lexical_literal.specs.Additions.Stop.{IsCountedFront, IsStopped, IsWithin}
-use Rattle.lexical_forms.specs.Forms.{Begins, HasFront, HasOpening, IsFirst, IsFormError, IsGreatest, NoForm, Reaches, ReadsIn, reach, sign_size}
+use Rattle.lexical_forms.specs.Forms.{Begins, HasFront, IsFirst, IsFormError, IsGreatest, NoForm, Reaches, ReadsIn, reach, sign_size}
 use Rattle.lexical_literal.specs.Front.{BeginsBy, IsValidBy, NoFrontBy, NoLiteral, NoneBy}
 use Rattle.lexical_literal.specs.Read.{Read}
 use Rattle.lexical_literal.specs.Notation.{Notation, notation_of, set_of_role}
@@ -63,11 +63,8 @@ pub record PlaysNoRole (m : Notation) (byte : ℕ) : Type 0 where
 
 -- `is_end byte` is true if `byte` ends a number, unless a form goes on with it, and `ends_at text size` if `text` ends behind the first `size` bytes, or
 -- such a byte follows.
-abbrev pub ENDS : List ℕ
-ENDS = 9 ∷ 10 ∷ 13 ∷ 32 ∷ 41 ∷ 42 ∷ 44 ∷ 47 ∷ 59 ∷ 61 ∷ 93 ∷ 125 ∷ []
-
 abbrev pub is_end : ByteSet
-is_end byte = list_any (λ it. it == byte) ENDS
+is_end byte = list_any (λ it. it == byte) (9 ∷ 10 ∷ 13 ∷ 32 ∷ 41 ∷ 42 ∷ 44 ∷ 47 ∷ 59 ∷ 61 ∷ 93 ∷ 125 ∷ [])
 
 abbrev pub ends_at : List ℕ → ℕ → Bool
 ends_at text size = unwrap_or (option_map is_end (slice_get text size)) true
@@ -80,7 +77,7 @@ pub record IsOutside (form : Form) (byte : ℕ) : Type 0 where
   pub word : list_any (λ it. it == byte) (more_of form.suffixes) ≡ false
 
 abbrev pub LetsEnd : Form → Type 0
-LetsEnd form = AllByRecursion (IsOutside form) ENDS
+LetsEnd form = (byte : ℕ) → IsTrue (is_end byte) → IsOutside form byte
 
 pub record LetEnd (forms : List Form) (tokens : Option (Bor Tokens)) : Type 0 where
   pub own : AllByRecursion LetsEnd forms
@@ -108,11 +105,12 @@ pub record LacksLetter (m : Notation) (text : List ℕ) (index : ℕ) : Type 0 w
   pub inside : index < length text
   pub other : AreFalse m.prefix (get_or text index 0)
 
--- `IsSilentAt m text index` holds if the byte with this index plays no role, and its other case neither.
-pub record IsSilentAt (m : Notation) (text : List ℕ) (index : ℕ) : Type 0 where
-  pub inside : index < length text
-  pub own : PlaysNoRole m (get_or text index 0)
-  pub other : PlaysNoRole m (other_case (get_or text index 0))
+-- `IsSilent m byte` holds if `byte` plays no role, and its other case neither, and `IsSilentAt m text index` if the byte of `text` with this index is so.
+abbrev pub IsSilent : Notation → ℕ → Type 0
+IsSilent m byte = PlaysNoRole m byte × PlaysNoRole m (other_case byte)
+
+abbrev pub IsSilentAt : Notation → List ℕ → ℕ → Type 0
+IsSilentAt m text index = (index < length text) × IsSilent m (get_or text index 0)
 
 -- `IsExcluded m text size` holds if `text` is not a literal, and the syntax goes up to `size` at most.
 pub record IsExcluded (m : Notation) (text : List ℕ) (size : ℕ) : Type 0 where
@@ -159,17 +157,18 @@ pub record IsPassed (g : Form) (text : List ℕ) (size : ℕ) : Type 0 where
 abbrev pub ArePassed : List Form → List ℕ → ℕ → ℕ → Type 0
 ArePassed forms text asked limit = (k : ℕ) (d : Form) → k < asked → (size : ℕ) × (size < limit) × IsPassed (get_or forms k d) text size
 
--- `AreBelow forms text start end most` holds if the forms with indexes from `start` to `end` go less far than `most`.
-abbrev pub AreBelow : List Form → List ℕ → ℕ → ℕ → ℕ → Type 0
-AreBelow forms text start end most = (k : ℕ) (d : Form) → start ≤ k → k < end → (n : ℕ) → Reaches text (get_or forms k d) n → n < most
+-- `IsBest P forms asked limit index n` holds if `P` holds of the form with this index and of `n`, and if `P` holds, of the first `asked` forms, of none before
+-- and as great a number, and of none and a greater one, where numbers below `limit` do not count.
+pub record IsBest (P : Form → ℕ → Type 0) (forms : List Form) (asked limit index n : ℕ) : Type 0 where
+  pub here : IsSomeAnd (slice_get forms index) (λ form. P form n)
+  pub inside : index < asked
+  pub each : (k : ℕ) (d : Form) → k < asked → (m : ℕ) → P (get_or forms k d) m → limit ≤ m → (m ≤ n) × (k < index → m < n)
 
--- `Leads forms text asked limit best` holds if the form of `best` stops there and goes up to its reach, those before it less far, and those behind it, of
--- the first `asked` forms, no further, or less far than `limit`.
+-- `Leads forms text asked limit best` holds if the form of `best` stops there, and goes furthest of the first `asked` forms, up to its reach, where forms that
+-- go less far than `limit` do not count.
 pub record Leads (forms : List Form) (text : List ℕ) (asked limit : ℕ) (best : Furthest) : Type 0 where
   pub here : IsSomeAnd (slice_get forms best.form) (IsRefusedAt text best.stop)
-  pub reach : IsSomeAnd (slice_get forms best.form) (λ g. Reaches text g best.reach)
-  pub before : (most : ℕ) → best.reach ≤ most → limit ≤ most → AreBelow forms text 0 best.form most
-  pub behind : (most : ℕ) → best.reach < most → limit ≤ most → AreBelow forms text (best.form + 1) asked most
+  pub furthest : IsBest (Reaches text) forms asked limit best.form best.reach
 
 -- `IsLed forms text asked limit furthest` holds if `furthest` leads the first `asked` forms, or if it is `None`, and they are passed over.
 abbrev pub IsLed : List Form → List ℕ → ℕ → ℕ → Option Furthest → Type 0
@@ -183,7 +182,7 @@ IsPast best bound = (bound < best.reach) ⊎ ((best.form ≡ 0) × (bound ≡ be
 -- `IsFoundForm forms text result` holds if `result` has the first form of which `text` is a literal and the literal, or if `text` is a literal
 -- of no form, and `result` leads them.
 pub record IsFoundForm (forms : List Form) (text : List ℕ) (result : Result (ℕ × Read) Furthest) : Type 0 where
-  pub found : IfOk result (λ found. IsFirst forms text found.0 found.1 × HasOpening forms found.0 found.1)
+  pub found : IfOk result (λ found. IsFirst forms text found.0 found.1 × IsSomeAnd (slice_get forms found.0) (λ form. found.1.opened ≡ form.opening.size))
   pub none : IsErr result → NoForm forms text
   pub furthest : IfErr result (Leads forms text (length forms) 0)
 

@@ -1,6 +1,6 @@
 -- What one pass over several forms finds of a token.
 use Rattle.std.specs.Prelude.{ℕ, ◌≡◌, ◌+◌, ◌-◌, ◌==◌, ◌&&◌, ◌||◌, not, Bool, if◌then◌else◌, nat_lt, List, Option, Some, None, All, IsNone, IsSomeAnd, IsTrue}
-use Rattle.std.specs.Prelude.{◌≤◌, ◌<◌, ◌⊎◌, true, false, drop, get_or, length, slice_get, take}
+use Rattle.std.specs.Prelude.{◌≤◌, ◌<◌, ◌⊎◌, true, false, drop, get_or, length, option_map, slice_get, take, unwrap_or}
 use Rattle.std.specs.Borrow.{Bor}
 use Rattle.std.specs.List.{list_any}
 use Rattle.lexical_util.specs.Ascii.{ByteSet}
@@ -15,9 +15,9 @@ use Rattle.lexical_literal.specs.Additions.Step.{cuts_of}
 use Rattle.lexical_literal.specs.declared.literal.Sums.{Sums}
 use Rattle.lexical_util.specs.Record.{raw}
 use Rattle.std.specs.Option.{ForSome}
-use Rattle.lexical_forms.specs.Suffix.{is_stopped, is_word_byte, more_of, stop_end, suffix_size, suffix_words}
+use Rattle.lexical_forms.specs.Suffix.{is_word_byte, more_of, stop_end, suffix_size, suffix_words}
 use Rattle.lexical_forms.specs.declared.suffix.Suffixes.{Suffixes}
-use Rattle.lexical_forms.specs.Token.{HasNone, IsAhead, IsCandidate, IsChosen, IsFollowed, IsOver, gives_back, is_alone, is_shorter, lets_words, tried}
+use Rattle.lexical_forms.specs.Token.{HasNone, IsAhead, IsCandidate, IsChosen, IsFollowed, IsOver, gives_back, is_alone, is_shorter, is_stopped, tried}
 use Rattle.lexical_forms.specs.declared.list.PointsBack.{PointsBack}
 use Rattle.lexical_forms.specs.declared.list.Tokens.{Tokens}
 use Rattle.lexical_literal.specs.Additions.Scan.{IsDecimal, IsUsual}
@@ -51,12 +51,18 @@ HasSumsOf form text counts sums =
 abbrev pub is_in_word : List ℕ → ByteSet
 is_in_word more byte = list_any (λ it. it == byte) more || is_word_byte byte
 
+-- `IsReady form text c` holds if `text` begins with a literal of `form` that has the size of `c`, the lengths of its parts, and their sums, and if `c` ends
+-- in `text`.
+pub record IsReady (form : Form) (text : List ℕ) (c : Candidate) : Type 0 where
+  pub counted : IsCounted form (take c.size text) c.counts
+  pub sums : HasSumsOf form (take c.size text) c.counts c.sums
+  pub order : c.size ≤ c.end
+  pub within : c.end ≤ length text
+
 -- `IsMade back needs text form c` holds if `c` is the candidate of `form` in `text`, and has the lengths of the parts of its literal.
 pub record IsMade (back : PointsBack) (needs : Bool) (text : List ℕ) (form : Form) (c : Candidate) : Type 0 where
   pub candidate : IsCandidate back needs text form c.size c.end
-  pub counted : IsCounted form (take c.size text) c.counts
-  pub sums : HasSumsOf form (take c.size text) c.counts c.sums
-  pub within : c.end ≤ length text
+  pub ready : IsReady form text c
 
 -- `IsOwn back form text longest own` holds if `own` has the lengths of the longest front, of `longest` bytes, or of this without its point if
 -- that is given back. `NoOwn` holds if there is no such literal.
@@ -75,10 +81,7 @@ goes_on back m text end stop = nat_lt end stop && not (is_alone back text end st
 -- `IsPicked list t text index form c` holds if `form`, with this index, has the longest candidate, which is `c`.
 pub record IsPicked (list : FormList) (t : Tokens) (text : List ℕ) (index : ℕ) (form : Form) (c : Candidate) : Type 0 where
   pub chosen : IsChosen list t text index form c.size c.end
-  pub counted : IsCounted form (take c.size text) c.counts
-  pub sums : HasSumsOf form (take c.size text) c.counts c.sums
-  pub order : c.size ≤ c.end
-  pub within : c.end ≤ length text
+  pub ready : IsReady form text c
 
 -- `IsWinner list t text found` holds if `found` has the form with the longest candidate, if there is one, and if no literal goes on behind the
 -- candidate where the forms go no further.
@@ -146,38 +149,32 @@ abbrev pub is_longer : Option (ℕ × Candidate) → Candidate → Bool
 is_longer None c = true
 is_longer (Some best) c = is_shorter best.1.size best.1.end c.size c.end
 
+-- `NotLonger best s e` holds if there is a best candidate, and if one of this size and end is not longer.
+abbrev pub NotLonger : Option (ℕ × Candidate) → ℕ → ℕ → Type 0
+NotLonger None s e = ⊥
+NotLonger (Some best) s e = is_shorter best.1.size best.1.end s e ≡ false
+
 -- What is known of the first forms. Candidates of at most `least` bytes do not count.
 module _ (list : FormList) (t : Tokens) (text : List ℕ) (least : ℕ) where
-  -- `Counts it s e` holds if the form of `it` has this candidate, and it counts.
+  -- `Counts it s e` holds if the form of `it` has this candidate, and it counts, and `NoneLonger best it` if none such is longer than `best`.
   abbrev pub Counts : Form × Bool → ℕ → ℕ → Type 0
   Counts it s e = (least < s) × IsCandidate t.gives_points_back it.1 text it.0 s e
 
-  -- `IsBestYet i best` holds if `best` is the first with the longest candidate of the first `i` forms, or if it is `None`, and they have none.
-  pub record IsFirstYet (i index : ℕ) (c : Candidate) : Type 0 where
+  abbrev pub NoneLonger : Option (ℕ × Candidate) → Form × Bool → Type 0
+  NoneLonger best it = (s e : ℕ) → Counts it s e → NotLonger best s e
+
+  -- `IsFirstYet index c` holds if `c` is the candidate of the form with this index, and longer than those before.
+  pub record IsFirstYet (index : ℕ) (c : Candidate) : Type 0 where
     pub here : IsSomeAnd (slice_get (tried list t) index) (λ it. IsMade t.gives_points_back it.1 text it.0 c)
     pub long : least < c.size
     pub before : All (λ it. (s e : ℕ) → Counts it s e → is_shorter s e c.size c.end ≡ true) (take index (tried list t))
-    pub others : All (λ it. (s e : ℕ) → Counts it s e → is_shorter c.size c.end s e ≡ false) (take i (tried list t))
-
-  abbrev pub IsBestYet : ℕ → Option (ℕ × Candidate) → Type 0
-  IsBestYet i None = All (λ it. (s e : ℕ) → Counts it s e → ⊥) (take i (tried list t))
-  IsBestYet i (Some best) = IsFirstYet i best.0 best.1
-
-  -- `NoneLonger best past it` holds if no candidate of `it` with at most `past` bytes is longer than `best`, and `IsLowPast best past` if `best` ends
-  -- behind `past` bytes or more.
-  abbrev pub NoneLonger : Option (ℕ × Candidate) → ℕ → Form × Bool → Type 0
-  NoneLonger None past it = (s e : ℕ) → Counts it s e → s ≤ past → ⊥
-  NoneLonger (Some best) past it = (s e : ℕ) → Counts it s e → s ≤ past → is_shorter best.1.size best.1.end s e ≡ false
-
-  abbrev pub IsLowPast : Option (ℕ × Candidate) → ℕ → Type 0
-  IsLowPast None past = past ≤ least
-  IsLowPast (Some best) past = past ≤ best.1.end
 
   -- `IsYet i found` holds if `found` is what is known of the first `i` forms.
   pub record IsYet (i : ℕ) (found : Longest) : Type 0 where
-    pub best : IsBestYet i found.best
-    pub passed : All (NoneLonger found.best found.past) (tried list t)
-    pub low : IsLowPast found.best found.past
+    pub best : ForSome found.best (λ best. IsFirstYet best.0 best.1)
+    pub others : All (NoneLonger found.best) (take i (tried list t))
+    pub passed : All (λ it. (s e : ℕ) → Counts it s e → s ≤ found.past → NotLonger found.best s e) (tried list t)
+    pub low : found.past ≤ unwrap_or (option_map (λ (best : ℕ × Candidate). best.1.end) found.best) least
     pub over : All (λ it. (end : ℕ) → found.reach ≤ end → found.past ≤ end → IsAhead t.gives_points_back text end it.0 → ⊥) (take i (tried list t))
     pub clear : IsTrue found.clear → (best : ℕ × Candidate) × (found.best ≡ Some best) × All (λ it. HasNoWord text best.1.end it.0) (tried list t)
 
@@ -188,7 +185,7 @@ IsAskedFirst list t text asked = IsSomeAnd (slice_get (tried list t) 0) (λ it. 
 -- `IsEnded list t text form end` holds if a word that may follow is behind `end`, or if no literal goes on, and nothing follows that may not.
 abbrev pub IsEnded : FormList → Tokens → List ℕ → Form → ℕ → Type 0
 IsEnded list t text form end = IsFollowed list t text end
-    ⊎ (IsOver list t text end × (is_stopped (lets_words t form text end) form.suffixes text end ≡ false))
+    ⊎ (IsOver list t text end × (is_stopped t form text end ≡ false))
 
 -- `AreBare list t` holds if no form of the list, and none that needs a suffix, has an opening.
 abbrev pub AreBare : FormList → Tokens → Type 0
@@ -209,12 +206,9 @@ pub record MayEnd (list : FormList) : Type 0 where
   pub lets : LetEnd list.forms list.tokens
 
 pub record IsBegunFirst (list : FormList) (text : List ℕ) (begun : Begun) : Type 0 where
-  pub form : Form
-  pub at : slice_get list.forms 0 ≡ Some form
-  pub bare : form.opening.size ≡ 0
-  pub found : HasBegun (notation_of form.syntax) text begun
-  pub summed : IsSummed (raw form.syntax.word) text begun
-  pub lets : LetEnd list.forms list.tokens
+  pub may : MayEnd list
+  pub found : HasBegun (notation_of may.form.syntax) text begun
+  pub summed : IsSummed (raw may.form.syntax.word) text begun
 
 -- `IsEndedAt list text c` holds if the first form has the candidate `c`, without a suffix, and no form, of the list or of its tokens, goes on.
 pub record IsEndedAt (list : FormList) (text : List ℕ) (c : Candidate) : Type 0 where

@@ -1,6 +1,6 @@
 -- How far the forms before go, and one form more.
-use Rattle.lexical_forms.proofs.Common.{Form, GoesTo, subst, sym, ◌+◌}
-use Rattle.lexical_forms.proofs.FormLemmas.{IsFarthest, far_more, farthest_is, some_far}
+use Rattle.lexical_forms.proofs.Common.{Form, GoesTo, arith, refl, subst, sym, ◌+◌}
+use Rattle.lexical_forms.proofs.FormLemmas.{IsFarthest, best_all, far_more}
 use Rattle.lexical_forms.proofs.candidate.furthest_stop.Goals as goal
 
 pub loop-form-preserved : goal.loop-form-preserved
@@ -12,12 +12,12 @@ loop-form-preserved c =
     c.loop-form.furthest c.loop-form.invariant)
 
 pub returns-in-None : goal.returns-in-None
-returns-in-None c = absurd (some_far c.args.forms.now c.args.text.now c.loop-form.form c.loop-form-test.false c.requires
-    (subst (IsFarthest c.args.forms.now c.args.text.now c.loop-form.form) c.in-None.is c.loop-form.invariant))
+returns-in-None c = absurd (let none = subst (IsFarthest c.args.forms.now c.args.text.now c.loop-form.form) c.in-None.is c.loop-form.invariant in
+    omega (arith, none, c.loop-form-test.false, c.requires))
 
 pub returns-in-Some : goal.returns-in-Some
 returns-in-Some c = (
   c.in-Some.field-0-0,
-  farthest_is c.args.forms.now c.args.text.now c.loop-form.form c.loop-form-test.false c.in-Some.field-0-0 c.in-Some.size
-      (subst (IsFarthest c.args.forms.now c.args.text.now c.loop-form.form) c.in-Some.is c.loop-form.invariant),
+  best_all (GoesTo c.args.text.now) c.args.forms.now c.loop-form.form 0 c.in-Some.field-0-0 c.in-Some.size
+      (subst (IsFarthest c.args.forms.now c.args.text.now c.loop-form.form) c.in-Some.is c.loop-form.invariant) c.loop-form-test.false refl,
 )

@@ -2,4 +2,4 @@
 use Rattle.lexical_forms.proofs.exclude.is_silent_at.Goals as goal
 
 pub returns-then-index-text : goal.returns-then-index-text
-returns-then-index-text c = λ is. record { inside = c.if-index-text.true; own = c.is_silent.ensures.own is; other = c.is_silent.ensures.other is }
+returns-then-index-text c = λ is. (c.if-index-text.true, c.is_silent.ensures is)

@@ -8,7 +8,7 @@ returns-in-Some c =
     let forms = c.self.inside.forms.now in let text = c.args.text.now in let d = c.index-self-0.result in
     rw (← c.self.view_is) (leads_start forms text c.in-Some.stop
     (at_index (IsRefusedAt text c.in-Some.stop) forms forms d 0 refl c.self.invariant.0 c.in-Some.ensures)
-    (subst (λ (l : FormList). ArePassed l.forms text (length l.forms) 1) (sym c.self.view_is) c.requires.passed) c.self.invariant.0)
+    (subst (λ (l : FormList). ArePassed l.forms text (length l.forms) 1) (sym c.self.view_is) c.requires.passed))
 
 pub beginning-requires : goal.beginning-requires
 beginning-requires c =

@@ -18,13 +18,9 @@ fault_of-requires-clause-picked c = picked_at c.args.self.now c.args.tokens.now 
 pub fault_of-requires-clause-over : goal.fault_of-requires-clause-over
 fault_of-requires-clause-over c = λ off. c.requires.over (c.in-Some.form, c.in-Some.candidate) c.in-Some.is (grind (arith, nat_tests))
 
-pub made-requires-clause-counted : goal.made-requires-clause-counted
-made-requires-clause-counted c = (picked_at c.args.self.now c.args.tokens.now c.args.text.now c.in-Some.form _ _ c.in-Some.candidate c.tried-it.ensures
-    (c.requires.some (c.in-Some.form, c.in-Some.candidate) c.in-Some.is)).counted
-
-pub made-requires-clause-sums : goal.made-requires-clause-sums
-made-requires-clause-sums c = (picked_at c.args.self.now c.args.tokens.now c.args.text.now c.in-Some.form _ _ c.in-Some.candidate c.tried-it.ensures
-    (c.requires.some (c.in-Some.form, c.in-Some.candidate) c.in-Some.is)).sums
+pub made-requires : goal.made-requires
+made-requires c = (picked_at c.args.self.now c.args.tokens.now c.args.text.now c.in-Some.form _ _ c.in-Some.candidate c.tried-it.ensures
+    (c.requires.some (c.in-Some.form, c.in-Some.candidate) c.in-Some.is)).ready
 
 pub returns-in-None : goal.returns-in-None
 returns-in-None c =

@@ -7,6 +7,5 @@ use Rattle.lexical_forms.proofs.list.Forms.ended.Goals as goal
 
 pub returns-then-ends_at : goal.returns-then-ends_at
 returns-then-ends_at c =
-    let is = c.requires in
-    for_some (IsEndedAt c.args.self.now c.args.text.now) _ (ended_is c.args.self.now c.args.text.now is.form is.at is.bare c.args.begun is.found c.if-complete.true
-    is.summed is.lets (let ends = c.ends_at.ensures in let on = c.if-ends_at.true in grind arith))
+    for_some (IsEndedAt c.args.self.now c.args.text.now) _ (ended_is c.args.self.now c.args.text.now c.args.begun c.requires c.if-complete.true
+    (let ends = c.ends_at.ensures in let on = c.if-ends_at.true in grind arith))

@@ -1,11 +1,16 @@
 -- The first form that reads the text, or the form whose error is that of the list.
-use Rattle.lexical_forms.proofs.Common.{All-more, ArePassed, FormList, Furthest, IfSome, IsLed, IsRefusedAt, IsSomeAnd, Leads, NoForm, None, NoneBy, Option, Reaches}
-use Rattle.lexical_forms.proofs.Common.{ReadsIn, Stopped, arith, get_or, length, length-take-le, nat_tests, refl, slice_get, subst, sym, take, ℕ, ◌+◌, ◌≡◌}
+use Rattle.lexical_forms.proofs.Common.{All-more, ArePassed, FormList, Furthest, IfSome, IsLed, IsRefusedAt, IsSomeAnd, Leads, List, NoForm}
+use Rattle.lexical_forms.proofs.Common.{None, NoneBy, Option, Reaches}
+use Rattle.lexical_forms.proofs.Common.{ReadsIn, Stopped, arith, get_or, length, length-take-le, nat_tests, refl, slice_get, subst, sym, take, ℕ, ◌+◌, ◌≡◌, ◌≤◌}
 use Rattle.lexical_forms.proofs.BehindLemmas.{none_in}
-use Rattle.lexical_forms.proofs.FormLemmas.{all_passed, all_tried, at_index, first_none, found_is, leads_all, leads_first, leads_past}
+use Rattle.lexical_forms.proofs.FormLemmas.{all_passed, all_tried, at_index, first_none, found_is, leads_first, leads_past}
 use Rattle.lexical_forms.proofs.FormLemmas.{led_past}
 use Rattle.lexical_forms.proofs.list.Forms.find_literal.Goals as goal
 use Rattle.lexical_forms.proofs.list.Forms.find_literal.Goals.{in-Some, in_default, in-Err, in-Ok+in-Err-read}
+
+no_form : (list self : FormList) (text : List ℕ) (i : ℕ) → list ≡ self → length list.forms ≤ i → NoForm (take i list.forms) text → NoForm self.forms text
+no_form list self text i same end none =
+    subst (λ (l : FormList). NoForm l.forms text) same (all_tried list.forms text i end (λ g. NoneBy (ReadsIn g) text) none)
 
 pub loop-form-init : goal.loop-form-init
 loop-form-init c =
@@ -16,9 +21,10 @@ loop-form-init c =
           (subst (λ (o : Option Stopped). IfSome o (λ stop. IsSomeAnd (slice_get c.args.self.now.forms 0) (IsRefusedAt text stop)))
           w.in-Some.is c.requires) in
           begun c.match-stop.form 1 c.match-stop.furthest _ w.form-is w.furthest-is (first_none forms text w.in-Some.stop here)
-          (leads_first forms text 1 w.in-Some.stop w.reached.result w.reached.ensures.form w.reached.ensures.stop here
+          (leads_first forms text 0 1 w.reached.result w.reached.ensures.form
+          (subst (λ (l : FormList). IsSomeAnd (slice_get l.forms 0) (IsRefusedAt text w.reached.result.stop)) (sym c.self.view_is) w.reached.ensures.here)
           (subst (λ (l : FormList). IsSomeAnd (slice_get l.forms 0) (λ g. Reaches text g w.reached.result.reach)) (sym c.self.view_is)
-          w.reached.ensures.reach))
+          w.reached.ensures.reach) (λ k d below. absurd (omega (arith, below))))
       | in_default w ↦ begun c.match-stop.form 0 c.match-stop.furthest None w.form-is w.furthest-is
           (λ k d below. absurd (omega (arith, below, length-take-le 0 forms (omega arith)))) (λ k d below. absurd (omega (arith, below)))
     ] where
@@ -64,9 +70,7 @@ loop-form-preserved c =
     ]
 
 pub at_once-requires-clause-none : goal.at_once-requires-clause-none
-at_once-requires-clause-none c = subst (λ (l : FormList). NoForm l.forms c.args.text.now) c.self.view_is
-    (all_tried c.self.inside.forms.now c.args.text.now c.loop-form.form c.loop-form-test.false
-    (λ g. NoneBy (ReadsIn g) c.args.text.now) c.loop-form.invariant.0)
+at_once-requires-clause-none c = no_form _ _ _ _ c.self.view_is c.loop-form-test.false c.loop-form.invariant.0
 
 pub at_once-requires-clause-passed : goal.at_once-requires-clause-passed
 at_once-requires-clause-passed c = subst (λ (l : FormList). ArePassed l.forms c.args.text.now (length l.forms) 1) c.self.view_is
@@ -74,9 +78,7 @@ at_once-requires-clause-passed c = subst (λ (l : FormList). ArePassed l.forms c
     (let zero = c.if-bound-eq0.true in grind (arith, nat_tests)) c.loop-form.invariant.1)
 
 pub furthest-requires : goal.furthest-requires
-furthest-requires c = subst (λ (l : FormList). NoForm l.forms c.args.text.now) c.self.view_is
-    (all_tried c.self.inside.forms.now c.args.text.now c.loop-form.form c.loop-form-test.false
-    (λ g. NoneBy (ReadsIn g) c.args.text.now) c.loop-form.invariant.0)
+furthest-requires c = no_form _ _ _ _ c.self.view_is c.loop-form-test.false c.loop-form.invariant.0
 
 pub returns-in-Some-furthest : goal.returns-in-Some-furthest
 returns-in-Some-furthest c =
@@ -84,24 +86,20 @@ returns-in-Some-furthest c =
     rw (← c.self.view_is) (record {
       found = tt;
       none = λ _. all_tried forms text i c.loop-form-test.false (λ g. NoneBy (ReadsIn g) text) c.loop-form.invariant.0;
-      furthest = leads_past forms text bound c.in-Some-furthest.best (c.is_past.ensures c.if-is_past.true) (leads_all forms text i (bound + 1)
-          c.loop-form-test.false c.in-Some-furthest.best (subst (IsLed forms text i (bound + 1)) c.in-Some-furthest.is c.loop-form.invariant.1));
+      furthest = leads_past forms text i bound c.loop-form-test.false c.in-Some-furthest.best (c.is_past.ensures c.if-is_past.true)
+          (subst (IsLed forms text i (bound + 1)) c.in-Some-furthest.is c.loop-form.invariant.1);
     })
 
 pub returns-in-None : goal.returns-in-None
 returns-in-None c = record {
   found = tt;
-  none = λ _. subst (λ (l : FormList). NoForm l.forms c.args.text.now) c.self.view_is
-      (all_tried c.self.inside.forms.now c.args.text.now c.loop-form.form c.loop-form-test.false
-      (λ g. NoneBy (ReadsIn g) c.args.text.now) c.loop-form.invariant.0);
+  none = λ _. no_form _ _ _ _ c.self.view_is c.loop-form-test.false c.loop-form.invariant.0;
   furthest = c.at_once.ensures;
 }
 
 pub returns-in_default-furthest : goal.returns-in_default-furthest
 returns-in_default-furthest c = record {
   found = tt;
-  none = λ _. subst (λ (l : FormList). NoForm l.forms c.args.text.now) c.self.view_is
-      (all_tried c.self.inside.forms.now c.args.text.now c.loop-form.form c.loop-form-test.false
-      (λ g. NoneBy (ReadsIn g) c.args.text.now) c.loop-form.invariant.0);
+  none = λ _. no_form _ _ _ _ c.self.view_is c.loop-form-test.false c.loop-form.invariant.0;
   furthest = c.furthest.ensures;
 }

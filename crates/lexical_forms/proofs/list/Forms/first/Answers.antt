@@ -11,10 +11,7 @@ returns c =
     let at = subst (λ (l : FormList). slice_get l.forms 0 ≡ Some e.form) (sym c.self.view_is) e.at in
     let same = some_is _ _ (sym (slice_get-get_or c.self.inside.forms.now 0 c.index-self-0.result c.self.invariant.0) ∙ at) in
     record {
-      form = e.form;
-      at = e.at;
-      bare = e.bare;
+      may = e;
       found = subst (λ (g : Form). HasBegun (notation_of g.syntax) text begun) same c.begin.ensures.found;
       summed = subst (λ (g : Form). IsSummed (raw g.syntax.word) text begun) same c.begin.ensures.summed;
-      lets = e.lets;
     }

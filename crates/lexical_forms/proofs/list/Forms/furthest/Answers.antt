@@ -1,5 +1,5 @@
 -- The form whose error is that of the list, of those that have been asked.
-use Rattle.lexical_forms.proofs.Common.{FormList, IsLow, IsRefusedAt, IsSomeAnd, Leads, NoForm, Reaches, refl, slice_get, subst, sym, ◌+◌}
+use Rattle.lexical_forms.proofs.Common.{FormList, arith, IsLow, IsRefusedAt, IsSomeAnd, Leads, NoForm, Reaches, refl, slice_get, subst, sym, ◌+◌}
 use Rattle.lexical_forms.proofs.FormLemmas.{at_index, leads_all, leads_first, left_out}
 use Rattle.lexical_forms.proofs.list.Forms.furthest.Goals as goal
 use Rattle.lexical_forms.proofs.list.Forms.furthest.Goals.{then-not-is_behind, else-not-is_behind}
@@ -13,12 +13,12 @@ reached-furthest-requires c =
 
 pub loop-form-init : goal.loop-form-init
 loop-form-init c =
-    let forms = c.self.inside.forms.now in let text = c.args.text.now in let d = c.index-self-0.result in
-    leads_first forms text 0 c.stop-first.result c.reached-furthest.result c.reached-furthest.ensures.form c.reached-furthest.ensures.stop
-    (at_index (IsRefusedAt text c.stop-first.result) forms forms d 0 refl c.self.invariant.0
-    (c.stop-first.ensures.stop (subst (λ (l : FormList). NoForm l.forms text) (sym c.self.view_is) c.requires 0 d c.self.invariant.0)))
+    let forms = c.self.inside.forms.now in let text = c.args.text.now in
+    leads_first forms text 0 0 c.reached-furthest.result c.reached-furthest.ensures.form
+    (subst (λ (l : FormList). IsSomeAnd (slice_get l.forms 0) (IsRefusedAt text c.reached-furthest.result.stop)) (sym c.self.view_is)
+    c.reached-furthest.ensures.here)
     (subst (λ (l : FormList). IsSomeAnd (slice_get l.forms 0) (λ g. Reaches text g c.reached-furthest.result.reach)) (sym c.self.view_is)
-    c.reached-furthest.ensures.reach)
+    c.reached-furthest.ensures.reach) (λ k d below. absurd (omega (arith, below)))
 
 pub further-furthest-requires : goal.further-furthest-requires
 further-furthest-requires c =
@@ -46,5 +46,5 @@ loop-form-preserved c =
     ]
 
 pub returns : goal.returns
-returns c = rw (← c.self.view_is) (leads_all c.self.inside.forms.now c.args.text.now c.loop-form.form 0 c.loop-form-test.false c.loop-form.furthest
+returns c = rw (← c.self.view_is) (leads_all c.self.inside.forms.now c.args.text.now c.loop-form.form c.loop-form-test.false c.loop-form.furthest
     c.loop-form.invariant)

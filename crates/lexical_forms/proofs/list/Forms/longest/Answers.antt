@@ -1,6 +1,7 @@
 -- What is known of the forms that have been asked.
 use Rattle.lexical_forms.proofs.Common.{FormList, IsWinner, IsYet, arith, length, slice_get, subst, sym, tried, ◌+◌, ◌<◌}
-use Rattle.lexical_forms.proofs.LongestLemmas.{here_is, pass, size_tried, start, winner}
+use Rattle.lexical_forms.proofs.FormLemmas.{some_of}
+use Rattle.lexical_forms.proofs.LongestLemmas.{pass, size_tried, start, winner}
 use Rattle.lexical_forms.proofs.list.Forms.longest.Goals as goal
 use Rattle.lexical_forms.proofs.list.Forms.longest.Goals.{then-not-passes, else-not-passes, in-Some, in_default}
 
@@ -10,7 +11,7 @@ loop-form-init c =
     let t = c.args.tokens.now in let text = c.args.text.now in let least = c.args.least in let join = c.match-first in
     elim join.branch [
       | in-Some w ↦
-          let asked = here_is _ (slice_get (tried c.args.self.now t) 0) (c.requires w.in-Some.asked w.in-Some.is) in
+          let asked = some_of _ (slice_get (tried c.args.self.now t) 0) (c.requires w.in-Some.asked w.in-Some.is) in
           subst (λ i. IsYet list t text least i join.found) (sym w.form-is) (subst (IsYet list t text least 1) (sym w.found-is)
           (subst (λ (l : FormList). IsYet l t text least 1 w.longer-found.result) (sym c.self.view_is)
           (w.longer-found.ensures asked.0 asked.1 asked.2 (start c.args.self.now t text least))))

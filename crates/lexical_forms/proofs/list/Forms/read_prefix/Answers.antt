@@ -1,22 +1,12 @@
 -- The literal of the first form, behind which no form goes on.
-use Rattle.lexical_forms.proofs.Common.{Form, FormList, HasFront, HasOpening, HasSumsOf, IsCounted, IsGreatest, IsSomeAnd, ReadsForm, arith, drop, get_or}
+use Rattle.lexical_forms.proofs.Common.{Form, FormList, HasFront, IsGreatest, IsSomeAnd, ReadsForm, arith, drop, get_or}
 use Rattle.lexical_forms.proofs.Common.{slice_get, slice_get-get_or, subst, sym, take, ℕ, ◌-◌, ◌∙◌, ◌≡◌, ap}
-use Rattle.lexical_forms.proofs.EndLemmas.{first_is, made_first, greatest_ended, kind_ended}
+use Rattle.lexical_forms.proofs.EndLemmas.{made_first, greatest_ended, kind_ended}
 use Rattle.lexical_forms.specs.Additions.Token.{IsEndedAt}
-use Rattle.lexical_forms.specs.declared.list.PointsBack.TheVariants as points
 use Rattle.lexical_forms.proofs.list.Forms.read_prefix.Goals as goal
 
-pub made-literal-requires-clause-counted : goal.made-literal-requires-clause-counted
-made-literal-requires-clause-counted c = (made_first _ _ _ c.self.view_is c.index-self-0.result c.in-Some.candidate (c.ended.ensures c.in-Some.candidate c.in-Some.is)).counted
-
-pub made-literal-requires-clause-sums : goal.made-literal-requires-clause-sums
-made-literal-requires-clause-sums c = (made_first _ _ _ c.self.view_is c.index-self-0.result c.in-Some.candidate (c.ended.ensures c.in-Some.candidate c.in-Some.is)).sums
-
-pub made-literal-requires-clause-order : goal.made-literal-requires-clause-order
-made-literal-requires-clause-order c = let end = (c.ended.ensures c.in-Some.candidate c.in-Some.is).end in omega (arith, end)
-
-pub made-literal-requires-clause-within : goal.made-literal-requires-clause-within
-made-literal-requires-clause-within c = ((c.ended.ensures c.in-Some.candidate c.in-Some.is).made points.Never).within
+pub made-literal-requires : goal.made-literal-requires
+made-literal-requires c = (made_first _ _ _ c.self.view_is c.index-self-0.result c.in-Some.candidate (c.ended.ensures c.in-Some.candidate c.in-Some.is)).ready
 
 pub returns-in-Some : goal.returns-in-Some
 returns-in-Some c =
@@ -27,11 +17,13 @@ returns-in-Some c =
     let at = slice_get-get_or list.forms 0 c.index-self-0.result c.self.invariant.0 in let end = e.end in
     let kind = kind_ended first.suffixes made.result.suffix.now first.kind
     (made.ensures.suffix ∙ ap (λ n. take n (drop size text)) (let none : candidate.end - size ≡ 0 = omega (arith, end) in none)) in
-    subst (λ (l : FormList). (n : ℕ) × IsGreatest (HasFront text) l.forms 0 n × IsSomeAnd (slice_get l.forms 0) (ReadsForm (take n text) literal)
-    × HasOpening l.forms 0 literal × (made.result.rest.now ≡ drop n text)) c.self.view_is (
+    subst (λ (l : FormList). (n : ℕ) × IsGreatest (HasFront text) l.forms 0 n
+    × IsSomeAnd (slice_get l.forms 0) (λ form. ReadsForm (take n text) literal form × (literal.opened ≡ form.opening.size))
+    × (made.result.rest.now ≡ drop n text))
+    c.self.view_is (
       size,
       greatest_ended list text candidate e,
-      subst (λ o. IsSomeAnd o (ReadsForm (take size text) literal)) (sym at) (made.ensures.literal.0, made.ensures.kind ∙ kind, made.ensures.literal.1),
-      subst (λ o. IsSomeAnd o (λ (form : Form). literal.opened ≡ form.opening.size)) (sym at) made.ensures.opened,
+      subst (λ o. IsSomeAnd o (λ (form : Form). ReadsForm (take size text) literal form × (literal.opened ≡ form.opening.size))) (sym at)
+          ((made.ensures.literal.0, made.ensures.kind ∙ kind, made.ensures.literal.1), made.ensures.opened),
       made.ensures.rest ∙ ap (λ n. drop n text) end,
     )

@@ -3,20 +3,11 @@ use Rattle.lexical_forms.proofs.Common.{Form, FormList, IsPicked, IsReadByTokens
 use Rattle.lexical_forms.proofs.EndLemmas.{first_is, made_first, over_ended, picked_ended}
 use Rattle.lexical_forms.proofs.TokenLemmas.{token_is}
 use Rattle.lexical_forms.specs.Additions.Token.{IsEndedAt}
-use Rattle.lexical_forms.specs.declared.list.PointsBack.TheVariants as points
 use Rattle.lexical_forms.proofs.list.Forms.token.Goals as goal
 
-pub made-requires-clause-counted : goal.made-requires-clause-counted
-made-requires-clause-counted c = (made_first _ _ _ c.self.view_is c.index-self-0.result c.in-Some-ended.candidate (c.ended.ensures c.in-Some-ended.candidate c.in-Some-ended.is)).counted
-
-pub made-requires-clause-sums : goal.made-requires-clause-sums
-made-requires-clause-sums c = (made_first _ _ _ c.self.view_is c.index-self-0.result c.in-Some-ended.candidate (c.ended.ensures c.in-Some-ended.candidate c.in-Some-ended.is)).sums
-
-pub made-requires-clause-order : goal.made-requires-clause-order
-made-requires-clause-order c = let end = (c.ended.ensures c.in-Some-ended.candidate c.in-Some-ended.is).end in omega (arith, end)
-
-pub made-requires-clause-within : goal.made-requires-clause-within
-made-requires-clause-within c = ((c.ended.ensures c.in-Some-ended.candidate c.in-Some-ended.is).made points.Never).within
+pub made-requires : goal.made-requires
+made-requires c =
+    (made_first _ _ _ c.self.view_is c.index-self-0.result c.in-Some-ended.candidate (c.ended.ensures c.in-Some-ended.candidate c.in-Some-ended.is)).ready
 
 pub returns-else-is_stopped : goal.returns-else-is_stopped
 returns-else-is_stopped c =
