@@ -68,6 +68,11 @@ none_among (first ∷ bytes) byte none on =
     let parts = no_one (is_end first) (list_any is_end bytes) none in
     let own = not_same first byte parts.0 on in let rest = none_among bytes byte parts.1 on in grind arith
 
+pub none_in : (some : Bool) (bytes : List ℕ) (byte : ℕ) → (some && list_any is_end bytes) ≡ false → is_end byte ≡ true
+    → (some && list_any (λ it. it == byte) bytes) ≡ false
+none_in false bytes byte none on = refl
+none_in true bytes byte none on = none_among bytes byte none on
+
 apart : (counts : Bool) (own byte : ℕ) → is_end own ≡ false → is_end byte ≡ true → cased counts own byte ≡ false
 unfolding cased
 apart counts own byte off on = both_off (not (own == 0)) _ (not_spelled own byte (not counts) (end_is byte on).0 (not_same own byte off on))
@@ -97,6 +102,9 @@ plays_none a g fields same syntax none byte on =
     (sym (exponent_is a g fields same byte) ∙ apart _ a.exponent byte s.0 on))
     (sym (prefix_is a g fields same byte) ∙ apart _ a.prefix byte q.0 on)
 
+opened_none : (n : ℕ) (found : Bool) → 0 < n → (not (n == 0) && found) ≡ false → found ≡ false
+opened_none n found some none = grind (arith, nat_tests)
+
 -- Where such a byte is behind the first bytes, or nothing, no form goes on that lets the number end.
 module _ (text : List ℕ) (size : ℕ) (on : ends_at text size ≡ true) where
   abbrev byte : ℕ
@@ -124,8 +132,9 @@ module _ (text : List ℕ) (size : ℕ) (on : ends_at text size ≡ true) where
         elim (cases_lt size form.opening.size) [
           | inl short ↦ (let at = subst (λ b. spells form.opening size b ≡ true) (front_byte text front.more more size past inside) (front.reads.0.each size short) in
               let opened = form.opening.within in
+              let none : list_any (λ it. it == byte) form.opening.bytes ≡ false = opened_none form.opening.size _ (omega (arith, short)) is.opening in
               false≢true (sym (not_spelled (get_or form.opening.bytes size 0) byte (not form.opening.case_sensitive) (end_is byte (is_byte below)).0
-              (none_at form.opening.bytes byte size is.opening (omega (arith, short, opened)))) ∙ at))
+              (none_at form.opening.bytes byte size none (omega (arith, short, opened)))) ∙ at))
           | inr low ↦ (let n = form.opening.size in
               let same : get_or (behind form text) (size - n) 0 ≡ byte = get_or-drop n text (size - n) 0
               ∙ ap (λ k. get_or text k 0) (let all : n + (size - n) ≡ size = omega (arith, low) in all) in

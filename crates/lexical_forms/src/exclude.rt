@@ -1,6 +1,6 @@
 //! What excludes that a text is a literal of a form: its first bytes, or a byte that plays no role in the form.
 
-ghost use Rattle.std.specs.Prelude.{◌≡◌, ◌+◌, ◌<◌, ◌≤◌, Bool, IfSome, IsTrue, get_or, length};
+ghost use Rattle.std.specs.Prelude.{◌≡◌, ◌+◌, ◌<◌, ◌≤◌, ◌==◌, ◌&&◌, Bool, IfSome, IsTrue, get_or, length, not};
 ghost use Rattle.std.specs.List.{list_any};
 ghost use Rattle.lexical_forms.specs.Additions.Forms.{AreFalse, IsExcluded, IsSilent, IsSilentAt, IsStranger, LacksLetter, LacksZero};
 ghost use Rattle.lexical_forms.specs.Additions.Forms.{LetsEnd, NoFrontPast, PlaysNoRole, ends_at, is_end};
@@ -13,6 +13,7 @@ ghost use Rattle.lexical_util.specs.Roles.{cased, other_case};
 ghost use Rattle.lexical_literal.specs.Notation.{notation_of};
 
 use crate::form::Form;
+use crate::opening::Opening;
 use crate::suffix::more_of;
 use lexical_literal::step::{is_digit, is_prefix, other_case, role_at};
 use lexical_literal::stop::byte_at;
@@ -242,7 +243,14 @@ pub(crate) const fn lets_end(form: &Form) -> bool
 {
     let it = form.syntax.grammar();
     let own = [it.separator, it.prefix, it.suffix, it.exponent, it.point];
-    !(have_end(&own) || have_end(&form.opening.bytes) || have_end(more_of(form.suffixes)))
+    !(have_end(&own) || has_end(&form.opening) || have_end(more_of(form.suffixes)))
+}
+
+// Returns whether an opening that is not empty has a byte that ends a number.
+const fn has_end(opening: &Opening) -> bool
+    ensures { result ≡ (not (opening.now.size == 0) && list_any is_end opening.now.bytes) }
+{
+    opening.size != 0 && have_end(&opening.bytes)
 }
 
 // Returns whether one of `bytes` ends a number.

@@ -3,6 +3,7 @@
 //! What excludes that a text is a literal of a form: its first bytes, or a byte that plays no role in the form.
 
 use crate::literal::form::Form;
+use crate::literal::opening::Opening;
 use crate::literal::step::{is_digit, is_prefix, other_case, role_at};
 use crate::literal::stop::byte_at;
 use crate::literal::suffix::more_of;
@@ -172,7 +173,12 @@ const fn is_end(byte: u8) -> bool {
 pub(crate) const fn lets_end(form: &Form) -> bool {
     let it = form.syntax.as_grammar();
     let own = [it.separator, it.prefix, it.suffix, it.exponent, it.point];
-    !(have_end(&own) || have_end(&form.opening.bytes) || have_end(more_of(form.suffixes)))
+    !(have_end(&own) || has_end(&form.opening) || have_end(more_of(form.suffixes)))
+}
+
+// Returns whether an opening that is not empty has a byte that ends a number.
+const fn has_end(opening: &Opening) -> bool {
+    opening.size != 0 && have_end(&opening.bytes)
 }
 
 // Returns whether one of `bytes` ends a number.

@@ -73,7 +73,7 @@ ends_at text size = unwrap_or (option_map is_end (slice_get text size)) true
 -- ends a number, and `LetEnd forms tokens` if this holds of all forms, of a list and of its tokens.
 pub record IsOutside (form : Form) (byte : ℕ) : Type 0 where
   pub role : PlaysNoRole (notation_of form.syntax) byte
-  pub opening : list_any (λ it. it == byte) form.opening.bytes ≡ false
+  pub opening : (not (form.opening.size == 0) && list_any (λ it. it == byte) form.opening.bytes) ≡ false
   pub word : list_any (λ it. it == byte) (more_of form.suffixes) ≡ false
 
 abbrev pub LetsEnd : Form → Type 0
