@@ -71,8 +71,11 @@ module _ (P : Form → ℕ → Type 0) (forms : List Form) where
       inside = let inside = old.inside in omega (arith, inside);
       each = λ k d below m is more. elim (cases_lt k i) [
         | inl before ↦ old.each k d before m is more
-        | inr last ↦ (few m (last_up_to i most k d low below last m is) more less, λ before. absurd (let inside = old.inside in
-            omega (arith, before, last, inside)))
+        | inr last ↦ (
+          few m (last_up_to i most k d low below last m is) more less,
+          λ before. absurd (let inside = old.inside in
+              omega (arith, before, last, inside)),
+        )
       ];
     } where
       few : (m : ℕ) → m ≤ most → limit ≤ m → (most ≤ n) ⊎ (most < limit) → m ≤ n

@@ -348,7 +348,10 @@ fn sized(grammar: Grammar, text: &[u8], begun: Begun) -> Begun
     ensures begun { HasBegun (notation_of grammar) text.now result }
     ensures summed { IsSummed (raw grammar.word) text.now result }
 {
-    if begun.complete && !has_size(grammar, Part::Fraction) && is_grouped(grammar, integer_of(text, begun)) {
+    if begun.complete
+        && !has_size(grammar, Part::Fraction)
+        && is_grouped(grammar, integer_of(text, begun))
+    {
         return begun;
     }
     match group_after(grammar, text, begun.at.size) {
