@@ -137,7 +137,7 @@ impl State {
         let flags = (self.word ^ other.word) & FLAG_MASK;
         let fields = bytes.iter().filter(|&it| (self.word ^ other.word) & it != 0).count();
         let conditions = Condition::ALL.iter().filter(|&&it| self.conditions.number(it) != other.conditions.number(it));
-        let required = conditions.clone().filter(|it| it.limits().1 == 1 && **it != Condition::NegativeSign);
+        let required = conditions.clone().filter(|it| it.limits().1 == 1 && !it.name().starts_with("no_"));
         let set = (self.word & flags & REQUIREMENTS).count_ones() as usize + required.count();
         let weight = if self.has_free_groups() { MOST } else { 1 };
         let options = 2 * usize::from(self.is_integers() != other.is_integers());
