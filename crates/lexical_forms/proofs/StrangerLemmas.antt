@@ -103,12 +103,12 @@ module _ (m : Notation) (text : List ℕ) where
 
   -- a byte that plays no role, and its other case neither,
   pub silent_out : (i : ℕ) → IsSilentAt m text i → IsExcluded m text i
-  silent_out i silent = record {
-    inside = let inside = silent.0 in omega (arith, inside);
-    none = no_role_excludes m text i silent.0 silent.1.0;
-    within = λ more past inside front. let low = near_no_role m text more inside front i silent.1.0 in omega (arith, past, low);
+  silent_out i (below, (own, other)) = record {
+    inside = omega (arith, below);
+    none = no_role_excludes m text i below own;
+    within = λ more past inside front. let low = near_no_role m text more inside front i own in omega (arith, past, low);
     there = reach_other i
-        (ap (is_in (is_other_prefix m)) (slice_get-get_or text i 0 silent.0) ∙ no_other (get_or text i 0) (silent.1.1.none roles.Prefix));
+        (ap (is_in (is_other_prefix m)) (slice_get-get_or text i 0 below) ∙ no_other (get_or text i 0) (other.none roles.Prefix));
   }
 
   -- a letter that is not that of the prefix,
