@@ -94,11 +94,13 @@ fn each_row_is_printed_with_its_status(rt: HostRuntime) -> Result<(), Fail> {
 
 #[test]
 fn at_most_64_edits_are_taken(rt: HostRuntime) -> Result<(), Fail> {
-    let mut args = ["radix=16"; 67];
+    let mut args = ["radix=16"; 66];
     args[0] = "edit";
     args[1] = "0x00000A0000000000000000000000000C";
-    check(&rt, &args[..66], "0x0A0A100000000000000000000000000C\n", 0)?;
-    // A 65th edit is refused before the word is read.
+    check(&rt, &args, "0x0A0A100000000000000000000000000C\n", 0)?;
+    // A 65th edit is refused before the word and the edits are read.
+    let mut args = ["radix=1"; 67];
+    args[0] = "edit";
     args[1] = "0x";
     check(&rt, &args, "numfmt: too many edits\n", 2)
 }
