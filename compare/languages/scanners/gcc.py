@@ -1,6 +1,5 @@
-"""The preprocessors of gcc and g++. Reads texts on standard input, and prints the length of the number that each begins with, or
-`-`. That number may have any word behind its digits: the compiler refuses some. A parameter of a macro is no number, and the
-error shows the token.
+"""The preprocessors of gcc and g++. A number may have any word behind its digits: the compiler refuses some. A parameter of a macro
+is no number, and the error shows the token.
 """
 import re
 import subprocess

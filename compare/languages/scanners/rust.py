@@ -1,8 +1,5 @@
-"""The lexer of rustc. Reads texts on standard input, and prints the length of the number that each begins with, or `-`. With the
-argument `files`, it reads the paths of files, and prints the length of each number of a file and the line from there, or `-` and
-the path of a wrong file.
-
-Macros of `rust.rs` see the tokens. Those of wrong numbers, too, which the compiler reports in a source with each text.
+"""The lexer of rustc. Macros of `rust.rs` see the tokens. Those of wrong numbers, too, which the compiler reports in a source with
+each text.
 """
 import json
 import os
