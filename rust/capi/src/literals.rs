@@ -254,10 +254,6 @@ fn write_literal<'a>(found: Option<Number<'a>>, to: Out<Literal<'a>>) -> ValueSt
 }
 
 /// Returns the number that `read` finds in a text, or writes why there is none, or which argument it refuses.
-///
-/// # Safety
-///
-/// A C caller passes the text.
 #[inline(always)]
 unsafe fn number<'a>(
     (text, len, error): (*const u8, usize, Out<ReadError>),
@@ -272,10 +268,6 @@ unsafe fn number<'a>(
 }
 
 /// Returns the number that a text is, or writes why it is not one. It is called in several places, and is large.
-///
-/// # Safety
-///
-/// A C caller passes the text.
 #[inline(never)]
 pub unsafe fn whole<'a>(
     forms: Option<&Forms>,
