@@ -340,9 +340,9 @@ class ColumnError(ValueError, metaclass=_Class):
 class _Wrong(Sequence[WrongCell]):
     """Wrong cells of texts by their indexes or, if there are none, of data with offsets."""
 
-    def __init__(self, owner: _Reader, texts: Any, data: Any, offsets: Any, strips: bool, status: bytes) -> None:
+    def __init__(self, owner: _Reader, texts: Any, data: Any, offsets: Any, strips: bool, status: bytearray) -> None:
         self._owner, self._texts, self._data, self._offsets, self._strips = owner, texts, data, offsets, strips
-        self._status, self._count = status, len(status) - status.count(0)
+        self._status = status
 
     def __reduce__(self) -> Tuple[Any, ...]:
         """Returns what makes the same of the wrong cells alone."""
@@ -362,7 +362,7 @@ class _Wrong(Sequence[WrongCell]):
         return text.strip(_BLANKS if isinstance(text, str) else _BLANKS.encode()) if self._strips else text
 
     def __len__(self) -> int:
-        return self._count
+        return len(self._status) - self._status.count(0)
 
     @functools.cached_property
     def indexes(self) -> List[int]:
@@ -536,7 +536,7 @@ class _Reader(_peltzivar.Reader):
         absent = self._column(texts, data, offsets, valid, kind, values, status, *how)
         if is_left and (absent or errors == "coerce"):
             raise ValueError("integers have no NaN: pass `fill`, the value of cells that are missing or wrong")
-        wrong = _Wrong(self, texts, data, offsets, strip, bytes(status))
+        wrong = _Wrong(self, texts, data, offsets, strip, status)
         if type is Decimal:
             # A float needs other radixes than a Decimal.
             values, left, codes = [fill] * len(status), {*absent}, (0, _c.RADIX)
@@ -546,7 +546,6 @@ class _Reader(_peltzivar.Reader):
                         values[at], status[at] = self.read(wrong._read_text(at)).decimal(), 0
                     except (OverflowError, ValueError):
                         status[at] = code or _LONG
-            wrong = _Wrong(self, texts, data, offsets, strip, bytes(status))
         column = Column(values, wrong, absent)
         if wrong and errors == "raise":
             raise ColumnError(column)

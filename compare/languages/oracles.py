@@ -17,7 +17,7 @@ SCALA = "/usr/share/java/scala-compiler.jar:/usr/share/java/scala-library.jar:/u
 LIBGHDL = f"/usr/lib/{os.uname().machine}-linux-gnu/libghdl-2_0_0.so"
 OCAMLC = "ocamlc -w -a -I +compiler-libs ocamlcommon.cma"
 TOOLS = {
-    "ast": Tool("python3", [PYTHON], f"{PYTHON} --version", "", f"{PYTHON} libraries.py python"),
+    "ast": Tool("python3", [PYTHON], f"{PYTHON} --version", "", f"{PYTHON} python.py"),
     "as": Tool("binutils", ["as", "objcopy"], "as --version", "", f"{PYTHON} compilers.py as"),
     "bash": Tool("bash", ["bash"], "bash --version", "", "./bash.sh"),
     "calc": Tool("libreoffice-calc-nogui python3-xlrd", ["soffice", f"{PACKAGES}/xlrd"], "soffice --version", "", f"{DEBIAN} calc.py"),

@@ -1,6 +1,3 @@
-/* Functions of test_code.py, which run in the page. */
-"use strict";
-
 function test_the_sentence_the_grammar_and_the_expression_are_those_of_all_forms() {
     const { library, data: { languages } } = page;
     const texts = textsAndNumbers();

@@ -1,6 +1,3 @@
-/* Functions of test_languages.py, which run in the page. */
-"use strict";
-
 /* Each pair of languages is told apart by texts like those that do: of each spelling of special values, and of octal. The
  * texts that are told are those that one reads, and the other refuses or gives another value. Each cause of a flag is told. */
 function test_comparisons_find_what_tells_two_languages_apart(tried) {

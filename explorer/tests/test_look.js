@@ -1,6 +1,3 @@
-/* Functions of test_look.py, which run in the page. */
-"use strict";
-
 const PARTS_OF_PAGE = "header, .bar, #trial, #panes, #pane, footer";
 const COPIED = { "Copy the code": "code", "Copy the word": "word", "Copy the words": "notation" };
 

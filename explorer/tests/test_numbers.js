@@ -1,6 +1,3 @@
-/* Functions of test_numbers.py, which run in the page. */
-"use strict";
-
 function test_good_and_bad_have_marks() {
     page.change({ numbers: "1\n0x\n!1\n!x" });
     const shows = (it) => getComputedStyle(it, "::before").content[1] === (it.matches(".good") ? "\u2713" : "\u2717");

@@ -1,6 +1,3 @@
-/* Functions of test_offers.py, which run in the page. */
-"use strict";
-
 /* The sentence promises no button if the same number must be accepted, too, and else one that refuses it. */
 function test_the_sentence_promises_what_a_button_does() {
     const promises = () => find("summary").textContent.includes(BUTTON);

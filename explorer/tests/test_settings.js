@@ -1,6 +1,3 @@
-/* Functions of test_settings.py, which run in the page. */
-"use strict";
-
 /* Each flag and condition shows texts that it makes the library refuse, or of a separator accept. No two show the same rows. */
 function test_flags_are_shown_with_texts_that_they_refuse() {
     const { library, controls: { boxes } } = page;

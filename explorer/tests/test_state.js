@@ -1,6 +1,3 @@
-/* Functions of test_state.py, which run in the page. */
-"use strict";
-
 /* A text that is typed anew is a step of its own, which the button and Ctrl+Z undo, each time. */
 function test_each_typing_is_undone() {
     page.chooseTab("edit");

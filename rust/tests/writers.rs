@@ -2,24 +2,11 @@
 //! syntax.
 
 use peltzivar::literal::{
-    ExponentStyle, Form, Forms, Language, Literal, Opening, Sign, Special, Specials, Spelling, Style, Syntax,
-    WriteError, Written,
+    ExponentStyle, Form, Forms, Language, Opening, Sign, Special, Specials, Spelling, Style, Syntax, WriteError,
+    Written,
 };
-use peltzivar::{NumberFormatBuilder, Part, Settings};
+use peltzivar::{NumberFormatBuilder, Settings};
 use std::num::NonZeroU8;
-
-const LITERALS: &str = include_str!("literals.txt");
-
-/// Returns each language with a text of `literals.txt` that it reads as a literal.
-fn rows() -> impl Iterator<Item = (Language, &'static str)> {
-    let rows = LITERALS.lines().filter(|line| !line.starts_with('#'));
-    rows.filter_map(|row| {
-        let mut words = row.split_whitespace();
-        let (name, text) = (words.next()?, words.nth(1)?);
-        let language = *Language::ALL.iter().find(|it| it.name() == name)?;
-        language.read(text).ok()?.literal().map(|_| (language, text))
-    })
-}
 
 /// Returns the syntax with these settings, in which no digits are required unless they say so.
 fn syntax_of(settings: &str) -> Syntax {
@@ -190,68 +177,6 @@ fn an_opening_stands_before_what_is_written() {
         let mut text = String::new();
         written.write_to(&mut text).unwrap();
         assert_eq!(text, wanted);
-    }
-}
-
-/// Returns whether a literal is worth an integer: of a float, its exact digits are those of the integer.
-fn is_worth_integer(literal: &Literal, integer: i128) -> bool {
-    literal.to_i128() == Ok(integer)
-        || literal.is_float() && format!("{:.0}", literal.to_f64().unwrap()) == integer.to_string()
-}
-
-/// Returns whether two literals are the same single, which is neither infinite nor 0 instead.
-fn is_same_single(literal: &Literal, back: &Literal) -> bool {
-    let is_value = |it: f32| it.is_finite() && (it != 0.0 || literal.to_f64() == Ok(0.0));
-    let bits = |it: &Literal| it.to_f32().map(f32::to_bits).ok();
-    literal.to_f32().is_ok_and(is_value) && bits(literal) == bits(back)
-}
-
-/// Each literal of the rows is read back by each language as the same number, and each error is that of the form that is asked
-/// first: of the literal's radix and, for a float, with floats, or else of the first form.
-#[test]
-fn languages_read_what_they_write() {
-    for (language, text) in rows() {
-        let literal = language.read(text).unwrap().literal().unwrap();
-        for target in Language::ALL {
-            let is_own = |form: &Form| {
-                let syntax = form.syntax();
-                syntax.format().mantissa_radix() == literal.radix(Part::Integer)
-                    && (!literal.is_float() || syntax.point().is_some())
-            };
-            let is_same = |back: Literal| match i128::try_from(literal) {
-                _ if *target == Language::POSTSCRIPT && literal.is_float() => is_same_single(&literal, &back),
-                Ok(value) if value != 0 => is_worth_integer(&back, value),
-                _ => literal.to_f64().is_ok_and(|it| back.to_f64().is_ok_and(|back| it.to_bits() == back.to_bits())),
-            };
-            match target.forms().format_literal(&literal, Style::PLAIN) {
-                Ok(written) => {
-                    let written = written.to_string();
-                    let token = || target.token(&written).ok().filter(|it| it.rest.is_empty()).map(|it| it.literal);
-                    let back = target.read(&written).ok().and_then(|it| it.literal()).or_else(token).unwrap();
-                    assert!(is_same(back), "{language} {text:?} in {target}: {written:?}");
-                }
-                Err(error) => {
-                    let forms = || target.forms().into_iter().filter(|it| !it.is_only_read());
-                    let text_in = |form: &Form| {
-                        let opening = String::from_utf8_lossy(form.opening().as_bytes()).into_owned();
-                        let written = form.syntax().format_literal(&literal, Style::PLAIN);
-                        written.map(|it| format!("{opening}{it}"))
-                    };
-                    let is_written = |text: String| is_same(target.read(&text).unwrap().literal().unwrap());
-                    assert!(
-                        !forms().any(|it| text_in(it).is_ok_and(is_written)),
-                        "{language} {text:?} in {target}: {error}"
-                    );
-                    let first = forms().find(|it| is_own(it)).or(forms().next()).unwrap();
-                    let wanted = match text_in(first) {
-                        Ok(text) if target.read(&text).unwrap().to_f64().is_nan() => WriteError::TooLarge,
-                        Ok(_) => WriteError::ReadBack,
-                        Err(error) => error,
-                    };
-                    assert_eq!(error, wanted, "{language} {text:?} in {target}");
-                }
-            }
-        }
     }
 }
 

@@ -65,10 +65,16 @@ fn read(language: Language, text: &str) -> Option<Given<'_>> {
 }
 
 /// Returns whether a literal that a language writes for another one is the same number: exactly, or as its `f64` if its kind makes
-/// it another number, or as its `f32` in PostScript, whose floats are all singles. The kinds of both count.
+/// it another number, or as its `f32` in PostScript, whose floats are all singles. The kinds of both count. A float that is written
+/// for an integer is worth it.
 fn is_same(language: Language, (own, number): &Given, (back, other): &Given) -> bool {
-    if let (Ok(own), Ok(back)) = (own.to_i128(), back.to_i128()) {
-        return own == back;
+    match (own.to_i128(), back.to_i128()) {
+        (Ok(own), Ok(back)) => return own == back,
+        (Ok(_), Err(_)) if !back.is_float() => return false,
+        (Ok(own), Err(_)) if own != 0 && Ok(own.to_string()) != back.to_f64().map(|it| format!("{it:.0}")) => {
+            return false
+        }
+        _ => {}
     }
     let float = |literal: Literal, is_single| {
         let value = if is_single { literal.to_f32().map(f64::from) } else { literal.to_f64() };
@@ -143,6 +149,40 @@ fn some_texts_are_read_back_as_the_number() {
     for _ in 0..80_000 {
         let given = read(random.pick(Language::ALL), random.pick(&texts));
         assert_eq!(given.map_or(vec![], |given| faults(&given, random.pick(Language::ALL))), [""; 0]);
+    }
+}
+
+/// Each error for a literal of the rows is that of the form that is asked first: of the literal's radix and, for a float, with
+/// floats, or else of the first form. No form writes what is read back as the number.
+#[test]
+fn languages_write_what_they_can() {
+    let rows = include_str!("literals.txt").lines().map(|row| Vec::from_iter(row.split_whitespace()));
+    let given = |row: Vec<&'static str>| read(Language::from_name(row.first()?)?, row.get(2)?);
+    for (given, target) in
+        rows.filter_map(given).flat_map(|it| Language::ALL.iter().map(move |target| (it.clone(), *target)))
+    {
+        assert_eq!(faults(&given, target), [""; 0]);
+        let literal = given.0;
+        let Err(error) = target.forms().format_literal(&literal, Style::PLAIN) else { continue };
+        let forms = || target.forms().into_iter().filter(|it| !it.is_only_read());
+        let text_in = |form: &Form| {
+            let written = form.syntax().format_literal(&literal, Style::PLAIN);
+            written.map(|it| format!("{}{it}", String::from_utf8_lossy(form.opening().as_bytes())))
+        };
+        let is_written = |text: String| is_same(target, &given, &read(target, &text).unwrap());
+        assert!(!forms().any(|it| text_in(it).is_ok_and(is_written)), "{literal:?} in {target}: {error}");
+        let is_own = |form: &Form| {
+            let syntax = form.syntax();
+            syntax.format().mantissa_radix() == literal.radix(Part::Integer)
+                && (!literal.is_float() || syntax.point().is_some())
+        };
+        let first = forms().find(|it| is_own(it)).or(forms().next()).unwrap();
+        let wanted = match text_in(first) {
+            Ok(text) if target.read(&text).unwrap().to_f64().is_nan() => WriteError::TooLarge,
+            Ok(_) => WriteError::ReadBack,
+            Err(error) => error,
+        };
+        assert_eq!(error, wanted, "{literal:?} in {target}");
     }
 }
 

@@ -1,4 +1,4 @@
-// The lexer of Kotlin. Reads texts on standard input, and prints the length of the number that each begins with, or `-`.
+// The lexer of Kotlin.
 import java.io.BufferedReader;
 import java.io.InputStreamReader;
 import org.jetbrains.kotlin.lexer.KotlinLexer;

@@ -1,6 +1,4 @@
-// The judge of Java: the scanner and the parser of javac. Reads texts on standard input, and prints `-`, or the length of the
-// number that each begins with and its value, or `-` if no type has it. With the argument `files`, it reads the paths of files,
-// and prints the length of each number of a file and the line from there, or `-` and the path of a wrong file.
+// The judge of Java: the scanner and the parser of javac.
 import com.sun.tools.javac.file.JavacFileManager;
 import com.sun.tools.javac.parser.ParserFactory;
 import com.sun.tools.javac.parser.ScannerFactory;

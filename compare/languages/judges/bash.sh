@@ -1,7 +1,6 @@
 #!/usr/bin/env bash
-# The judge and scanner of Bash: its arithmetic, whose errors show the wrong token. Reads texts on standard input, and prints the length
-# and the value of the number that each begins with, or `-`. A text that begins with no digit is a name, or has an operator, in front
-# of which a token ends.
+# The judge of Bash: its arithmetic, whose errors show the wrong token. A text that begins with no digit is a name, or has an operator,
+# in front of which a token ends.
 LC_ALL=C
 
 judge() {

@@ -1,6 +1,4 @@
-"""The judge of spreadsheets: LibreOffice Calc, which imports the texts as cells of a column, in a locale (1031 is German, 1033
-English). Reads texts on standard input, and prints `-`, or `+` and the value.
-"""
+"""The judge of spreadsheets: LibreOffice Calc, which imports the texts as cells, in a locale (1031 is German, 1033 English)."""
 import pathlib
 import struct
 import subprocess

@@ -1,5 +1,4 @@
-; The judge of Clojure: its reader. Reads texts on standard input, and prints `-`, or the length of the number that each begins with,
-; and its value, which ratios have not.
+; The judge of Clojure: its reader. Ratios have no value.
 (defn shown [value]
   (cond (integer? value) (str (biginteger value))
         (ratio? value) ""

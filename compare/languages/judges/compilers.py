@@ -1,6 +1,4 @@
-"""Judges that are whole compilers: a number is what they take as the value of a variable. Reads texts on standard input,
-and prints `-`, or `+` and the value.
-"""
+"""Judges that are whole compilers: a number is what they take as the value of a variable."""
 import collections
 import pathlib
 import re

@@ -1,5 +1,4 @@
-# The judge of Elixir: its tokenizer. Reads texts on standard input, and prints `-`, or the length of the number that each begins
-# with, and its value, or `-` if no float has it.
+# The judge of Elixir: its tokenizer.
 answer = fn
   [{:int, {_, _, value}, digits} | _] -> "#{length(digits)} #{value}"
   [{:flt, {_, _, value}, digits} | _] -> "#{length(digits)} d" <> Base.encode16(<<value::float>>)

@@ -1,5 +1,4 @@
--- The judge of Haskell: the lexer of GHC, with the extensions that are arguments. Reads texts on standard input, and prints
--- `-`, or the length of the number that each begins with, and its value, or `-` if the lexer refuses it.
+-- The judge of Haskell: the lexer of GHC, with the extensions that are arguments.
 module Main (main) where
 
 import Control.Monad.IO.Class (liftIO)

@@ -1,21 +1,11 @@
-"""Judges of Python: `ast`, `csv`, `tomllib`, `sqlite3`, `tinycss2` and `yaml`. Reads texts on standard input, and prints `-`, or `+`
-and the value.
-"""
-import ast
+"""Judges that are libraries of Python: `csv`, `tomllib`, `sqlite3`, `tinycss2` and `yaml`."""
 import csv
 import sqlite3
 import sys
 import tomllib
-import warnings
 
-warnings.simplefilter("ignore")
 sys.set_int_max_str_digits(0)
 DATABASE = sqlite3.connect(":memory:")
-
-
-def python(text):
-    node = ast.parse(text, mode="eval").body
-    return node.value if isinstance(node, ast.Constant) and node.end_col_offset == len(text) else None
 
 
 def toml(text):
@@ -34,6 +24,8 @@ def sqlite(text):
 
 
 def css(text):
+    import tinycss2
+
     tokens = tinycss2.parse_component_value_list(text)
     token = tokens[0] if len(tokens) == 1 and tokens[0].type in ("number", *sys.argv[2:]) else None
     return token and (token.int_value if token.is_integer else token.value)
@@ -46,22 +38,19 @@ def cell(text):
 
 
 def yaml(text):
-    return PyYAML.safe_load(text)
+    import yaml
+
+    try:
+        return yaml.safe_load(text)
+    except yaml.YAMLError:
+        return None
 
 
-if sys.argv[1] == "css":
-    import tinycss2
-if sys.argv[1] == "yaml":
-    import yaml as PyYAML
-judge = {"python": python, "csv": cell, "toml": toml, "sqlite": sqlite, "css": css, "yaml": yaml}[sys.argv[1]]
+judge = {"csv": cell, "toml": toml, "sqlite": sqlite, "css": css, "yaml": yaml}[sys.argv[1]]
 for line in sys.stdin:
     try:
         value = judge(line.rstrip("\n"))
-    except (SyntaxError, ValueError, sqlite3.Error):
+    except (ValueError, sqlite3.Error):
         value = None
-    except Exception as error:  # of PyYAML, which is not there for other judges
-        if not type(error).__module__.startswith("yaml."):
-            raise
-        value = None
-    is_number = isinstance(value, (int, float, complex)) and not isinstance(value, bool)
+    is_number = isinstance(value, (int, float)) and not isinstance(value, bool)
     print(f"+ {value!r}" if is_number else "-")

@@ -1,5 +1,4 @@
-;;; The judge of Common Lisp: its reader. Reads texts on standard input, and prints `-`, or the length of the number that each begins
-;;; with, and its value, which ratios have not.
+;;; The judge of Common Lisp: its reader. Ratios have no value.
 (defun shown (value)
   (etypecase value
     (integer (format nil "~d" value))

@@ -1,19 +1,10 @@
--- The judge of Lua: its compiler. Reads texts on standard input, and prints `-`, or `+` and the value.
-local function judge(text)
-    local chunk = load("return " .. text)
-    -- An expression is one token if it is none with a blank.
-    for at = 1, #text - 1 do
-        chunk = chunk and not load("return " .. text:sub(1, at) .. " " .. text:sub(at + 1)) and chunk
-    end
-    local value = chunk and chunk()
-    if math.type(value) == "integer" then
-        return "+ " .. value
-    elseif math.type(value) == "float" then
-        return "+ d" .. string.pack(">d", value):gsub(".", function(byte) return ("%02x"):format(byte:byte()) end)
-    end
-    return "-"
-end
-
+-- The compiler of Lua. A chunk does not begin with a number: the error shows the token.
 for text in io.lines() do
-    print(judge(text))
+    local _, error = load(text, "=")
+    local number = error and error:match("unexpected symbol near '(%.?%d.*)'$")
+    local value = number and load("return " .. number)()
+    if math.type(value) == "float" then
+        value = "d" .. string.pack(">d", value):gsub(".", function(byte) return ("%02x"):format(byte:byte()) end)
+    end
+    print(number and #number .. " " .. value or "-")
 end

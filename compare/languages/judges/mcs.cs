@@ -1,5 +1,4 @@
-// The judge of C#: the tokenizer of mcs. Reads texts on standard input, and prints `-`, or the length of the number that each
-// begins with, and its value, or `-` if mcs refuses it.
+// The judge of C#: the tokenizer of mcs.
 using System;
 using System.Collections.Generic;
 using System.Globalization;

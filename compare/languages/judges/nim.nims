@@ -1,4 +1,4 @@
-# The judge of Nim: its parser. Reads texts on standard input, and prints `-`, or `+` and the value.
+# The judge of Nim: its parser.
 import std/[macros, strutils]
 
 # In brackets, a sign belongs to the number: `-1` is a literal, and `- 1` a call. Nim crashes on `0b1f128` and `1'f128`.

@@ -1,4 +1,4 @@
-// Judges of node: V8, JSON.parse and the packages json5 and yaml. Reads texts on standard input, and prints `-`, or `+` and the value.
+// Judges of node: V8, JSON.parse and the packages json5 and yaml.
 const evaluate = text => {
     try {
         return (0, eval)(`"use strict";(${text})`);

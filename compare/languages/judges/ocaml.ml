@@ -1,6 +1,4 @@
-(* The judge of OCaml: its lexer, and its conversion of integers. Reads texts on standard input, and prints `-`, or the length of
-   the number that each begins with and its value, or `-` if no type has it. With the argument `files`, it reads the paths of
-   files, and prints the length of each number of a file and the line from there, or `-` and the path of a wrong file. *)
+(* The judge of OCaml: its lexer, and its conversion of integers. *)
 let value = function
   | Parser.INT (digits, None) -> string_of_int (Misc.Int_literal_converter.int digits)
   | Parser.INT (digits, Some 'l') -> Int32.to_string (Misc.Int_literal_converter.int32 digits)

@@ -1,4 +1,4 @@
-# The judge of MATLAB: Octave, which evaluates the text. Reads texts on standard input, and prints `-`, or `+` and the value.
+# The judge of MATLAB: Octave, which evaluates the text.
 # A text that begins with a letter is a name, a sign is an operator, but for that of an exponent, and `...` continues a line.
 1;
 function shown = judge(text)

@@ -1,6 +1,4 @@
-"""The judge of Pascal: fpc. Reads texts on standard input, and prints `-`, or `+` and the value of the constant. A syntax error ends the
-compiler, which then begins again behind it.
-"""
+"""The judge of Pascal: fpc, which a syntax error ends, and which then begins again behind it."""
 import concurrent.futures
 import pathlib
 import re

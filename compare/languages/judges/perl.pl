@@ -1,5 +1,4 @@
-# The judge of Perl: its compiler, to which warnings of syntax are errors. Reads texts on standard input, and prints `-`, or
-# `+` and the value.
+# The judge of Perl: its compiler, to which warnings of syntax are errors.
 use strict;
 use warnings FATAL => "syntax";
 use B;

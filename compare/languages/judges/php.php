@@ -1,7 +1,5 @@
 <?php
-// The judge of PHP: its scanner and compiler. Reads texts on standard input, and prints `-`, or the length of the number that each
-// begins with, and its value, or `-` if the compiler refuses it. With the argument `files`, it reads the paths of files, and prints the
-// length of each number of a file and the line from there, or `-` and the path of a wrong file.
+// The judge of PHP: its scanner and compiler.
 function judge(string $text): string
 {
     $token = PhpToken::tokenize("<?php $text")[1] ?? null;

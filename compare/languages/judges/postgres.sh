@@ -1,6 +1,5 @@
 #!/usr/bin/env bash
-# The judge of PostgreSQL: its parser, in single-user mode. Reads texts on standard input, and prints `-`, or `+` and the
-# value. A number is a sign and a token, which is not an expression with a blank.
+# The judge of PostgreSQL: its parser, in single-user mode. A number is a sign and a token.
 set -euo pipefail
 work=$(mktemp -d)
 trap 'rm -rf "$work"' EXIT

@@ -1,4 +1,4 @@
-% The judge of SWI-Prolog: `atom_number`. Reads texts on standard input, and prints `-`, or `+` and the value.
+% The judge of SWI-Prolog: `atom_number`.
 
 % A number begins with a digit: in `-1`, the sign is an operator.
 judge(Text, Value) :-

@@ -1,8 +1,16 @@
-# The judge of R: its parser. Reads texts on standard input, and prints `-`, or `+` and the value.
+# The parser of R. It has the tokens in front of an error. Prints `?` for a text that ends before its first token.
+parsed <- function(text, ...) tryCatch(suppressWarnings(parse(text = text, ...)), error = function(it) NULL)
+
 judge <- function(text) {
-    value <- tryCatch(suppressWarnings(parse(text = text, keep.source = FALSE)), error = function(it) expression())
-    if (length(value) != 1 || !(is.numeric(value[[1]]) || is.complex(value[[1]]))) return("-")
-    if (is.complex(value[[1]])) "+" else paste("+", sprintf(if (is.integer(value[[1]])) "%d" else "%a", value[[1]]))
+    file <- srcfilecopy("", text)
+    parsed(text, srcfile = file, keep.source = TRUE)
+    data <- getParseData(file)
+    data <- data[data$terminal, ]
+    if (NROW(data) == 0) return("?")
+    first <- data[order(data$line1, data$col1)[1], ]
+    if (first$token != "NUM_CONST") return("-")
+    value <- c(parsed(substr(text, 1, first$col2), keep.source = FALSE), NA)[[1]]
+    paste(first$col2, if (is.numeric(value)) sprintf(if (is.integer(value)) "%d" else "%a", value) else if (!is.complex(value)) "-")
 }
 
 writeLines(vapply(readLines(file("stdin")), judge, ""))

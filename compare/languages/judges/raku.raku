@@ -1,5 +1,4 @@
-# The judge of Raku: its grammar, and its compiler for what that takes. Reads texts on standard input, and prints `-`, or how
-# long the number is that a text begins with, and its value.
+# The judge of Raku: its grammar, and its compiler for what that takes.
 use nqp;
 use MONKEY-SEE-NO-EVAL;
 

@@ -1,4 +1,4 @@
-# The judge of Ruby: its parser. Reads texts on standard input, and prints `-`, or `+` and the value.
+# The judge of Ruby: its parser.
 $VERBOSE = nil
 
 # A sign belongs to the number: `-1` is a literal, whose node begins behind the sign, and `- 1` is a call.

@@ -1,6 +1,4 @@
-// The judge of Go: go/scanner and go/constant. Reads texts on standard input, and prints `-`, or the length of the number that
-// each begins with and its value. With the argument `files`, it reads the paths of files, and prints the length of each number
-// of a file and the line from there, or `-` and the path of a wrong file.
+// The judge of Go: go/scanner and go/constant.
 package main
 
 import (

@@ -1,5 +1,4 @@
-// The judge of Scala: its scanner. Reads texts on standard input, and prints `-`, or the length of the number that a text
-// begins with and its value, or `-` if it is refused.
+// The judge of Scala: its scanner.
 import scala.reflect.internal.util.BatchSourceFile
 import scala.tools.nsc.{Global, Settings}
 import scala.tools.nsc.ast.parser.Tokens._

@@ -1,4 +1,4 @@
-# The judge of Tcl: its `expr`. Reads texts on standard input, and prints `-`, or `+` and the value.
+# The judge of Tcl: its `expr`.
 proc judge text {
     if {[catch {expr $text} value] || ![string is double -strict $value]} {
         return -

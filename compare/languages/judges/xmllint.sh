@@ -1,6 +1,5 @@
 #!/usr/bin/env bash
-# The judge of XML Schema: libxml2, which validates elements of the type decimal, or of that of the argument. Reads texts on standard
-# input, and prints `-` or `+`.
+# The judge of XML Schema: libxml2, which validates elements of the type decimal, or of that of the argument.
 set -euo pipefail
 work=$(mktemp -d)
 trap 'rm -rf "$work"' EXIT

@@ -1,6 +1,4 @@
-"""The lexer of clang. Reads texts on standard input, and prints the length of the number that each begins with, or `-`. That number
-may have any word behind its digits: the compiler refuses some.
-"""
+"""The lexer of clang. A number may have any word behind its digits: the compiler refuses some."""
 import re
 import subprocess
 import sys

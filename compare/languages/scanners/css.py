@@ -1,6 +1,4 @@
-"""The tokenizer of tinycss2. Reads texts on standard input, and prints the length of the number that each begins with, with its
-unit, or `-`. The sign `%` does not belong to the number.
-"""
+"""The tokenizer of tinycss2. A unit belongs to the number, and the sign `%` does not."""
 import sys
 
 import tinycss2

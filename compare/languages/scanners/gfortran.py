@@ -1,5 +1,5 @@
-"""gfortran. Reads texts on standard input, and prints the length of the number that each begins with: of the longest one behind which the
-text may have a space. Prints `-` if there is none, and `?` if the text is no expression, but for its types.
+"""gfortran. The number is the longest one behind which the text may have a space. Prints `?` if the text is no expression, but for its
+types.
 """
 import re
 import subprocess

@@ -1,6 +1,4 @@
-"""The scanner of GHDL, in its library. Reads texts on standard input, and prints the length of the number that each begins with, or
-`-`. With the argument `files`, it reads the paths of files, and prints the length of each number of a file and the line from there.
-"""
+"""The scanner of GHDL, in its library."""
 import ctypes
 import pathlib
 import sys

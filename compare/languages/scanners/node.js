@@ -1,6 +1,4 @@
-// The tokenizer of node: acorn. Reads texts on standard input, and prints the length of the number that each begins with, or `-`.
-// With the argument `files`, it reads the paths of files, and prints the length of each number of a file and the line from there,
-// or `-` and the path of a wrong file.
+// The tokenizer of node: acorn.
 const fs = require("fs");
 const acorn = require("internal/deps/acorn/acorn/dist/acorn");
 const options = { ecmaVersion: "latest", allowHashBang: true, allowReturnOutsideFunction: true };

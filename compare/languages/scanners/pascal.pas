@@ -1,7 +1,5 @@
 #!/usr/bin/instantfpc
-{ The scanner of Free Pascal's packages. Reads texts on standard input, and prints the length of the number that each begins with, or
-  `-`. With the argument `files`, it reads the paths of files, whose includes are empty, and prints the length of each number of a file
-  and the line from there, or `-` and the path of a wrong file. }
+{ The scanner of Free Pascal's packages. Includes of files are empty. }
 {$mode objfpc}{$h+}
 uses classes, sysutils, pscanner;
 

@@ -1,6 +1,4 @@
-% The reader of SWI-Prolog. Reads texts on standard input, and prints the length of the number that each begins with, or `-`. With the
-% argument `files`, it reads the paths of files, and prints the length of each number of a file and the line from there, or `-` and
-% the path of a wrong file.
+% The reader of SWI-Prolog.
 :- use_module(library(prolog_source)).
 
 % A number is From-To in the positions of a term.

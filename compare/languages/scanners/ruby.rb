@@ -1,5 +1,4 @@
-# The lexer of Ruby. Reads texts on standard input, and prints the length of the number that each begins with, or `-`. With the
-# argument `files`, it reads the paths of files, and prints the length of each number of a file and the line from there.
+# The lexer of Ruby.
 require 'ripper'
 $VERBOSE = nil
 NUMBERS = %i[on_int on_float on_rational on_imaginary].freeze

@@ -1,11 +1,7 @@
-"""The lexer of rustc. Reads texts on standard input, and prints the length of the number that each begins with, or `-`. With the
-argument `files`, it reads the paths of files, and prints the length of each number of a file and the line from there, or `-` and
-the path of a wrong file.
-
-Macros of `rust.rs` see the tokens. Those of wrong numbers, too, which the compiler reports in a source with each text.
+"""The lexer of rustc. Macros of `rust.rs` see the tokens. Those of wrong numbers, too, which the compiler reports in a source with
+each text.
 """
 import json
-import os
 import pathlib
 import subprocess
 import sys
@@ -19,17 +15,14 @@ def compiled(work, name, source):
     """Compiles a source, and returns the errors."""
     (work / name).write_text(source)
     command = [*RUSTC, "--error-format=json", "--emit=metadata", "--extern", "rust=librust.so", name]
-    paths = {"TEXTS": str(work / "texts"), "SIZES": str(work / "sizes")}
-    run = subprocess.run(command, cwd=work, env=os.environ | paths, capture_output=True, text=True)
+    run = subprocess.run(command, cwd=work, capture_output=True, text=True)
     return map(json.loads, run.stderr.splitlines())
 
 
 def numbers(work, path):
     """Returns the lengths of the numbers of a file, with the lines from there."""
     (work / "sizes").write_text(f"- {path}\n")
-    source = f"rust::numbers! {{\n{pathlib.Path(path).read_text()}\n}}\nfn main() {{}}\n"
-    (work / "texts").write_text(source)
-    compiled(work, "main.rs", source)
+    compiled(work, "main.rs", f"rust::numbers! {{\n{pathlib.Path(path).read_text()}\n}}\nfn main() {{}}\n")
     return (work / "sizes").read_bytes()
 
 

@@ -5,11 +5,6 @@ use proc_macro::{Literal, TokenStream, TokenTree};
 use std::fs;
 use std::panic::catch_unwind;
 
-/// Returns what the environment has of a name.
-fn path(name: &str) -> String {
-    std::env::var(name).expect(name)
-}
-
 /// Returns the length of the number that a text begins with, or `-`. At texts such as `1r#`, the lexer panics.
 fn size(text: &str) -> String {
     match catch_unwind(|| text.parse::<TokenStream>().ok()).ok().flatten().and_then(|it| it.into_iter().next()) {
@@ -18,12 +13,12 @@ fn size(text: &str) -> String {
     }
 }
 
-/// Reads texts in the file `TEXTS`, and writes the length of the number that each begins with, or `-`, into the file `SIZES`.
+/// Reads texts in the file `texts`, and writes the length of the number that each begins with, or `-`, into the file `sizes`.
 #[proc_macro]
 pub fn sizes(_: TokenStream) -> TokenStream {
-    let texts = fs::read_to_string(path("TEXTS")).unwrap();
+    let texts = fs::read_to_string("texts").unwrap();
     let sizes: String = texts.lines().map(|text| size(text) + "\n").collect();
-    fs::write(path("SIZES"), sizes).unwrap();
+    fs::write("sizes", sizes).unwrap();
     TokenStream::new()
 }
 
@@ -38,16 +33,16 @@ fn add(stream: TokenStream, found: &mut Vec<Literal>) {
     }
 }
 
-/// Writes the length of each number of the source, which is the file `TEXTS`, and the line from there into the file `SIZES`.
+/// Writes the length of each number of the source, which is the file `main.rs`, and the line from there into the file `sizes`.
 #[proc_macro]
 pub fn numbers(source: TokenStream) -> TokenStream {
-    let text = fs::read_to_string(path("TEXTS")).unwrap();
+    let text = fs::read_to_string("main.rs").unwrap();
     let (lines, mut found) = (Vec::from_iter(text.lines()), Vec::new());
     add(source, &mut found);
     let numbers = found.iter().map(|it| {
         let rest: String = lines[it.span().line() - 1].chars().skip(it.span().column() - 1).collect();
         format!("{} {rest}\n", it.to_string().len())
     });
-    fs::write(path("SIZES"), numbers.collect::<String>()).unwrap();
+    fs::write("sizes", numbers.collect::<String>()).unwrap();
     TokenStream::new()
 }

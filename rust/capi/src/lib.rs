@@ -8,7 +8,8 @@
 //! Each call relies on its caller to meet the requirements of the header. Arguments are initialised. Each pointer
 //! points to an object of its type, or to as many objects as its length states. During the call, memory that it reads
 //! is not written by anything else, and memory to which it writes is neither read nor written by anything else. The
-//! helpers in `arguments` need just this, so a call passes its arguments to them as they are.
+//! helpers in `arguments`, and each unsafe function that says no more, need just this of what a C caller passes, so a
+//! call passes its arguments to them as they are.
 //!
 //! No other library has names that begin with `peltzivar_`, so `no_mangle` is sound.
 #![no_std]

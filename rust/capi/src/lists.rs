@@ -196,10 +196,6 @@ impl Memory {
     }
 
     /// Returns the words of a string.
-    ///
-    /// # Safety
-    ///
-    /// A C caller passes the string.
     unsafe fn words(&mut self, text: *const u8) -> Option<&'static [&'static [u8]]> {
         let words = string(text).split(|it| *it == b' ').filter(|it| !it.is_empty());
         let count = words.clone().count();
@@ -212,10 +208,6 @@ impl Memory {
     }
 
     /// Returns suffixes, of which there are none without enough memory.
-    ///
-    /// # Safety
-    ///
-    /// A C caller passes them.
     #[inline(never)]
     unsafe fn suffixes(&mut self, it: Suffixes) -> Option<Option<&'static literal::Suffixes>> {
         if it.reserved != [0; 6] {
@@ -242,10 +234,6 @@ impl Memory {
     }
 
     /// Returns an array of forms with their suffixes, or `None` if they are refused. There are none without enough memory.
-    ///
-    /// # Safety
-    ///
-    /// A C caller passes them.
     #[inline(never)]
     unsafe fn forms(&mut self, forms: *const Form, count: usize) -> Option<&'static [literal::Form]> {
         if count > MOST_FORMS || (forms.is_null() && count != 0) {
@@ -268,10 +256,6 @@ impl Memory {
     }
 
     /// Returns a list, or `None` if it is refused. There is none without enough memory.
-    ///
-    /// # Safety
-    ///
-    /// A C caller passes it.
     #[inline(never)]
     unsafe fn list(&mut self, list: List) -> Option<Option<&'static Forms>> {
         if list.count == 0 || list.reserved != [0; 2] {
@@ -408,10 +392,6 @@ unsafe fn written<T>(items: &[MaybeUninit<T>]) -> &[T] {
 }
 
 /// Returns the bytes of a string. A null pointer has none.
-///
-/// # Safety
-///
-/// A C caller passes the string, or null.
 unsafe fn string(text: *const u8) -> &'static [u8] {
     if text.is_null() {
         &[]

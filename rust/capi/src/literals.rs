@@ -208,7 +208,7 @@ pub struct Explanation {
 }
 
 impl Explanation {
-    /// Returns what only bytes explain, by the number of a kind.
+    /// Returns what bytes explain, by the number of a kind, if nothing is to blame.
     fn of_bytes(kind: u8, Range { start, end }: Range<usize>) -> Explanation {
         let span = Span { start, end };
         Explanation { span, mask: 0.into(), kind, number: NO_SETTER, part: NO_PART, reserved: [0; 5], conditions: 0 }
@@ -226,16 +226,13 @@ impl From<&FormError> for Explanation {
             ReadErrorKind::Missing(part) => (5, Some(part)),
             _ => (0, None),
         };
-        let (Range { start, end }, mask) = (error.span(), error.mask());
-        let unmet = error.conditions();
+        let (mask, unmet) = (error.mask(), error.conditions());
         Explanation {
-            span: Span { start, end },
             mask: mask.into(),
-            kind,
             number: if mask == 0 { NO_SETTER } else { mask.trailing_zeros() as Setter },
             part: part.map_or(NO_PART, |part| part as u8),
-            reserved: [0; 5],
             conditions: Condition::ALL.iter().rev().fold(0, |bits, &it| bits << 1 | u64::from(unmet.has(it))),
+            ..Explanation::of_bytes(kind, error.span())
         }
     }
 }
@@ -254,10 +251,6 @@ fn write_literal<'a>(found: Option<Number<'a>>, to: Out<Literal<'a>>) -> ValueSt
 }
 
 /// Returns the number that `read` finds in a text, or writes why there is none, or which argument it refuses.
-///
-/// # Safety
-///
-/// A C caller passes the text.
 #[inline(always)]
 unsafe fn number<'a>(
     (text, len, error): (*const u8, usize, Out<ReadError>),
@@ -272,10 +265,6 @@ unsafe fn number<'a>(
 }
 
 /// Returns the number that a text is, or writes why it is not one. It is called in several places, and is large.
-///
-/// # Safety
-///
-/// A C caller passes the text.
 #[inline(never)]
 pub unsafe fn whole<'a>(
     forms: Option<&Forms>,

@@ -46,10 +46,6 @@ fn error_of(mut why: TokenError) -> ReadError {
 }
 
 /// Returns the token that a text begins with. It is called in two places, and is large.
-///
-/// # Safety
-///
-/// A C caller passes the text.
 #[inline(never)]
 unsafe fn token<'a>(
     forms: Option<&Forms>,

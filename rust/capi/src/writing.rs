@@ -54,13 +54,12 @@ const NO_GROUPS: u8 = 255;
 impl Style {
     /// Returns the style, or `None` if the exponent has an unknown number, or if a later version may write otherwise.
     fn given(&self) -> Option<literal::Style> {
-        let group = |size| match size {
+        let mut style = literal::Style::PLAIN.min_digits(self.min_digits);
+        style.group = match self.group {
             0 => Grouping::AsSyntax,
             NO_GROUPS => Grouping::None,
-            _ => Grouping::Of(size.into()),
+            size => Grouping::Of(size.into()),
         };
-        let mut style = literal::Style::PLAIN.min_digits(self.min_digits);
-        style.group = group(self.group);
         (style.base, style.lowercase) = (self.without_base == 0, self.lowercase != 0);
         style.decimals = (self.has_decimals != 0).then_some(self.decimals);
         let exponent = match self.exponent {

@@ -379,8 +379,7 @@ impl<'a> Forms<'a> {
         text: &mut [u8],
     ) -> Result<Chosen, WriteError> {
         if !number.own(style).integer && self.has_singles_alone() {
-            let narrow: &dyn Writable = &Narrow(number);
-            return choose(self, narrow, style, text);
+            return choose(self, &Narrow(number) as &dyn Writable, style, text);
         }
         choose(self, number, style, text)
     }

@@ -8,6 +8,7 @@ use crate::literal::{
 };
 use crate::NumberFormatBuilder;
 use core::num::NonZeroU8;
+use IntegerKind::{Signed, Unsigned, Wraps};
 
 /// Names of languages that people type, beside the languages' own. A part of a name, such as `lisp`, needs no row.
 pub(super) const ALIASES: &[(&str, Language)] = &[
@@ -121,6 +122,11 @@ const fn powers_of_two(radix: u8, builder: NumberFormatBuilder, conditions: Cond
 /// Returns the same syntax with the sign `-`: accepts `-1`.
 const fn signed(syntax: Syntax) -> Syntax {
     syntax.with_conditions_or_panic(syntax.conditions().no_negative_mantissa_sign(false))
+}
+
+/// Returns the form of integers that may have leading zeros if a word is behind, as in `08f` of Java.
+const fn leading_zeros(name: &'static str, builder: NumberFormatBuilder, words: &'static Suffixes) -> Form {
+    Form::new(name, integers(10, builder, UNSIGNED)).with_suffixes(words)
 }
 
 /// Returns an opening.
@@ -244,30 +250,14 @@ const fn within(kind: Kind) -> Kind {
 /// Floats of 32 bits.
 const SINGLE: Kind = Kind::new(IntegerKind::Exact, FloatKind::Single).unwrap();
 
-/// Integers of Java with a sign, which are at most `2147483647`, or `0x7FFFFFFF` and then negative; those with `L` have 64 bits.
-const SIGNED_32: Kind = whole(IntegerKind::Signed(32));
-const SIGNED_64: Kind = whole(IntegerKind::Signed(64));
-const WRAPS_32: Kind = whole(IntegerKind::Wraps(32));
-const WRAPS_64: Kind = whole(IntegerKind::Wraps(64));
-
-/// Integers of OCaml, which have 63 bits.
-const SIGNED_63: Kind = whole(IntegerKind::Signed(63));
-const WRAPS_63: Kind = whole(IntegerKind::Wraps(63));
-
-/// Integers of 64 bits without a sign.
-const UNSIGNED_64: Kind = whole(IntegerKind::Unsigned(64));
-
-/// Integers of Rust of any type.
-const UNSIGNED_128: Kind = whole(IntegerKind::Unsigned(128));
-
 /// Integers of Lua, NASM and Nim, of which the last 64 bits count.
 const LAST_64: Kind = whole(IntegerKind::WrapsModulo(64));
 
 /// Numbers of PostScript.
-const SHORT_REALS: Kind = finite(Kind::new(IntegerKind::Signed(64), FloatKind::Single).unwrap());
+const SHORT_REALS: Kind = finite(Kind::new(Signed(64), FloatKind::Single).unwrap());
 
 /// Integers and reals of Fortran.
-const DEFAULT: Kind = finite(Kind::new(IntegerKind::Signed(32), FloatKind::Single).unwrap());
+const DEFAULT: Kind = finite(Kind::new(Signed(32), FloatKind::Single).unwrap());
 
 /// What goes on a number of Ada: `16#FF#`, `16:FF:` and `1.x`, but not `1..2`; and on one of VHDL: `1\a\`.
 const ADA_WORDS: Suffixes = Suffixes::new(&[], &[], ADA_STOPS);
@@ -283,8 +273,8 @@ const ADA_STOPS: &[Stop] = &[
 const FORTRAN_WORDS: Suffixes = Suffixes::new(&[], &[], &[Stop::new(b"", b".", b"_0123456789")])
     .any_word(b"_")
     .with_kinds(kinds! {
-        whole(IntegerKind::Signed(8)) => [_1]; whole(IntegerKind::Signed(16)) => [_2]; finite(SIGNED_64) => [_8];
-        Kind::EXACT => [_10]; whole(IntegerKind::Signed(128)) => [_16];
+        whole(Signed(8)) => [_1]; whole(Signed(16)) => [_2]; finite(whole(Signed(64))) => [_8]; Kind::EXACT => [_10];
+        whole(Signed(128)) => [_16];
     })
     .with_written(&[b"_8"]);
 
@@ -325,7 +315,7 @@ const C_DECIMALS: Suffixes =
     Suffixes::new(C_INTEGERS, C_DECIMAL_FLOATS, C_STOPS).with_kinds(C_KINDS).with_written(&[b"ULL"]);
 const C_KINDS: &[(&[u8], Kind)] = kinds! {
     SINGLE => [f F]; Kind::EXACT => [wb WB uwb uWB Uwb UWB wbu wbU WBu WBU];
-    UNSIGNED_64 => [u U ul uL ull uLL Ul UL Ull ULL lu lU llu llU Lu LU LLu LLU];
+    whole(Unsigned(64)) => [u U ul uL ull uLL Ul UL Ull ULL lu lU llu llU Lu LU LLu LLU];
 };
 
 /// Suffixes of C++, of its library, such as `1ms` and `1.5if`, and of its users: `1_km`.
@@ -337,8 +327,8 @@ const C_PLUS_PLUS_WORDS: Suffixes = Suffixes::new(C_PLUS_PLUS_INTEGERS, C_PLUS_P
     .with_kinds(C_PLUS_PLUS_KINDS)
     .with_written(&[b"ULL"]);
 const C_PLUS_PLUS_KINDS: &[(&[u8], Kind)] = kinds! {
-    SINGLE => [f F]; UNSIGNED_64 => [u U ul uL ull uLL Ul UL Ull ULL lu lU llu llU Lu LU LLu LLU d y i il];
-    SIGNED_64 => [h min s ms us ns]; Kind::new(IntegerKind::Unsigned(64), FloatKind::Single).unwrap() => [if];
+    SINGLE => [f F]; whole(Unsigned(64)) => [u U ul uL ull uLL Ul UL Ull ULL lu lU llu llU Lu LU LLu LLU d y i il];
+    whole(Signed(64)) => [h min s ms us ns]; Kind::new(Unsigned(64), FloatKind::Single).unwrap() => [if];
 };
 
 /// Units of CSS: any word, such as `px` and the `n-1` of `2n-1`. A name may also begin with `-` and have escapes: `1-x`, `1--x` and
@@ -356,8 +346,8 @@ const D_INTEGERS: Suffixes = words(list![L u U Lu LU uL UL], &[]);
 const D_WORDS: Suffixes =
     words(list![L u U Lu LU uL UL f F i fi Fi Li], list![f F L i fi Fi Li]).with_kinds(D_KINDS).with_written(&[b"u"]);
 const D_KINDS: &[(&[u8], Kind)] = kinds! {
-    UNSIGNED_64 => [u U Lu LU uL UL]; finite(SINGLE) => [f F fi Fi]; finite(Kind::EXACT) => [i]; SIGNED_64 => [L];
-    Kind::EXACT => [Li];
+    whole(Unsigned(64)) => [u U Lu LU uL UL]; finite(SINGLE) => [f F fi Fi]; finite(Kind::EXACT) => [i];
+    whole(Signed(64)) => [L]; Kind::EXACT => [Li];
 };
 
 /// Suffixes of imaginary numbers of Go, and a point that no binary and octal number has: `0b1.`.
@@ -367,12 +357,12 @@ const GO_POINTLESS: Suffixes = Suffixes::new(&[b"i"], &[], &[Stop::new(b"", b"."
 /// Suffixes of Java and Scala, in either case.
 const JAVA_DECIMALS: Suffixes = words(&[b"l", b"f", b"d"], &[b"f", b"d"])
     .either_case(true)
-    .with_kinds(kinds! { SIGNED_64 => [l]; within(SINGLE) => [f]; within(Kind::EXACT) => [d]; })
+    .with_kinds(kinds! { whole(Signed(64)) => [l]; within(SINGLE) => [f]; within(Kind::EXACT) => [d]; })
     .with_written(&[b"L"]);
 const SCALA_DECIMALS: Suffixes =
-    JAVA_DECIMALS.with_kinds(kinds! { SIGNED_64 => [l]; finite(SINGLE) => [f]; finite(Kind::EXACT) => [d]; });
+    JAVA_DECIMALS.with_kinds(kinds! { whole(Signed(64)) => [l]; finite(SINGLE) => [f]; finite(Kind::EXACT) => [d]; });
 const JAVA_INTEGERS: Suffixes =
-    words(&[b"l"], &[]).either_case(true).with_kinds(kinds! { WRAPS_64 => [l]; }).with_written(&[b"L"]);
+    words(&[b"l"], &[]).either_case(true).with_kinds(kinds! { whole(Wraps(64)) => [l]; }).with_written(&[b"L"]);
 const JAVA_FLOATS: Suffixes = words(&[b"f", b"d"], &[b"f", b"d"])
     .either_case(true)
     .with_kinds(kinds! { within(SINGLE) => [f]; within(Kind::EXACT) => [d]; });
@@ -383,9 +373,8 @@ const BIG: Suffixes = Suffixes::new(&[b"n"], &[], &[Stop::new(b"", b"$\\", b"")]
 
 /// Suffixes of MATLAB: the type of an integer with a prefix, and those of imaginary numbers.
 const MATLAB_INTEGERS: Suffixes = Suffixes::new(list![u8 u16 u32 u64 s8 s16 s32 s64], &[], &[]).with_kinds(kinds! {
-    whole(IntegerKind::Unsigned(8)) => [u8]; whole(IntegerKind::Unsigned(16)) => [u16];
-    whole(IntegerKind::Unsigned(32)) => [u32]; whole(IntegerKind::Wraps(8)) => [s8];
-    whole(IntegerKind::Wraps(16)) => [s16]; WRAPS_32 => [s32]; WRAPS_64 => [s64];
+    whole(Unsigned(8)) => [u8]; whole(Unsigned(16)) => [u16]; whole(Unsigned(32)) => [u32]; whole(Wraps(8)) => [s8];
+    whole(Wraps(16)) => [s16]; whole(Wraps(32)) => [s32]; whole(Wraps(64)) => [s64];
 });
 const MATLAB_WORDS: Suffixes = Suffixes::new(&[b"i", b"j"], &[b"i", b"j"], POINT_AND_DIGIT).either_case(true);
 
@@ -396,7 +385,7 @@ const ONE_POINT: Suffixes = Suffixes::new(&[], &[], &[Stop::new(b"", b".", b"")]
 const KOTLIN_DECIMALS: Suffixes =
     words(list![u U L uL UL f F], &[b"f", b"F"]).with_kinds(KOTLIN_KINDS).with_written(&[b"u"]);
 const KOTLIN_WORDS: Suffixes = words(list![u U L uL UL], &[]).with_kinds(KOTLIN_KINDS).with_written(&[b"u"]);
-const KOTLIN_KINDS: &[(&[u8], Kind)] = kinds! { UNSIGNED_64 => [u U uL UL]; SINGLE => [f F]; };
+const KOTLIN_KINDS: &[(&[u8], Kind)] = kinds! { whole(Unsigned(64)) => [u U uL UL]; SINGLE => [f F]; };
 const KOTLIN_FLOATS: Suffixes = words(&[b"f", b"F"], &[]).with_kinds(kinds! { SINGLE => [f F]; });
 
 /// Suffixes of Nim, in either case, also after `'`. Any other word after `'`, as in `1'x`, is refused, and so is a second point.
@@ -417,21 +406,21 @@ const NIM_DECIMALS: Suffixes = Suffixes::new(
 .with_kinds(NIM_DECIMAL_KINDS)
 .with_written(&[b"u64"]);
 const NIM_KINDS: &[(&[u8], Kind)] = kinds! {
-    whole(IntegerKind::Wraps(8)) => [i8 'i8]; whole(IntegerKind::Wraps(16)) => [i16 'i16]; WRAPS_32 => [i32 'i32];
-    whole(IntegerKind::Unsigned(8)) => [u8 'u8]; whole(IntegerKind::Unsigned(16)) => [u16 'u16];
-    whole(IntegerKind::Unsigned(32)) => [u32 'u32]; UNSIGNED_64 => [u u64 'u 'u64];
+    whole(Wraps(8)) => [i8 'i8]; whole(Wraps(16)) => [i16 'i16]; whole(Wraps(32)) => [i32 'i32];
+    whole(Unsigned(8)) => [u8 'u8]; whole(Unsigned(16)) => [u16 'u16]; whole(Unsigned(32)) => [u32 'u32];
+    whole(Unsigned(64)) => [u u64 'u 'u64];
 };
 const NIM_DECIMAL_KINDS: &[(&[u8], Kind)] = kinds! {
-    whole(IntegerKind::Signed(8)) => [i8 'i8]; whole(IntegerKind::Signed(16)) => [i16 'i16]; SIGNED_32 => [i32 'i32];
-    whole(IntegerKind::Unsigned(8)) => [u8 'u8]; whole(IntegerKind::Unsigned(16)) => [u16 'u16];
-    whole(IntegerKind::Unsigned(32)) => [u32 'u32]; UNSIGNED_64 => [u u64 'u 'u64]; SINGLE => [f f32 'f 'f32];
-    Kind::EXACT => [f64 d 'f64 'd];
+    whole(Signed(8)) => [i8 'i8]; whole(Signed(16)) => [i16 'i16]; whole(Signed(32)) => [i32 'i32];
+    whole(Unsigned(8)) => [u8 'u8]; whole(Unsigned(16)) => [u16 'u16]; whole(Unsigned(32)) => [u32 'u32];
+    whole(Unsigned(64)) => [u u64 'u 'u64]; SINGLE => [f f32 'f 'f32]; Kind::EXACT => [f64 d 'f64 'd];
 };
 
 /// Suffixes of OCaml, whose names may have `'`.
 const OCAML_WORDS: Suffixes = Suffixes::new(list![l L n], &[], &[Stop::new(b"", b"'", b"")])
-    .with_kinds(kinds! { WRAPS_32 => [l]; WRAPS_64 => [L n]; });
-const OCAML_DECIMALS: Suffixes = OCAML_WORDS.with_kinds(kinds! { SIGNED_32 => [l]; SIGNED_64 => [L n]; });
+    .with_kinds(kinds! { whole(Wraps(32)) => [l]; whole(Wraps(64)) => [L n]; });
+const OCAML_DECIMALS: Suffixes =
+    OCAML_WORDS.with_kinds(kinds! { whole(Signed(32)) => [l]; whole(Signed(64)) => [L n]; });
 
 /// What may not follow a decimal number of Perl, of which `1.2.3` is a string, and the point of `1.x` may be of the number or not,
 /// and of SQL, which has neither.
@@ -471,10 +460,10 @@ const RUST_DECIMALS: &[&[u8]] = list![u8 u16 u32 u64 u128 usize i8 i16 i32 i64 i
 const RUST_WORDS: Suffixes = words(RUST_DECIMALS, &[b"f32", b"f64"]).with_kinds(RUST_KINDS);
 const RUST_PREFIXED_WORDS: Suffixes = Suffixes::new(RUST_INTEGERS, &[], POINT_AND_NO_NAME).with_kinds(RUST_KINDS);
 const RUST_KINDS: &[(&[u8], Kind)] = kinds! {
-    whole(IntegerKind::Unsigned(8)) => [u8]; whole(IntegerKind::Unsigned(16)) => [u16];
-    whole(IntegerKind::Unsigned(32)) => [u32]; UNSIGNED_64 => [u64 usize]; whole(IntegerKind::Signed(8)) => [i8];
-    whole(IntegerKind::Signed(16)) => [i16]; SIGNED_32 => [i32]; SIGNED_64 => [i64 isize];
-    whole(IntegerKind::Signed(128)) => [i128]; finite(SINGLE) => [f32]; finite(Kind::EXACT) => [f64];
+    whole(Unsigned(8)) => [u8]; whole(Unsigned(16)) => [u16]; whole(Unsigned(32)) => [u32];
+    whole(Unsigned(64)) => [u64 usize]; whole(Signed(8)) => [i8]; whole(Signed(16)) => [i16];
+    whole(Signed(32)) => [i32]; whole(Signed(64)) => [i64 isize]; whole(Signed(128)) => [i128]; finite(SINGLE) => [f32];
+    finite(Kind::EXACT) => [f64];
 };
 
 /// What goes on a number of Verilog: `8'hFF`, `1.x` and `1$`.
@@ -485,17 +474,17 @@ const VISUAL_BASIC_INTEGERS: Suffixes = words(list![S US I % UI L & UL], &[])
     .either_case(true)
     .with_word_bytes(b"%&")
     .with_kinds(kinds! {
-        whole(IntegerKind::Wraps(16)) => [S]; whole(IntegerKind::Unsigned(16)) => [US];
-        whole(IntegerKind::Unsigned(32)) => [UI]; WRAPS_64 => [L &]; UNSIGNED_64 => [UL];
+        whole(Wraps(16)) => [S]; whole(Unsigned(16)) => [US]; whole(Unsigned(32)) => [UI]; whole(Wraps(64)) => [L &];
+        whole(Unsigned(64)) => [UL];
     })
     .with_written(&[b"L", b"UL"]);
 const VISUAL_BASIC_DECIMALS: Suffixes = words(list![S US I % UI L & UL F ! R # D @], list![F ! R # D @])
     .either_case(true)
     .with_word_bytes(b"%&!#@")
     .with_kinds(kinds! {
-        whole(IntegerKind::Signed(16)) => [S]; whole(IntegerKind::Unsigned(16)) => [US]; SIGNED_32 => [I %];
-        whole(IntegerKind::Unsigned(32)) => [UI]; SIGNED_64 => [L &]; UNSIGNED_64 => [UL];
-        finite(SINGLE) => [F !]; finite(Kind::EXACT) => [R # D @];
+        whole(Signed(16)) => [S]; whole(Unsigned(16)) => [US]; whole(Signed(32)) => [I %]; whole(Unsigned(32)) => [UI];
+        whole(Signed(64)) => [L &]; whole(Unsigned(64)) => [UL]; finite(SINGLE) => [F !];
+        finite(Kind::EXACT) => [R # D @];
     })
     .with_written(&[b"UL"]);
 
@@ -545,10 +534,10 @@ languages! {
     /// C's integer and floating constants (C23, 6.4.4.1 and 6.4.4.2). A decimal integer has the type `long long`, which
     /// has 63 bits and a sign, unless its suffix has a `u`. `16777217.0df` is not rounded to seven digits.
     C: "C" = {
-        "decimal": decimal(C.no_integer_leading_zeros(true)) => C_DECIMALS; SIGNED_64, // rejects `08`, not `08.5`
-        "octal": octal(C) => C_WORDS; UNSIGNED_64,
-        "hexadecimal": prefixed(b'x', 16, C) => C_WORDS; UNSIGNED_64,
-        "binary": prefixed(b'b', 2, C) => C_WORDS; UNSIGNED_64,
+        "decimal": decimal(C.no_integer_leading_zeros(true)) => C_DECIMALS; whole(Signed(64)), // rejects `08`, not `08.5`
+        "octal": octal(C) => C_WORDS; whole(Unsigned(64)),
+        "hexadecimal": prefixed(b'x', 16, C) => C_WORDS; whole(Unsigned(64)),
+        "binary": prefixed(b'b', 2, C) => C_WORDS; whole(Unsigned(64)),
         "hexadecimal float": binary_floats(b'x', 16, C.required_exponent_notation(true)) => C_WORDS, // rejects `0x1.8`
     } => Tokens::new(&[], &[]);
 
@@ -603,18 +592,18 @@ languages! {
     /// C++'s integer and floating literals (C++20, 5.13.2 and 5.13.4). The standard library has the suffixes of durations and
     /// dates, and `i`, `il` and `if` of imaginary numbers.
     C_PLUS_PLUS: "C++" = {
-        "decimal": decimal(C.no_integer_leading_zeros(true)) => C_PLUS_PLUS_WORDS; SIGNED_64, // rejects `08`, not `08.5`
-        "octal": octal(C) => C_PLUS_PLUS_WORDS; UNSIGNED_64,
-        "hexadecimal": prefixed(b'x', 16, C) => C_PLUS_PLUS_WORDS; UNSIGNED_64,
-        "binary": prefixed(b'b', 2, C) => C_PLUS_PLUS_WORDS; UNSIGNED_64,
+        "decimal": decimal(C.no_integer_leading_zeros(true)) => C_PLUS_PLUS_WORDS; whole(Signed(64)), // rejects `08`, not `08.5`
+        "octal": octal(C) => C_PLUS_PLUS_WORDS; whole(Unsigned(64)),
+        "hexadecimal": prefixed(b'x', 16, C) => C_PLUS_PLUS_WORDS; whole(Unsigned(64)),
+        "binary": prefixed(b'b', 2, C) => C_PLUS_PLUS_WORDS; whole(Unsigned(64)),
         "hexadecimal float": binary_floats(b'x', 16, C.required_exponent_notation(true)) => C_PLUS_PLUS_WORDS, // rejects `0x1.8`
     } => Tokens::new(&[], &[]);
 
     /// C#'s integer and real literals (C# standard, 6.4.5.3 and 6.4.5.4).
     C_SHARP: "C#" = {
-        "decimal": decimal(JAVA.required_fraction_digits(true)) => C_SHARP_DECIMALS; finite(UNSIGNED_64), // rejects `1.`, not `.5`
-        "hexadecimal": prefixed(b'x', 16, JAVA.integer_leading_digit_separator(true)) => words(C_SHARP_INTEGERS, &[]).either_case(true); UNSIGNED_64, // accepts `0x_1F`
-        "binary": prefixed(b'b', 2, JAVA.integer_leading_digit_separator(true)) => words(C_SHARP_INTEGERS, &[]).either_case(true); UNSIGNED_64, // accepts `0b_1`
+        "decimal": decimal(JAVA.required_fraction_digits(true)) => C_SHARP_DECIMALS; finite(whole(Unsigned(64))), // rejects `1.`, not `.5`
+        "hexadecimal": prefixed(b'x', 16, JAVA.integer_leading_digit_separator(true)) => words(C_SHARP_INTEGERS, &[]).either_case(true); whole(Unsigned(64)), // accepts `0x_1F`
+        "binary": prefixed(b'b', 2, JAVA.integer_leading_digit_separator(true)) => words(C_SHARP_INTEGERS, &[]).either_case(true); whole(Unsigned(64)), // accepts `0b_1`
     } => POINTS_BACK;
 
     /// D's integers and floats (D Language Specification, Lexical, Integer Literals and Floating Point Literals).
@@ -623,14 +612,14 @@ languages! {
             .required_fraction_digits(true) // rejects `1.` and `1.e5`, not `.5`
             .no_integer_leading_zeros(true) // rejects `08`, not `08.5`
             .exponent_leading_digit_separator(true) // accepts `1e_5`
-        ) => D_WORDS; finite(SIGNED_64),
+        ) => D_WORDS; finite(whole(Signed(64))),
         "with a point at the end": decimal(RUST
             .exponent_digit_separator_flags(false)
             .no_integer_leading_zeros(true) // rejects `08`, not `08.`
             .no_exponent_notation(true) // rejects `1.e5`
-        ); finite(SIGNED_64),
-        "hexadecimal": prefixed(b'x', 16, D_PREFIXED) => D_INTEGERS; UNSIGNED_64,
-        "binary": prefixed(b'b', 2, D_PREFIXED) => D_INTEGERS; UNSIGNED_64,
+        ); finite(whole(Signed(64))),
+        "hexadecimal": prefixed(b'x', 16, D_PREFIXED) => D_INTEGERS; whole(Unsigned(64)),
+        "binary": prefixed(b'b', 2, D_PREFIXED) => D_INTEGERS; whole(Unsigned(64)),
         "hexadecimal float": binary_floats(b'x', 16, D_PREFIXED
             .required_fraction_digits(true) // rejects `0x1.p3`, not `0x.8p3`
             .exponent_leading_digit_separator(true) // accepts `0x1p_3`
@@ -641,8 +630,8 @@ languages! {
     /// Dart's integers and doubles (Dart Language Specification 6, Numbers, and the separators of Dart 3.6). An integer has 64 bits:
     /// `0xffffffffffffffff` is -1. `9223372036854775808`, which is lawful only after the operator `-`, is too large.
     DART: "Dart" = {
-        "decimal": decimal(JAVA.required_fraction_digits(true)); SIGNED_64, // rejects `1.`, not `.5`
-        "hexadecimal": prefixed(b'x', 16, JAVA); WRAPS_64,
+        "decimal": decimal(JAVA.required_fraction_digits(true)); whole(Signed(64)), // rejects `1.`, not `.5`
+        "hexadecimal": prefixed(b'x', 16, JAVA); whole(Wraps(64)),
     } => POINTS_BACK;
 
     /// Elixir's integers and floats (Syntax reference 1.14, Numbers).
@@ -667,22 +656,22 @@ languages! {
         "decimal": numbers(b'e', b'.', SIGNED) => FORTRAN_WORDS; DEFAULT,
         // It rejects `1.0`, which the first form reads.
         "double precision": numbers(b'd', b'.', SIGNED.required_exponent_notation(true)); finite(Kind::EXACT),
-        "hexadecimal, '" behind "z'" only_read true: suffixed(b'\'', 16, TOKENS, SUFFIXED); UNSIGNED_128,
-        "octal, '" behind "o'" only_read true: suffixed(b'\'', 8, TOKENS, SUFFIXED); UNSIGNED_128,
-        "binary, '" behind "b'" only_read true: suffixed(b'\'', 2, TOKENS, SUFFIXED); UNSIGNED_128,
-        "hexadecimal, \"" behind "z\"" only_read true: suffixed(b'"', 16, TOKENS, SUFFIXED); UNSIGNED_128,
-        "octal, \"" behind "o\"" only_read true: suffixed(b'"', 8, TOKENS, SUFFIXED); UNSIGNED_128,
-        "binary, \"" behind "b\"" only_read true: suffixed(b'"', 2, TOKENS, SUFFIXED); UNSIGNED_128,
+        "hexadecimal, '" behind "z'" only_read true: suffixed(b'\'', 16, TOKENS, SUFFIXED); whole(Unsigned(128)),
+        "octal, '" behind "o'" only_read true: suffixed(b'\'', 8, TOKENS, SUFFIXED); whole(Unsigned(128)),
+        "binary, '" behind "b'" only_read true: suffixed(b'\'', 2, TOKENS, SUFFIXED); whole(Unsigned(128)),
+        "hexadecimal, \"" behind "z\"" only_read true: suffixed(b'"', 16, TOKENS, SUFFIXED); whole(Unsigned(128)),
+        "octal, \"" behind "o\"" only_read true: suffixed(b'"', 8, TOKENS, SUFFIXED); whole(Unsigned(128)),
+        "binary, \"" behind "b\"" only_read true: suffixed(b'"', 2, TOKENS, SUFFIXED); whole(Unsigned(128)),
     } => Tokens::new(&[], &[]).gives_points_to_letters();
 
     /// Integers and floats of the GNU assembler (Using as 2.40, 3.6.2 Number Constants). A float has a point, an
     /// exponent, or a letter after a zero: `0e5` is 5, and `0f-1.5` has a sign. Some directives, such as `.double`,
     /// read integers as decimal floats, also `017`. Local labels, such as `1f` and `1b`, are refused here.
     GNU_ASSEMBLER: "GNU assembler" = {
-        "decimal": integers(10, TOKENS.no_integer_leading_zeros(true), UNSIGNED); UNSIGNED_128, // rejects `08`
-        "octal": octal(TOKENS); UNSIGNED_128,
-        "hexadecimal": prefixed(b'x', 16, TOKENS); UNSIGNED_128,
-        "binary": prefixed(b'b', 2, TOKENS); UNSIGNED_128,
+        "decimal": integers(10, TOKENS.no_integer_leading_zeros(true), UNSIGNED); whole(Unsigned(128)), // rejects `08`
+        "octal": octal(TOKENS); whole(Unsigned(128)),
+        "hexadecimal": prefixed(b'x', 16, TOKENS); whole(Unsigned(128)),
+        "binary": prefixed(b'b', 2, TOKENS); whole(Unsigned(128)),
         "float, 0e" behind "0e" only_read true: numbers(b'e', b'.', SIGNED); finite(Kind::EXACT),
         "float, 0f" behind "0f" only_read true: numbers(b'e', b'.', SIGNED); finite(Kind::EXACT),
         "float, 0d" behind "0d" only_read true: numbers(b'e', b'.', SIGNED); finite(Kind::EXACT),
@@ -697,10 +686,7 @@ languages! {
         "octal, 0o": prefixed(b'o', 8, GO_PREFIXED) => GO_POINTLESS,
         "binary": prefixed(b'b', 2, GO_PREFIXED) => GO_POINTLESS,
         "hexadecimal float": binary_floats(b'x', 16, GO_PREFIXED.required_exponent_notation(true)) => GO_WORDS, // rejects `0x1.8`
-    } => Tokens::new(
-        &[Form::new("imaginary, leading zeros", integers(10, separated(b'_'), UNSIGNED)).with_suffixes(&GO_WORDS)],
-        &[],
-    );
+    } => Tokens::new(&[leading_zeros("imaginary, leading zeros", separated(b'_'), &GO_WORDS)], &[]);
 
     /// Haskell's integers and floats (Haskell 2010 Report, 2.5). GHC reads more since 9.2: those of `HASKELL_GHC2021`.
     HASKELL: "Haskell 2010" = {
@@ -725,15 +711,12 @@ languages! {
     /// `int` or, with `L`, of `long`: `0xffffffff` is -1. `2147483648`, which is lawful only after the operator `-`, is
     /// too large.
     JAVA: "Java" = {
-        "decimal": decimal(JAVA.no_integer_leading_zeros(true)) => JAVA_DECIMALS; within(SIGNED_32), // rejects `08`, not `08.5`
-        "octal": octal(JAVA) => JAVA_INTEGERS; WRAPS_32,
-        "hexadecimal": prefixed(b'x', 16, JAVA) => JAVA_INTEGERS; WRAPS_32,
-        "binary": prefixed(b'b', 2, JAVA) => JAVA_INTEGERS; WRAPS_32,
+        "decimal": decimal(JAVA.no_integer_leading_zeros(true)) => JAVA_DECIMALS; within(whole(Signed(32))), // rejects `08`, not `08.5`
+        "octal": octal(JAVA) => JAVA_INTEGERS; whole(Wraps(32)),
+        "hexadecimal": prefixed(b'x', 16, JAVA) => JAVA_INTEGERS; whole(Wraps(32)),
+        "binary": prefixed(b'b', 2, JAVA) => JAVA_INTEGERS; whole(Wraps(32)),
         "hexadecimal float": binary_floats(b'x', 16, JAVA.required_exponent_notation(true)) => JAVA_FLOATS; within(Kind::EXACT), // rejects `0x1.8`
-    } => Tokens::new(
-        &[Form::new("float, leading zeros", integers(10, JAVA, UNSIGNED)).with_suffixes(&JAVA_FLOATS)],
-        &[],
-    );
+    } => Tokens::new(&[leading_zeros("float, leading zeros", JAVA, &JAVA_FLOATS)], &[]);
 
     /// JavaScript's numeric literals in strict code (ECMA-262, Numeric Literals). JavaScript makes integers doubles, which it
     /// rounds from 2^53 on: take their values as `f64`.
@@ -775,13 +758,10 @@ languages! {
     /// Kotlin's integer and real literals (Kotlin language specification 1.9, Literals). An integer is an `Int` or a `Long` or, with
     /// `u`, a `ULong`.
     KOTLIN: "Kotlin" = {
-        "decimal": decimal(KOTLIN) => KOTLIN_DECIMALS; SIGNED_64,
-        "hexadecimal": prefixed(b'x', 16, JAVA) => KOTLIN_WORDS; SIGNED_64,
-        "binary": prefixed(b'b', 2, JAVA) => KOTLIN_WORDS; SIGNED_64,
-    } => Tokens::new(
-        &[Form::new("float, leading zeros", integers(10, JAVA, UNSIGNED)).with_suffixes(&KOTLIN_FLOATS)],
-        &[],
-    ).gives_points_back(true);
+        "decimal": decimal(KOTLIN) => KOTLIN_DECIMALS; whole(Signed(64)),
+        "hexadecimal": prefixed(b'x', 16, JAVA) => KOTLIN_WORDS; whole(Signed(64)),
+        "binary": prefixed(b'b', 2, JAVA) => KOTLIN_WORDS; whole(Signed(64)),
+    } => Tokens::new(&[leading_zeros("float, leading zeros", JAVA, &KOTLIN_FLOATS)], &[]).gives_points_back(true);
 
     /// Lua's integers and floats (Reference Manual 5.4, 3.1). A decimal integer from 2^63 on is a float in Lua: take
     /// its value as an `f64`. A hexadecimal one keeps its last 64 bits: `0xffffffffffffffff` is -1.
@@ -798,8 +778,8 @@ languages! {
             .required_fraction_digits(true)
             .required_exponent_notation(true) // rejects `1.0`, which the first form reads
         ).with_conditions_or_panic(UNSIGNED) => MATLAB_WORDS,
-        "hexadecimal": prefixed(b'x', 16, TOKENS) => MATLAB_INTEGERS; UNSIGNED_64,
-        "binary": prefixed(b'b', 2, TOKENS) => MATLAB_INTEGERS; UNSIGNED_64,
+        "hexadecimal": prefixed(b'x', 16, TOKENS) => MATLAB_INTEGERS; whole(Unsigned(64)),
+        "binary": prefixed(b'b', 2, TOKENS) => MATLAB_INTEGERS; whole(Unsigned(64)),
     } => POINTS_BACK;
 
     /// NASM's numeric constants (NASM manual, Numeric Constants and Floating-Point Constants). An integer keeps its
@@ -832,7 +812,7 @@ languages! {
     /// integer keeps its last 64 bits: `0xffffffffffffffff` is -1. Suffixes of users, such as `'big`, are refused here,
     /// and so is `0b1f32`, whose digits are the bits of a float.
     NIM: "Nim" = {
-        "decimal": numbers(b'e', b'.', separated(b'_').required_digits(true)) => NIM_DECIMALS; SIGNED_64, // rejects `.5`, `1.`, `1e` and `.`
+        "decimal": numbers(b'e', b'.', separated(b'_').required_digits(true)) => NIM_DECIMALS; whole(Signed(64)), // rejects `.5`, `1.`, `1e` and `.`
         "hexadecimal": signed(prefixed(b'x', 16, separated(b'_'))) => NIM_INTEGERS; LAST_64,
         "octal": signed(prefixed(b'o', 8, separated(b'_').case_sensitive_base_prefix(true))) => NIM_INTEGERS; LAST_64, // rejects `0O17`
         "binary": signed(prefixed(b'b', 2, separated(b'_'))) => NIM_INTEGERS; LAST_64,
@@ -844,13 +824,13 @@ languages! {
         "decimal": decimal(RUST
             .required_integer_digits(true) // rejects `.5`, not `1.`
             .fraction_leading_digit_separator(true) // accepts `1._5`, not `_1` or `1e_5`
-        ) => OCAML_DECIMALS; SIGNED_63,
+        ) => OCAML_DECIMALS; whole(Signed(63)),
         "hexadecimal": binary_floats(b'x', 16, RUST
             .required_integer_digits(true) // rejects `0x.8`, not `0x1.`
             .fraction_leading_digit_separator(true) // accepts `0x1._8`, not `0x_1`
-        ) => OCAML_WORDS; WRAPS_63,
-        "octal": prefixed(b'o', 8, RUST) => OCAML_WORDS; WRAPS_63,
-        "binary": prefixed(b'b', 2, RUST) => OCAML_WORDS; WRAPS_63,
+        ) => OCAML_WORDS; whole(Wraps(63)),
+        "octal": prefixed(b'o', 8, RUST) => OCAML_WORDS; whole(Wraps(63)),
+        "binary": prefixed(b'b', 2, RUST) => OCAML_WORDS; whole(Wraps(63)),
     } => Tokens::new(&[], &[]);
 
     /// Pascal's integers and reals (Free Pascal Reference Guide 3.2, 1.6 Numbers). A hexadecimal, octal or binary
@@ -858,9 +838,9 @@ languages! {
     /// as an `f64`.
     PASCAL: "Pascal" = {
         "decimal": decimal(TOKENS.required_digits(true)), // rejects `.5`, `1.`, `1e` and `.`
-        "hexadecimal" behind "$": integers(16, TOKENS, UNSIGNED); WRAPS_64,
-        "octal" behind "&": integers(8, TOKENS, UNSIGNED); WRAPS_64,
-        "binary" behind "%": integers(2, TOKENS, UNSIGNED); WRAPS_64,
+        "hexadecimal" behind "$": integers(16, TOKENS, UNSIGNED); whole(Wraps(64)),
+        "octal" behind "&": integers(8, TOKENS, UNSIGNED); whole(Wraps(64)),
+        "binary" behind "%": integers(2, TOKENS, UNSIGNED); whole(Wraps(64)),
     } => WORDS_FOLLOW;
 
     /// Perl's numeric literals (perldata 5.36, Scalar value constructors). An integer from 2^64 on is a float in Perl:
@@ -892,7 +872,7 @@ languages! {
     /// integer has 64 bits: `16#FFFFFFFFFFFFFFFF` is -1. Floats are singles.
     POSTSCRIPT: "PostScript" = {
         "decimal": numbers(b'e', b'.', SIGNED.required_exponent_digits(true)) => POSTSCRIPT_WORDS; SHORT_REALS, // rejects `1e`
-    } radixes "" "#" { integers(2, TOKENS, UNSIGNED) => POSTSCRIPT_WORDS; WRAPS_64 } => Tokens::new(&[], &[]);
+    } radixes "" "#" { integers(2, TOKENS, UNSIGNED) => POSTSCRIPT_WORDS; whole(Wraps(64)) } => Tokens::new(&[], &[]);
 
     /// Prolog's integers and floats (SWI-Prolog 9 Reference Manual, 5.10 and 2.15.1.6). `1 000`, a number in
     /// SWI-Prolog, is refused here.
@@ -911,10 +891,7 @@ languages! {
         "hexadecimal": prefixed(b'x', 16, GO_PREFIXED),
         "octal": prefixed(b'o', 8, GO_PREFIXED),
         "binary": prefixed(b'b', 2, GO_PREFIXED),
-    } => Tokens::new(
-        &[Form::new("imaginary, leading zeros", integers(10, separated(b'_'), UNSIGNED)).with_suffixes(&PYTHON_WORDS)],
-        PYTHON_KEYWORDS,
-    );
+    } => Tokens::new(&[leading_zeros("imaginary, leading zeros", separated(b'_'), &PYTHON_WORDS)], PYTHON_KEYWORDS);
 
     /// R's numeric constants (R Language Definition 4.2, 10.3.1). In R, all are doubles: `9007199254740993` is
     /// 9007199254740992 there, and a hexadecimal float below 2^-1022 is 0.
@@ -956,26 +933,23 @@ languages! {
             .required_integer_digits(true) // rejects `.5`
             .required_fraction_digits(true) // rejects `1.` and `1.e5`
             .exponent_leading_digit_separator(true) // accepts `1e_5`
-        ) => RUST_WORDS; finite(UNSIGNED_128),
+        ) => RUST_WORDS; finite(whole(Unsigned(128))),
         "with a point at the end": decimal(RUST
             .exponent_digit_separator_flags(false)
             .required_integer_digits(true) // rejects `.5`, not `1.`
             .no_exponent_notation(true) // rejects `1.e5`
-        ) => RUST_WORDS; finite(UNSIGNED_128),
-        "hexadecimal": prefixed(b'x', 16, RUST_PREFIXED) => RUST_PREFIXED_WORDS; UNSIGNED_128,
-        "octal": prefixed(b'o', 8, RUST_PREFIXED) => RUST_PREFIXED_WORDS; UNSIGNED_128,
-        "binary": prefixed(b'b', 2, RUST_PREFIXED) => RUST_PREFIXED_WORDS; UNSIGNED_128,
+        ) => RUST_WORDS; finite(whole(Unsigned(128))),
+        "hexadecimal": prefixed(b'x', 16, RUST_PREFIXED) => RUST_PREFIXED_WORDS; whole(Unsigned(128)),
+        "octal": prefixed(b'o', 8, RUST_PREFIXED) => RUST_PREFIXED_WORDS; whole(Unsigned(128)),
+        "binary": prefixed(b'b', 2, RUST_PREFIXED) => RUST_PREFIXED_WORDS; whole(Unsigned(128)),
     } => POINTS_BACK;
 
     /// Scala's integers and floats (Scala 3.3 Reference, Syntax). Values are those of `Int` or, with `L`, of `Long`:
     /// `0xffffffff` is -1. `2147483648`, which is lawful only after the operator `-`, is too large.
     SCALA: "Scala" = {
-        "decimal": decimal(KOTLIN) => SCALA_DECIMALS; finite(SIGNED_32),
-        "hexadecimal": prefixed(b'x', 16, JAVA) => JAVA_INTEGERS; WRAPS_32,
-    } => Tokens::new(
-        &[Form::new("float, leading zeros", integers(10, JAVA, UNSIGNED)).with_suffixes(&SCALA_FLOATS)],
-        &[],
-    ).gives_points_back(true);
+        "decimal": decimal(KOTLIN) => SCALA_DECIMALS; finite(whole(Signed(32))),
+        "hexadecimal": prefixed(b'x', 16, JAVA) => JAVA_INTEGERS; whole(Wraps(32)),
+    } => Tokens::new(&[leading_zeros("float, leading zeros", JAVA, &SCALA_FLOATS)], &[]).gives_points_back(true);
 
     /// Scheme's integers and decimals, with signs (R7RS, 7.1.1 Lexical structure).
     SCHEME: "Scheme" = {
@@ -1040,18 +1014,18 @@ languages! {
     /// VHDL's abstract literals (IEEE 1076-2008, 15.5). Integers without an exponent have 64 bits, one of which is the
     /// sign, as in GHDL. `1E3`, an integer in VHDL, is a float here.
     VHDL: "VHDL" = {
-        "decimal": decimal(ERLANG) => ADA_WORDS; finite(SIGNED_64),
-        "integer with an exponent": decimal(separated(b'_').required_digits(true)) => ADA_WORDS; finite(SIGNED_64),
-    } radixes "" "#" to 16 { closed(b'#', separated(b'_')) => ADA_WORDS; finite(SIGNED_64) } => Tokens::new(&[], &[]);
+        "decimal": decimal(ERLANG) => ADA_WORDS; finite(whole(Signed(64))),
+        "integer with an exponent": decimal(separated(b'_').required_digits(true)) => ADA_WORDS; finite(whole(Signed(64))),
+    } radixes "" "#" to 16 { closed(b'#', separated(b'_')) => ADA_WORDS; finite(whole(Signed(64))) } => Tokens::new(&[], &[]);
 
     /// Visual Basic's integers, floats and decimals (Visual Basic Language Specification 11, 2.4, and the separators of
     /// Visual Basic 15.5). Values are those of `Integer` or, with `L` or `&`, of `Long`: `&HFFFFFFFF` is -1.
     /// `&H100000000` is too large without a suffix, but a decimal integer may have 64 bits.
     VISUAL_BASIC: "Visual Basic" = {
-        "decimal": decimal(JAVA.required_fraction_digits(true)) => VISUAL_BASIC_DECIMALS; finite(SIGNED_64), // rejects `1.`, not `.5`
-        "hexadecimal" behind "&H": integers(16, VISUAL_BASIC, UNSIGNED) => VISUAL_BASIC_INTEGERS; WRAPS_32,
-        "octal" behind "&O": integers(8, VISUAL_BASIC, UNSIGNED) => VISUAL_BASIC_INTEGERS; WRAPS_32,
-        "binary" behind "&B": integers(2, VISUAL_BASIC, UNSIGNED) => VISUAL_BASIC_INTEGERS; WRAPS_32,
+        "decimal": decimal(JAVA.required_fraction_digits(true)) => VISUAL_BASIC_DECIMALS; finite(whole(Signed(64))), // rejects `1.`, not `.5`
+        "hexadecimal" behind "&H": integers(16, VISUAL_BASIC, UNSIGNED) => VISUAL_BASIC_INTEGERS; whole(Wraps(32)),
+        "octal" behind "&O": integers(8, VISUAL_BASIC, UNSIGNED) => VISUAL_BASIC_INTEGERS; whole(Wraps(32)),
+        "binary" behind "&B": integers(2, VISUAL_BASIC, UNSIGNED) => VISUAL_BASIC_INTEGERS; whole(Wraps(32)),
     } => POINTS_BACK;
 
     /// The decimals of XML Schema, with signs (XML Schema 1.1, Part 2, 3.3.3).

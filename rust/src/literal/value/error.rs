@@ -101,9 +101,8 @@ impl ValueError {
         self.target.name
     }
 
-    /// Returns the range of the bytes of the literal, from the [opening][crate::literal::Form::with_opening] before it on, and
-    /// without the closing behind it. Of NaN and infinity, it is the whole text, or empty if they were not parsed in the same
-    /// call.
+    /// Returns the range of the bytes of the literal, from the [opening][crate::literal::Form::with_opening] before it on. Of NaN and
+    /// infinity, it is the whole text, or empty if they were not parsed in the same call.
     #[must_use]
     pub const fn span(&self) -> Range<usize> {
         0..self.size

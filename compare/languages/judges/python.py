@@ -1,10 +1,7 @@
-"""The tokenizers of Python. Reads texts on standard input, and prints the length of the number that each begins with, or `-`. With
-the argument `files`, it reads the paths of files, and prints the length of each number of a file and the line from there, or `-`
-and the path of a wrong file.
-
-The module `tokenize` finds where it ends. The compiler has another tokenizer, which refuses some texts: its error is at the
-number, or at the byte behind it.
+"""The tokenizers of Python. The module `tokenize` finds where a number ends. The compiler has another tokenizer, which refuses some
+texts: its error is at the number, or at the byte behind it.
 """
+import ast
 import io
 import re
 import sys
@@ -12,10 +9,11 @@ import tokenize
 import warnings
 
 warnings.simplefilter("ignore")
+sys.set_int_max_str_digits(0)
 LEXICAL = re.compile(r"invalid (decimal|hexadecimal|octal|binary|imaginary) literal|invalid digit|leading zeros")
 
 
-def size(text):
+def judge(text):
     try:
         first = next(tokenize.generate_tokens(io.StringIO(text).readline))
     except (tokenize.TokenError, SyntaxError):
@@ -29,7 +27,7 @@ def size(text):
             return "-"
     except (ValueError, OverflowError):
         pass
-    return len(first.string)
+    return f"{len(first.string)} {ast.literal_eval(first.string)!r}"
 
 
 def numbers(path):
@@ -46,4 +44,4 @@ def numbers(path):
 
 sys.stdout.reconfigure(encoding="latin-1")
 for line in sys.stdin:
-    print((numbers if sys.argv[1:] else size)(line.rstrip("\n")))
+    print((numbers if sys.argv[1:] else judge)(line.rstrip("\n")))
