@@ -1,9 +1,8 @@
 -- What the fields of a grammar tell of the word of its format.
 use Rattle.lexical_literal.proofs.Common.{IsUsual, None, Some, Condition, Conditions, [], ◌∷◌, ◌-◌, ◌||◌, and_parts, eqb-true, has, is_same, kept, number_of}
-use Rattle.lexical_literal.proofs.Common.{IsTrue, allowed_ascii}
-use Rattle.lexical_literal.proofs.Common.{Bool, Flag, Part, Record, ap, arith, bit, bit_and, effective_exponent_radix, exponent_character_of, false}
-use Rattle.lexical_literal.proofs.Common.{false≢true, if◌then◌else◌, inl, inr, lacks_options, length, mod-lt, nat_tests, not, notation_of, point_of, radix_of}
-use Rattle.lexical_literal.proofs.Common.{raw, refl, subst, sym, true, used_separator, ℕ, ◌%◌, ◌&&◌, ◌<◌, ◌==◌, ◌^◌, ◌∙◌, ◌≡◌}
+use Rattle.lexical_literal.proofs.Common.{IsTrue, allowed_ascii, Bool, Flag, Part, Record, ap, arith, bit, bit_and, effective_exponent_radix}
+use Rattle.lexical_literal.proofs.Common.{exponent_character_of, false, false≢true, if◌then◌else◌, inl, inr, lacks_options, length, mod-lt, nat_tests, not}
+use Rattle.lexical_literal.proofs.Common.{notation_of, point_of, radix_of, raw, refl, subst, sym, true, used_separator, ℕ, ◌%◌, ◌&&◌, ◌<◌, ◌==◌, ◌^◌, ◌∙◌, ◌≡◌}
 use Rattle.lexical_flags.proofs.FlagBits.{flag_test, mask_test}
 use Rattle.lexical_flags.proofs.Packing.{low_flag, raw-fields, word-fields}
 use Rattle.lexical_flags.proofs.RecordLemmas.{record_same}
@@ -107,10 +106,6 @@ unfolding Lawful
 radix_fits g parts.Exponent radix same is = subst IsRadix (sym same) is.lawful.exponent_radix
 radix_fits g _ radix same is = subst IsRadix (sym same) is.lawful.mantissa_radix
 
--- An exponent byte that is not absent is effective.
-filled : (byte radix : ℕ) → (byte ≡ 0 → radix ≡ 0) → effective byte radix ≡ byte
-filled byte radix none = grind (arith, nat_tests)
-
 -- The fields with the flags of the word `w` and other conditions, and without a separator.
 module _ (a : Inside) (h : AreFields a) (w : ℕ) (k : Conditions) (eight : length k.numbers ≡ 8) where
   abbrev pub other : Inside
@@ -149,10 +144,10 @@ none_contradicted r = refl
 -- The fields of a word in normal form are fields, and the word is made of them.
 module _ (w : ℕ) (fits : w < 2 ^ 128) (normal : IsNormal w) where
   base_normal : effective_exponent_base (raw w) ≡ bytes_of w layout.exponent_base
-  base_normal = filled _ _ normal.exponent_base
+  base_normal = grind (arith, nat_tests, normal.exponent_base)
 
   radix_normal : effective_exponent_radix (raw w) ≡ bytes_of w layout.exponent_radix
-  radix_normal = filled _ _ normal.exponent_radix
+  radix_normal = grind (arith, nat_tests, normal.exponent_radix)
 
   module _ (a : Inside) (flags : a.flags ≡ w % 2 ^ 64) (radix : a.exponent_radix ≡ effective_exponent_radix (raw w))
       (base : a.exponent_base ≡ effective_exponent_base (raw w)) (mantissa : a.radix ≡ bytes_of w layout.mantissa_radix)

@@ -3,10 +3,6 @@ use Rattle.lexical_literal.proofs.Common.{Bool, Condition, Conditions, all_condi
 use Rattle.lexical_literal.proofs.Common.{is_same, kept, length, list_any, nat_lt, nat_tests, number_of, order, true, ℕ, ◌&&◌, ◌+◌, ◌<◌, ◌≡◌}
 use Rattle.lexical_literal.specs.declared.syntax.Condition.TheVariants as conditions
 
--- Each condition is at its place in the list.
-pub at_place : (i : ℕ) → i < length all_conditions → order (get_or all_conditions i conditions.BasePrefix) ≡ i
-at_place i below = grind arith
-
 -- The number of a condition after the one at a place has been looked at.
 pub number_next : (X : Condition → Bool) (N : Condition → ℕ) (i n : ℕ) (d : Condition) → i < length all_conditions
     → n ≡ (if nat_lt (order d) i && X d then N d else 0) → (if X (get_or all_conditions i conditions.BasePrefix)
@@ -29,4 +25,4 @@ has_only c d e set = grind (arith, nat_tests)
 module _ (C : Condition → Bool) (N : Condition → ℕ) where
   -- Conditions with the numbers of those that are kept are these.
   pub is_kept : (c : Conditions) → length c.numbers ≡ length all_conditions → ((d : Condition) → number_of c d ≡ (if C d then N d else 0)) → c ≡ kept C N
-  is_kept c all each = grind (arith, common_steps, ext_get_or, at_place)
+  is_kept c all each = grind (arith, common_steps, ext_get_or)

@@ -1,7 +1,7 @@
 -- A refusal has one cause, and a text has one refusal.
 use Rattle.lexical_literal.proofs.Common.{Bool, Condition, Flag, IsCause, IsRefusal, IsUnmet, IsValidUpTo, List, None, Notation, Option, Part, ReadErrorKind}
-use Rattle.lexical_literal.proofs.Common.{Refusal, Some, ap, arith, bit, first_unmet, flag_bits, has, if◌then◌else◌, is_at, kept, lowest, marks_of}
-use Rattle.lexical_literal.proofs.Common.{nat_tests, raw, refl, slice_get, shown, subst, sum_by, sym, tail_of, take, true, ℕ, ◌<◌, ◌^◌, ◌↔◌, ◌∙◌, ◌≡◌, ◌≤◌}
+use Rattle.lexical_literal.proofs.Common.{Refusal, Some, ap, arith, bit, first_unmet, flag_bits, has, if◌then◌else◌, is_at, kept, lowest, marks_of, nat_tests}
+use Rattle.lexical_literal.proofs.Common.{raw, refl, slice_get, shown, subst, sum_by, sym, tail_of, take, true, ℕ, ◌<◌, ◌^◌, ◌↔◌, ◌∙◌, ◌≡◌, ◌≤◌}
 use Rattle.lexical_literal.specs.Cause.{IsSeparator, SameBlame}
 use Rattle.std.proofs.Math.Nat.{le_antisymm}
 use Rattle.lexical_util.specs.Layout.{flags}

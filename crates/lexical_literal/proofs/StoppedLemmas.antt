@@ -1,15 +1,13 @@
 -- Fronts of a text, and where the loop is left.
 use Rattle.lexical_literal.proofs.Common.{Allows, Bool, Found, Group, HasBegun, HasFound, HasLengths, HasRoles, HasSizes, IsAt, IsCountedFront, IsFront}
-use Rattle.lexical_literal.proofs.Common.{IsFronted, IsLiteral, IsLongest, IsMeasured, IsNone, IsReady, IsRefused, IsStopped, IsTrue, IsUnderway}
-use Rattle.lexical_literal.proofs.Common.{IsValidUpTo, IsWithin, List}
-use Rattle.lexical_literal.proofs.Common.{Literal, NoFront, NoLiteral, None, Notation, Option, Reads, ReadsFront, Role, Some, Stopped, Summary, [], and_parts}
-use Rattle.lexical_literal.proofs.Common.{ap, append-nil, append_assoc, arith, cases_Bool, cases_lt, common_steps, count, cuts_of, drop, false}
+use Rattle.lexical_literal.proofs.Common.{IsFronted, IsLiteral, IsLongest, IsMeasured, IsNone, IsReady, IsRefused, IsStopped, IsTrue, IsUnderway, IsValidUpTo}
+use Rattle.lexical_literal.proofs.Common.{IsWithin, List, Literal, NoFront, NoLiteral, None, Notation, Option, Reads, ReadsFront, Role, Some, Stopped, Summary}
+use Rattle.lexical_literal.proofs.Common.{[], and_parts, ap, append-nil, append_assoc, arith, cases_Bool, cases_lt, common_steps, count, cuts_of, drop, false}
 use Rattle.lexical_literal.proofs.Common.{false_from_ne_true, false≢true, first_group, get_or, goes, group_after, group_allows, grow, grown, has_size}
-use Rattle.lexical_literal.proofs.Common.{has_sizes}
-use Rattle.lexical_literal.proofs.Common.{if◌then◌else◌, inl, inr, is_accepted, is_complete, is_grouped, is_some, length, length-take-le, no_cuts}
-use Rattle.lexical_literal.proofs.Common.{not, or_parts, part_of}
-use Rattle.lexical_literal.proofs.Common.{refl, replicate, role_at, slice_get, slice_get-get_or, start, step, subst, sym, take, take-append-drop, take-take}
-use Rattle.lexical_literal.proofs.Common.{take_all, take_more, tally, true, unsized, walk, ℕ, ◌++◌, ◌+◌, ◌<◌, ◌||◌, ◌↔◌, ◌∙◌, ◌∷◌, ◌≡◌, ◌≤◌, ◌⊎◌}
+use Rattle.lexical_literal.proofs.Common.{has_sizes, if◌then◌else◌, inl, inr, is_accepted, is_complete, is_grouped, is_some, length, length-take-le, no_cuts}
+use Rattle.lexical_literal.proofs.Common.{not, or_parts, part_of, refl, replicate, role_at, slice_get, slice_get-get_or, start, step, subst, sym, take}
+use Rattle.lexical_literal.proofs.Common.{take-append-drop, take-take, take_all, take_more, tally, true, unsized, ℕ, ◌++◌, ◌+◌, ◌<◌, ◌||◌, ◌↔◌, ◌∙◌, ◌∷◌, ◌≡◌}
+use Rattle.lexical_literal.proofs.Common.{◌≤◌, ◌⊎◌}
 use Rattle.std.proofs.lemmas.Option.{slice_get_past}
 use Rattle.lexical_literal.specs.declared.stop.Begun.{Begun}
 use Rattle.lexical_literal.specs.declared.syntax.Condition.TheVariants as conditions
@@ -233,9 +231,6 @@ module _ (m : Notation) (ready : IsReady (unsized m)) (sizes : HasSizes m) (text
     abbrev group_of : Option Group
     group_of = grow m group (role_at m group.part b)
 
-    next_scan : at.size < length text → walk u (Some start) (take (at.size + 1) text) ≡ step_of
-    next_scan inside = grind (arith, common_steps, take_more, walk_append)
-
     next_group : at.size < length text → group_after m (Some first_group) (take (at.size + 1) text) ≡ group_of
     next_group inside = rw (take_more text at.size 0 inside, group_append m (Some first_group) (take at.size text) (b ∷ []), is.grouped) refl
 
@@ -254,7 +249,7 @@ module _ (m : Notation) (ready : IsReady (unsized m)) (sizes : HasSizes m) (text
     pub underway_more : (t : Summary) (g : Group) (role : Role) → at.size < length text → step_of ≡ Some t
         → role_at m (part_of at.read.stage) b ≡ Some role → grow m group (Some role) ≡ Some g
         → IsUnderway m text (record { size = at.size + 1; read = t }) g
-    underway_more t g role inside taken plays grown = grind (arith, next_scan, next_group, same_grow)
+    underway_more t g role inside taken plays grown = grind (arith, common_steps, take_more, walk_append, next_group, same_grow)
 
     -- No literal goes on.
     pub stops_before : IsWithin m text at.size → IsStopped m text at

@@ -87,19 +87,13 @@ one_more radix begun size separators value v bytes more next within one is =
 pushed_sum : (radix s v : ℕ) → (s * radix % 2 ^ 64 + v) % 2 ^ 64 % 2 ^ 64 ≡ (s * radix + v) % 2 ^ 64
 pushed_sum radix s v = mod-mod (s * radix % 2 ^ 64 + v) (2 ^ 64) ∙ mod-add-mod (s * radix) (2 ^ 64) v
 
--- One digit, wherever it leads.
-one_digit : (m : Notation) (radix : ℕ) (text : List ℕ) (part : Part) (run : Reading) (stage : Stage) (v : ℕ) → IsDigitAt radix text run.size v
-    → IsReadOn m text (at_stage run.size run.stage) (digits_piece part) (at_stage (run.size + 1) stage)
-    → IsRunOn m radix text part run (record (pushed radix run v 1) { stage = stage })
-one_digit m radix text part run stage v digit on = grind (arith, byte_between)
-
 -- One digit, and those behind it.
 pub behind_digit : (m : Notation) (radix : ℕ) (text : List ℕ) (part : Part) (run : Reading) (stage : Stage) (v : ℕ) (one last : Reading)
     → IsDigitAt radix text run.size v → one ≡ pushed radix run v 1
     → IsReadOn m text (at_stage run.size run.stage) (digits_piece part) (at_stage (run.size + 1) stage)
     → IsRunOn m radix text part (record one { stage = stage }) last → IsRunOn m radix text part run last
 behind_digit m radix text part run stage v one last digit same on = both_runs m radix text part run (record one { stage = stage }) last
-    (subst (λ (one : Reading). IsRunOn m radix text part run (record one { stage = stage })) (sym same) (one_digit m radix text part run stage v digit on))
+    (subst (λ (one : Reading). IsRunOn m radix text part run (record one { stage = stage })) (sym same) (grind (arith, byte_between)))
 
 module _ (g : Grammar) (text : List ℕ) (part : Part) (run : Reading) (v : ℕ) (h : HasRoles (steps_of g)) (is : is_run run.stage ≡ true)
     (in_part : part_of run.stage ≡ part) where
@@ -110,8 +104,7 @@ module _ (g : Grammar) (text : List ℕ) (part : Part) (run : Reading) (v : ℕ)
   radix = radix_of (raw g.word) part
 
   pub more_digit : IsDigitAt radix text run.size v → IsRunOn m radix text part run (pushed radix run v 1)
-  more_digit digit = one_digit m radix text part run run.stage v digit
-      (read_digit m text h part run.size run.stage in_part is digit.0 (is_digit radix (get_or text run.size 0) v digit.1))
+  more_digit digit = grind (arith, byte_between, read_digit m text h part run.size run.stage in_part is digit.0 (is_digit radix (get_or text run.size 0) v digit.1))
 
   pub more_separated : IsSeparated m radix text part run.size v → IsRunOn m radix text part run (pushed radix run v 2)
   more_separated separated =
