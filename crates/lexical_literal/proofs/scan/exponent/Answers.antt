@@ -1,7 +1,7 @@
 -- The exponent, and its sign.
-use Rattle.lexical_literal.proofs.Common.{IsAt, IsBegun, IsReadOn, Stopped, at_stage, counts_of, cuts_of, steps_of, subst, sym, ◌+◌, ◌-◌}
+use Rattle.lexical_literal.proofs.Common.{IsAt, IsBegun, IsReadOn, Stopped, at_stage, counts_of, cuts_of, steps_of, subst, sym, ◌+◌, ◌-◌, List, Notation, arith}
+use Rattle.lexical_literal.proofs.Common.{may_read, nat_tests, true, ℕ, ◌≡◌}
 use Rattle.lexical_literal.specs.declared.step.Piece.TheVariants as pieces
-use Rattle.lexical_literal.proofs.Common.{List, Notation, arith, may_read, nat_tests, true, ℕ, ◌≡◌}
 use Rattle.lexical_literal.specs.Additions.Scan.{behind_sign}
 use Rattle.lexical_util.specs.declared.format_flags.Part.TheVariants as parts
 use Rattle.lexical_literal.proofs.JoinLemmas.{exponent_at}

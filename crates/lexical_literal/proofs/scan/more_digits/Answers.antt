@@ -1,13 +1,9 @@
 -- Each digit is read behind the others, and so is a separator with the digit behind it.
-use Rattle.lexical_literal.proofs.Common.{refl}
-use Rattle.lexical_literal.proofs.Common.{Bool, Grammar, IsRunOn, IsSeparated, Part, ap, arith, radix_of, raw, separators_in, steps_of, subst, sym, up_to, ℕ}
-use Rattle.lexical_literal.proofs.Common.{◌%◌, ◌*◌, ◌+◌, ◌^◌, ◌∙◌, true, false, not, ◌≡◌}
+use Rattle.lexical_literal.proofs.Common.{refl, Grammar, IsRunOn, IsSeparated, Part, ap, arith, radix_of, raw, separators_in, steps_of, subst, sym, up_to, ℕ}
+use Rattle.lexical_literal.proofs.Common.{◌%◌, ◌*◌, ◌+◌, ◌^◌, ◌∙◌, true, ◌≡◌}
 use Rattle.lexical_literal.proofs.SumLemmas.{both_runs, more_digit, more_separated, no_run, one_more, pushed}
 use Rattle.lexical_util.specs.declared.format_flags.Part.TheVariants as parts
 use Rattle.lexical_literal.proofs.scan.more_digits.Goals as goal
-
-is_set : (b : Bool) → not b ≡ false → b ≡ true
-is_set b is = grind arith
 
 -- No size of groups makes this flag idle.
 internal : (g : Grammar) (part : Part) → (raw g.word).flag (separators_in part).internal ≡ true → (steps_of g).flag (separators_in part).internal ≡ true

@@ -1,6 +1,6 @@
 -- After a condition, and after the last.
-use Rattle.lexical_literal.proofs.Common.{Bool, Condition, Conditions, all_conditions, ap, arith, false, get_or, group_at, if◌then◌else◌}
-use Rattle.lexical_literal.proofs.Common.{is_same, length, nat_lt, nat_tests, notation_of, number_of, order, sym, true, unmet, ℕ, ◌&&◌, ◌∙◌, ◌≡◌, ◌≤◌}
+use Rattle.lexical_literal.proofs.Common.{Bool, Condition, Conditions, all_conditions, ap, arith, false, get_or, group_at, if◌then◌else◌, is_same, length}
+use Rattle.lexical_literal.proofs.Common.{nat_lt, nat_tests, notation_of, number_of, order, sym, true, unmet, ℕ, ◌&&◌, ◌∙◌, ◌≡◌, ◌≤◌}
 use Rattle.lexical_literal.specs.declared.syntax.Condition.TheVariants as conditions
 use Rattle.lexical_literal.proofs.NumberLemmas.{is_kept, number_next}
 use Rattle.lexical_literal.proofs.cause.Spot.unmet.Goals as goal

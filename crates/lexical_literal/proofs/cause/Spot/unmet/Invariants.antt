@@ -1,5 +1,5 @@
-use Rattle.lexical_literal.proofs.Common.{Condition, all_conditions, group_at, if◌then◌else◌, length, nat_lt, notation_of, number_of, order, unmet}
-use Rattle.lexical_literal.proofs.Common.{◌&&◌, ◌-◌, ◌≡◌}
+use Rattle.lexical_literal.proofs.Common.{Condition, all_conditions, group_at, if◌then◌else◌, length, nat_lt, notation_of, number_of, order, unmet, ◌&&◌, ◌-◌}
+use Rattle.lexical_literal.proofs.Common.{◌≡◌}
 use Rattle.lexical_literal.proofs.cause.Spot.unmet.Given as goal
 
 abbrev pub invariant-loop-index : goal.invariant-loop-index
