@@ -48,9 +48,7 @@ goes_free : (m : Notation) (A : Flag → Bool) (s : Summary) (g : Group) (next :
 goes_free m A s g next = all _ _ (fits_free g.part _)
     ∙ ap (λ n. lets n s next) (same_unsized (with_rules m A no_condition) (λ c _. refl)) ∙ free_is m A s next where
       fits_free : (part : Part) (t : Bool) → (not (has_size (with_rules m A no_condition) part) || t) ≡ true
-      fits_free parts.Integer t = refl
-      fits_free parts.Fraction t = refl
-      fits_free parts.Exponent t = refl
+      fits_free part t = grind arith
 
       all : (x t : Bool) → t ≡ true → (x && t) ≡ x
       all x t is = grind arith

@@ -223,8 +223,7 @@ module _ (m : Notation) where
 
       -- What has been read is a front of a literal.
       pub front_from : IsFront m text
-      front_from = let found = literal_there completed_there.more completed_there.accepts in
-          record { more = completed_there.more; literal = found.0; reads = found.1 }
+      front_from = grind (arith, literal_there, completed_there)
 
       -- Digits of a run may end there.
       pub ended_there : s.ended ≡ false → s.gap ≡ false → is_run s.stage ≡ true → Ended s

@@ -31,11 +31,7 @@ neither x y a none = (grind arith, grind arith)
 
 pub admits_free : (m : Notation) (s : Summary) (b : ℕ) (r : Role) → (roles.Sign ≡ r → ⊥) → is_free m s.stage ≡ true
     → admits m.condition s b r ≡ true
-admits_free m s b r other free =
-    let both = and_parts (not (m.condition conditions.BasePrefix && lacks_prefix s.stage)) _ free in
-    let first = neither (m.condition conditions.LeadingZero) (m.condition conditions.DecimalFirstDigit) (awaits_integer s.stage) both.1 in
-    and_from _ _ (or_left _ _ both.0) (and_from _ _ (grind arith)
-    (and_from _ _ (or_left _ _ first.0) (or_left _ _ first.1)))
+admits_free m s b r other free = grind (arith, and_parts, neither, and_from, or_left)
 
 pub admits_settled : (m : Notation) (s : Summary) (b : ℕ) (r : Role) → lacks_prefix s.stage ≡ false → (roles.Sign ≡ r → ⊥)
     → admits m.condition s b r ≡ true
