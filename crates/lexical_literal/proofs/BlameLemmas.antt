@@ -12,11 +12,10 @@ use Rattle.lexical_util.specs.Layout as layout
 use Rattle.lexical_util.specs.declared.format_flags.Part.TheVariants as parts
 use Rattle.lexical_literal.specs.declared.cause.ReadErrorKind.TheVariants as causes
 use Rattle.lexical_literal.specs.declared.syntax.Condition.TheVariants as conditions
-use Rattle.lexical_literal.proofs.CauseLemmas.{flag_zero, found_in, mask_flags, none_of, only_mask, only_none, some_of}
+use Rattle.lexical_literal.proofs.CauseLemmas.{flag_zero, found_in, mask_flags, none_of, only_mask, some_of}
 use Rattle.lexical_literal.proofs.GroupLemmas.{same_unsized}
 use Rattle.lexical_literal.proofs.JointLemmas.{at_next, each_passes, free_allows, free_is, going, joint, leads, passes, sizing, split}
 use Rattle.lexical_literal.proofs.NumberLemmas.{has_kept, none_of_all}
-use Rattle.lexical_literal.proofs.RefusalLemmas.{apart}
 
 -- FEWER REQUIREMENTS
 
@@ -39,7 +38,7 @@ module _ (m : Notation) where
   adding_weaker f set = grind (arith, weak_adding)
 
   pub permits_weaker : (f : Flag) → is_one_of number_separator_flags f ≡ true → IsWeaker m (adding f (bare m)).flag no_condition
-  permits_weaker f separates = adding_weaker f (λ requires. absurd (false≢true (sym (apart f) ∙ and_from _ _ requires separates)))
+  permits_weaker f separates = adding_weaker f (λ requires. absurd (false≢true (sym (grind arith) ∙ and_from _ _ requires separates)))
 
 -- FLAGS THAT REFUSE TOGETHER
 
@@ -49,9 +48,7 @@ goes_free : (m : Notation) (A : Flag → Bool) (s : Summary) (g : Group) (next :
 goes_free m A s g next = all _ _ (fits_free g.part _)
     ∙ ap (λ n. lets n s next) (same_unsized (with_rules m A no_condition) (λ c _. refl)) ∙ free_is m A s next where
       fits_free : (part : Part) (t : Bool) → (not (has_size (with_rules m A no_condition) part) || t) ≡ true
-      fits_free parts.Integer t = refl
-      fits_free parts.Fraction t = refl
-      fits_free parts.Exponent t = refl
+      fits_free part t = grind arith
 
       all : (x t : Bool) → t ≡ true → (x && t) ≡ x
       all x t is = grind arith
@@ -247,13 +244,10 @@ module _ (m : Notation) (s : Summary) (g : Group) (front : List ℕ) (read : IsR
         (λ some. as_flags (IsCause m front (Some byte) (causes.Separator (part_of s.stage) (place_of m (part_of s.stage) s.stage s.gap (role_at m
         (part_of s.stage) byte)))) (separators m s g (Some byte)) (record { refused = not_allowed; some = some_of _ some; each = permits; at = at }))
 
-  is_otherwise : (next : Option ℕ) → goes (bare m) s g next ≡ false → IsCause m front next (otherwise m s g next).kind (raw (otherwise m s g next).mask).flag
-  is_otherwise x0 none = grind (arith, bare_weaker, goes_free, flag_zero, is_wrong)
-
   -- What has been read, and what refuses, decide the cause.
   is_blamed : (next : Option ℕ) → goes m s g next ≡ false → IsCause m front next (blame m s g next).kind (raw (blame m s g next).mask).flag
   is_blamed next refused = choose (λ (b : Blame). IsCause m front next b.kind (raw b.mask).flag) (goes (bare m) s g next) _ _
-      (λ allowed. is_requirement m s g front read next allowed refused) (is_otherwise next)
+      (λ allowed. is_requirement m s g front read next allowed refused) (grind (arith, bare_weaker, goes_free, flag_zero, is_wrong))
 
   -- Only flags are to blame.
   is_mask : (next : Option ℕ) → (blame m s g next).mask ≡ sum_by (flag_bits (raw (blame m s g next).mask)) layout.flags
@@ -261,7 +255,7 @@ module _ (m : Notation) (s : Summary) (g : Group) (front : List ℕ) (read : IsR
       (λ _. choose (λ (mask : ℕ). mask ≡ sum_by (flag_bits (raw mask)) layout.flags) (mask_of (alone m s g next) == 0 && not (some_unmet m s g next)) _ _
       (λ _. only_mask (zeros m)) (λ _. only_mask (alone m s g next))) (λ _. go next) where
         go : (next : Option ℕ) → (otherwise m s g next).mask ≡ sum_by (flag_bits (raw (otherwise m s g next).mask)) layout.flags
-        go None = only_none
+        go None = refl
         go (Some byte) = choose (λ (b : Blame). b.mask ≡ sum_by (flag_bits (raw b.mask)) layout.flags) (mask_of (separators m s g (Some byte)) == 0) _ _
             (λ _. only_mask (cases m s g byte)) (λ _. only_mask (separators m s g (Some byte)))
 

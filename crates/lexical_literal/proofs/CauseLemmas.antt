@@ -23,9 +23,6 @@ flag_at_bit x0 = grind arith
 pub same_flag : (g f : Flag) → bit g ≡ bit f → g ≡ f
 same_flag g f same = sym (flag_at_bit g) ∙ ap flag_at same ∙ flag_at_bit f
 
-pub all_flags : (f : Flag) → is_one_of layout.flags f ≡ true
-all_flags x0 = grind arith
-
 -- An item of a list for which a test is true.
 pub found_in : {X : Type 0} (P : X → Bool) (xs : List X) → list_any P xs ≡ true → (x : X) × (P x ≡ true)
 found_in P [] is = absurd (false≢true is)
@@ -98,9 +95,6 @@ mask_sum P = omega arith
 pub only_mask : (P : Flag → Bool) → mask_of P ≡ sum_by (flag_bits (raw (mask_of P))) layout.flags
 only_mask P = sym (mask_sum P) ∙ (λ j. sum_by (λ f. if sym (mask_flags P f) j then 2 ^ bit f else 0) layout.flags)
 
-pub only_none : 0 ≡ sum_by (flag_bits (raw 0)) layout.flags
-only_none = refl
-
 -- A mask without the bits that are not those of flags.
 pub masked : (mask : ℕ) (P : Flag → Bool) → ((f : Flag) → (raw mask).flag f ≡ P f) → bit_and mask FLAG_MASK ≡ mask_of P
 unfolding bits_of
@@ -123,7 +117,7 @@ module _ (P : Flag → Bool) where
   some_of some = elim (cases_Bool (list_any P layout.flags)) [
     | inl is ↦ found_in P layout.flags is
     | inr none ↦
-        absurd (false≢true (sym some ∙ ap (λ n. n == 0) (same_mask P (λ f. false) (λ f. none_in P layout.flags f none (all_flags f)) ∙ no_mask)))
+        absurd (false≢true (sym some ∙ ap (λ n. n == 0) (same_mask P (λ f. false) (λ f. none_in P layout.flags f none (grind arith)) ∙ no_mask)))
   ]
 
 -- A mask of one flag, if `t` is true.

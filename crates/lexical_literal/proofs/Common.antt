@@ -1,7 +1,7 @@
 -- The names that several proofs of this crate cite, passed on from one place. Declares nothing.
 pub use Rattle.lexical_literal.specs.Additions.Causes.{IsWeaker, is_at_gap, is_separator, kind_set, lets, place_of}
-pub use Rattle.lexical_literal.specs.Additions.Explained.{alone, blame, cases, group_at, mask_of, otherwise, refusal_of, requirements, separators}
-pub use Rattle.lexical_literal.specs.Additions.Explained.{some_unmet, spot_of, unmet, zeros}
+pub use Rattle.lexical_literal.specs.Additions.Explained.{alone, blame, cases, group_at, mask_of, otherwise, refusal_of, requirements, separators, some_unmet}
+pub use Rattle.lexical_literal.specs.Additions.Explained.{spot_of, unmet, zeros}
 pub use Rattle.lexical_literal.specs.Additions.GroupSize.{IsReadOf, first_group, follows, goes, group_after, group_allows, grow, grown, is_idle, is_size}
 pub use Rattle.lexical_literal.specs.Additions.GroupSize.{makes_empty, most, next_part, role_next, steps_of, unsized, with_rules}
 pub use Rattle.lexical_literal.specs.Additions.Literal.{AreSums, IsCut, IsMantissa, IsSum, cut, summed_in}
@@ -14,14 +14,14 @@ pub use Rattle.lexical_literal.specs.Additions.Step.{is_lone, is_negative, is_op
 pub use Rattle.lexical_literal.specs.Additions.Step.{may_lead, move_by, needs_exponent, no_condition, no_cuts, part_of, piece_number, piece_of, role_at, start}
 pub use Rattle.lexical_literal.specs.Additions.Step.{step, step_by, takes, takes_in, tally, tally_by, walk, walk_by, with_prefix}
 pub use Rattle.lexical_literal.specs.Additions.Stop.{HasBegun, HasFound, IsCountedFront, IsFronted, IsLongest, IsMeasured, IsStopped, IsUnderway, IsWithin}
-pub use Rattle.lexical_literal.specs.Cause.{Allows, IsCause, IsRefusal, IsUnmet, Marks, adding, bare, binds, case_set, first_unmet, index_behind}
-pub use Rattle.lexical_literal.specs.Cause.{is_at, is_one_of, lowest, marks_of, number_separator_flags, requirement_flags, requiring, shown, tail_of}
+pub use Rattle.lexical_literal.specs.Cause.{Allows, IsCause, IsRefusal, IsUnmet, Marks, adding, bare, binds, case_set, first_unmet, index_behind, is_at}
+pub use Rattle.lexical_literal.specs.Cause.{is_one_of, lowest, marks_of, number_separator_flags, requirement_flags, requiring, shown, tail_of}
 pub use Rattle.lexical_literal.specs.Front.{IsFront, IsValidUpTo, NoFront, NoLiteral, ReadsFront}
 pub use Rattle.lexical_literal.specs.Groups.{has_size, has_sizes, higher, inner_fits, is_grouped, last_fits}
 pub use Rattle.lexical_literal.specs.Literal.{IsLiteral, IsSpelled, Literal, Reads, condition, has_leading_zero, is_absent, is_float, is_minus, is_none_or_one}
-pub use Rattle.lexical_literal.specs.Literal.{is_none_or_prefix, is_plus, is_present, is_zero_led, requirement, text_of}
+pub use Rattle.lexical_literal.specs.Literal.{is_none_or_prefix, is_plus, is_present, is_zero_led, text_of}
 pub use Rattle.lexical_literal.specs.Notation.{IsOnlyRole, Notation, all_conditions, exponent_character_of, has, is_same, kept, lacks_options, notation_of}
-pub use Rattle.lexical_literal.specs.Notation.{number_of, order, point_of, radix_of, set_of_role}
+pub use Rattle.lexical_literal.specs.Notation.{number_of, point_of, radix_of, set_of_role}
 pub use Rattle.lexical_literal.specs.Parts.{IsRead, literal_of}
 pub use Rattle.lexical_literal.specs.Read.{Read, exact, exponent, mantissa}
 pub use Rattle.lexical_literal.specs.Readings.{AllIn, HasTwoReadings, PartsHaveRoles, refuses_first, run_byte}
@@ -50,7 +50,7 @@ pub use Rattle.lexical_util.specs.Ascii.{ByteSet, allowed_ascii}
 pub use Rattle.lexical_util.specs.Digits.{byte_value, digit_of}
 pub use Rattle.lexical_util.specs.Layout.{Flag, bit, part, separators_in}
 pub use Rattle.lexical_util.specs.Record.{Record, effective_exponent_radix, flag_bits, raw}
-pub use Rattle.lexical_util.specs.Roles.{cased, other_case, prefix, signs, suffix, used_separator}
+pub use Rattle.lexical_util.specs.Roles.{cased, other_case, signs, suffix, used_separator}
 pub use Rattle.lexical_util.specs.declared.feature_format.roles.Role.{Role}
 pub use Rattle.lexical_util.specs.declared.format_flags.Part.{Part}
 pub use Rattle.std.proofs.Common.{Bool, Err, IfSome, IsErrAnd, IsFalse, IsNone, IsSome, IsTrue, List, None, Ok, Option, Ordering, Result, Some, [], add-one, ap}
@@ -65,7 +65,7 @@ pub use Rattle.std.proofs.lemmas.Grind.{common_steps}
 pub use Rattle.std.proofs.lemmas.Int.Digits.{number_after_append}
 pub use Rattle.std.proofs.lemmas.List.Elements.{filter_map-append}
 pub use Rattle.std.proofs.lemmas.List.Folds.{list_any-append}
-pub use Rattle.std.proofs.lemmas.List.{drop-drop, drop_all, drop_more, ext_get_or, get_or-take, length-drop, length-take-le, take-take, take_all, take_more}
+pub use Rattle.std.proofs.lemmas.List.{drop-drop, drop_more, ext_get_or, get_or-take, length-drop, length-take-le, take-take, take_all, take_more}
 pub use Rattle.std.proofs.lemmas.Nat.{and_assoc, and_comm, one_shl}
 pub use Rattle.std.proofs.lemmas.Option.{slice_get-get_or, slice_get_within}
 pub use Rattle.std.specs.Int.Digits.{number_from_digits_after}

@@ -1,17 +1,7 @@
 -- Grammars are compared by their fields, one after the other.
-use Rattle.lexical_literal.proofs.Common.{Bool, Option, Ordering, ap, arith, sym, ℕ, ◌&&◌, ◌∙◌, ◌≡◌}
-use Rattle.std.specs.Ordering.{ordering_then, partial_ordering_then}
+use Rattle.lexical_literal.proofs.Common.{ap, sym, ℕ, ◌∙◌, ◌≡◌}
 use Rattle.lexical_literal.specs.Additions.Fields.{AreFields, fields_of, fields_same, worded}
 use Rattle.lexical_literal.specs.declared.syntax.Grammar.TheInside.{Inside}
-
-pub and_assoc : (a b c : Bool) → ((a && b) && c) ≡ (a && (b && c))
-and_assoc a b c = grind arith
-
-pub then_assoc : (a b c : Ordering) → ordering_then (ordering_then a b) c ≡ ordering_then a (ordering_then b c)
-then_assoc a b c = grind arith
-
-pub partial_assoc : (a b c : Option Ordering) → partial_ordering_then (partial_ordering_then a b) c ≡ partial_ordering_then a (partial_ordering_then b c)
-partial_assoc a b c = grind arith
 
 -- Results of `f`, each of which goes on with that of the next field, by a comparison `q`.
 module _ {A : Type 0} (f : A → A → A) (assoc : (a b c : A) → f (f a b) c ≡ f a (f b c)) (q : ℕ → ℕ → A) where

@@ -92,8 +92,7 @@ module _ (m : Notation) (h : HasRoles m) where
 
   sign_counts : (b : ℕ) (rest : List ℕ) → role_at m parts.Integer b ≡ Some roles.Sign
       → nat_lt 0 (tally_by O m (Some start) no_cuts (b ∷ rest) pieces.Sign) ≡ true
-  sign_counts b rest sign = subst (λ o. nat_lt 0 (tally_by O m (step_by O m start b) (count parts.Integer o no_cuts) rest pieces.Sign) ≡ true) (sym sign)
-      (stays (step_by O m start b) (add no_cuts pieces.Sign) rest pieces.Sign (λ e. cc) refl)
+  sign_counts b rest sign = grind (arith, stays)
 
   -- What is accepted behind a sign, or without one, begins with such a digit.
   first_behind : (stage : Stage) (text : List ℕ) → awaits_integer stage ≡ true → needs_first m ≡ true
@@ -121,15 +120,11 @@ module _ (m : Notation) (h : HasRoles m) where
       (subst (λ r. Accepts C m (Some (after start (b == 48) r)) rest) same t.rest)
   first_accepted (b ∷ x ∷ sign) rest one needs unsigned is = absurd (false≢true one)
 
-  begins_zero : (text : List ℕ) → C conditions.LeadingZero ≡ true → begins_with fits_first text ≡ true
-      → begins_with (λ b. m.digit parts.Integer b && may_begin conditions.LeadingZero b) text ≡ true
-  begins_zero [] set is = absurd (false≢true is)
-  begins_zero (b ∷ text) set is = grind arith
-
-  begins_decimal : (text : List ℕ) → C conditions.DecimalFirstDigit ≡ true → begins_with fits_first text ≡ true
-      → begins_with (λ b. m.digit parts.Integer b && may_begin conditions.DecimalFirstDigit b) text ≡ true
-  begins_decimal [] set is = absurd (false≢true is)
-  begins_decimal (b ∷ text) set is = grind arith
+  -- Such a digit is one that each of the conditions allows.
+  begins_by : (c : Condition) (text : List ℕ) → C c ≡ true → begins_with fits_first text ≡ true
+      → begins_with (λ b. m.digit parts.Integer b && may_begin c b) text ≡ true
+  begins_by c [] set is = absurd (false≢true is)
+  begins_by c (b ∷ text) set is = grind arith
 
   -- A literal that is as both conditions require begins with such a digit.
   begins_both : (text : List ℕ)
@@ -163,9 +158,9 @@ module _ (m : Notation) (h : HasRoles m) where
         each l text whole spelled is lengths met conditions.NegativeSign set = positive l.sign _ spelled.sign set (subst (Accepts C m (Some start)) whole is)
         each l text whole spelled is lengths met conditions.HigherGroupSize set = refl
         each l text whole spelled is lengths met conditions.LeadingZero set =
-            begins_zero (text_of (record l { sign = [] })) set (first l text whole spelled is lengths (or_left _ _ set))
+            begins_by conditions.LeadingZero (text_of (record l { sign = [] })) set (first l text whole spelled is lengths (or_left _ _ set))
         each l text whole spelled is lengths met conditions.DecimalFirstDigit set =
-            begins_decimal (text_of (record l { sign = [] })) set (first l text whole spelled is lengths (or_right (C conditions.LeadingZero) _ set))
+            begins_by conditions.DecimalFirstDigit (text_of (record l { sign = [] })) set (first l text whole spelled is lengths (or_right (C conditions.LeadingZero) _ set))
         each l text whole spelled is lengths met _ set = absurd (grind arith)
 
   -- A LITERAL IS ACCEPTED

@@ -9,8 +9,8 @@ use Rattle.lexical_util.specs.declared.format_flags.Part.TheVariants as parts
 use Rattle.lexical_literal.specs.declared.step.Stage.TheVariants as stages
 use Rattle.lexical_literal.proofs.RunLemmas.{is_rest}
 use Rattle.lexical_literal.proofs.WalkLemmas.{Accepts, took, none_accepts, as_digit, no_digit, as_role}
-use Rattle.lexical_literal.proofs.StepLemmas.{reading, bare_part, digit_part, mark_part, point_part, stage_after, after_byte, stage_at, gap_at, sign_fits}
-use Rattle.lexical_literal.proofs.StepLemmas.{prefix_fits, ends_part, text_after}
+use Rattle.lexical_literal.proofs.StepLemmas.{reading, digit_part, mark_part, point_part, stage_after, after_byte, stage_at, gap_at, sign_fits, prefix_fits}
+use Rattle.lexical_literal.proofs.StepLemmas.{ends_part, text_after}
 
 -- A sign, a prefix, digits, and the parts of `more` behind the digits of `part`.
 pub record Found (m : Notation) (part : Part) (stage : Stage) (gap : Bool) (sign prefix text : List ℕ) : Type 0 where
@@ -155,7 +155,7 @@ module _ (m : Notation) where
           go roles.Sign role taken is cut = sign_first part stage gap b text (as_role m part b _ role) taken
               (subst (λ part. Cut m part (after_mark stage) gap text) (mark_part stage) (cut (after_mark stage) gap is))
           go roles.Prefix role taken is cut = prefix_first part stage gap b text (as_role m part b _ role) taken
-              (subst (λ part. Cut m part stages.Prefixed false text) (sym (bare_part stage taken)) (cut stages.Prefixed false is))
+              (subst (λ part. Cut m part stages.Prefixed false text) (sym (grind arith)) (cut stages.Prefixed false is))
           go roles.Point role taken is cut = point_first part stage gap b text (as_role m part b _ role) taken
               (subst (λ part. Cut m part (after_point (has_digit stage)) false text) (point_part (has_digit stage)) (cut (after_point
               (has_digit stage)) false is))

@@ -1,7 +1,7 @@
 -- A test that says whether parts are a literal, for examples.
-use Rattle.lexical_literal.proofs.Common.{AllByRecursion, Bool, Condition, Flag, HasTwoReadings, IsLiteral, IsTrue, List, Literal, Notation, [], all_conditions}
-use Rattle.lexical_literal.proofs.Common.{arith, common_steps, condition, false, false≢true, implies, is_absent, is_float, is_none_or_one, is_none_or_prefix}
-use Rattle.lexical_literal.proofs.Common.{is_present, list_any, not, refl, requirement, requirement_flags, signs, sym, text_of, true, ℕ, ◌&&◌, ◌||◌, ◌∷◌, ◌≡◌}
+use Rattle.lexical_literal.proofs.Common.{AllByRecursion, Bool, HasTwoReadings, IsLiteral, List, Literal, Notation, [], all_conditions, arith, common_steps}
+use Rattle.lexical_literal.proofs.Common.{false, false≢true, implies, is_absent, is_float, is_none_or_one, is_none_or_prefix, is_present, list_any, not, refl}
+use Rattle.lexical_literal.proofs.Common.{requirement_flags, signs, sym, text_of, true, ℕ, ◌&&◌, ◌||◌, ◌∷◌, ◌≡◌}
 use Rattle.lexical_literal.specs.Run.{is_run}
 use Rattle.lexical_util.specs.declared.format_flags.Part.TheVariants as parts
 use Rattle.lexical_literal.proofs.CutLemmas.{only}
@@ -22,19 +22,13 @@ each [] is = tt
 each (true ∷ tests) is = (refl, each tests is)
 each (false ∷ tests) is = absurd (false≢true (sym is))
 
-met : (m : Notation) (l : Literal) → asks_nothing m ≡ true → (f : Flag) → IsTrue (m.flag f) → IsTrue (requirement f m l)
-met m l free f set = grind arith
-
-conditions_met : (m : Notation) (l : Literal) → asks_nothing m ≡ true → (c : Condition) → IsTrue (m.condition c) → IsTrue (condition c m l)
-conditions_met m l free c set = grind arith
-
 -- Parts that pass the tests are a literal.
 literal_if : (m : Notation) (l : Literal) → asks_nothing m ≡ true → list_any not (tests m l) ≡ false → IsLiteral m l
 literal_if m l free is =
     let (sign, (prefix, (integer, (point, (fraction, (character, (exponent_sign, (exponent, (suffix, (after_point, (after_character, (some, end)))))))))))) =
     each (tests m l) is in
     record {
-      conditions = conditions_met m l free;
+      conditions = grind arith;
       spelled = record {
         sign = sign;
         prefix = prefix;
@@ -48,7 +42,7 @@ literal_if m l free is =
         after_point = λ absent. grind arith;
         after_character = λ absent. (grind arith, grind arith);
         some_number = some;
-        requirements = met m l free;
+        requirements = grind arith;
       };
     }
 

@@ -1,9 +1,8 @@
 -- What the fields of a grammar tell of the word of its format.
 use Rattle.lexical_literal.proofs.Common.{IsUsual, None, Some, Condition, Conditions, [], ◌∷◌, ◌-◌, ◌||◌, and_parts, eqb-true, has, is_same, kept, number_of}
-use Rattle.lexical_literal.proofs.Common.{IsTrue, allowed_ascii}
-use Rattle.lexical_literal.proofs.Common.{Bool, Flag, Part, Record, ap, arith, bit, bit_and, effective_exponent_radix, exponent_character_of, false}
-use Rattle.lexical_literal.proofs.Common.{false≢true, if◌then◌else◌, inl, inr, lacks_options, length, mod-lt, nat_tests, not, notation_of, point_of, radix_of}
-use Rattle.lexical_literal.proofs.Common.{raw, refl, subst, sym, true, used_separator, ℕ, ◌%◌, ◌&&◌, ◌<◌, ◌==◌, ◌^◌, ◌∙◌, ◌≡◌}
+use Rattle.lexical_literal.proofs.Common.{IsTrue, allowed_ascii, Bool, Flag, Part, Record, ap, arith, bit, bit_and, effective_exponent_radix}
+use Rattle.lexical_literal.proofs.Common.{exponent_character_of, false, false≢true, if◌then◌else◌, inl, inr, lacks_options, length, mod-lt, nat_tests, not}
+use Rattle.lexical_literal.proofs.Common.{notation_of, point_of, radix_of, raw, refl, subst, sym, true, used_separator, ℕ, ◌%◌, ◌&&◌, ◌<◌, ◌==◌, ◌^◌, ◌∙◌, ◌≡◌}
 use Rattle.lexical_flags.proofs.FlagBits.{flag_test, mask_test}
 use Rattle.lexical_flags.proofs.Packing.{low_flag, raw-fields, word-fields}
 use Rattle.lexical_flags.proofs.RecordLemmas.{record_same}
@@ -11,7 +10,7 @@ use Rattle.lexical_util.specs.Layout.{Byte}
 use Rattle.lexical_util.specs.Layout as layout
 use Rattle.lexical_util.specs.declared.format_flags.Part.TheVariants as parts
 use Rattle.lexical_util.specs.NormalForm.{IsNormal}
-use Rattle.lexical_util.specs.Record.{SeparatorAllowedOrAbsent, bytes_of, effective, effective_exponent_base, record_of, word_from}
+use Rattle.lexical_util.specs.Record.{SeparatorAllowedOrAbsent, bytes_of, effective_exponent_base, record_of, word_from}
 use Rattle.lexical_util.specs.Unfoldable.{cased, IsPunctuation, Lawful}
 use Rattle.lexical_literal.specs.Additions.Fields.{AreFields, byte_of, options_if, worded}
 use Rattle.lexical_literal.specs.Additions.Scan.{IsDecimal, are_usual}
@@ -27,9 +26,7 @@ use Rattle.std.proofs.Common.{◌/◌}
 use Rattle.std.proofs.lemmas.Nat.{and_mask, pow_pos}
 
 place_bit : (n : ℕ) → not (bit_and n 1 == 0) ≡ (n % 2 == 1)
-place_bit n = ap (λ m. not (m == 0)) (and_mask n 1) ∙ odd (n % 2) (mod-lt n (pow_pos 1)) where
-  odd : (m : ℕ) → m < 2 → not (m == 0) ≡ (m == 1)
-  odd m small = grind (arith, nat_tests)
+place_bit n = let mask = and_mask n 1 in let small = mod-lt n (pow_pos 1) in grind (arith, nat_tests)
 
 -- The tests of bytes that are equal, and of others.
 pub tested : (m n : ℕ) → m ≡ n → (m == n) ≡ true
@@ -48,19 +45,6 @@ separator_by : (r : Record) (own : ℕ) → r.byte layout.digit_separator ≡ ow
 unfolding cased
 separator_by r own is (inl allowed) b = grind (arith, nat_tests)
 separator_by r own is (inr absent) b = grind (arith, nat_tests)
-
--- Without a decimal point, there are no options.
-whole_by : (exponent point : ℕ) → (point == 0) ≡ lacks_options (options_if exponent point)
-whole_by exponent point = grind (arith, nat_tests)
-
-point_by : (exponent point b : ℕ) → ((b == point) && not (b == 0)) ≡ point_of (options_if exponent point) b
-unfolding cased
-point_by exponent point b = grind (arith, nat_tests)
-
-exponent_by : (r : Record) (exponent point b : ℕ) → (point ≡ 0 → exponent ≡ 0)
-    → cased (r.flag layout.case_sensitive_exponent) exponent b ≡ exponent_character_of r (options_if exponent point) b
-unfolding cased
-exponent_by r exponent point b none = grind (arith, nat_tests)
 
 module _ (a : Inside) (g : Worded) (h : AreFields a) (same : worded a ≡ g) where
   -- The record of the word has the flags and the bytes of the fields.
@@ -92,24 +76,23 @@ module _ (a : Inside) (g : Worded) (h : AreFields a) (same : worded a ≡ g) whe
   suffix_is b = ap (λ n. cased ((raw g.word).flag layout.case_sensitive_base_suffix) n b) (byte_is layout.base_suffix)
 
   pub whole_is : (a.point == 0) ≡ lacks_options g.options
-  whole_is = whole_by a.exponent a.point ∙ ap (λ (g : Worded). lacks_options g.options) same
+  whole_is = subst (λ (g : Worded). (a.point == 0) ≡ lacks_options g.options) same (grind (arith, nat_tests))
 
   pub point_is : (b : ℕ) → ((b == a.point) && not (b == 0)) ≡ point_of g.options b
-  point_is b = point_by a.exponent a.point b ∙ ap (λ (g : Worded). point_of g.options b) same
+  unfolding cased
+  point_is b = subst (λ (g : Worded). ((b == a.point) && not (b == 0)) ≡ point_of g.options b) same (grind (arith, nat_tests))
 
   pub exponent_is : (b : ℕ)
       → cased ((raw g.word).flag layout.case_sensitive_exponent) a.exponent b ≡ exponent_character_of (raw g.word) g.options b
-  exponent_is b = exponent_by (raw g.word) a.exponent a.point b h.exponent ∙ ap (λ (i : Worded). exponent_character_of (raw g.word) i.options b) same
+  unfolding cased
+  exponent_is b = subst (λ (i : Worded). cased ((raw g.word).flag layout.case_sensitive_exponent) a.exponent b
+      ≡ exponent_character_of (raw g.word) i.options b) same (let none = h.exponent in grind (arith, nat_tests))
 
 -- The radixes of a syntax are between 2 and 36.
 pub radix_fits : (g : Worded) (part : Part) (radix : ℕ) → radix ≡ radix_of (raw g.word) part → IsSyntax g → IsRadix radix
 unfolding Lawful
 radix_fits g parts.Exponent radix same is = subst IsRadix (sym same) is.lawful.exponent_radix
 radix_fits g _ radix same is = subst IsRadix (sym same) is.lawful.mantissa_radix
-
--- An exponent byte that is not absent is effective.
-filled : (byte radix : ℕ) → (byte ≡ 0 → radix ≡ 0) → effective byte radix ≡ byte
-filled byte radix none = grind (arith, nat_tests)
 
 -- The fields with the flags of the word `w` and other conditions, and without a separator.
 module _ (a : Inside) (h : AreFields a) (w : ℕ) (k : Conditions) (eight : length k.numbers ≡ 8) where
@@ -149,10 +132,10 @@ none_contradicted r = refl
 -- The fields of a word in normal form are fields, and the word is made of them.
 module _ (w : ℕ) (fits : w < 2 ^ 128) (normal : IsNormal w) where
   base_normal : effective_exponent_base (raw w) ≡ bytes_of w layout.exponent_base
-  base_normal = filled _ _ normal.exponent_base
+  base_normal = grind (arith, nat_tests, normal.exponent_base)
 
   radix_normal : effective_exponent_radix (raw w) ≡ bytes_of w layout.exponent_radix
-  radix_normal = filled _ _ normal.exponent_radix
+  radix_normal = grind (arith, nat_tests, normal.exponent_radix)
 
   module _ (a : Inside) (flags : a.flags ≡ w % 2 ^ 64) (radix : a.exponent_radix ≡ effective_exponent_radix (raw w))
       (base : a.exponent_base ≡ effective_exponent_base (raw w)) (mantissa : a.radix ≡ bytes_of w layout.mantissa_radix)
@@ -195,22 +178,14 @@ usual_kept c eight usual = is_kept (is_same conditions.NegativeSign) (number_of 
   each : (d : Condition) → number_of c d ≡ (if is_same conditions.NegativeSign d then number_of c d else 0)
   each d = let none = none_of_all (λ d. has c d && not (is_same conditions.NegativeSign d)) (off _ usual) d in grind (arith, nat_tests)
 
-zero_by : (m : ℕ) → not (m == 0) ≡ false → m ≡ 0
-zero_by m none = grind (arith, nat_tests)
-
-no_less : (n : ℕ) → n - 0 ≡ n
-no_less n = omega arith
-
 unset : (n : ℕ) → (raw n).flag layout.required_mantissa_sign ≡ false → (raw n).flag layout.required_exponent_notation ≡ false
     → n - bit_and n 0x4020 ≡ n
 unset n sign notation =
-    let fs = layout.required_mantissa_sign ∷ layout.required_exponent_notation ∷ [] in
-    ap (λ m. n - m) (zero_by _ (mask_test fs n refl ∙ (λ i. sign i || (notation i || false)))) ∙ no_less n
+    let none : not (bit_and n 0x4020 == 0) ≡ false = mask_test (layout.required_mantissa_sign ∷ layout.required_exponent_notation ∷ []) n refl
+    ∙ (λ i. sign i || (notation i || false)) in grind (arith, nat_tests)
 
 pub decimal_of : (g : Worded) → IsUsual g → IsDecimal (raw g.word)
-decimal_of g usual parts.Exponent =
-    let radix = (and_parts _ _ (and_parts _ _ (and_parts _ _ usual).1).1).0 in
-    ap (λ n. effective n (bytes_of g.word layout.mantissa_radix)) (eqb-true (bytes_of g.word layout.exponent_radix) 10 radix)
+decimal_of g usual parts.Exponent = grind (arith, and_parts, eqb-true)
 decimal_of g usual _ = eqb-true _ 10 (and_parts _ _ usual).0
 
 -- A usual grammar has the fields that are given to it.

@@ -141,12 +141,9 @@ module _ (m : Notation) where
       separated : g.separated ≡ true
       sized : has_size m g.part ≡ true
 
-    some_size : (part : Part) → has_size m part ≡ true → has_sizes m ≡ true
-    some_size x0 is = grind arith
-
     module _ (text : List ℕ) (s : Summary) (g : Group) (is : Filling text s g) where
       linked : Linked s g
-      linked = linked_all (some_size g.part is.sized) start first_group text s g first_linked is.read is.grouped
+      linked = linked_all (grind (arith, is.sized)) start first_group text s g first_linked is.read is.grouped
 
       opened : Open s g
       opened = linked.sized (and_from _ _ is.separated is.sized)
@@ -160,17 +157,11 @@ module _ (m : Notation) where
       internal : u.flag (separators_in (part_of s.stage)).internal ≡ true
       internal = same_internal m (part_of s.stage) (sizes.internal (part_of s.stage) (ap (has_size m) (sym linked.part) ∙ is.sized))
 
-      signed : is_signed u (part_of s.stage) s.stage ≡ true
-      signed = grind (arith, opened)
-
-      follow_run : (stage : Stage) → is_run stage ≡ true → may_follow u stage ≡ true
-      follow_run stage run = grind arith
-
       follow : may_follow u s.stage ≡ true
       follow = elim (cases_Bool s.gap) [
         | inl gap ↦ next (has_digit s.stage) (may_follow u s.stage) opened.digit (no_empty (part_of s.stage) (ap (has_size m) (sym linked.part) ∙ is.sized)).1
             (rw (gap) at (goes_on_there u ready text s is.read).closes)
-        | inr closed ↦ follow_run s.stage (opened.run closed)
+        | inr closed ↦ grind (arith, opened.run closed)
       ] where
         next : (digit next : Bool) → digit ≡ true → u.flag (separators_in (part_of s.stage)).trailing ≡ false
             → is_open u (part_of s.stage) digit next ≡ true → next ≡ true
@@ -183,7 +174,7 @@ module _ (m : Notation) where
 
       zero_more : nat_lt g.digits (most m g.part) ≡ true → Filling (text ++ 48 ∷ []) (after s true roles.Digit) (grown g (Some roles.Digit))
       zero_more small = one_more 48 roles.Digit (digit_role m g.part 48 (h.zero_is_digit g.part))
-          (and_from _ _ signed (and_from _ _ (place (has_digit s.stage) s.gap opened.digit) follow))
+          (and_from _ _ (grind (arith, opened)) (and_from _ _ (place (has_digit s.stage) s.gap opened.digit) follow))
           (admitted 48 roles.Digit (λ e. cc)) (or_right _ _ small) is.separated refl where
             place : (digit gap : Bool) → digit ≡ true → gap_fits u (part_of s.stage) digit gap true ≡ true
             place digit false seen = refl
@@ -193,8 +184,8 @@ module _ (m : Notation) where
       separator_more : s.gap ≡ false → inner_fits m g.part g.digits ≡ true
           → Filling (text ++ sizes.separator ∷ []) (after s (sizes.separator == 48) roles.Separator) (grown g (Some roles.Separator))
       separator_more closed fit = one_more sizes.separator roles.Separator
-          (is_role m g.part sizes.separator h roles.Separator (λ e. cc) (sizes.has_separator (some_size g.part is.sized)))
-          (and_from _ _ signed (and_from _ _ (or_left _ _ (ap not closed)) (or_left _ _ (place (has_digit s.stage) opened.digit))))
+          (is_role m g.part sizes.separator h roles.Separator (λ e. cc) (sizes.has_separator (grind (arith, is.sized))))
+          (and_from _ _ (grind (arith, opened)) (and_from _ _ (or_left _ _ (ap not closed)) (or_left _ _ (place (has_digit s.stage) opened.digit))))
           (admitted _ roles.Separator (λ e. cc)) (rw (is.separated) fit) refl refl where
             place : (digit : Bool) → digit ≡ true → (is_place u (part_of s.stage) digit true && may_follow u s.stage) ≡ true
             place true seen = and_from _ _ internal follow

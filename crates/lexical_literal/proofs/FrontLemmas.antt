@@ -1,10 +1,10 @@
 -- What has been read without an error can be completed to a literal.
 use Rattle.lexical_literal.proofs.Common.{Bool, ByteSet, Condition, HasRoles, IsFront, IsReady, List, Literal, None, Notation, Part, Reads, Role, Some, Stage}
 use Rattle.lexical_literal.proofs.Common.{Summary, [], admits, after, after_digit, after_mark, after_point, and_from, and_parts, ap, arith, awaits_integer}
-use Rattle.lexical_literal.proofs.Common.{cases_Bool, continues, digits_suffice, ends, false, false_from_ne_true, false≢true, forbids_plus, gap_fits, has_digit}
-use Rattle.lexical_literal.proofs.Common.{implies, inl, inr, is_accepted, is_fresh, is_led, is_negative, is_open, is_run, is_signed, lacks_prefix}
-use Rattle.lexical_literal.proofs.Common.{leads_to_prefix, list_any, may_follow, may_lead, needs_exponent, no_cuts, not, or_from, part_of, refl, role_at}
-use Rattle.lexical_literal.proofs.Common.{set_of_role, start, subst, sym, takes, takes_in, true, walk, ℕ, ◌&&◌, ◌++◌, ◌==◌, ◌||◌, ◌∙◌, ◌∷◌, ◌≡◌, ◌⊎◌}
+use Rattle.lexical_literal.proofs.Common.{cases_Bool, continues, digits_suffice, ends, false, false_from_ne_true, false≢true, gap_fits, has_digit, implies, inl}
+use Rattle.lexical_literal.proofs.Common.{inr, is_accepted, is_fresh, is_led, is_negative, is_open, is_run, is_signed, lacks_prefix, leads_to_prefix, list_any}
+use Rattle.lexical_literal.proofs.Common.{may_follow, may_lead, needs_exponent, no_cuts, not, or_from, part_of, refl, role_at, set_of_role, start, subst, sym}
+use Rattle.lexical_literal.proofs.Common.{takes, takes_in, true, walk, ℕ, ◌&&◌, ◌++◌, ◌==◌, ◌||◌, ◌∙◌, ◌∷◌, ◌≡◌, ◌⊎◌}
 use Rattle.lexical_util.specs.Layout as layout
 use Rattle.lexical_util.specs.declared.feature_format.roles.Role.TheVariants as roles
 use Rattle.lexical_util.specs.declared.format_flags.Part.TheVariants as parts
@@ -12,7 +12,7 @@ use Rattle.lexical_literal.specs.declared.step.Stage.TheVariants as stages
 use Rattle.lexical_literal.specs.declared.syntax.Condition.TheVariants as conditions
 use Rattle.lexical_literal.proofs.ConditionLemmas.{literal_from, literal_arrives}
 use Rattle.lexical_literal.proofs.WalkLemmas.{Accepts, walk_none, walk_append, took, arrives_byte, as_role, digit_role, is_role}
-use Rattle.lexical_literal.proofs.StepLemmas.{digit_part, digit_seen, mark_part, point_part, reading}
+use Rattle.lexical_literal.proofs.StepLemmas.{digit_part, mark_part, point_part, reading}
 
 -- `CanGoOn m s` holds if a gap, where there is one, can be closed, if there is a leading zero only where one may be, and if a
 -- prefix that is missing can follow.
@@ -115,8 +115,8 @@ module _ (m : Notation) where
         | inr more ↦
             then_byte (reading stage gap) 48 roles.Digit refl (digit_role m (part_of stage) 48 (ready.roles.zero_is_digit (part_of stage))) (λ e. cc)
             (and_from _ _ signed (and_from _ _ more.0 (let may = more.1 in grind arith))) (grind arith)
-            ((finishes (after_digit stage gap true) false (digit_part stage gap true) (grind arith) (digit_seen stage gap true)
-            (and_from _ _ (behind_digit stage gap) (and_from _ _ refl (enough (part_of stage) (after_digit stage gap true) (digit_seen stage gap true))))
+            ((finishes (after_digit stage gap true) false (digit_part stage gap true) (grind arith) (grind arith)
+            (and_from _ _ (behind_digit stage gap) (and_from _ _ refl (enough (part_of stage) (after_digit stage gap true) (grind arith))))
             (let may = more.1 in let led = can.led in grind arith)).0)
       ]
 
@@ -130,15 +130,12 @@ module _ (m : Notation) where
               (plus (part_of stage) forbidden needs) (grind arith) behind
         ]
         | inr may ↦ then_byte (reading stage gap) 45 roles.Sign refl (is_role m (part_of stage) 45 ready.roles roles.Sign (λ e. cc) refl) (λ e. cc)
-            (and_from _ _ fresh (minus (part_of stage))) (grind arith) behind
+            (and_from _ _ fresh (grind arith)) (grind arith) behind
       ] where
         plus : (part : Part) → (C conditions.NegativeSign && is_negative part false roles.Sign) ≡ true → is_signed m part stage ≡ false
             → takes_in m part stage gap true roles.Sign ≡ true
         plus parts.Exponent forbidden needs = absurd (grind arith)
         plus _ forbidden needs = let some = ready.some_sign in grind arith
-
-        minus : (part : Part) → implies (forbids_plus m part) true ≡ true
-        minus part = grind arith
 
     part_completed : (stage : Stage) (gap : Bool) → is_settled stage ≡ true → CanGoOn m (reading stage gap) → Finishes (part_of stage)
         → Completed (reading stage gap)
@@ -226,21 +223,15 @@ module _ (m : Notation) where
 
       -- What has been read is a front of a literal.
       pub front_from : IsFront m text
-      front_from = let found = literal_there completed_there.more completed_there.accepts in
-          record { more = completed_there.more; literal = found.0; reads = found.1 }
+      front_from = grind (arith, literal_there, completed_there)
 
       -- Digits of a run may end there.
       pub ended_there : s.ended ≡ false → s.gap ≡ false → is_run s.stage ≡ true → Ended s
       ended_there going closed run =
           let digit : has_digit s.stage ≡ true = grind arith in
           subst Ended (λ j. record { stage = s.stage; gap = sym closed j; ended = sym going j })
-          (finishes_in (part_of s.stage) s.stage false refl (settled s.stage run) digit
-          (and_from _ _ (signed s.stage run) (and_from _ _ refl (enough (part_of s.stage) s.stage digit))) goes_on_there.led) where
-            settled : (stage : Stage) → is_run stage ≡ true → is_settled stage ≡ true
-            settled stage run = grind arith
-
-            signed : (stage : Stage) → is_run stage ≡ true → is_signed m (part_of stage) stage ≡ true
-            signed stage run = grind arith
+          (finishes_in (part_of s.stage) s.stage false refl (grind arith) digit
+          (and_from _ _ (grind arith) (and_from _ _ refl (enough (part_of s.stage) s.stage digit))) goes_on_there.led)
 
     -- A front of a literal is read.
     pub front_is_read : (text : List ℕ) → IsFront m text → walk m (Some start) text ≡ None → ⊥

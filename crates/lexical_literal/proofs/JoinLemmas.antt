@@ -60,17 +60,19 @@ module _ (m : Notation) (text : List ℕ) where
   integer_at sign prefix first is size stage on = at_more _ _ pieces.Integer (integer_counts sign prefix 0) (size - (sign + prefix)) refl refl refl on is.at
 
   -- The digits of the fraction.
-  pub fraction_at : (s : Reading) (from size : ℕ) (first stage : Stage) → s.fraction ≡ 0 → IsAt m text (at_stage from first) (cuts_of (counts_of s 0 0 0 0))
-      → IsReadOn m text (at_stage from first) pieces.Fraction (at_stage size stage)
-      → IsAt m text (at_stage size stage) (cuts_of (counts_of (record s { fraction = size - from }) 0 0 0 0))
-  fraction_at s from size first stage none is on = at_more _ _ pieces.Fraction (counts_of s 0 0 0 0) (size - from) refl refl none on is
+  pub fraction_at : (s : Reading) (from size : ℕ) (first begun stage : Stage) (at : Stopped) → s.fraction ≡ 0 → begun ≡ first → at ≡ at_stage size stage
+      → IsAt m text (at_stage from first) (cuts_of (counts_of s 0 0 0 0)) → IsReadOn m text (at_stage from begun) pieces.Fraction (at_stage size stage)
+      → IsAt m text at (cuts_of (counts_of (record s { fraction = size - from }) 0 0 0 0))
+  fraction_at s from size first begun stage at none same end is on =
+      rw (end) (at_more _ _ pieces.Fraction (counts_of s 0 0 0 0) (size - from) refl refl none (rw (same) at on) is)
 
   -- The sign and the digits of the exponent.
-  pub exponent_at : (s : Reading) (size sign end : ℕ) (stage : Stage) → IsAt m text (at_stage size stages.Mark) (cuts_of (counts_of s 1 0 0 0))
-      → IsSign m text parts.Exponent size sign → IsReadOn m text (at_stage (size + sign) (behind_sign parts.Exponent sign)) pieces.Exponent (at_stage end stage)
-      → IsAt m text (at_stage end stage) (cuts_of (counts_of s 1 sign (end - (size + sign)) 0))
-  exponent_at s size sign end stage is signed on = at_more _ _ pieces.Exponent (counts_of s 1 sign 0 0) (end - (size + sign)) refl refl refl on
-      (at_more (at_stage size stages.Mark) _ pieces.ExponentSign (counts_of s 1 0 0 0) sign (omega arith) refl refl signed.on is)
+  pub exponent_at : (s : Reading) (size sign end : ℕ) (first stage : Stage) (at : Stopped) → first ≡ behind_sign parts.Exponent sign → at ≡ at_stage end stage
+      → IsAt m text (at_stage size stages.Mark) (cuts_of (counts_of s 1 0 0 0)) → IsSign m text parts.Exponent size sign
+      → IsReadOn m text (at_stage (size + sign) first) pieces.Exponent (at_stage end stage) → IsAt m text at (cuts_of (counts_of s 1 sign (end - (size + sign)) 0))
+  exponent_at s size sign end first stage at same last is signed on =
+      rw (last) (at_more _ _ pieces.Exponent (counts_of s 1 sign 0 0) (end - (size + sign)) refl refl refl (rw (same) at on)
+      (at_more (at_stage size stages.Mark) _ pieces.ExponentSign (counts_of s 1 0 0 0) sign (omega arith) refl refl signed.on is))
 
   module _ (h : HasRoles m) where
     -- The decimal point.

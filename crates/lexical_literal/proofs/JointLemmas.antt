@@ -1,9 +1,9 @@
 -- Which flags refuse what is allowed without requirements: flags that refuse alone, or those on leading zeros.
-use Rattle.lexical_literal.proofs.Common.{Bool, Condition, Flag, None, Notation, Option, Part, Role, Some, Stage, Summary, adding, admits, after, and_from}
-use Rattle.lexical_literal.proofs.Common.{and_parts, ap, arith, bare, binds, complete_by, continues, ends, false, false≢true, finishes, gap_fits, has_size}
-use Rattle.lexical_literal.proofs.Common.{if◌then◌else◌, implies, is_at, is_one_of, is_open, is_same, is_separator, is_signed, is_some, lets, may_follow}
-use Rattle.lexical_literal.proofs.Common.{move_by, no_condition, not, number_separator_flags, part_of, place_of, refl, role_at, subst, sym, takes, takes_in}
-use Rattle.lexical_literal.proofs.Common.{true, unsized, with_rules, ℕ, ◌&&◌, ◌==◌, ◌||◌, ◌∙◌, ◌≡◌}
+use Rattle.lexical_literal.proofs.Common.{Bool, Condition, Flag, None, Notation, Option, Part, Role, Some, Stage, Summary, adding, admits, and_from, and_parts}
+use Rattle.lexical_literal.proofs.Common.{ap, arith, bare, binds, complete_by, continues, ends, false, false≢true, finishes, gap_fits, has_size, implies, is_at}
+use Rattle.lexical_literal.proofs.Common.{is_one_of, is_open, is_same, is_separator, is_signed, is_some, lets, may_follow, move_by, no_condition, not}
+use Rattle.lexical_literal.proofs.Common.{number_separator_flags, part_of, place_of, refl, role_at, subst, sym, takes_in, true, unsized, with_rules, ℕ, ◌&&◌}
+use Rattle.lexical_literal.proofs.Common.{◌==◌, ◌||◌, ◌∙◌, ◌≡◌}
 use Rattle.lexical_util.specs.Layout as layout
 use Rattle.lexical_util.specs.declared.feature_format.roles.Role.TheVariants as roles
 use Rattle.lexical_util.specs.declared.format_flags.Part.TheVariants as parts
@@ -25,9 +25,7 @@ passes_role C s byte (Some role) = admits C s byte role
 split_role : (n : Notation) (s : Summary) (b : ℕ) (o : Option Role)
     → is_some (move_by n.condition n s b o) ≡ (is_some (move_by no_condition n s b o) && passes_role n.condition s b o)
 split_role n s b None = refl
-split_role n s b (Some role) = gate s.ended (takes n s (b == 43) role) (admits n.condition s b role) (after s (b == 48) role) where
-  gate : (e t a : Bool) (x : Summary) → is_some (if not e && (t && a) then Some x else None) ≡ (is_some (if not e && (t && true) then Some x else None) && a)
-  gate e t a x = grind arith
+split_role n s b (Some role) = grind arith
 
 moved : (n : Notation) (s : Summary) (ended : Bool) (b : ℕ) (o : Option Role)
     → is_some (move_by no_condition n (record s { ended = ended }) b o) ≡ (not ended && taken n (part_of s.stage) s.stage s.gap (b == 43) o)
@@ -129,9 +127,6 @@ module _ (m : Notation) where
     abbrev Kept : Part → Type 0
     Kept part = KeepsPlaces b u.flag no_condition part
 
-    kept_in : (part : Part) → has_size sizing part ≡ has_size m part → Kept part
-    kept_in x0 same = grind arith
-
     kept_gap : (part : Part) → Kept part → (digit gap next : Bool) → gap_fits b part digit gap next ≡ true → gap_fits u part digit gap next ≡ true
     kept_gap part kept digit gap next is = grind arith
 
@@ -193,7 +188,7 @@ module _ (m : Notation) where
     pub joint : (C : Condition → Bool) → has_size (sizing C) (part_of s.stage) ≡ has_size m (part_of s.stage) → Alone (λ n. free_allows n s next)
         → free_allows (b C) s next ≡ true → free_allows u s next ≡ false → leads ≡ true
     joint C sized = subst (λ P. Alone P → P (b C) ≡ true → P u ≡ false → leads ≡ true) same
-        (joint_role C (part_of s.stage) (kept_in C (part_of s.stage) sized) s.stage s.gap (is_plus_next next) o)
+        (joint_role C (part_of s.stage) (grind arith) s.stage s.gap (is_plus_next next) o)
 
   -- A flag that allows the byte is of the place and the part.
   pub at_next : (f : Flag) (s : Summary) (byte : ℕ) → is_one_of number_separator_flags f ≡ true → free_allows (bare m) s (Some byte) ≡ false

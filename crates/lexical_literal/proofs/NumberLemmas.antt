@@ -1,18 +1,6 @@
 -- The conditions in their order, and those that are kept of others.
-use Rattle.lexical_literal.proofs.Common.{Bool, Condition, Conditions, all_conditions, arith, common_steps, ext_get_or, false, get_or, has, if◌then◌else◌}
-use Rattle.lexical_literal.proofs.Common.{is_same, kept, length, list_any, nat_lt, nat_tests, number_of, order, true, ℕ, ◌&&◌, ◌+◌, ◌<◌, ◌≡◌}
-use Rattle.lexical_literal.specs.declared.syntax.Condition.TheVariants as conditions
-
--- Each condition is at its place in the list.
-pub at_place : (i : ℕ) → i < length all_conditions → order (get_or all_conditions i conditions.BasePrefix) ≡ i
-at_place i below = grind arith
-
--- The number of a condition after the one at a place has been looked at.
-pub number_next : (X : Condition → Bool) (N : Condition → ℕ) (i n : ℕ) (d : Condition) → i < length all_conditions
-    → n ≡ (if nat_lt (order d) i && X d then N d else 0) → (if X (get_or all_conditions i conditions.BasePrefix)
-    then (if is_same (get_or all_conditions i conditions.BasePrefix) d then N (get_or all_conditions i conditions.BasePrefix) else n) else n)
-    ≡ (if nat_lt (order d) (i + 1) && X d then N d else 0)
-number_next X N i n d inside before = grind (arith, nat_tests)
+use Rattle.lexical_literal.proofs.Common.{Bool, Condition, Conditions, all_conditions, arith, common_steps, ext_get_or, false, has, if◌then◌else◌, is_same}
+use Rattle.lexical_literal.proofs.Common.{kept, length, list_any, nat_tests, number_of, true, ℕ, ◌&&◌, ◌≡◌}
 
 -- What is true of no condition of the list is true of none.
 pub none_of_all : (P : Condition → Bool) → list_any P all_conditions ≡ false → (d : Condition) → P d ≡ false
@@ -29,4 +17,4 @@ has_only c d e set = grind (arith, nat_tests)
 module _ (C : Condition → Bool) (N : Condition → ℕ) where
   -- Conditions with the numbers of those that are kept are these.
   pub is_kept : (c : Conditions) → length c.numbers ≡ length all_conditions → ((d : Condition) → number_of c d ≡ (if C d then N d else 0)) → c ≡ kept C N
-  is_kept c all each = grind (arith, common_steps, ext_get_or, at_place)
+  is_kept c all each = grind (arith, common_steps, ext_get_or)

@@ -1,7 +1,7 @@
 -- A refusal has one cause, and a text has one refusal.
 use Rattle.lexical_literal.proofs.Common.{Bool, Condition, Flag, IsCause, IsRefusal, IsUnmet, IsValidUpTo, List, None, Notation, Option, Part, ReadErrorKind}
-use Rattle.lexical_literal.proofs.Common.{Refusal, Some, ap, arith, bit, first_unmet, flag_bits, has, if◌then◌else◌, is_at, kept, lowest, marks_of}
-use Rattle.lexical_literal.proofs.Common.{nat_tests, raw, refl, slice_get, shown, subst, sum_by, sym, tail_of, take, true, ℕ, ◌<◌, ◌^◌, ◌↔◌, ◌∙◌, ◌≡◌, ◌≤◌}
+use Rattle.lexical_literal.proofs.Common.{Refusal, Some, ap, arith, bit, first_unmet, flag_bits, has, if◌then◌else◌, is_at, kept, lowest, marks_of, nat_tests}
+use Rattle.lexical_literal.proofs.Common.{raw, slice_get, shown, subst, sum_by, sym, tail_of, take, true, ℕ, ◌<◌, ◌^◌, ◌↔◌, ◌∙◌, ◌≡◌, ◌≤◌}
 use Rattle.lexical_literal.specs.Cause.{IsSeparator, SameBlame}
 use Rattle.std.proofs.Math.Nat.{le_antisymm}
 use Rattle.lexical_util.specs.Layout.{flags}
@@ -25,24 +25,15 @@ module _ (m : Notation) (front : List ℕ) (a b : Flag → Bool) where
       record { kind = λ j. causes.Separator (same.1 j) (same.0 j); flags = flags }
 
   pub one_cause : (next : Option ℕ) (kind other : ReadErrorKind) → IsCause m front next kind a → IsCause m front next other b → SameBlame kind other a b
-  one_cause next causes.Requirement causes.Requirement one two = record { kind = refl; flags = λ f. same_truth (a f) (b f) (one.each f) (two.each f) }
-  one_cause None causes.Requirement (causes.Missing part) one two = absurd (two.refused one.allowed.0 one.allowed.1)
-  one_cause None (causes.Missing part) causes.Requirement one two = absurd (one.refused two.allowed.0 two.allowed.1)
-  one_cause None (causes.Missing p) (causes.Missing q) one two = grind arith
-  one_cause (Some byte) (causes.Missing p) other one two = absurd one
-  one_cause (Some byte) other (causes.Missing q) one two = absurd two
-  one_cause (Some byte) causes.Requirement other one two = absurd (two.refused one.allowed)
-  one_cause (Some byte) other causes.Requirement one two = absurd (one.refused two.allowed)
+  one_cause None kind other one two = grind (arith, same_truth)
+  one_cause (Some byte) causes.Requirement other one two = grind (arith, same_truth)
   one_cause (Some byte) (causes.Separator p x) (causes.Separator q y) one two = separators byte p q x y one two
+  one_cause (Some byte) (causes.Separator p x) causes.Requirement one two = absurd (one.refused two.allowed)
+  one_cause (Some byte) (causes.Separator p x) (causes.Missing q) one two = absurd two
   one_cause (Some byte) (causes.Separator p x) other one two = absurd (two.no_separator one.some.0 ((one.each one.some.0).0 one.some.1))
-  one_cause (Some byte) other (causes.Separator q y) one two = absurd (one.no_separator two.some.0 ((two.each two.some.0).0 two.some.1))
-  one_cause (Some byte) causes.Case causes.Case one two = record { kind = refl; flags = λ f. same_truth (a f) (b f) (one.each f) (two.each f) }
-  one_cause (Some byte) causes.Case causes.Byte one two = absurd (two.no_case one.some.0 ((one.each one.some.0).0 one.some.1))
-  one_cause (Some byte) causes.Byte causes.Case one two = absurd (one.no_case two.some.0 ((two.each two.some.0).0 two.some.1))
-  one_cause (Some byte) causes.Byte causes.Byte one two = record { kind = refl; flags = λ f. one.none f ∙ sym (two.none f) }
-  one_cause None causes.Requirement other one two = absurd two
-  one_cause None (causes.Missing p) other one two = absurd two
-  one_cause None kind other one two = absurd one
+  one_cause (Some byte) causes.Case other one two = grind (arith, same_truth)
+  one_cause (Some byte) causes.Byte other one two = grind (arith, same_truth)
+  one_cause (Some byte) (causes.Missing p) other one two = absurd one
 
 -- Two masks of flags alone are the same if they have the same flags.
 one_mask : (a b : ℕ) → a ≡ sum_by (flag_bits (raw a)) flags → b ≡ sum_by (flag_bits (raw b)) flags → ((f : Flag) → (raw a).flag f ≡ (raw b).flag f) → a ≡ b

@@ -1,17 +1,12 @@
 -- What has been read decides what a notation allows, with other flags too.
-use Rattle.lexical_literal.proofs.Common.{Bool, Condition, Flag, HasRoles, IsFront, IsLiteral, IsReady, IsSpelled, IsTrue, IsWeaker, List, Literal, None}
-use Rattle.lexical_literal.proofs.Common.{Notation, Option, Part, Some, Summary, [], after, and_from, and_parts, ap, are_fit, arith, false, is_fit, is_one_of}
-use Rattle.lexical_literal.proofs.Common.{is_place, number_separator_flags, refl, requirement_flags, separators_in, start, subst, sym, true, walk, with_rules}
-use Rattle.lexical_literal.proofs.Common.{ℕ, ◌&&◌, ◌++◌, ◌==◌, ◌||◌, ◌∙◌, ◌∷◌, ◌≡◌}
+use Rattle.lexical_literal.proofs.Common.{Bool, Condition, Flag, HasRoles, IsFront, IsReady, IsSpelled, IsTrue, IsWeaker, List, Literal, None, Notation, Option}
+use Rattle.lexical_literal.proofs.Common.{Part, Some, Summary, [], after, and_from, and_parts, ap, are_fit, arith, is_fit, is_one_of, refl, requirement_flags}
+use Rattle.lexical_literal.proofs.Common.{separators_in, start, subst, sym, true, walk, with_rules, ℕ, ◌&&◌, ◌++◌, ◌==◌, ◌||◌, ◌∙◌, ◌∷◌, ◌≡◌}
 use Rattle.lexical_literal.proofs.WalkLemmas.{took}
 use Rattle.lexical_literal.proofs.FrontLemmas.{front_from, front_is_read}
 use Rattle.lexical_literal.proofs.PartOfLemmas.{none_after}
 
 -- FLAGS
-
--- A flag that requires something allows no separator.
-pub apart : (f : Flag) → (is_one_of requirement_flags f && is_one_of number_separator_flags f) ≡ false
-apart x0 = grind arith
 
 -- FEWER REQUIREMENTS
 
@@ -30,15 +25,11 @@ module _ (m : Notation) (A : Flag → Bool) (D : Condition → Bool) where
     pub consecutive : IsTrue (m.flag (separators_in part).consecutive) → IsTrue (A (separators_in part).consecutive)
 
   module _ (part : Part) (kept : KeepsPlaces part) where
-    more_places : (d s x y f : Bool) → (d || (s && is_place m part x y && (m.flag (separators_in part).consecutive || f))) ≡ true
-        → (d || (s && is_place n part x y && (A (separators_in part).consecutive || f))) ≡ true
-    more_places d s x y f is = grind arith
-
     pub all_fit : (before after : List ℕ) → are_fit m part before after ≡ true → are_fit n part before after ≡ true
     all_fit before [] is = refl
     all_fit before (b ∷ after) is =
         let both = and_parts (is_fit m part before b after) _ is in
-        and_from _ _ (more_places (m.digit part b) (m.separator b) _ _ _ both.0) (all_fit (before ++ b ∷ []) after both.1)
+        and_from _ _ (grind (arith, both.0)) (all_fit (before ++ b ∷ []) after both.1)
 
   -- Flags that require no more, and are no less otherwise.
   module _ (no_more : (f : Flag) → IsTrue (A f && is_one_of requirement_flags f) → IsTrue (m.flag f))
@@ -53,11 +44,8 @@ module _ (m : Notation) (A : Flag → Bool) (D : Condition → Bool) where
     pub other_ready : IsReady m → IsReady n
     other_ready ready = grind arith
 
-    literal_too : (l : Literal) → IsLiteral m l → IsLiteral n l
-    literal_too l is = grind (arith, spelled_too)
-
     front_too : (text : List ℕ) → IsFront m text → IsFront n text
-    front_too text is = grind (arith, literal_too)
+    front_too text is = grind (arith, spelled_too)
 
   -- THE SAME SUMMARY
 

@@ -4,8 +4,7 @@ use Rattle.lexical_literal.proofs.Common.{add_more, admits, after, after_digit, 
 use Rattle.lexical_literal.proofs.Common.{common_steps, count, digits_of, digits_piece, false, false≢true, forbids_plus, fresh, get_or, has_digit}
 use Rattle.lexical_literal.proofs.Common.{if◌then◌else◌, is_free, is_negative, is_run, is_signed, lacks_prefix, length, may_follow, may_read, not, or_left}
 use Rattle.lexical_literal.proofs.Common.{part_of, piece_of, refl, role_at, separators_in, subst, sym, take_more, takes, takes_in, true, with_prefix, ℕ, ◌&&◌}
-use Rattle.lexical_literal.proofs.Common.{◌+◌, ◌-◌, ◌<◌, ◌==◌, ◌||◌, ◌∙◌, ◌≡◌, ◌≤◌}
-use Rattle.lexical_literal.proofs.Common.{None, move_by, nat_tests, signs, start, step}
+use Rattle.lexical_literal.proofs.Common.{◌+◌, ◌-◌, ◌<◌, ◌==◌, ◌||◌, ◌∙◌, ◌≡◌, ◌≤◌, None, move_by, nat_tests, signs, start, step}
 use Rattle.lexical_literal.proofs.StepLemmas.{awaited_part}
 use Rattle.lexical_literal.specs.Additions.Scan.{IsSign}
 use Rattle.lexical_util.specs.Layout as layout
@@ -14,14 +13,10 @@ use Rattle.lexical_util.specs.declared.format_flags.Part.TheVariants as parts
 use Rattle.lexical_literal.specs.declared.step.Piece.TheVariants as pieces
 use Rattle.lexical_literal.specs.declared.step.Stage.TheVariants as stages
 use Rattle.lexical_literal.specs.declared.syntax.Condition.TheVariants as conditions
-use Rattle.lexical_literal.proofs.WalkLemmas.{digit_role, is_role, moved, walk_append, tally_append}
+use Rattle.lexical_literal.proofs.WalkLemmas.{digit_role, is_role, walk_append, tally_append}
 
 sum_more : (c : Cuts) (p other : Piece) (k n l : ℕ) → k ≤ n → n ≤ l → add_more (add_more c p (n - k)) p (l - n) other ≡ add_more c p (l - k) other
 sum_more c p other k n l low high = let same : n - k + (l - n) ≡ l - k = omega arith in grind arith
-
--- A stage before the first digit of the integer has none.
-pub none_begun : (stage : Stage) → awaits_integer stage ≡ true → has_digit stage ≡ false
-none_begun x0 is = grind arith
 
 -- What a digit makes of a stage without digits.
 first_follows : (m : Notation) (stage : Stage) → has_digit stage ≡ false → may_follow m stage ≡ true
@@ -31,50 +26,22 @@ after_first : (stage : Stage) (zero : Bool) → has_digit stage ≡ false
     → after_digit stage false zero ≡ (if zero && awaits_integer stage then stages.Bare else digits_of (part_of stage))
 after_first stage zero none = grind arith
 
-no_minus : (part : Part) (c plus : Bool) (r : Role) → (roles.Sign ≡ r → ⊥) → not (c && is_negative part plus r) ≡ true
-no_minus part c plus r other = grind arith
-
 neither : (x y a : Bool) → not ((x || y) && a) ≡ true → (not (x && a) ≡ true) × (not (y && a) ≡ true)
 neither x y a none = (grind arith, grind arith)
 
 pub admits_free : (m : Notation) (s : Summary) (b : ℕ) (r : Role) → (roles.Sign ≡ r → ⊥) → is_free m s.stage ≡ true
     → admits m.condition s b r ≡ true
-admits_free m s b r other free =
-    let both = and_parts (not (m.condition conditions.BasePrefix && lacks_prefix s.stage)) _ free in
-    let first = neither (m.condition conditions.LeadingZero) (m.condition conditions.DecimalFirstDigit) (awaits_integer s.stage) both.1 in
-    and_from _ _ (or_left _ _ both.0) (and_from _ _ (no_minus (part_of s.stage) (m.condition conditions.NegativeSign) (b == 43) r other)
-    (and_from _ _ (or_left _ _ first.0) (or_left _ _ first.1)))
-
--- Behind the first digit and the prefix, nothing is missing.
-settled_free : (m : Notation) (stage : Stage) → lacks_prefix stage ≡ false → is_free m stage ≡ true
-settled_free m stage settled = grind arith
+admits_free m s b r other free = grind (arith, and_parts, neither, and_from, or_left)
 
 pub admits_settled : (m : Notation) (s : Summary) (b : ℕ) (r : Role) → lacks_prefix s.stage ≡ false → (roles.Sign ≡ r → ⊥)
     → admits m.condition s b r ≡ true
-admits_settled m s b r settled other = admits_free m s b r other (settled_free m s.stage settled)
-
--- What the conditions let begin is admitted, and nothing is missing behind it.
-pub admits_first : (m : Notation) (text : List ℕ) (size : ℕ) (stage : Stage) → may_read m text size stage ≡ true
-    → admits m.condition (at_stage size stage).read (get_or text size 0) roles.Digit ≡ true
-admits_first m text size stage first = grind arith
+admits_settled m s b r settled other = admits_free m s b r other (grind arith)
 
 -- A stage that another digit does not change.
 module _ (m : Notation) (stage : Stage) (run : is_run stage ≡ true) where
-  run_is_free : is_free m stage ≡ true
-  run_is_free = grind arith
-
-  same_digit : (gap zero : Bool) → after_digit stage gap zero ≡ stage
-  same_digit gap zero = grind arith
-
-  same_mark : after_mark stage ≡ stage
-  same_mark = grind arith
-
   takes_more : (part : Part) (plus gap : Bool) → (gap ≡ true → m.flag (separators_in part).internal ≡ true)
       → takes_in m part stage gap plus roles.Digit ≡ true
   takes_more part plus gap allowed = grind arith
-
-  takes_separator : (part : Part) (plus : Bool) → m.flag (separators_in part).internal ≡ true → takes_in m part stage false plus roles.Separator ≡ true
-  takes_separator part plus allowed = grind arith
 
 module _ (m : Notation) (text : List ℕ) where
   -- More is read.
@@ -99,7 +66,7 @@ module _ (m : Notation) (text : List ℕ) where
         → takes m at.read (get_or text at.size 0 == 43) r ≡ true
         → admits m.condition at.read (get_or text at.size 0) r ≡ true → (c : Cuts) → IsAt m text at c
         → IsAt m text (record { size = at.size + 1; read = after at.read (get_or text at.size 0 == 48) r }) (count (part_of at.read.stage) (Some r) c)
-    read_one at r inside plays going taken admitted c is = grind (arith, common_steps, take_more, walk_append, moved, tally_append)
+    read_one at r inside plays going taken admitted c is = grind (arith, common_steps, take_more, walk_append, tally_append)
 
     -- One byte of a part is read, and one that is no sign where nothing is missing.
     read_in : (part : Part) (at : Stopped) (r : Role) → part_of at.read.stage ≡ part → at.size < length text
@@ -130,15 +97,15 @@ module _ (m : Notation) (text : List ℕ) where
         subst (λ after. IsReadOn m text (at_stage size stage) (digits_piece part) (at_stage (size + 1) after))
         (after_first stage (b == 48) none ∙ ap (λ part. if (b == 48) && awaits_integer stage then stages.Bare else digits_of part) in_part)
         (one_on _ _ (digits_piece part) refl (read_in part (at_stage size stage) roles.Digit in_part inside (digit_role m part b digit) refl
-        (and_from _ _ signed (and_from _ _ refl (first_follows m stage none))) (admits_first m text size stage first)))
+        (and_from _ _ signed (and_from _ _ refl (first_follows m stage none))) (grind arith)))
 
     -- A digit that changes no stage.
     pub read_digit : (part : Part) (size : ℕ) (stage : Stage) → part_of stage ≡ part → is_run stage ≡ true → size < length text
         → m.digit part (get_or text size 0) ≡ true → IsReadOn m text (at_stage size stage) (digits_piece part) (at_stage (size + 1) stage)
     read_digit part size stage in_part run inside digit = let b = get_or text size 0 in
-        subst (λ after. IsReadOn m text (at_stage size stage) (digits_piece part) (at_stage (size + 1) after)) (same_digit m stage run false (b == 48))
+        subst (λ after. IsReadOn m text (at_stage size stage) (digits_piece part) (at_stage (size + 1) after)) (grind arith)
         (one_on _ _ (digits_piece part) refl (read_free part (at_stage size stage) roles.Digit in_part (λ same. cc) inside (digit_role m part b digit) refl
-        (takes_more m stage run part (b == 43) false (λ gap. absurd (false≢true gap))) (run_is_free m stage run)))
+        (takes_more m stage run part (b == 43) false (λ gap. absurd (false≢true gap))) (grind arith)))
 
     -- A separator and a digit behind it, which change no stage.
     pub read_separated : (part : Part) (size : ℕ) (stage : Stage) → part_of stage ≡ part → is_run stage ≡ true → size + 1 < length text
@@ -151,13 +118,13 @@ module _ (m : Notation) (text : List ℕ) where
         let two : size + 1 + 1 ≡ size + 2 = omega arith in
         let first : IsReadOn m text (at_stage size stage) (digits_piece part) gap =
         subst (λ after. IsReadOn m text (at_stage size stage) (digits_piece part)
-        (record { size = size + 1; read = record { stage = after; gap = true; ended = false } })) (same_mark m stage run)
+        (record { size = size + 1; read = record { stage = after; gap = true; ended = false } })) (grind arith)
         (one_on _ _ (digits_piece part) refl (read_free part (at_stage size stage) roles.Separator in_part (λ same. cc) (omega (arith, inside))
-        (is_role m part b h roles.Separator (λ same. cc) separator) refl (takes_separator m stage run part (b == 43) allowed) (run_is_free m stage run))) in
+        (is_role m part b h roles.Separator (λ same. cc) separator) refl (grind arith) (grind arith))) in
         let second : IsReadOn m text gap (digits_piece part) (at_stage (size + 1 + 1) stage) =
-        subst (λ after. IsReadOn m text gap (digits_piece part) (at_stage (size + 1 + 1) after)) (same_digit m stage run true (d == 48))
+        subst (λ after. IsReadOn m text gap (digits_piece part) (at_stage (size + 1 + 1) after)) (grind arith)
         (one_on _ _ (digits_piece part) refl (read_free part gap roles.Digit in_part (λ same. cc) inside (digit_role m part d digit) refl
-        (takes_more m stage run part (d == 43) true (λ _. allowed)) (run_is_free m stage run))) in
+        (takes_more m stage run part (d == 43) true (λ _. allowed)) (grind arith))) in
         go_on (at_stage size stage) gap (at_stage (size + 2) stage) (digits_piece part) first
         (subst (λ n. IsReadOn m text gap (digits_piece part) (at_stage n stage)) two second)
 
@@ -168,7 +135,7 @@ module _ (m : Notation) (text : List ℕ) where
     read_sign part size inside allowed = let b = get_or text size 0 in
         subst (λ piece. IsReadOn m text (at_stage size (fresh part)) piece (at_stage (size + 1) (after_mark (fresh part)))) (sign_piece part)
         (one_on _ _ (piece_of (part_of (fresh part)) roles.Sign) refl (read_one (at_stage size (fresh part)) roles.Sign inside
-        (is_role m _ b h roles.Sign (λ same. cc) (some_sign part b allowed)) refl (sign_taken part b allowed) (sign_admitted part b allowed))) where
+        (is_role m _ b h roles.Sign (λ same. cc) (grind arith)) refl (sign_taken part b allowed) (sign_admitted part b allowed))) where
           allows : Part → ℕ → Bool
           allows part b = ((b == 43) && not (forbids_plus m part)) || ((b == 45) && not (m.condition conditions.NegativeSign && is_negative part false
               roles.Sign))
@@ -176,9 +143,6 @@ module _ (m : Notation) (text : List ℕ) where
           sign_piece : (part : Part) → piece_of (part_of (fresh part)) roles.Sign ≡ piece_of part roles.Sign
           sign_piece parts.Exponent = refl
           sign_piece _ = refl
-
-          some_sign : (part : Part) (b : ℕ) → allows part b ≡ true → ((b == 43) || (b == 45)) ≡ true
-          some_sign part b is = grind arith
 
           sign_taken : (part : Part) (b : ℕ) → allows part b ≡ true → takes m (at_stage 0 (fresh part)).read (b == 43) roles.Sign ≡ true
           sign_taken parts.Exponent b is = grind arith
@@ -209,7 +173,7 @@ module _ (m : Notation) (text : List ℕ) where
         (one_on _ _ (digits_piece (part_of stage)) refl (read_one (at_stage size stage) roles.Digit inside
         (digit_role m (part_of stage) b (ap (m.digit (part_of stage)) naught ∙ h.zero_is_digit (part_of stage))) refl
         (subst (λ part. takes_in m part stage false (b == 43) roles.Digit ≡ true) (sym in_part)
-        (and_from _ _ signed (and_from _ _ refl (first_follows m stage (none_begun stage begun)))))
+        (and_from _ _ signed (and_from _ _ refl (first_follows m stage (grind arith)))))
         (ap (λ b. admits m.condition (at_stage size stage).read b roles.Digit) naught ∙ admitted stage begun)))) where
           bare : (stage : Stage) → awaits_integer stage ≡ true → after_digit stage false true ≡ stages.Bare
           bare stages.Start is = refl
@@ -231,13 +195,10 @@ module _ (m : Notation) (text : List ℕ) where
         subst (λ c. IsAt m text (at_stage (size + 2) stages.Prefixed) c) (λ j other. same_prefix c (size + 1 - size) other j)
         (subst (λ n. IsAt m text (at_stage n stages.Prefixed) (with_prefix (add_more c pieces.Integer (size + 1 - size)))) two
         (read_one (at_stage (size + 1) stages.Bare) roles.Prefix inside (is_role m parts.Integer b h roles.Prefix (λ same. cc) prefix) refl refl
-        (prefix_admitted b) _ ((read_zero size stage (omega (arith, inside)) naught first signed).reads c begun))) where
+        (grind arith) _ ((read_zero size stage (omega (arith, inside)) naught first signed).reads c begun))) where
           same_prefix : (c : Cuts) (n : ℕ) (other : Piece) → with_prefix (add_more c pieces.Integer n) other ≡ with_prefix c other
           same_prefix c n pieces.Integer = refl
           same_prefix c n _ = refl
-
-          prefix_admitted : (b : ℕ) → admits m.condition (at_stage 0 stages.Bare).read b roles.Prefix ≡ true
-          prefix_admitted b = grind arith
 
 -- No sign.
 pub no_sign : (m : Notation) (text : List ℕ) (part : Part) (size : ℕ) → size ≤ length text → is_signed m part (fresh part) ≡ true → IsSign m text part size 0

@@ -21,10 +21,6 @@ mark_part stage = grind arith
 pub point_part : (digit : Bool) → part_of (after_point digit) ≡ parts.Fraction
 point_part digit = grind arith
 
--- The prefix is part of the integer, and so is what is before it.
-pub bare_part : (stage : Stage) → is_bare stage ≡ true → part_of stage ≡ parts.Integer
-bare_part stage is = grind arith
-
 pub awaited_part : (stage : Stage) → awaits_integer stage ≡ true → part_of stage ≡ parts.Integer
 awaited_part stage is = grind arith
 
@@ -51,10 +47,6 @@ pub record Passed (D : ByteSet) (stage : Stage) (run : List ℕ) (last : Stage) 
   pub seen : has_digit last ≡ (list_any D run || has_digit stage)
   pub counts : not (is_lone last) ≡ (list_any D run || not (is_lone stage))
   pub led : is_led last ≡ led_after D stage run
-
--- What a digit and a mark make of a stage.
-pub digit_seen : (stage : Stage) (gap zero : Bool) → has_digit (after_digit stage gap zero) ≡ true
-digit_seen stage gap zero = grind arith
 
 pub passed : (D : ByteSet) (stage : Stage) (gap : Bool) (run : List ℕ) → Passed D stage run (stage_after D stage gap run)
 passed D stage gap [] = record { seen = refl; counts = refl; led = grind arith }

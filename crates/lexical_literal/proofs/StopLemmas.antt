@@ -23,21 +23,15 @@ module _ (m : Notation) (h : HasRoles m) where
   abbrev Counts : List ℕ → Group → Type 0
   Counts text g = has_size m g.part ≡ true → g.digits + index_behind no_digit text ≡ length text
 
-  a_digit : (part : Part) (b : ℕ) → has_size m part ≡ true → m.digit part b ≡ m.digit parts.Integer b
-  a_digit x0 b sized = grind arith
-
   behind_digit : (text : List ℕ) (b : ℕ) → m.digit parts.Integer b ≡ true → index_behind no_digit (text ++ b ∷ []) ≡ index_behind no_digit text
   behind_digit text b is = behind_more no_digit text b ∙ ap (λ t. if not t then length text + 1 else index_behind no_digit text) is
-
-  behind_other : (text : List ℕ) (b : ℕ) → m.digit parts.Integer b ≡ false → 0 + index_behind no_digit (text ++ b ∷ []) ≡ length (text ++ b ∷ [])
-  behind_other text b other = grind (arith, behind_more, length-append)
 
   other_role : (part : Part) (b : ℕ) (r : Role) → (roles.Digit ≡ r → ⊥) → role_at m part b ≡ Some r → m.digit parts.Integer b ≡ false
   other_role part b r other role = false_from_ne_true _ (λ digit.
       other (h.one roles.Digit r b (as_role m parts.Integer b roles.Digit (digit_role m parts.Integer b digit)) (as_role m part b r role)))
 
   counts_more : (text : List ℕ) (b : ℕ) (g : Group) (o : Option Role) → role_at m g.part b ≡ o → Counts text g → Counts (text ++ b ∷ []) (grown g o)
-  counts_more text b g x3 role counts = grind (arith, behind_other, a_digit, behind_digit, length-append, other_role)
+  counts_more text b g x3 role counts = grind (arith, behind_more, behind_digit, length-append, other_role)
 
   counts_all : has_sizes m ≡ true → (x text : List ℕ) (g last : Group) → Counts x g → group_after m (Some g) text ≡ Some last → Counts (x ++ text) last
   counts_all sized x [] g last counts is = let same : g ≡ last = cc in subst (λ x. Counts x last) (sym (append-nil x)) (subst (Counts x) same counts)
@@ -68,9 +62,6 @@ module _ (m : Notation) (ready : IsReady (unsized m)) (sizes : HasSizes m) (fron
       let digits : g.digits ≡ length front - (marks_of m front).group = rw (sized) (omega (arith, counts)) in
       λ j. record { part = linked_there m sized front s g read grouped j; separated = g.separated; digits = digits j }
 
-  no_group : has_size m g.part ≡ false → has_size m (part_of s.stage) ≡ false
-  no_group none = grind (arith, linked_there)
-
   module _ (A : Flag → Bool) (D : Condition → Bool) (weaker : IsWeaker m A D) where
     abbrev n : Notation
     n = with_rules m A D
@@ -81,7 +72,7 @@ module _ (m : Notation) (ready : IsReady (unsized m)) (sizes : HasSizes m) (fron
     same_fit : (next : Option ℕ) → group_allows n g (role_next n g.part next) ≡ group_allows n last (role_next n last.part next)
     same_fit next = elim (cases_Bool (has_size m g.part)) [
       | inl is ↦ ap (λ (g : Group). group_allows n g (role_next n g.part next)) (same_group is)
-      | inr none ↦ free g.part _ none ∙ sym (free last.part _ (no_group none))
+      | inr none ↦ free g.part _ none ∙ sym (free last.part _ (grind (arith, linked_there)))
     ]
 
   -- It allows what the group that has been read allows.

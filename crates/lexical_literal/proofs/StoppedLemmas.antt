@@ -1,15 +1,13 @@
 -- Fronts of a text, and where the loop is left.
 use Rattle.lexical_literal.proofs.Common.{Allows, Bool, Found, Group, HasBegun, HasFound, HasLengths, HasRoles, HasSizes, IsAt, IsCountedFront, IsFront}
-use Rattle.lexical_literal.proofs.Common.{IsFronted, IsLiteral, IsLongest, IsMeasured, IsNone, IsReady, IsRefused, IsStopped, IsTrue, IsUnderway}
-use Rattle.lexical_literal.proofs.Common.{IsValidUpTo, IsWithin, List}
-use Rattle.lexical_literal.proofs.Common.{Literal, NoFront, NoLiteral, None, Notation, Option, Reads, ReadsFront, Role, Some, Stopped, Summary, [], and_parts}
-use Rattle.lexical_literal.proofs.Common.{ap, append-nil, append_assoc, arith, cases_Bool, cases_lt, common_steps, count, cuts_of, drop, false}
+use Rattle.lexical_literal.proofs.Common.{IsFronted, IsLiteral, IsLongest, IsMeasured, IsNone, IsReady, IsRefused, IsStopped, IsTrue, IsUnderway, IsValidUpTo}
+use Rattle.lexical_literal.proofs.Common.{IsWithin, List, Literal, NoFront, NoLiteral, None, Notation, Option, Reads, Role, Some, Stopped, Summary, []}
+use Rattle.lexical_literal.proofs.Common.{and_parts, ap, append-nil, append_assoc, arith, cases_Bool, cases_lt, common_steps, count, cuts_of, drop, false}
 use Rattle.lexical_literal.proofs.Common.{false_from_ne_true, false≢true, first_group, get_or, goes, group_after, group_allows, grow, grown, has_size}
-use Rattle.lexical_literal.proofs.Common.{has_sizes}
-use Rattle.lexical_literal.proofs.Common.{if◌then◌else◌, inl, inr, is_accepted, is_complete, is_grouped, is_some, length, length-take-le, no_cuts}
-use Rattle.lexical_literal.proofs.Common.{not, or_parts, part_of}
-use Rattle.lexical_literal.proofs.Common.{refl, replicate, role_at, slice_get, slice_get-get_or, start, step, subst, sym, take, take-append-drop, take-take}
-use Rattle.lexical_literal.proofs.Common.{take_all, take_more, tally, true, unsized, walk, ℕ, ◌++◌, ◌+◌, ◌<◌, ◌||◌, ◌↔◌, ◌∙◌, ◌∷◌, ◌≡◌, ◌≤◌, ◌⊎◌}
+use Rattle.lexical_literal.proofs.Common.{has_sizes, if◌then◌else◌, inl, inr, is_accepted, is_complete, is_grouped, is_some, length, length-take-le, no_cuts}
+use Rattle.lexical_literal.proofs.Common.{not, or_parts, part_of, refl, replicate, role_at, slice_get, slice_get-get_or, start, step, subst, sym, take}
+use Rattle.lexical_literal.proofs.Common.{take-append-drop, take-take, take_all, take_more, tally, true, unsized, ℕ, ◌++◌, ◌+◌, ◌<◌, ◌||◌, ◌↔◌, ◌∙◌, ◌∷◌, ◌≡◌}
+use Rattle.lexical_literal.proofs.Common.{◌≤◌, ◌⊎◌}
 use Rattle.std.proofs.lemmas.Option.{slice_get_past}
 use Rattle.lexical_literal.specs.declared.stop.Begun.{Begun}
 use Rattle.lexical_literal.specs.declared.syntax.Condition.TheVariants as conditions
@@ -55,13 +53,6 @@ module _ (m : Notation) (text : List ℕ) where
     all_right l reads =
         no_longer_than stop.size is.valid (length text) (omega arith) l (subst (Reads m l) (sym (take_all (length text) text (omega arith))) reads)
 
-    pub whole_front : (l : Literal) → Reads m l text → Reads m l (take stop.size text)
-    whole_front l reads = subst (Reads m l) (sym (take_all stop.size text (all_right l reads))) reads
-
-    -- If what was read is a literal, then it is the longest front that is one.
-    pub stop_literal : (l : Literal) → Reads m l (take stop.size text) → ReadsFront m l text stop.size
-    stop_literal l reads = grind (arith, no_longer_than)
-
     -- If what was read is not a literal, but is one without its last byte, then this is the longest front that is one.
     pub front_before : (size : ℕ) (shorter counts : List ℕ) → stop.size ≡ size + 1 → goes m stop.read is.group None ≡ false
         → shorter ≡ take size text → IsMeasured m shorter counts → IsCountedFront m text (record { size = size; counts = counts })
@@ -79,7 +70,8 @@ module _ (m : Notation) (text : List ℕ) where
 
     -- If what was read is not all of the text, or not a literal, then the text is not a literal.
     pub none_whole : (stop.size ≡ length text → goes m stop.read is.group None ≡ false) → NoLiteral m text
-    none_whole partial l reads = let all = all_right l reads in is.incomplete (partial (omega (arith, all, is.valid.within))) l (whole_front l reads)
+    none_whole partial l reads = let all = all_right l reads in
+        is.incomplete (partial (omega (arith, all, is.valid.within))) l (subst (Reads m l) (sym (take_all stop.size text all)) reads)
 
     -- If it is all of the text, and a literal, then the text has the lengths that are counted.
     pub whole_measured : (counts : List ℕ) → stop.size ≡ length text → goes m stop.read is.group None ≡ true
@@ -144,7 +136,7 @@ pub found_there : (m : Notation) (text : List ℕ) (counted : Begun) → HasBegu
     → stop.size ≡ counted.at.size → IsCountedFront m text (record { size = stop.size; counts = counted.counts })
 found_there m text counted has complete stop is same = let l = has.literal complete in record {
   literal = l.0;
-  reads = stop_literal m text stop is l.0 (subst (λ n. Reads m l.0 (take n text)) (sym same) l.1);
+  reads = let here = subst (λ n. Reads m l.0 (take n text)) (sym same) l.1 in grind (arith, no_longer_than);
   counted = λ k reads. has.lengths complete k (subst (λ n. Reads m k (take n text)) same reads);
 }
 
@@ -212,10 +204,6 @@ module _ (m : Notation) (ready : IsReady (unsized m)) (sizes : HasSizes m) (text
   pub one_sized_reading : (l k : Literal) → Reads m l text → Reads m k text → l ≡ k
   one_sized_reading l k first second = one_reading u ready text l k (as_unsized m h sizes l text first).0 (as_unsized m h sizes k text second).0
 
-  pub has_sized_counted : (n : ℕ) (counts : List ℕ) → tally u (Some start) no_cuts (take n text) ≡ cuts_of counts → (l : Literal)
-      → Reads m l (take n text) → HasLengths l (cuts_of counts)
-  has_sized_counted n counts lengths l reads = has_counted u ready text n counts lengths l (as_unsized m h sizes l (take n text) reads).0
-
   module _ (at : Stopped) (group : Group) (is : IsUnderway m text at group) where
     abbrev b : ℕ
     b = get_or text at.size 0
@@ -232,9 +220,6 @@ module _ (m : Notation) (ready : IsReady (unsized m)) (sizes : HasSizes m) (text
 
     abbrev group_of : Option Group
     group_of = grow m group (role_at m group.part b)
-
-    next_scan : at.size < length text → walk u (Some start) (take (at.size + 1) text) ≡ step_of
-    next_scan inside = grind (arith, common_steps, take_more, walk_append)
 
     next_group : at.size < length text → group_after m (Some first_group) (take (at.size + 1) text) ≡ group_of
     next_group inside = rw (take_more text at.size 0 inside, group_append m (Some first_group) (take at.size text) (b ∷ []), is.grouped) refl
@@ -254,11 +239,10 @@ module _ (m : Notation) (ready : IsReady (unsized m)) (sizes : HasSizes m) (text
     pub underway_more : (t : Summary) (g : Group) (role : Role) → at.size < length text → step_of ≡ Some t
         → role_at m (part_of at.read.stage) b ≡ Some role → grow m group (Some role) ≡ Some g
         → IsUnderway m text (record { size = at.size + 1; read = t }) g
-    underway_more t g role inside taken plays grown = grind (arith, next_scan, next_group, same_grow)
+    underway_more t g role inside taken plays grown = grind (arith, common_steps, take_more, walk_append, next_group, same_grow)
 
-    -- No literal goes on.
-    pub stops_before : IsWithin m text at.size → IsStopped m text at
-    stops_before none = record {
+    stopped_by : IsWithin m text at.size → (at.size < length text → goes m at.read group (Some b) ≡ false) → IsStopped m text at
+    stopped_by none refused = record {
       valid = record {
         within = is.begun.within;
         front = front_of m ready sizes (take at.size text) at.read group is.begun.read is.grouped;
@@ -266,34 +250,27 @@ module _ (m : Notation) (ready : IsReady (unsized m)) (sizes : HasSizes m) (text
       };
       group = group;
       read = is;
-      refused = λ inside. rw (slice_get-get_or text at.size 0 inside) (false_from_ne_true _ (λ going. none (at.size + 1) (omega arith) (omega (arith, inside))
-          (subst (IsFront m) (sym (take_more text at.size 0 inside)) ((decides (Some b)).0 going))));
+      refused = λ inside. rw (slice_get-get_or text at.size 0 inside) (refused inside);
       complete = (decides None).0;
       incomplete = no_literal_at;
     }
 
+    -- No literal goes on.
+    pub stops_before : IsWithin m text at.size → IsStopped m text at
+    stops_before none = stopped_by none (λ inside. false_from_ne_true _ (λ going. none (at.size + 1) (omega arith) (omega (arith, inside))
+        (subst (IsFront m) (sym (take_more text at.size 0 inside)) ((decides (Some b)).0 going))))
+
     -- A byte that is not taken, or the end of the text.
     pub stops_at : (at.size < length text → (step_of ≡ None) ⊎ (group_of ≡ None)) → IsStopped m text at
-    stops_at none = record {
-      valid = record {
-        within = is.begun.within;
-        front = front_of m ready sizes (take at.size text) at.read group is.begun.read is.grouped;
-        no_longer = λ more over within front.
-            let inside : at.size < length text = omega (arith, over, within) in
-            false≢true (sym (refused inside) ∙ (decides (Some b)).1 (subst (IsFront m) (take_more text at.size 0 inside)
-            (front_shorter m text (at.size + 1) more (omega (arith, over)) front)));
-      };
-      group = group;
-      read = is;
-      refused = λ inside. rw (slice_get-get_or text at.size 0 inside) (refused inside);
-      complete = (decides None).0;
-      incomplete = no_literal_at;
-    } where
-      refused : at.size < length text → goes m at.read group (Some b) ≡ false
-      refused inside = false_from_ne_true _ (λ goes. let both = and_parts (is_some step_of) _ goes in elim (none inside) [
-        | inl step ↦ false≢true (sym (ap is_some step) ∙ both.0)
-        | inr grown ↦ grows m ready sizes _ at.read group is.begun.read is.grouped (role_at m group.part b) both.1 grown
-      ])
+    stops_at none = stopped_by (λ more over within front.
+        let inside : at.size < length text = omega (arith, over, within) in
+        false≢true (sym (refused inside) ∙ (decides (Some b)).1 (subst (IsFront m) (take_more text at.size 0 inside)
+        (front_shorter m text (at.size + 1) more (omega (arith, over)) front)))) refused where
+          refused : at.size < length text → goes m at.read group (Some b) ≡ false
+          refused inside = false_from_ne_true _ (λ goes. let both = and_parts (is_some step_of) _ goes in elim (none inside) [
+            | inl step ↦ false≢true (sym (ap is_some step) ∙ both.0)
+            | inr grown ↦ grows m ready sizes _ at.read group is.begun.read is.grouped (role_at m group.part b) both.1 grown
+          ])
 
   -- Nothing is the longest front of nothing.
   pub first_counted : HasCounted m text (record { size = 0; read = start }) first_group (replicate 9 0) None
@@ -314,7 +291,7 @@ module _ (m : Notation) (ready : IsReady (unsized m)) (sizes : HasSizes m) (text
           (let l = (decides next last follows.1 None).0 (sym complete) in (omega arith, l.0, l.1));
       counted = λ found is. let same : record { size = next.size; counts = counts } ≡ found = cc in
           subst (λ (f : Found). (l : Literal) → Reads m l (take f.size text) → HasLengths l (cuts_of f.counts)) same
-          (has_sized_counted next.size counts counted);
+          (λ l reads. has_counted u ready text next.size counts counted l (as_unsized m h sizes l (take next.size text) reads).0);
       no_longer = λ more over past. absurd (let low : next.size < more = past _ refl in omega (arith, over, low));
     }
     longer counts counted false incomplete = record {
@@ -348,10 +325,6 @@ module _ (m : Notation) (ready : IsReady (unsized m)) (sizes : HasSizes m) (text
           longest = longer more counted complete is;
         }
 
-  -- Where reading has stopped, if the byte that follows is refused.
-  pub refused_at : (at : Stopped) (group : Group) → IsUnderway m text at group → IsRefused u text at → IsStopped m text at
-  refused_at at group is refused = stops_at at group is (λ _. inl refused.1)
-
   -- What has been found without sizes, if its groups fit.
   pub begun_with : (counted : Begun) → HasFound u text counted → (group : Group) → group_after m (Some first_group) (take counted.at.size text) ≡ Some group
       → (counted.complete ≡ true → group_allows m group None ≡ true) → HasBegun m text counted
@@ -362,7 +335,7 @@ module _ (m : Notation) (ready : IsReady (unsized m)) (sizes : HasSizes m) (text
         (l.0, as_sized m h sizes l.0 (take counted.at.size text) l.1 (ap (ends m) grouped ∙ ends_there yes));
     lengths = λ yes l reads. found.lengths yes l (as_unsized m h sizes l (take counted.at.size text) reads).0;
     refused = λ yes. let is = found.refused yes in
-        (is.0, refused_at counted.at group (record { begun = found.begun; grouped = grouped }) is);
+        (is.0, stops_at counted.at group (record { begun = found.begun; grouped = grouped }) (λ _. inl is.1));
   }
 
   -- What has been found without sizes, if its integer is grouped, and fractions have no sizes.

@@ -39,15 +39,20 @@ module _ (radix : ℕ) (text : List ℕ) where
   byte_between : (n : ℕ) (o : Option ℕ) → n < length text → digit_of (get_or text n 0) radix ≡ o → digits_in radix (between text n (n + 1)) ≡ cons_option o []
   byte_between n o inside is = grind (arith, common_steps, length-drop, take_more)
 
+-- `pushed radix run value bytes` is the run with one more digit, the last of so many bytes.
+abbrev pub pushed : ℕ → Reading → ℕ → ℕ → Reading
+pushed radix run value bytes = record run {
+  size = run.size + bytes;
+  sum = record { digits = run.sum.digits + 1; value = (run.sum.value * radix % 2 ^ 64 + value) % 2 ^ 64 };
+}
+
 module _ (m : Notation) (radix : ℕ) (text : List ℕ) (part : Part) where
   -- No bytes.
   pub same_run : (run : Reading) → IsRunOn m radix text part run run
   same_run run = search (rules, digits_in, between, add_more, digits_piece, at_stage, number_from_digits_after)
 
   pub no_run : (run : Reading) → IsRunOn m radix text part run (up_to run run.size 0 run.sum.value)
-  no_run run =
-      let same : run.sum.digits ≡ run.sum.digits + (run.size - run.size - 0) = omega arith in
-      subst (λ (n : ℕ). IsRunOn m radix text part run (record run { sum = record { digits = n; value = run.sum.value } })) same (same_run run)
+  no_run run = grind (arith, same_run)
 
   -- Two runs that follow one another.
   pub both_runs : (a b c : Reading) → IsRunOn m radix text part a b → IsRunOn m radix text part b c → IsRunOn m radix text part a c
@@ -70,28 +75,17 @@ module _ (m : Notation) (radix : ℕ) (text : List ℕ) (part : Part) where
             b.size c.size)))) ∙ ap (λ ds. number_from_digits_after radix a.sum.value ds % 2 ^ 64) (sym all);
       }
 
--- `pushed radix run value bytes` is the run with one more digit, the last of so many bytes.
-abbrev pub pushed : ℕ → Reading → ℕ → ℕ → Reading
-pushed radix run value bytes = record run {
-  size = run.size + bytes;
-  sum = record { digits = run.sum.digits + 1; value = (run.sum.value * radix % 2 ^ 64 + value) % 2 ^ 64 };
-}
-
--- One more digit is one more byte, or two with the separator before it.
-pub one_more : (radix : ℕ) (begun : Reading) (size separators value v bytes more next : ℕ) → begun.size + separators ≤ size → bytes + separators ≡ more + 1
-    → next ≡ (value * radix % 2 ^ 64 + v) % 2 ^ 64 → pushed radix (up_to begun size separators value) v bytes ≡ up_to begun (size + bytes) more next
-one_more radix begun size separators value v bytes more next within one is =
-    let digits : begun.sum.digits + (size - begun.size - separators) + 1 ≡ begun.sum.digits + (size + bytes - begun.size - more) = omega (arith, within, one) in
-    λ j. record begun { size = size + bytes; sum = record { digits = digits j; value = sym is j } }
+  -- One more digit is one more byte, or two with the separator before it.
+  pub one_more : (begun : Reading) (size separators value v bytes more next : ℕ) → begun.size + separators ≤ size → bytes + separators ≡ more + 1
+      → next ≡ (value * radix % 2 ^ 64 + v) % 2 ^ 64 → let run = up_to begun size separators value in IsRunOn m radix text part begun run
+      → IsRunOn m radix text part run (pushed radix run v bytes) → IsRunOn m radix text part begun (up_to begun (size + bytes) more next)
+  one_more begun size separators value v bytes more next within one is on digit =
+      let digits : begun.sum.digits + (size - begun.size - separators) + 1 ≡ begun.sum.digits + (size + bytes - begun.size - more) = omega (arith, within, one) in
+      subst (IsRunOn m radix text part begun) (λ j. record begun { size = size + bytes; sum = record { digits = digits j; value = sym is j } })
+      (both_runs begun (up_to begun size separators value) _ on digit)
 
 pushed_sum : (radix s v : ℕ) → (s * radix % 2 ^ 64 + v) % 2 ^ 64 % 2 ^ 64 ≡ (s * radix + v) % 2 ^ 64
 pushed_sum radix s v = mod-mod (s * radix % 2 ^ 64 + v) (2 ^ 64) ∙ mod-add-mod (s * radix) (2 ^ 64) v
-
--- One digit, wherever it leads.
-one_digit : (m : Notation) (radix : ℕ) (text : List ℕ) (part : Part) (run : Reading) (stage : Stage) (v : ℕ) → IsDigitAt radix text run.size v
-    → IsReadOn m text (at_stage run.size run.stage) (digits_piece part) (at_stage (run.size + 1) stage)
-    → IsRunOn m radix text part run (record (pushed radix run v 1) { stage = stage })
-one_digit m radix text part run stage v digit on = grind (arith, byte_between)
 
 -- One digit, and those behind it.
 pub behind_digit : (m : Notation) (radix : ℕ) (text : List ℕ) (part : Part) (run : Reading) (stage : Stage) (v : ℕ) (one last : Reading)
@@ -99,7 +93,7 @@ pub behind_digit : (m : Notation) (radix : ℕ) (text : List ℕ) (part : Part) 
     → IsReadOn m text (at_stage run.size run.stage) (digits_piece part) (at_stage (run.size + 1) stage)
     → IsRunOn m radix text part (record one { stage = stage }) last → IsRunOn m radix text part run last
 behind_digit m radix text part run stage v one last digit same on = both_runs m radix text part run (record one { stage = stage }) last
-    (subst (λ (one : Reading). IsRunOn m radix text part run (record one { stage = stage })) (sym same) (one_digit m radix text part run stage v digit on))
+    (subst (λ (one : Reading). IsRunOn m radix text part run (record one { stage = stage })) (sym same) (grind (arith, byte_between)))
 
 module _ (g : Grammar) (text : List ℕ) (part : Part) (run : Reading) (v : ℕ) (h : HasRoles (steps_of g)) (is : is_run run.stage ≡ true)
     (in_part : part_of run.stage ≡ part) where
@@ -110,8 +104,7 @@ module _ (g : Grammar) (text : List ℕ) (part : Part) (run : Reading) (v : ℕ)
   radix = radix_of (raw g.word) part
 
   pub more_digit : IsDigitAt radix text run.size v → IsRunOn m radix text part run (pushed radix run v 1)
-  more_digit digit = one_digit m radix text part run run.stage v digit
-      (read_digit m text h part run.size run.stage in_part is digit.0 (is_digit radix (get_or text run.size 0) v digit.1))
+  more_digit digit = grind (arith, byte_between, read_digit m text h part run.size run.stage in_part is digit.0 (is_digit radix (get_or text run.size 0) v digit.1))
 
   pub more_separated : IsSeparated m radix text part run.size v → IsRunOn m radix text part run (pushed radix run v 2)
   more_separated separated =

@@ -86,11 +86,6 @@ module _ (C : Condition → Bool) (m : Notation) where
       take false true true going taken admitted is = record { role = r; plays = plays; going = going; taken = taken; admitted = admitted; rest = is }
       take _ _ _ going taken admitted is = absurd (none is)
 
-  -- What a byte makes of a summary.
-  pub moved : (s : Summary) (b : ℕ) (r : Role) → role_at m (part_of s.stage) b ≡ Some r → s.ended ≡ false → takes m s (b == 43) r ≡ true
-      → admits C s b r ≡ true → step_by C m s b ≡ Some (after s (b == 48) r)
-  moved s b r plays going taken admitted = grind arith
-
   pub arrives_byte : (s : Summary) (b : ℕ) (r : Role) (c : Cuts) (text : List ℕ) (d : Cuts) → s.ended ≡ false → role_at m (part_of s.stage) b ≡ Some r
       → takes m s (b == 43) r ≡ true → admits C s b r ≡ true
       → Arrives C m (Some (after s (b == 48) r)) (count (part_of s.stage) (Some r) c) text d → Arrives C m (Some s) c (b ∷ text) d

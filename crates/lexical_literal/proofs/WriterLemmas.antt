@@ -41,10 +41,7 @@ module _ (m : Notation) (ready : IsReady (unsized m)) (sizes : HasSizes m) where
   more_digits : (digits : List ℕ) → AllIn (m.digit parts.Integer) digits
       → is_accepted u (walk u (Some (reading stages.Integer false)) digits) ≡ not (m.condition conditions.BaseSuffix || needs_exponent m)
   more_digits [] all = grind arith
-  more_digits (b ∷ digits) all =
-      let is : move_by u.condition u (reading stages.Integer false) b (Some roles.Digit) ≡ Some (reading stages.Integer false) = grind arith in
-      ap (λ o. is_accepted u (walk u o digits)) (ap (move_by u.condition u (reading stages.Integer false) b)
-      (digit_role u parts.Integer b all.0) ∙ is) ∙ more_digits digits all.1
+  more_digits (b ∷ digits) all = grind (arith, more_digits digits all.1, reading, digit_role)
 
   module _ (first : ℕ) (digits : List ℕ) (not_zero : first ≢ 48) (all : AllIn (m.digit parts.Integer) (first ∷ digits)) where
     -- The first digit, which is not 0.
@@ -57,26 +54,16 @@ module _ (m : Notation) (ready : IsReady (unsized m)) (sizes : HasSizes m) where
         || (m.flag layout.required_mantissa_sign || (m.flag layout.required_exponent_notation && not m.integers_only)))
     digits_read = literal_exactly (first ∷ digits) _ (joined (first ∷ digits) all)
         (ap (λ o. is_accepted u (walk u o digits)) (first_digit stages.Start refl) ∙ go _ refl) where
-          refused : (p s f g e : Bool) → ((p || f) || g) ≡ true → false ≡ not ((p || (s || f)) || (g || e))
-          refused p s f g e is = grind arith
-
-          free : (p s f g e : Bool) → ((p || f) || g) ≡ false → not (s || e) ≡ not ((p || (s || f)) || (g || e))
-          free p s f g e is = grind arith
-
           go : (none : Bool) → ((m.condition conditions.BasePrefix || refuses_first m.condition first) || m.flag layout.required_mantissa_sign) ≡ none
               → is_accepted u (walk u (move_by u.condition u start first (Some roles.Digit)) digits)
               ≡ not ((m.condition conditions.BasePrefix || (m.condition conditions.BaseSuffix || refuses_first m.condition first))
               || (m.flag layout.required_mantissa_sign || (m.flag layout.required_exponent_notation && not m.integers_only)))
           go true is =
               let move : move_by u.condition u start first (Some roles.Digit) ≡ None = grind arith in
-              ap (λ o. is_accepted u (walk u o digits)) move ∙ ap (is_accepted u) (walk_none u.condition u digits)
-              ∙ refused (m.condition conditions.BasePrefix) (m.condition conditions.BaseSuffix) (refuses_first m.condition first)
-              (m.flag layout.required_mantissa_sign) (m.flag layout.required_exponent_notation && not m.integers_only) is
+              ap (λ o. is_accepted u (walk u o digits)) move ∙ (let none = walk_none u.condition u digits in grind arith)
           go false is =
               let move : move_by u.condition u start first (Some roles.Digit) ≡ Some (reading stages.Integer false) = grind arith in
-              ap (λ o. is_accepted u (walk u o digits)) move ∙ more_digits digits all.1
-              ∙ free (m.condition conditions.BasePrefix) (m.condition conditions.BaseSuffix) (refuses_first m.condition first)
-              (m.flag layout.required_mantissa_sign) (m.flag layout.required_exponent_notation && not m.integers_only) is
+              ap (λ o. is_accepted u (walk u o digits)) move ∙ (let more = more_digits digits all.1 in grind arith)
 
     pub negative_read : ((l : Literal) × Reads m l (45 ∷ first ∷ digits))
         ↔ IsFalse ((m.condition conditions.BasePrefix || (m.condition conditions.BaseSuffix || refuses_first m.condition first))

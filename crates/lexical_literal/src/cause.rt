@@ -16,7 +16,7 @@ use crate::step::{
     CONSECUTIVE, Summary, has_digit, has_place, is_complete, is_exponent_character, is_prefix,
     is_suffix, needs_exponent, other_case, part_of, role_at, step_as,
 };
-use crate::syntax::{CONDITIONS, Condition, Conditions, Grammar};
+use crate::syntax::{Condition, Conditions, Grammar};
 use lexical_util::error::Error;
 use lexical_util::format as masks;
 use lexical_util::format::{Part, Role};
@@ -377,18 +377,31 @@ impl Spot {
     const fn unmet(&self) -> Conditions
         ensures { result ≡ kept (unmet (notation_of self.now.grammar) self.now.read (group_at self.now) self.now.byte) (number_of self.now.grammar.conditions) }
     {
-        let grammar = self.grammar;
-        let conditions = grammar.conditions();
-        let mut unmet = Conditions::NONE;
-        let mut index = 0;
-        while index < CONDITIONS.len() {
-            let condition = CONDITIONS[index];
-            if self.is_unmet(condition) {
-                unmet = unmet.with(condition, conditions.number(condition));
-            }
-            index += 1;
+        Conditions {
+            numbers: [
+                self.unmet_number(Condition::BasePrefix),
+                self.unmet_number(Condition::BaseSuffix),
+                self.unmet_number(Condition::NegativeSign),
+                self.unmet_number(Condition::IntegerGroupSize),
+                self.unmet_number(Condition::HigherGroupSize),
+                self.unmet_number(Condition::FractionGroupSize),
+                self.unmet_number(Condition::LeadingZero),
+                self.unmet_number(Condition::DecimalFirstDigit),
+            ],
         }
-        unmet
+    }
+
+    // Returns the number of `condition` if it alone refuses what cannot follow, and 0 otherwise.
+    const fn unmet_number(&self, condition: Condition) -> u8
+        ensures { result ≡ (if unmet (notation_of self.now.grammar) self.now.read (group_at self.now) self.now.byte condition
+            then number_of self.now.grammar.conditions condition else 0) }
+    {
+        let grammar = self.grammar;
+        if self.is_unmet(condition) {
+            grammar.conditions().number(condition)
+        } else {
+            0
+        }
     }
 
     // Returns whether the syntax has a condition that alone refuses what cannot follow.

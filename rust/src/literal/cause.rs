@@ -8,7 +8,7 @@ use crate::literal::step::{
     has_digit, has_place, is_complete, is_exponent_character, is_prefix, is_suffix, needs_exponent, other_case,
     part_of, role_at, step_as, Summary, CONSECUTIVE,
 };
-use crate::literal::syntax::{Condition, Conditions, Grammar, CONDITIONS};
+use crate::literal::syntax::{Condition, Conditions, Grammar};
 use crate::word as masks;
 use crate::word::{Part, Role};
 
@@ -285,18 +285,28 @@ impl Spot {
 
     // Returns the conditions to blame for a requirement: those that refuse alone.
     const fn unmet(&self) -> Conditions {
-        let grammar = &self.grammar;
-        let conditions = grammar.conditions();
-        let mut unmet = Conditions::NONE;
-        let mut index = 0;
-        while index < CONDITIONS.len() {
-            let condition = CONDITIONS[index];
-            if self.is_unmet(condition) {
-                unmet = unmet.with(condition, conditions.number(condition));
-            }
-            index += 1;
+        Conditions {
+            numbers: [
+                self.unmet_number(Condition::BasePrefix),
+                self.unmet_number(Condition::BaseSuffix),
+                self.unmet_number(Condition::NegativeSign),
+                self.unmet_number(Condition::IntegerGroupSize),
+                self.unmet_number(Condition::HigherGroupSize),
+                self.unmet_number(Condition::FractionGroupSize),
+                self.unmet_number(Condition::LeadingZero),
+                self.unmet_number(Condition::DecimalFirstDigit),
+            ],
         }
-        unmet
+    }
+
+    // Returns the number of `condition` if it alone refuses what cannot follow, and 0 otherwise.
+    const fn unmet_number(&self, condition: Condition) -> u8 {
+        let grammar = &self.grammar;
+        if self.is_unmet(condition) {
+            grammar.conditions().number(condition)
+        } else {
+            0
+        }
     }
 
     // Returns whether the syntax has a condition that alone refuses what cannot follow.

@@ -85,7 +85,7 @@ impl Condition {
 /// ```
 #[derive(Debug, Clone, Copy, PartialEq, Eq, PartialOrd, Ord, Hash, Default)]
 pub struct Conditions {
-    numbers: [u8; CONDITIONS.len()],
+    pub(crate) numbers: [u8; CONDITIONS.len()],
 }
 
 impl Conditions {

@@ -1,9 +1,8 @@
 -- The first digit, and those behind it.
-use Rattle.lexical_literal.proofs.Common.{length, nat_tests, ◌<◌}
-use Rattle.lexical_literal.proofs.Common.{Bool, Grammar, HasRoles, IsDigitAt, IsReadOn, IsRunOn, List, Part, Reading, Stage, ap, arith, at_stage}
-use Rattle.lexical_literal.proofs.Common.{Notation, awaits_integer, digits_of, digits_piece, false, get_or, has_digit, if◌then◌else◌, is_free, is_signed}
-use Rattle.lexical_literal.proofs.Common.{may_follow, may_read, part_of}
-use Rattle.lexical_literal.proofs.Common.{radix_of, raw, refl, steps_of, subst, sym, true, ℕ, ◌&&◌, ◌+◌, ◌==◌, ◌∙◌, ◌≡◌}
+use Rattle.lexical_literal.proofs.Common.{length, nat_tests, ◌<◌, Bool, Grammar, HasRoles, IsDigitAt, IsReadOn, IsRunOn, List, Part, Reading, Stage, ap, arith}
+use Rattle.lexical_literal.proofs.Common.{at_stage, Notation, awaits_integer, digits_of, digits_piece, false, get_or, has_digit, if◌then◌else◌, is_free}
+use Rattle.lexical_literal.proofs.Common.{is_signed, may_follow, may_read, part_of, radix_of, raw, refl, steps_of, subst, sym, true, ℕ, ◌&&◌, ◌+◌, ◌==◌, ◌∙◌}
+use Rattle.lexical_literal.proofs.Common.{◌≡◌}
 use Rattle.lexical_literal.specs.declared.step.Stage.TheVariants as stages
 use Rattle.lexical_util.specs.declared.format_flags.Part.TheVariants as parts
 use Rattle.lexical_literal.proofs.ScanLemmas.{read_first, read_led}

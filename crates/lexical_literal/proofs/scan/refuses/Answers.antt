@@ -1,7 +1,6 @@
 -- A byte that plays no role where reading has come is refused.
-use Rattle.lexical_literal.proofs.Common.{get_or}
+use Rattle.lexical_literal.proofs.Common.{get_or, steps_of}
 use Rattle.lexical_literal.proofs.PassedLemmas.{passed}
-use Rattle.lexical_literal.proofs.Common.{steps_of}
 use Rattle.lexical_literal.proofs.scan.refuses.Goals as goal
 
 pub returns-then-at-text : goal.returns-then-at-text

@@ -1,7 +1,6 @@
 -- The suffix is read, or the byte that follows is refused.
-use Rattle.lexical_literal.proofs.Common.{IsAt, IsRefused, List, Notation, Reading, Stopped, arith, counts_of, cuts_of, false≢true, steps_of}
-use Rattle.lexical_literal.proofs.Common.{subst, suffix, sym}
-use Rattle.lexical_literal.proofs.Common.{ℕ, ◌∙◌, ◌≡◌}
+use Rattle.lexical_literal.proofs.Common.{IsAt, IsRefused, List, Notation, Reading, Stopped, arith, counts_of, cuts_of, false≢true, steps_of, subst, suffix}
+use Rattle.lexical_literal.proofs.Common.{sym, ℕ, ◌∙◌, ◌≡◌}
 use Rattle.lexical_literal.proofs.JoinLemmas.{suffix_at}
 use Rattle.lexical_literal.proofs.StoppedLemmas.{complete_at}
 use Rattle.lexical_literal.proofs.scan.suffix.Goals as goal

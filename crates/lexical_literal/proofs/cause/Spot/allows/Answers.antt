@@ -1,6 +1,6 @@
 -- The other grammar has the flags of the word.
-use Rattle.lexical_literal.proofs.Common.{Bool, Condition, Flag, Group, Notation, Option, Summary, ap, false, goes, group_allows, group_at, has}
-use Rattle.lexical_literal.proofs.Common.{lets, notation_of, role_next, sym, true, unsized, with_rules, ℕ, ◌&&◌, ◌∙◌, ◌≡◌}
+use Rattle.lexical_literal.proofs.Common.{Bool, Condition, Flag, Group, Notation, Option, Summary, ap, false, goes, group_allows, group_at, has, lets}
+use Rattle.lexical_literal.proofs.Common.{notation_of, role_next, sym, true, unsized, with_rules, ℕ, ◌&&◌, ◌∙◌, ◌≡◌}
 use Rattle.std.proofs.Common.{rules}
 use Rattle.lexical_literal.proofs.FieldLemmas.{other, other_fields, other_flag}
 use Rattle.lexical_literal.proofs.cause.Spot.allows.Goals as goal

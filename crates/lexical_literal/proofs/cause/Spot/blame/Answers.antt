@@ -1,7 +1,7 @@
 -- A separator, the case of a letter, or a byte.
-use Rattle.lexical_literal.proofs.Common.{Blame, Bool, Group, Notation, Option, Some, Summary, ap, bare, blame, cases, false, goes, group_at}
-use Rattle.lexical_literal.proofs.Common.{if◌then◌else◌, mask_of, notation_of, otherwise, part_of, place_of, refl, requirements, role_at, separators}
-use Rattle.lexical_literal.proofs.Common.{sym, true, ℕ, ◌==◌, ◌∙◌, ◌≡◌}
+use Rattle.lexical_literal.proofs.Common.{Blame, Bool, Group, Notation, Option, Some, Summary, ap, bare, blame, cases, false, goes, group_at, if◌then◌else◌}
+use Rattle.lexical_literal.proofs.Common.{mask_of, notation_of, otherwise, part_of, place_of, refl, requirements, role_at, separators, sym, true, ℕ, ◌==◌, ◌∙◌}
+use Rattle.lexical_literal.proofs.Common.{◌≡◌}
 use Rattle.lexical_literal.specs.declared.cause.ReadErrorKind.TheVariants as causes
 use Rattle.lexical_literal.proofs.FieldLemmas.{untested}
 use Rattle.lexical_literal.proofs.cause.Spot.blame.Goals as goal

@@ -1,6 +1,6 @@
 -- The flag is added to those that require nothing.
-use Rattle.lexical_literal.proofs.Common.{Flag, ap, arith, bare, bit, bit_or, goes, group_at, no_condition, notation_of, one_shl, raw, sym}
-use Rattle.lexical_literal.proofs.Common.{with_rules, ◌%◌, ◌*◌, ◌==◌, ◌^◌, ◌||◌, ◌∙◌, ◌≡◌}
+use Rattle.lexical_literal.proofs.Common.{Flag, ap, arith, bare, bit, bit_or, goes, group_at, no_condition, notation_of, one_shl, raw, sym, with_rules, ◌%◌}
+use Rattle.lexical_literal.proofs.Common.{◌*◌, ◌==◌, ◌^◌, ◌||◌, ◌∙◌, ◌≡◌}
 use Rattle.lexical_literal.proofs.CauseLemmas.{flag_or, flag_pow}
 use Rattle.lexical_literal.proofs.cause.Spot.is_permitted.Goals as goal
 

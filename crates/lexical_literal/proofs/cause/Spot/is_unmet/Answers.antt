@@ -1,5 +1,5 @@
-use Rattle.lexical_literal.proofs.Common.{Bool, Condition, Conditions, ap, arith, bare, false, false≢true, goes, group_at, has, is_same}
-use Rattle.lexical_literal.proofs.Common.{not, notation_of, sym, true, with_rules, ◌&&◌, ◌||◌, ◌∙◌, ◌≡◌}
+use Rattle.lexical_literal.proofs.Common.{Bool, Condition, Conditions, ap, arith, bare, false, false≢true, goes, group_at, has, is_same, not, notation_of, sym}
+use Rattle.lexical_literal.proofs.Common.{true, with_rules, ◌&&◌, ◌||◌, ◌∙◌, ◌≡◌}
 use Rattle.lexical_literal.proofs.NumberLemmas.{has_only}
 use Rattle.lexical_literal.proofs.cause.Spot.is_unmet.Goals as goal
 use Rattle.lexical_literal.proofs.cause.Spot.is_unmet.Goals.{then-has, else-has}

@@ -1,5 +1,4 @@
-use Rattle.lexical_literal.proofs.Common.{Flag, adding, bare, bit, goes, group_at, if◌then◌else◌, nat_lt, not, notation_of, raw, true, ◌&&◌, ◌-◌}
-use Rattle.lexical_literal.proofs.Common.{◌≡◌}
+use Rattle.lexical_literal.proofs.Common.{Flag, adding, bare, bit, goes, group_at, if◌then◌else◌, nat_lt, not, notation_of, raw, true, ◌&&◌, ◌-◌, ◌≡◌}
 use Rattle.lexical_literal.proofs.cause.Spot.refusing.Given as goal
 
 abbrev pub invariant-loop-number : goal.invariant-loop-number

@@ -1,6 +1,6 @@
 -- Flags that refuse alone, or those on leading zeros.
-use Rattle.lexical_literal.proofs.Common.{Bool, Conditions, Spot, all_conditions, ap, arith, bare, false, goes, group_at, has, if◌then◌else◌, kept}
-use Rattle.lexical_literal.proofs.Common.{list_any, nat_tests, not, notation_of, number_of, requiring, some_unmet, true, unmet, ℕ, ◌&&◌, ◌==◌, ◌∙◌, ◌≡◌}
+use Rattle.lexical_literal.proofs.Common.{Bool, Conditions, Spot, all_conditions, ap, arith, bare, goes, group_at, has, kept, list_any, nat_tests, not}
+use Rattle.lexical_literal.proofs.Common.{notation_of, number_of, requiring, some_unmet, unmet, ◌&&◌, ◌∙◌, ◌≡◌}
 use Rattle.lexical_literal.proofs.NumberLemmas.{has_kept}
 use Rattle.lexical_literal.proofs.cause.Spot.requirements.Goals as goal
 
@@ -13,14 +13,8 @@ none_is t k is same none =
     none ∙ (λ j. not (list_any (λ d. (ap (λ (k : Conditions). has k d) same ∙ has_kept t.grammar.conditions (λ d. goes (bare m) t.read (group_at t) t.byte
     && not (goes (requiring d (bare m)) t.read (group_at t) t.byte)) d) j) all_conditions))
 
-none_alone : (a z : ℕ) (n : Bool) → a ≡ 0 → n ≡ true → z ≡ (if (a == 0) && n then z else a)
-none_alone a z n zero none = grind (arith, nat_tests)
-
-some_alone : (a z : ℕ) (n : Bool) → ((a == 0) && n) ≡ false → a ≡ (if (a == 0) && n then z else a)
-some_alone a z n some = grind (arith, nat_tests)
-
 pub returns-then-is_none : goal.returns-then-is_none
-returns-then-is_none c = grind (arith, none_alone, none_is)
+returns-then-is_none c = grind (arith, nat_tests, none_is)
 
 pub returns-else-alone-eq0 : goal.returns-else-alone-eq0
-returns-else-alone-eq0 c = grind (arith, some_alone, none_is, nat_tests)
+returns-else-alone-eq0 c = grind (arith, none_is, nat_tests)

@@ -1,5 +1,5 @@
-use Rattle.lexical_literal.proofs.Common.{Bool, Flag, SEPARATORS, adding, and_comm, ap, arith, bare, bit_not, goes, group_at, is_one_of, mask_of}
-use Rattle.lexical_literal.proofs.Common.{not, notation_of, number_separator_flags, raw, refl, sym, w128, ◌&&◌, ◌∙◌, ◌≡◌}
+use Rattle.lexical_literal.proofs.Common.{Bool, Flag, SEPARATORS, adding, and_comm, ap, arith, bare, bit_not, goes, group_at, is_one_of, mask_of, not}
+use Rattle.lexical_literal.proofs.Common.{notation_of, number_separator_flags, raw, refl, sym, w128, ◌&&◌, ◌∙◌, ◌≡◌}
 use Rattle.lexical_literal.proofs.CauseLemmas.{flag_and, flag_not, mask_flags, masked_by, separators_mask}
 use Rattle.lexical_literal.proofs.cause.Spot.separators.Goals as goal
 

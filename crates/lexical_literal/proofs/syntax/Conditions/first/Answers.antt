@@ -1,6 +1,5 @@
 -- Where none of the conditions before a place is one of them, the first is that at the place, or one behind it.
-use Rattle.lexical_literal.proofs.Common.{Some, add-one, all_conditions, ap, drop, drop-cons, false, find, get_or, has, if◌then◌else◌, sym}
-use Rattle.lexical_literal.proofs.Common.{◌+◌, ◌∙◌, ◌∷◌, ◌≡◌}
+use Rattle.lexical_literal.proofs.Common.{Some, add-one, all_conditions, ap, drop, drop-cons, false, find, get_or, has, if◌then◌else◌, sym, ◌+◌, ◌∙◌, ◌∷◌, ◌≡◌}
 use Rattle.lexical_literal.specs.declared.syntax.Condition.TheVariants as conditions
 use Rattle.lexical_literal.proofs.syntax.Conditions.first.Goals as goal
 
