@@ -253,12 +253,6 @@ const SINGLE: Kind = Kind::new(IntegerKind::Exact, FloatKind::Single).unwrap();
 /// Integers of Lua, NASM and Nim, of which the last 64 bits count.
 const LAST_64: Kind = whole(IntegerKind::WrapsModulo(64));
 
-/// Numbers of PostScript.
-const SHORT_REALS: Kind = finite(Kind::new(Signed(64), FloatKind::Single).unwrap());
-
-/// Integers and reals of Fortran.
-const DEFAULT: Kind = finite(Kind::new(Signed(32), FloatKind::Single).unwrap());
-
 /// What goes on a number of Ada: `16#FF#`, `16:FF:` and `1.x`, but not `1..2`; and on one of VHDL: `1\a\`.
 const ADA_WORDS: Suffixes = Suffixes::new(&[], &[], ADA_STOPS);
 const ADA_STOPS: &[Stop] = &[
@@ -304,15 +298,13 @@ const POINT_AND_DIGIT: &[Stop] = &[Stop::new(b"", b".", b"0123456789")];
 /// Suffixes of integers of C: `1u`, `1LL`, `1ul` and `1wb`. Decimal floats, such as `1.5dd`, are not hexadecimal.
 const C_INTEGERS: &[&[u8]] =
     list![u U l L ll LL ul uL ull uLL Ul UL Ull ULL lu lU llu llU Lu LU LLu LLU wb WB uwb uWB Uwb UWB wbu wbU WBu WBU];
-const C_FLOATS: &[&[u8]] = list![f F l L];
-const C_DECIMAL_FLOATS: &[&[u8]] = list![f F l L df dd dl DF DD DL];
 
 /// What goes on a preprocessing number of C: `1.2.3`, `1'`, `1$x`, `1\u00E9` and `0xe+1`.
 const C_STOPS: &[Stop] = &[Stop::new(b"", b".'$", b""), Stop::new(b"", b"\\", b"uU"), Stop::new(b"eEpP", b"+-", b"")];
 /// Those of decimal integers alone have kinds of their own, after the first twelve.
-const C_WORDS: Suffixes = Suffixes::new(C_INTEGERS, C_FLOATS, C_STOPS).with_kinds(C_KINDS.split_at(12).0);
+const C_WORDS: Suffixes = Suffixes::new(C_INTEGERS, list![f F l L], C_STOPS).with_kinds(C_KINDS.split_at(12).0);
 const C_DECIMALS: Suffixes =
-    Suffixes::new(C_INTEGERS, C_DECIMAL_FLOATS, C_STOPS).with_kinds(C_KINDS).with_written(&[b"ULL"]);
+    Suffixes::new(C_INTEGERS, list![f F l L df dd dl DF DD DL], C_STOPS).with_kinds(C_KINDS).with_written(&[b"ULL"]);
 const C_KINDS: &[(&[u8], Kind)] = kinds! {
     SINGLE => [f F]; Kind::EXACT => [wb WB uwb uWB Uwb UWB wbu wbU WBu WBU];
     whole(Unsigned(64)) => [u U ul uL ull uLL Ul UL Ull ULL lu lU llu llU Lu LU LLu LLU];
@@ -350,8 +342,8 @@ const D_KINDS: &[(&[u8], Kind)] = kinds! {
     whole(Signed(64)) => [L]; Kind::EXACT => [Li];
 };
 
-/// Suffixes of imaginary numbers of Go, and a point that no binary and octal number has: `0b1.`.
-const GO_WORDS: Suffixes = words(&[b"i"], &[b"i"]);
+/// Suffixes of imaginary numbers of Go and Raku, and a point that no binary and octal number of Go has: `0b1.`.
+const IMAGINARY: Suffixes = words(&[b"i"], &[b"i"]);
 const GO_POINTLESS: Suffixes = Suffixes::new(&[b"i"], &[], &[Stop::new(b"", b".", b"")]);
 
 /// Suffixes of Java and Scala, in either case.
@@ -442,9 +434,6 @@ const PYTHON_KEYWORDS: &[&[u8]] = list![and else for if in is not or];
 /// Suffixes of R, for integers and imaginary numbers.
 const R_WORDS: Suffixes = words(&[b"L", b"i"], &[b"L", b"i"]);
 
-/// The suffix of imaginary numbers of Raku.
-const RAKU_WORDS: Suffixes = words(&[b"i"], &[b"i"]);
-
 /// Suffixes of Ruby.
 const RUBY_WORDS: Suffixes = Suffixes::new(list![r i ri], &[b"i"], POINT_AND_DIGIT).whole_words(true);
 
@@ -458,7 +447,8 @@ const RUBY_KEYWORDS: &[&[u8]] = list![
 const RUST_INTEGERS: &[&[u8]] = list![u8 u16 u32 u64 u128 usize i8 i16 i32 i64 i128 isize];
 const RUST_DECIMALS: &[&[u8]] = list![u8 u16 u32 u64 u128 usize i8 i16 i32 i64 i128 isize f32 f64];
 const RUST_WORDS: Suffixes = words(RUST_DECIMALS, &[b"f32", b"f64"]).with_kinds(RUST_KINDS);
-const RUST_PREFIXED_WORDS: Suffixes = Suffixes::new(RUST_INTEGERS, &[], POINT_AND_NO_NAME).with_kinds(RUST_KINDS);
+const RUST_PREFIXED_WORDS: Suffixes =
+    Suffixes::new(RUST_INTEGERS, &[], &[Stop::new(b"", b".", &NO_NAME)]).with_kinds(RUST_KINDS);
 const RUST_KINDS: &[(&[u8], Kind)] = kinds! {
     whole(Unsigned(8)) => [u8]; whole(Unsigned(16)) => [u16]; whole(Unsigned(32)) => [u32];
     whole(Unsigned(64)) => [u64 usize]; whole(Signed(8)) => [i8]; whole(Signed(16)) => [i16];
@@ -487,9 +477,6 @@ const VISUAL_BASIC_DECIMALS: Suffixes = words(list![S US I % UI L & UL F ! R # D
         finite(Kind::EXACT) => [R # D @];
     })
     .with_written(&[b"UL"]);
-
-/// A decimal point before a byte that is neither a second one nor begins a name.
-const POINT_AND_NO_NAME: &[Stop] = &[Stop::new(b"", b".", &NO_NAME)];
 
 /// Letters, `_` and the bytes from 128 up; and all other bytes, but for a point, and for 0, which ends a string of C.
 const LETTERS: [u8; 181] = bytes(true);
@@ -653,7 +640,7 @@ languages! {
     /// known. Compilers refuse `1_` and `1_8x`, which are tokens here. gfortran also reads `1q5`, and `1.q5` as one
     /// number.
     FORTRAN: "Fortran" = {
-        "decimal": numbers(b'e', b'.', SIGNED) => FORTRAN_WORDS; DEFAULT,
+        "decimal": numbers(b'e', b'.', SIGNED) => FORTRAN_WORDS; finite(Kind::new(Signed(32), FloatKind::Single).unwrap()),
         // It rejects `1.0`, which the first form reads.
         "double precision": numbers(b'd', b'.', SIGNED.required_exponent_notation(true)); finite(Kind::EXACT),
         "hexadecimal, '" behind "z'" only_read true: suffixed(b'\'', 16, TOKENS, SUFFIXED); whole(Unsigned(128)),
@@ -680,13 +667,13 @@ languages! {
 
     /// Go's integer and floating-point literals (Language Specification).
     GO: "Go" = {
-        "decimal": decimal(separated(b'_').no_integer_leading_zeros(true)) => GO_WORDS, // rejects `08`, not `08.5`
+        "decimal": decimal(separated(b'_').no_integer_leading_zeros(true)) => IMAGINARY, // rejects `08`, not `08.5`
         "octal": octal(separated(b'_')) => GO_POINTLESS,
-        "hexadecimal": prefixed(b'x', 16, GO_PREFIXED) => GO_WORDS,
+        "hexadecimal": prefixed(b'x', 16, GO_PREFIXED) => IMAGINARY,
         "octal, 0o": prefixed(b'o', 8, GO_PREFIXED) => GO_POINTLESS,
         "binary": prefixed(b'b', 2, GO_PREFIXED) => GO_POINTLESS,
-        "hexadecimal float": binary_floats(b'x', 16, GO_PREFIXED.required_exponent_notation(true)) => GO_WORDS, // rejects `0x1.8`
-    } => Tokens::new(&[leading_zeros("imaginary, leading zeros", separated(b'_'), &GO_WORDS)], &[]);
+        "hexadecimal float": binary_floats(b'x', 16, GO_PREFIXED.required_exponent_notation(true)) => IMAGINARY, // rejects `0x1.8`
+    } => Tokens::new(&[leading_zeros("imaginary, leading zeros", separated(b'_'), &IMAGINARY)], &[]);
 
     /// Haskell's integers and floats (Haskell 2010 Report, 2.5). GHC reads more since 9.2: those of `HASKELL_GHC2021`.
     HASKELL: "Haskell 2010" = {
@@ -871,7 +858,7 @@ languages! {
     /// PostScript's numbers, with signs (PostScript Language Reference, third edition, 3.2.2), as in Ghostscript. An
     /// integer has 64 bits: `16#FFFFFFFFFFFFFFFF` is -1. Floats are singles.
     POSTSCRIPT: "PostScript" = {
-        "decimal": numbers(b'e', b'.', SIGNED.required_exponent_digits(true)) => POSTSCRIPT_WORDS; SHORT_REALS, // rejects `1e`
+        "decimal": numbers(b'e', b'.', SIGNED.required_exponent_digits(true)) => POSTSCRIPT_WORDS; finite(Kind::new(Signed(64), FloatKind::Single).unwrap()), // rejects `1e`
     } radixes "" "#" { integers(2, TOKENS, UNSIGNED) => POSTSCRIPT_WORDS; whole(Wraps(64)) } => Tokens::new(&[], &[]);
 
     /// Prolog's integers and floats (SWI-Prolog 9 Reference Manual, 5.10 and 2.15.1.6). `1 000`, a number in
@@ -903,11 +890,11 @@ languages! {
 
     /// Raku's integers, rationals and floats (Raku Documentation 2022.12, Number literals).
     RAKU: "Raku" = {
-        "decimal": decimal(separated(b'_').required_fraction_digits(true)) => RAKU_WORDS, // rejects `1.`, not `.5`
-        "hexadecimal": prefixed(b'x', 16, RAKU_PREFIXED) => RAKU_WORDS,
-        "octal": prefixed(b'o', 8, RAKU_PREFIXED) => RAKU_WORDS,
-        "binary": prefixed(b'b', 2, RAKU_PREFIXED) => RAKU_WORDS,
-        "decimal, 0d": prefixed(b'd', 10, RAKU_PREFIXED) => RAKU_WORDS,
+        "decimal": decimal(separated(b'_').required_fraction_digits(true)) => IMAGINARY, // rejects `1.`, not `.5`
+        "hexadecimal": prefixed(b'x', 16, RAKU_PREFIXED) => IMAGINARY,
+        "octal": prefixed(b'o', 8, RAKU_PREFIXED) => IMAGINARY,
+        "binary": prefixed(b'b', 2, RAKU_PREFIXED) => IMAGINARY,
+        "decimal, 0d": prefixed(b'd', 10, RAKU_PREFIXED) => IMAGINARY,
     } radixes ":" "<" { closed(b'>', separated(b'_')) } => POINTS_BACK;
 
     /// Ruby's integers and floats (ISO/IEC 30170:2012, 8.7.6.2), with signs.
