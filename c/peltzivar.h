@@ -447,8 +447,7 @@ enum {
 
 /* How numbers are written where a syntax leaves a choice. Zeros make no wish, and a null pointer is the same as zeros.
  * What the syntax forbids is not done, and what it requires is. `group` is how many digits a group of the integer has,
- * unless the syntax has a size. With 0, there are groups only where it has one. A fraction has only groups that the
- * syntax requires. `without_base` leaves out the base prefix and suffix. `lowercase` writes digits in lowercase.
+ * unless the syntax has a size. With 0, there are groups only where it has one. A fraction has none. `without_base` leaves out the base prefix and suffix. `lowercase` writes digits in lowercase.
  * `min_digits` is how many integer digits there are at least, with zeros before the others. With `has_decimals`, a
  * float is rounded in decimal floats to as many digits after the point as `decimals`, to the nearest, or to the even
  * one if two are as near, and has no exponent that neither the syntax nor the style requires. In integers alone, and in
@@ -467,7 +466,7 @@ typedef struct {
  * by a syntax, and for any float of peltzivar_format_f64. A literal by a syntax can be of any length. */
 #define PELTZIVAR_FORMS_SIZE 4097
 #define PELTZIVAR_INTEGER_SIZE 519
-#define PELTZIVAR_FLOAT_SIZE 2125
+#define PELTZIVAR_FLOAT_SIZE 2054
 
 /* Write an integer by the first form whose text all forms read as the same integer, or as a double that is exactly this
  * integer, or by the first of its words of peltzivar_suffixes, which peltzivar_forms_token reads and the other calls
@@ -545,9 +544,8 @@ typedef struct {
 
 /* A syntax is what texts are read by: a lawful word with an exponent character and a decimal point, or with 0 for both.
  * If both are 0, numbers are integers. The other members are conditions: that a number has the base prefix or the base
- * suffix, that its sign is not `-`, and that the digit separators of its integer or its fraction, if there are any,
- * make groups of 2 to 8 digits, as in `1,234`. Groups of the integer before the last have higher_group_size digits, if
- * this is not 0, as in `12,34,567`. The last two conditions are that a number begins, after its sign, with `0`, as C's
+ * suffix, that its sign is not `-`, and that the digit separators of its integer, if there are any, make groups of 2 to 8
+ * digits, as in `1,234`. Groups before the last have higher_group_size digits, if this is not 0, as in `12,34,567`. The last two conditions are that a number begins, after its sign, with `0`, as C's
  * `017`, or with a digit from `0` to `9`, as NASM's `0FFh`. Members that are 0 or false are no condition.
  * peltzivar_read_settings writes a syntax, and the forms of a language have some. Check your own with
  * peltzivar_check_syntax. */
@@ -555,9 +553,9 @@ struct peltzivar_syntax {
     peltzivar_word format;
     uint8_t exponent, decimal_point;
     bool required_base_prefix, required_base_suffix, no_negative_mantissa_sign;
-    uint8_t integer_group_size, higher_group_size, fraction_group_size;
+    uint8_t integer_group_size, higher_group_size;
     bool required_leading_zero, decimal_first_digit;
-    uint8_t reserved[6];
+    uint8_t reserved[7];
 };
 
 /* Reads the settings of a text of len bytes, and writes the syntax that they build to *out. The text, such as a file,
@@ -791,9 +789,8 @@ enum {
     PELTZIVAR_CONDITION_NO_NEGATIVE_MANTISSA_SIGN = 4,
     PELTZIVAR_CONDITION_INTEGER_GROUP_SIZE = 8,
     PELTZIVAR_CONDITION_HIGHER_GROUP_SIZE = 16,
-    PELTZIVAR_CONDITION_FRACTION_GROUP_SIZE = 32,
-    PELTZIVAR_CONDITION_REQUIRED_LEADING_ZERO = 64,
-    PELTZIVAR_CONDITION_DECIMAL_FIRST_DIGIT = 128
+    PELTZIVAR_CONDITION_REQUIRED_LEADING_ZERO = 32,
+    PELTZIVAR_CONDITION_DECIMAL_FIRST_DIGIT = 64
 };
 
 /* Writes why a text is not a literal to *out and returns PELTZIVAR_VALUE_OK: a caret below `span` shows where. If no

@@ -15,7 +15,7 @@ function placesOf(flags) {
 }
 
 /* Where groups of digits have sizes. */
-const SIZES = { integer_group_size: "", higher_group_size: " before the last one", fraction_group_size: " in the fraction" };
+const SIZES = { integer_group_size: "", higher_group_size: " before the last one" };
 
 /* Returns in words what a form has beside its syntax, or what it has no more. */
 function wordsBeside({ meaning, isNumber, value }) {

@@ -679,9 +679,8 @@ class Syntax(_Reader, metaclass=_Class):
         (-12.0, '8', '3')
 
     The conditions are that a literal has the base prefix or the base suffix, that its sign is not `-`, that the digit
-    separators of its integer or its fraction, if there are any, make groups of 2 to 8 digits, as in `1,234`, with
-    groups before the last of `higher_group_size`, as in `12,34,567`, and that its first digit is `0`, or one from `0`
-    to `9`. The format is in normal form, so equivalent formats have the same syntax. Raises OptionsError if the
+    separators of its integer, if there are any, make groups of 2 to 8 digits, as in `1,234`, with groups before the
+    last of `higher_group_size`, as in `12,34,567`, and that its first digit is `0`, or one from `0` to `9`. The format is in normal form, so equivalent formats have the same syntax. Raises OptionsError if the
     exponent character or the decimal point does not fit the normal form, if only one of them is None, or if the format
     contradicts a condition.
     """
@@ -694,7 +693,6 @@ class Syntax(_Reader, metaclass=_Class):
     no_negative_mantissa_sign: bool = False
     integer_group_size: Optional[int] = None
     higher_group_size: Optional[int] = None
-    fraction_group_size: Optional[int] = None
     required_leading_zero: bool = False
     decimal_first_digit: bool = False
     _notes: Tuple[Note, ...] = field(init=False, repr=False, compare=False)

@@ -59,7 +59,7 @@ struct Structure {
 #define ARRAY(type, member, count, of) {'[', AT(type, member), AT(type, count), &of##_members, #member},
 IS(syntax) M('8', syntax, format.low) M('8', syntax, format.high) B(syntax, exponent) B(syntax, decimal_point)
     B(syntax, required_base_prefix) B(syntax, required_base_suffix) B(syntax, no_negative_mantissa_sign)
-    B(syntax, integer_group_size) B(syntax, higher_group_size) B(syntax, fraction_group_size)
+    B(syntax, integer_group_size) B(syntax, higher_group_size)
     B(syntax, required_leading_zero) B(syntax, decimal_first_digit) }};
 IS(specials) S(specials, nan) S(specials, inf) S(specials, infinity) }};
 IS(suffix_kind) S(suffix_kind, word) B(suffix_kind, integer_kind) B(suffix_kind, integer_bits)

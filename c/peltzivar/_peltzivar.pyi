@@ -120,6 +120,5 @@ def settings(
     fraction_digit_separator_flags: bool = ..., exponent_digit_separator_flags: bool = ..., radix: int = ...,
     exponent: Optional[Byte] = ..., point: Optional[Byte] = ..., required_base_prefix: bool = ...,
     required_base_suffix: bool = ..., no_negative_mantissa_sign: bool = ..., integer_group_size: Optional[int] = ...,
-    higher_group_size: Optional[int] = ..., fraction_group_size: Optional[int] = ..., required_leading_zero: bool = ...,
-    decimal_first_digit: bool = ...,
+    higher_group_size: Optional[int] = ..., required_leading_zero: bool = ..., decimal_first_digit: bool = ...,
 ) -> Any: ...

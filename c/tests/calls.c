@@ -120,15 +120,23 @@ static void test_words(void) {
     CHECK(peltzivar_role_of(RESERVED, 'e', '.', 255) == PELTZIVAR_ROLE_NONE);
 }
 
+/* Returns a syntax of a word and an exponent character, without a decimal point and without conditions. */
+static peltzivar_syntax syntax_of(peltzivar_word format, uint8_t exponent) {
+    peltzivar_syntax syntax;
+    memset(&syntax, 0, sizeof syntax);
+    syntax.format = format, syntax.exponent = exponent;
+    return syntax;
+}
+
 static void test_syntaxes(void) {
-    static const peltzivar_syntax integers = {PELTZIVAR_STANDARD_INIT, 0, 0, false, false, false, 0, 0, 0, false, false, {0}};
-    static const peltzivar_syntax wrong[] = {{{0, 0}, 0, 0, false, false, false, 0, 0, 0, false, false, {0}},
-        {PELTZIVAR_STANDARD_INIT, 'e', 0, false, false, false, 0, 0, 0, false, false, {0}}, {PELTZIVAR_STANDARD_INIT, 0, 0, true, false, false, 0, 0, 0, false, false, {0}}};
+    const peltzivar_syntax integers = syntax_of(PELTZIVAR_STANDARD, 0);
+    peltzivar_syntax wrong[] = {syntax_of(ZERO, 0), syntax_of(PELTZIVAR_STANDARD, 'e'), integers};
     static const peltzivar_error errors[] = {PELTZIVAR_INVALID_MANTISSA_RADIX, PELTZIVAR_INVALID_DECIMAL_POINT, PELTZIVAR_INVALID_BASE_PREFIX};
     peltzivar_literal literal;
     peltzivar_read_error error, unwritten;
     peltzivar_explanation why = {{1, 2}, {3, 4}, 5, 6, 7, {0}, 8};
     memset(&unwritten, 0, sizeof unwritten);
+    wrong[2].required_base_prefix = true;
     for (int i = 0; i < 3; i++) CHECK(peltzivar_check_syntax(&wrong[i]) == errors[i]);
     for (size_t i = 0; i <= sizeof integers.reserved; i++) {
         peltzivar_syntax reserved = integers;
@@ -282,9 +290,9 @@ static void test_writing(void) {
     memset(&literal, 0, sizeof literal);
     CHECK(make_syntax("radix=2\nrequired_exponent_notation=true\nrequired_exponent_sign=true\nno_exponent_without_fraction=true" LONGEST, &other)
         && !peltzivar_format_i64(&other, INT64_MIN, &ones, integer, sizeof integer, &needed));
-    CHECK(needed == sizeof integer && make_syntax("radix=2\nno_exponent_notation=true\nfraction_group_size=2" LONGEST, &other));
-    CHECK(!peltzivar_format_f64(&other, -DBL_MAX, &ones, real, sizeof real, &needed) && needed <= sizeof real);
-    CHECK(!peltzivar_format_f64(&other, -5e-324, &ones, real, sizeof real, &needed) && needed == sizeof real);
+    CHECK(needed == sizeof integer && make_syntax("radix=2\nno_exponent_notation=true" LONGEST, &other));
+    CHECK(!peltzivar_format_f64(&other, -DBL_MAX, &ones, real, sizeof real, &needed) && needed == sizeof real);
+    CHECK(!peltzivar_format_f64(&other, -5e-324, &ones, real, sizeof real, &needed) && needed <= sizeof real);
     CHECK(!peltzivar_format_u64(&hexadecimal, UINT64_MAX, NULL, text, sizeof text, NULL) && !strcmp(text, "0xFFFFFFFFFFFFFFFF"));
     CHECK(!peltzivar_format_u64(&hexadecimal, 31, &bare, text, 3, &needed) && !strcmp(text, "1F") && needed == 3);
     CHECK(peltzivar_format_f64(&english, 5e-324, NULL, NULL, 0, &needed) == PELTZIVAR_WRITE_BUFFER && needed == 327);
@@ -440,7 +448,7 @@ static void test_parse_errors(void) {
  * that is longer than an object can be is not read. */
 static void test_null(void) {
     peltzivar_fields fields = PELTZIVAR_NEW_FIELDS;
-    peltzivar_syntax syntax = {{1, 2}, 3, 4, true, true, true, 7, 0, 0, true, true, {0}};
+    peltzivar_syntax syntax = syntax_of(ZERO, 3);
     peltzivar_word word = {1, 2};
     peltzivar_edit edit = {104, 16};
     size_t to[] = {7, 7}, problems = 7;

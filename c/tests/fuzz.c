@@ -101,19 +101,16 @@ static char *copy(size_t len) {
     return memcpy(bytes, text, len);
 }
 
-/* Returns a size of groups, most often 0, which is no condition. */
-static uint8_t draw_size(void) {
-    return (uint8_t)(draw() % 4 ? 0 : draw() % 9);
-}
-
 /* Writes a syntax of a word, sometimes with other bits, and returns whether it is lawful. */
 static bool draw_syntax(peltzivar_word word, peltzivar_syntax *syntax) {
     static const uint8_t options[][2] = {{'e', '.'}, {'e', '.'}, {'p', '.'}, {'^', ','}, {0, 0}, {0, 0}, {'e', 0}, {'_', 'E'}};
     while (peltzivar_check(word) && draw() % 9) word = draw_word();
     const uint8_t *const drawn = options[draw() % 8];
-    const peltzivar_syntax of = {word, drawn[0], drawn[1], draw() % 8 == 0, draw() % 8 == 0, draw() % 8 == 0,
-        draw_size(), draw_size(), draw_size(), draw() % 8 == 0, draw() % 8 == 0, {0}};
+    const peltzivar_syntax of = {.format = word, .exponent = drawn[0], .decimal_point = drawn[1]};
     *syntax = of;
+    /* Conditions, of which most are not set. Those that are flags take 1, and sizes of groups 2 to 8. */
+    for (size_t index = offsetof(peltzivar_syntax, required_base_prefix); index < offsetof(peltzivar_syntax, reserved); index++)
+        if (draw() % 6 == 0) ((unsigned char *)syntax)[index] = (unsigned char)(draw() % 2 ? 1 : 2 + draw() % 7);
     /* Other bytes, of which several may be the same. Most have the radixes as before. */
     for (uint64_t count = draw() % 2 ? 0 : draw() % 48, all = draw(); count > 0; count--) {
         const size_t index = draw() % (draw() % 64 ? offsetof(peltzivar_syntax, reserved) : sizeof of);
@@ -377,11 +374,13 @@ static void test_lines(void) {
     }
     if (len && draw() % 4 == 0) text[draw() % len] = (char)draw();
     char *const from = copy(len);
-    peltzivar_syntax syntax = {{1, 2}, 3, 4, true, true, true, 7, 0, 0, true, true, {0}};
+    peltzivar_syntax syntax, before;
+    memset(&syntax, 7, sizeof syntax);
+    before = syntax;
     size_t problems = 7;
     const bool is_built = !peltzivar_read_settings(from, len, &syntax, &problems);
     CHECK(is_built == !problems);
-    CHECK(problems ? syntax.format.low == 1 && syntax.integer_group_size == 7 : !peltzivar_check_syntax(&syntax));
+    CHECK(problems ? !memcmp(&syntax, &before, sizeof syntax) : !peltzivar_check_syntax(&syntax));
     for (size_t index = 0; index == 0 || *text; index++) {
         size_t blamed[16] = {0};
         WRITE(peltzivar_settings_text, from, len, index);

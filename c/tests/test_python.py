@@ -250,7 +250,7 @@ class Literals(unittest.TestCase):
 
     def test_conditions(self):
         fields = {"base_prefix": "x", "base_suffix": "h", "digit_separator": ",", "internal_digit_separator": True}
-        conditions = {"required_base_prefix": "1h", "required_base_suffix": "0x1", "no_negative_mantissa_sign": "-0x1h", "integer_group_size": "0x12,34h", "fraction_group_size": "0x1.2,3h"}
+        conditions = {"required_base_prefix": "1h", "required_base_suffix": "0x1", "no_negative_mantissa_sign": "-0x1h", "integer_group_size": "0x12,34h"}
         first = {"required_leading_zero": "17", "decimal_first_digit": ".5"}
         settings = {name: 3 if "group" in name else True for name in peltzivar._CONDITIONS if name not in first}
         syntax = Syntax.of(**fields, **settings)
@@ -697,7 +697,6 @@ def written(wishes, number, exponent):
     integer, point, fraction = number.partition(".")
     integer = integer.rjust(wishes.get("min_digits", 0), "0")
     integer = re.sub(rf"(?<=\w)(?=(\w{{{size}}})+$)", "_", integer)
-    fraction = "_".join(re.findall(rf"\w{{1,{wishes.get('fraction_group') or 999}}}", fraction))
     text = integer + point + fraction + ("" if exponent is None else f"^{exponent}")
     text = text.lower() if "lowercase" in wishes else text
     return text if "without_base" in wishes else f"0x{text}h"
@@ -755,7 +754,7 @@ class Lists(unittest.TestCase):
         self.assertEqual({*WISHES}, {*inspect.signature(Syntax.format_number).parameters} - {"self", "value"})
         other = lambda name, number: type("Other", (), {name: lambda self: number})()
         hexadecimal = Syntax(SYNTAX.format.edit(mantissa_radix=16, exponent_base=2, exponent_radix=10), "^")
-        sized = Syntax(SYNTAX.format, "^", integer_group_size=4, fraction_group_size=3)
+        sized = Syntax(SYNTAX.format, "^", integer_group_size=4)
         whole, part = 2**53 + 1, 1234567.25
         wholes = [whole, Decimal(whole), Fraction(whole), other("__index__", whole), FormatView(whole)]
         parts, reals = [Decimal(str(part)), Fraction(part)], [part, other("__float__", part)]
@@ -773,8 +772,7 @@ class Lists(unittest.TestCase):
         each = [{name: value} for name, values in WISHES.items() for value in values]
         pairs = [one | more for one, more in itertools.combinations_with_replacement(each, 2)]
         for wishes, (syntax, *literal, given, floats) in itertools.product(pairs, rows):
-            sizes = {"group": syntax.integer_group_size, "fraction_group": syntax.fraction_group_size}
-            own = {name: size for name, size in sizes.items() if size and wishes.get("group") != 0}
+            own = {"group": syntax.integer_group_size} if syntax.integer_group_size and wishes.get("group") != 0 else {}
             for by in (syntax, Forms({"": syntax})):
                 # Nothing is rounded in radix 16, and only floats have one digit before the point with an exponent.
                 rounded = {it: wishes[it] for it in wishes if it != "decimals" or syntax is not hexadecimal}

@@ -32,7 +32,7 @@ typed((syntax.required_base_prefix, syntax.required_base_suffix), Tuple[bool, bo
 typed((syntax.no_negative_mantissa_sign, syntax.format), Tuple[bool, Format])
 typed((syntax.required_leading_zero, syntax.decimal_first_digit), Tuple[bool, bool])
 typed((syntax.integer_group_size, syntax.higher_group_size), Tuple[Optional[int], Optional[int]])
-typed((syntax.fraction_group_size, syntax.role_of("_")), Tuple[Optional[int], Optional[Role]])
+typed(syntax.role_of("_"), Optional[Role])
 typed((syntax.sentence(), syntax.grammar(), syntax.regex()), Tuple[str, str, str])
 literal = typed(syntax.read("-1_234,50"), Literal[str])
 prefix, rest = typed(syntax.read_prefix(b"1;2"), Tuple[Literal[bytes], bytes])

@@ -23,7 +23,6 @@ const WORDS = {
     special_digit_separator: "allow `_` in special values / refuse `_` in special values",
     integer_group_size: "groups of 3 digits / groups of any number of digits",
     higher_group_size: "groups of 3 digits before the last one / groups of any number of digits before the last one",
-    fraction_group_size: "groups of 3 digits in the fraction / groups of any number of digits in the fraction",
     single: "floats have 32 bits / not: floats have 32 bits",
     only_read: "numbers are written in other forms / not: numbers are written in other forms",
     opening: "read `$` as decimal / no opening",

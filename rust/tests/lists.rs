@@ -255,7 +255,6 @@ fn conditions_blame_the_field_that_is_lacking() {
         ("required_base_prefix=true", format::BASE_PREFIX),
         ("required_base_suffix=true", format::BASE_SUFFIX),
         ("integer_group_size=3", format::INTEGER_INTERNAL_DIGIT_SEPARATOR),
-        ("fraction_group_size=3", format::FRACTION_INTERNAL_DIGIT_SEPARATOR),
     ] {
         for setter in Setter::ALL {
             let absent = ["false", "none", "10"].into_iter().find(|it| setter.parse(it).is_ok()).unwrap();
@@ -338,10 +337,9 @@ fn notations_show_each_byte_and_size() {
         Syntax::new_or_panic(builder.digit_separator(b'_'.try_into().ok()).build_format_or_panic(), b'e', b'.');
     for (size, name) in (2..=8).zip(["two", "three", "four", "five", "six", "seven", "eight"]) {
         for (last, higher) in [(size, 0), (2, size), (size, 2)] {
-            let sizes = Conditions::NONE.integer_group_size(Some(last)).fraction_group_size(Some(size));
-            let sentence =
-                syntax.with_conditions(sizes.higher_group_size(Some(higher))).unwrap().sentence().to_string();
-            assert!(sentence.contains(name) && sentence.contains(&format!("of {name} in the fraction")), "{sentence}");
+            let sizes = Conditions::NONE.integer_group_size(Some(last)).higher_group_size(Some(higher));
+            let sentence = syntax.with_conditions(sizes).unwrap().sentence().to_string();
+            assert!(sentence.contains(name), "{sentence}");
         }
     }
 }

@@ -31,10 +31,9 @@ type Pieces = [Range<usize>; 9];
 type Failure = (usize, ReadErrorKind, u128, Conditions, Range<usize>, Error, Option<u8>);
 
 /// The numbers that the conditions have in a word of this file, as if they were flags. A size has four bits.
-const CONDITIONS: [u32; Condition::ALL.len()] = [45, 46, 47, GROUPS, HIGHER, FRACTION_GROUPS, 48, 49];
+const CONDITIONS: [u32; Condition::ALL.len()] = [45, 46, 47, GROUPS, HIGHER, 48, 49];
 const GROUPS: u32 = 50;
 const HIGHER: u32 = 54;
-const FRACTION_GROUPS: u32 = 58;
 
 /// Returns the conditions in a mask.
 fn conditions(word: u128) -> Conditions {
@@ -181,20 +180,19 @@ impl Syntax {
         }
     }
 
-    /// Returns whether the separators of a run, if it has any, are between groups of the sizes of `word`: of an integer that
-    /// of the last group and that of the others, and of a fraction that of each group but the last.
-    fn is_grouped(&self, word: u128, run: &[u8], number: u32) -> bool {
+    /// Returns whether the separators of an integer, if it has any, are between groups of the sizes of `word`: that of the
+    /// last group, and that of the others.
+    fn is_grouped(&self, word: u128, run: &[u8]) -> bool {
         let sizes = Vec::from_iter(run.split(|&byte| self.plays(byte, Role::Separator)).map(<[u8]>::len));
         let most = match size(word, HIGHER) {
-            higher if number == GROUPS && higher > 0 => higher,
-            _ => size(word, number),
+            0 => size(word, GROUPS),
+            higher => higher,
         };
         match &sizes[..] {
             [] | [_] => true,
-            [first, inner @ .., last] if number == GROUPS => {
+            [first, inner @ .., last] => {
                 (1..=most).contains(first) && inner.iter().all(|&it| it == most) && *last == size(word, GROUPS)
             }
-            [inner @ .., last] => inner.iter().all(|&it| it == most) && (1..=most).contains(last),
         }
     }
 
@@ -214,7 +212,7 @@ impl Syntax {
         text: &[u8],
         pieces: &Pieces,
         end: usize,
-    ) -> [(u32, bool, Range<usize>, Error); 20] {
+    ) -> [(u32, bool, Range<usize>, Error); 19] {
         let [sign, prefix, integer, point, fraction, character, exponent_sign, exponent, suffix] = pieces;
         let (is_plus, here) = (|sign: &Range<usize>| &text[sign.clone()] == b"+", || end..end);
         let [has_point, has_exponent] = [!point.is_empty(), !character.is_empty()];
@@ -226,11 +224,8 @@ impl Syntax {
         let positive = if self.is_integers { InvalidPositiveSign } else { InvalidPositiveMantissaSign };
         let missing = if self.is_integers { MissingSign } else { MissingMantissaSign };
         let begins = |most| text.get(sign.end).is_some_and(|&byte| byte <= most && is_digit(self.word, byte, Integer));
-        let groups = |number, run: &Range<usize>| {
-            let is_grouped = !is_set(word, number) || self.is_grouped(word, &text[run.clone()], number);
-            let group = if is_grouped { here() } else { self.group(text, run, end) };
-            (number, is_grouped, group.clone(), InvalidDigit(group.start))
-        };
+        let is_grouped = !is_set(word, GROUPS) || self.is_grouped(word, &text[integer.clone()]);
+        let group = if is_grouped { here() } else { self.group(text, integer, end) };
         [
             (0, !integer.is_empty(), here(), EmptyInteger(end)),
             (1, !has_point || !fraction.is_empty(), here(), EmptyFraction(end)),
@@ -248,8 +243,7 @@ impl Syntax {
             (45, !prefix.is_empty(), sign.end..sign.end, InvalidDigit(sign.end)),
             (46, !suffix.is_empty(), here(), InvalidDigit(end)),
             (47, &text[sign.clone()] != b"-", sign.clone(), InvalidNegativeSign(sign.start)),
-            groups(GROUPS, integer),
-            groups(FRACTION_GROUPS, fraction),
+            (GROUPS, is_grouped, group.clone(), InvalidDigit(group.start)),
             (48, begins(b'0'), sign.end..sign.end + 1, InvalidDigit(sign.end)),
             (49, begins(b'9'), sign.end..sign.end + 1, InvalidDigit(sign.end)),
         ]
@@ -401,13 +395,13 @@ fn possible(word: u128, required: u128) -> u128 {
     let (has_groups, may_lead) = (is_set(required, GROUPS), !is_set(word, 12) && !is_set(word, 13));
     let (prefix, suffix, higher) = (has_byte(88), has_byte(96), separates(32) && has_groups);
     let fits: [bool; CONDITIONS.len()] =
-        [prefix, suffix, true, separates(32), higher, separates(33), may_lead, may_lead];
+        [prefix, suffix, true, separates(32), higher, may_lead, may_lead];
     required & mask(iter::zip(CONDITIONS, fits).filter(|it| it.1).map(|it| it.0), |_| true)
 }
 
 /// Returns conditions of which the sizes are `sizes`.
-fn sized(flags: u64, sizes: [u64; 3]) -> u128 {
-    let sizes = iter::zip([GROUPS, HIGHER, FRACTION_GROUPS], sizes).map(|(number, size)| u128::from(size) << number);
+fn sized(flags: u64, sizes: [u64; 2]) -> u128 {
+    let sizes = iter::zip([GROUPS, HIGHER], sizes).map(|(number, size)| u128::from(size) << number);
     u128::from(flags) << CONDITIONS[0] | sizes.sum::<u128>()
 }
 
@@ -419,7 +413,7 @@ fn compare_all(longest: usize, words: usize, eighths: u64) {
         let (word, options) = (syntax.format().word(), syntax.exponent().zip(syntax.point()));
         let own =
             (0..1 << 9).map(|set| set << CONDITIONS[0]).find(|&set| conditions(set) == syntax.conditions()).unwrap();
-        for (required, longest) in [(own, longest), (possible(word, sized(31, [2, 3, 2])), longest - 1)] {
+        for (required, longest) in [(own, longest), (possible(word, sized(31, [2, 3])), longest - 1)] {
             compare(word, options, required, &hostile_bytes(word, options)[..10], longest, eighths);
         }
     }
@@ -431,14 +425,14 @@ fn compare_all(longest: usize, words: usize, eighths: u64) {
         let some_options = || (random.below(127) as u8, random.below(127) as u8);
         let options = iter::repeat_with(some_options).find(fits);
         for options in [options, None] {
-            let sizes = [(); 3].map(|()| [0, 2, 3][random.below(3) as usize]);
+            let sizes = [(); 2].map(|()| [0, 2, 3][random.below(3) as usize]);
             let required = possible(word, sized(random.below(32), sizes));
             let mut pool = hostile_bytes(word, options);
             let bytes: [u8; 10] = array::from_fn(|_| pool.swap_remove(random.below(pool.len() as u64) as usize));
             compare(word, options, required, &bytes, 4, eighths);
         }
     }
-    for sizes in [[2, 0, 2], [3, 0, 3], [3, 2, 0], [2, 3, 0], [2, 4, 3]] {
+    for sizes in [[2, 0], [3, 0], [3, 2], [2, 3], [2, 4]] {
         for _ in 0..words / 25 {
             let format = Format::new(group_word(&mut random)).unwrap();
             compare(format.word(), Some((b'e', b'.')), sized(0, sizes), b"0,.e", longest + 2, eighths);

@@ -23,14 +23,11 @@ fn files_give_a_syntax_and_what_is_found() {
         (b"required_base_suffix=true\nbase_suffix='h'\n\nbase_suffix=none", "",
             &["lines 1, 4: required_base_suffix is set, and the format has no base suffix", "lines 2, 4: a later setting overrides base_suffix"]),
         (b"integer_group_size=9", "", &["line 1: integer_group_size takes a number from 2 to 8, or `none`, not `9`"]),
-        (b"digit_separator=','\ninternal_digit_separator=true\ninteger_group_size=3\nhigher_group_size=2\nfraction_group_size=4", "0x0A0A0A000000002C000000070000000C 101 46 integer_group_size=3 higher_group_size=2 fraction_group_size=4", &[]),
-        (b"internal_digit_separator=true\ninteger_group_size=3\nhigher_group_size=2\nfraction_group_size=4", "", &[
+        (b"digit_separator=','\ninternal_digit_separator=true\ninteger_group_size=3\nhigher_group_size=2", "0x0A0A0A000000002C000000070000000C 101 46 integer_group_size=3 higher_group_size=2", &[]),
+        (b"internal_digit_separator=true\ninteger_group_size=3\nhigher_group_size=2", "", &[
             "line 2: integer_group_size is set, and the format has no digit separator",
-            "line 4: fraction_group_size is set, and the format has no digit separator",
             "line 1: digit separator flags are set, but there is no digit separator"]),
-        (b"higher_group_size=2\nfraction_group_size=4", "", &[
-            "line 1: higher_group_size is set, and integer_group_size is not",
-            "line 2: fraction_group_size is set, and the format has no fraction_internal_digit_separator"]),
+        (b"higher_group_size=2", "", &["line 1: higher_group_size is set, and integer_group_size is not"]),
         // Each condition that contradicts the format is told, also beside an option.
         (b"required_base_prefix=true\nradix=16\nrequired_base_suffix=true\ninteger_group_size=8", "", &[
             "line 2: the exponent character 'e' is a digit in radix 16",

@@ -3,7 +3,7 @@ use Rattle.lexical_literal.proofs.Common.{Allows, Blame, Bool, Condition, Flag, 
 use Rattle.lexical_literal.proofs.Common.{IsWeaker, List, Marks, None, Notation, Option, Part, ReadErrorKind, Role, Some, Spot, Summary, adding, all_conditions}
 use Rattle.lexical_literal.proofs.Common.{alone, and_from, and_parts, ap, arith, bare, binds, blame, case_set, cases, cases_Bool, false, false≢true}
 use Rattle.lexical_literal.proofs.Common.{first_unmet, flag_bits, goes, group_allows, group_at, has, has_size, if◌then◌else◌, inl, inr, is_at, is_at_gap}
-use Rattle.lexical_literal.proofs.Common.{is_one_of, kept, length, length-take-le, lets, lowest, marks_of, mask_of, no_condition, not, notation_of}
+use Rattle.lexical_literal.proofs.Common.{has_sizes, is_one_of, kept, length, length-take-le, lets, lowest, marks_of, mask_of, no_condition, not, notation_of}
 use Rattle.lexical_literal.proofs.Common.{number_separator_flags, other_case, otherwise, part_of, place_of, raw, refl, refusal_of, requirement_flags}
 use Rattle.lexical_literal.proofs.Common.{requirements, requiring, role_at, role_next, separators, shown, slice_get, some_unmet, spot_of, subst, sum_by, sym}
 use Rattle.lexical_literal.proofs.Common.{tail_of, take, true, unmet, unsized, with_rules, zeros, ℕ, ◌&&◌, ◌==◌, ◌||◌, ◌↔◌, ◌∙◌, ◌≡◌, ◌≤◌, ◌⊎◌}
@@ -89,13 +89,12 @@ module _ (m : Notation) (s : Summary) (g : Group) (next : Option ℕ) (allowed :
         with_flag : (x y : Bool) → (x && not y) ≡ false → x ≡ true → y ≡ true
         with_flag x y none set = grind arith
 
-  by_size : (c : Condition) (part : Part) → part_of s.stage ≡ part → has_size (only c) part ≡ true → has_size (bare m) part ≡ false
-      → has_size m part ≡ m.condition c → leads m ≡ true
-  by_size c part at one none sized = grind (arith, leading, goes_with)
-
   in_part : (part : Part) → part_of s.stage ≡ part → leads m ≡ true
-  in_part parts.Integer at = by_size conditions.IntegerGroupSize parts.Integer at refl refl refl
-  in_part parts.Fraction at = by_size conditions.FractionGroupSize parts.Fraction at refl refl refl
+  in_part parts.Integer at = elim (cases_Bool (has_sizes m)) [
+    | inl set ↦ leading (only conditions.IntegerGroupSize).condition parts.Integer at (sym set) (goes_with conditions.IntegerGroupSize set)
+    | inr none ↦ leading no_condition parts.Integer at (sym none) allowed
+  ]
+  in_part parts.Fraction at = leading no_condition parts.Fraction at refl allowed
   in_part parts.Exponent at = leading no_condition parts.Exponent at refl allowed
 
   -- A flag on leading zeros is to blame.

@@ -1,9 +1,10 @@
 -- The names that several proofs of this crate cite, passed on from one place. Declares nothing.
 pub use Rattle.lexical_literal.specs.Additions.Causes.{IsWeaker, is_at_gap, is_separator, kind_set, lets, place_of}
-pub use Rattle.lexical_literal.specs.Additions.Explained.{alone, blame, cases, group_at, mask_of, otherwise, refusal_of, requirements, separators, some_unmet}
-pub use Rattle.lexical_literal.specs.Additions.Explained.{spot_of, unmet, zeros}
-pub use Rattle.lexical_literal.specs.Additions.GroupSize.{IsReadOf, first_group, follows, goes, group_after, group_allows, grow, grown, is_idle, is_size}
-pub use Rattle.lexical_literal.specs.Additions.GroupSize.{makes_empty, most, next_part, role_next, steps_of, unsized, with_rules}
+pub use Rattle.lexical_literal.specs.Additions.Explained.{alone, blame, cases, group_at, mask_of, otherwise, refusal_of, requirements, separators}
+pub use Rattle.lexical_literal.specs.Additions.Explained.{some_unmet, spot_of, unmet, zeros}
+pub use Rattle.lexical_literal.specs.Additions.GroupSize.{IsReadOf, first_group, follows, goes, group_after, group_allows, grow, grown, is_idle}
+pub use Rattle.lexical_literal.specs.Additions.GroupSize.{is_size, makes_empty, most, next_part, role_next, steps_of, unsized, with_rules, has_size}
+pub use Rattle.lexical_literal.specs.Additions.GroupSize.{has_sizes}
 pub use Rattle.lexical_literal.specs.Additions.Literal.{AreSums, IsCut, IsMantissa, IsSum, cut, summed_in}
 pub use Rattle.lexical_literal.specs.Additions.Scan.{HasRoles, HasSizes, IsAt, IsBegun, IsDigitAt, IsOpened, IsReadOn, IsReady, IsRefused, IsRunOn, IsSeparated}
 pub use Rattle.lexical_literal.specs.Additions.Scan.{IsUsual, at_stage, between, counts_of, fresh, integer_counts, is_free, may_read, up_to}
@@ -17,7 +18,7 @@ pub use Rattle.lexical_literal.specs.Additions.Stop.{HasBegun, HasFound, IsCount
 pub use Rattle.lexical_literal.specs.Cause.{Allows, IsCause, IsRefusal, IsUnmet, Marks, adding, bare, binds, case_set, first_unmet, index_behind, is_at}
 pub use Rattle.lexical_literal.specs.Cause.{is_one_of, lowest, marks_of, number_separator_flags, requirement_flags, requiring, shown, tail_of}
 pub use Rattle.lexical_literal.specs.Front.{IsFront, IsValidUpTo, NoFront, NoLiteral, ReadsFront}
-pub use Rattle.lexical_literal.specs.Groups.{has_size, has_sizes, higher, inner_fits, is_grouped, last_fits}
+pub use Rattle.lexical_literal.specs.Groups.{higher, is_grouped}
 pub use Rattle.lexical_literal.specs.Literal.{IsLiteral, IsSpelled, Literal, Reads, condition, has_leading_zero, is_absent, is_float, is_minus, is_none_or_one}
 pub use Rattle.lexical_literal.specs.Literal.{is_none_or_prefix, is_plus, is_present, is_zero_led, text_of}
 pub use Rattle.lexical_literal.specs.Notation.{IsOnlyRole, Notation, all_conditions, exponent_character_of, has, is_same, kept, lacks_options, notation_of}

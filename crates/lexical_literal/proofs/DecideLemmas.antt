@@ -68,14 +68,13 @@ module _ (m : Notation) (A : Flag → Bool) (D : Condition → Bool) (weaker : I
   unsized_weaker = record {
     no_more = λ f is. let two = and_parts ((unsized n).flag f) _ is in
         required m f (and_from _ _ (weaker.no_more f (and_from _ _ (and_parts _ (A f) two.0).1 two.1)) two.1);
-    no_less = λ f is. less (makes_empty parts.Integer f) (makes_empty parts.Fraction f) (D conditions.IntegerGroupSize) (D conditions.FractionGroupSize)
-        (m.condition conditions.IntegerGroupSize) (m.condition conditions.FractionGroupSize) (m.flag f) (A f) (is_one_of requirement_flags f)
-        (weaker.conditions conditions.IntegerGroupSize) (weaker.conditions conditions.FractionGroupSize) (weaker.no_less f) is;
+    no_less = λ f is. less (makes_empty f) (D conditions.IntegerGroupSize) (has_sizes m) (m.flag f) (A f) (is_one_of requirement_flags f)
+        (weaker.conditions conditions.IntegerGroupSize) (weaker.no_less f) is;
     conditions = λ c is. let two = and_parts (not (is_size c)) (D c) is in and_from _ _ two.0 (weaker.conditions c two.1);
   } where
-    less : (i k di dk mi mk x a r : Bool) → (di ≡ true → mi ≡ true) → (dk ≡ true → mk ≡ true) → (x ≡ true → (a || r) ≡ true)
-        → (not ((i && mi) || (k && mk)) && x) ≡ true → ((not ((i && di) || (k && dk)) && a) || r) ≡ true
-    less i k di dk mi mk x a r one two three is = grind arith
+    less : (i d m x a r : Bool) → (d ≡ true → m ≡ true) → (x ≡ true → (a || r) ≡ true)
+        → (not (i && m) && x) ≡ true → ((not (i && d) && a) || r) ≡ true
+    less i d m x a r one two is = grind arith
 
   some_sizes : has_sizes n ≡ true → has_sizes m ≡ true
   some_sizes is = grind arith

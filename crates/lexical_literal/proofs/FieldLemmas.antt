@@ -1,8 +1,9 @@
 -- What the fields of a grammar tell of the word of its format.
 use Rattle.lexical_literal.proofs.Common.{IsUsual, None, Some, Condition, Conditions, [], ◌∷◌, ◌-◌, ◌||◌, and_parts, eqb-true, has, is_same, kept, number_of}
 use Rattle.lexical_literal.proofs.Common.{IsTrue, allowed_ascii, Bool, Flag, Part, Record, ap, arith, bit, bit_and, effective_exponent_radix}
-use Rattle.lexical_literal.proofs.Common.{exponent_character_of, false, false≢true, if◌then◌else◌, inl, inr, lacks_options, length, mod-lt, nat_tests, not}
-use Rattle.lexical_literal.proofs.Common.{notation_of, point_of, radix_of, raw, refl, subst, sym, true, used_separator, ℕ, ◌%◌, ◌&&◌, ◌<◌, ◌==◌, ◌^◌, ◌∙◌, ◌≡◌}
+use Rattle.lexical_literal.proofs.Common.{exponent_character_of, false, false≢true, if◌then◌else◌, inl, inr, lacks_options, length, mod-lt, nat_tests}
+use Rattle.lexical_literal.proofs.Common.{not, notation_of, point_of, radix_of, raw, refl, subst, sym, true, used_separator, ℕ, ◌%◌, ◌&&◌, ◌<◌, ◌==◌}
+use Rattle.lexical_literal.proofs.Common.{◌^◌, ◌∙◌, ◌≡◌, all_conditions}
 use Rattle.lexical_flags.proofs.FlagBits.{flag_test, mask_test}
 use Rattle.lexical_flags.proofs.Packing.{low_flag, raw-fields, word-fields}
 use Rattle.lexical_flags.proofs.RecordLemmas.{record_same}
@@ -95,7 +96,7 @@ radix_fits g parts.Exponent radix same is = subst IsRadix (sym same) is.lawful.e
 radix_fits g _ radix same is = subst IsRadix (sym same) is.lawful.mantissa_radix
 
 -- The fields with the flags of the word `w` and other conditions, and without a separator.
-module _ (a : Inside) (h : AreFields a) (w : ℕ) (k : Conditions) (eight : length k.numbers ≡ 8) where
+module _ (a : Inside) (h : AreFields a) (w : ℕ) (k : Conditions) (all : length k.numbers ≡ length all_conditions) where
   abbrev pub other : Inside
   other = record a { flags = w % 2 ^ 64; separator = 0; conditions = k }
 
@@ -110,7 +111,7 @@ module _ (a : Inside) (h : AreFields a) (w : ℕ) (k : Conditions) (eight : leng
     radix = h.radix;
     separator = inr refl;
     exponent = h.exponent;
-    conditions = eight;
+    conditions = all;
   }
 
   pub other_flag : (f : Flag) → (raw (worded other).word).flag f ≡ (raw w).flag f
@@ -158,23 +159,23 @@ module _ (w : ℕ) (fits : w < 2 ^ 128) (normal : IsNormal w) where
     fields_are : record_of a.flags (byte_of a) ≡ raw w
     fields_are = record_same _ _ (λ f. ap (λ n. (raw n).flag f) flags ∙ low_flag w f) bytes
 
-    pub are_fields : (a.point ≡ 0 → a.exponent ≡ 0) → length a.conditions.numbers ≡ 8 → AreFields a
-    are_fields none eight = record {
+    pub are_fields : (a.point ≡ 0 → a.exponent ≡ 0) → length a.conditions.numbers ≡ length all_conditions → AreFields a
+    are_fields none all = record {
       flags = subst (λ n. n < 2 ^ 64) (sym flags) (mod-lt w (pow_pos 64));
       bytes = λ b. subst (λ n. n < 2 ^ 8) (sym (bytes b)) (mod-lt _ (pow_pos 8));
       base = ap effective_exponent_base fields_are ∙ base_normal ∙ sym (bytes layout.exponent_base);
       radix = ap effective_exponent_radix fields_are ∙ radix_normal ∙ sym (bytes layout.exponent_radix);
       separator = subst SeparatorAllowedOrAbsent (sym fields_are) normal.separator_used;
       exponent = none;
-      conditions = eight;
+      conditions = all;
     }
 
 -- The numbers of a usual syntax are those of `NegativeSign`.
 off : (b : Bool) → not b ≡ true → b ≡ false
 off b is = grind arith
 
-pub usual_kept : (c : Conditions) → length c.numbers ≡ 8 → are_usual c ≡ true → c ≡ kept (is_same conditions.NegativeSign) (number_of c)
-usual_kept c eight usual = is_kept (is_same conditions.NegativeSign) (number_of c) c eight each where
+pub usual_kept : (c : Conditions) → length c.numbers ≡ length all_conditions → are_usual c ≡ true → c ≡ kept (is_same conditions.NegativeSign) (number_of c)
+usual_kept c all usual = is_kept (is_same conditions.NegativeSign) (number_of c) c all each where
   each : (d : Condition) → number_of c d ≡ (if is_same conditions.NegativeSign d then number_of c d else 0)
   each d = let none = none_of_all (λ d. has c d && not (is_same conditions.NegativeSign d)) (off _ usual) d in grind (arith, nat_tests)
 

@@ -3,10 +3,10 @@ use Rattle.std.proofs.Common.{rules}
 use Rattle.lexical_literal.proofs.Common.{Bool, Group, HasRoles, HasSizes, IsFront, IsReady, List, Literal, None, Notation, Option, Part, Reads, Role, Some}
 use Rattle.lexical_literal.proofs.Common.{Stage, Summary, [], admits, after, after_mark, and_from, and_parts, ap, append_assoc, arith, cases_Bool, false}
 use Rattle.lexical_literal.proofs.Common.{false≢true, first_group, follows, gap_fits, group_after, group_allows, grow, grown, has_digit, has_size, has_sizes}
-use Rattle.lexical_literal.proofs.Common.{higher, if◌then◌else◌, inl, inner_fits, inr, is_open, is_place, is_run, is_signed, lacks_prefix, last_fits, list_any}
+use Rattle.lexical_literal.proofs.Common.{higher, if◌then◌else◌, inl, inr, is_open, is_place, is_run, is_signed, lacks_prefix, list_any}
 use Rattle.lexical_literal.proofs.Common.{may_follow, most, nat_le, nat_lt, nat_tests, not, or_left, or_parts, or_right, part_of, refl, role_at, separators_in}
 use Rattle.lexical_literal.proofs.Common.{start, subst, suc, sym, takes, takes_in, true, unsized, walk, zero, ℕ, ◌&&◌, ◌++◌, ◌+◌, ◌-◌, ◌==◌, ◌||◌, ◌∙◌, ◌∷◌}
-use Rattle.lexical_literal.proofs.Common.{◌≡◌, ◌≤◌}
+use Rattle.lexical_literal.proofs.Common.{◌<◌, ◌≡◌, ◌≤◌}
 use Rattle.lexical_util.specs.declared.feature_format.roles.Role.TheVariants as roles
 use Rattle.lexical_util.specs.declared.format_flags.Part.TheVariants as parts
 use Rattle.lexical_literal.specs.declared.syntax.Condition.TheVariants as conditions
@@ -16,7 +16,7 @@ use Rattle.lexical_literal.proofs.GroupLemmas.{not_empty}
 use Rattle.lexical_literal.proofs.RefusalLemmas.{other_roles}
 use Rattle.lexical_literal.proofs.PartOfLemmas.{none_after}
 use Rattle.lexical_literal.proofs.WalkLemmas.{as_role, digit_role, is_role, walk_append, took}
-use Rattle.lexical_literal.proofs.SizeLemmas.{as_sized, as_unsized, ends, group_append, group_none, same_internal}
+use Rattle.lexical_literal.proofs.SizeLemmas.{as_sized, as_unsized, ends, group_append, group_none, same_internal, some_size}
 use Rattle.lexical_literal.proofs.StepLemmas.{mark_part}
 
 module _ (m : Notation) where
@@ -67,7 +67,7 @@ module _ (m : Notation) where
     settled : lacks_prefix s.stage ≡ false
     gap : s.gap ≡ (g.digits == 0)
     run : s.gap ≡ false → is_run s.stage ≡ true
-    within : g.digits ≤ most m g.part
+    within : g.digits ≤ most m
 
   record Linked (s : Summary) (g : Group) : Type 0 where
     part : g.part ≡ part_of s.stage
@@ -143,7 +143,7 @@ module _ (m : Notation) where
 
     module _ (text : List ℕ) (s : Summary) (g : Group) (is : Filling text s g) where
       linked : Linked s g
-      linked = linked_all (grind (arith, is.sized)) start first_group text s g first_linked is.read is.grouped
+      linked = linked_all (some_size m g.part is.sized) start first_group text s g first_linked is.read is.grouped
 
       opened : Open s g
       opened = linked.sized (and_from _ _ is.separated is.sized)
@@ -155,7 +155,10 @@ module _ (m : Notation) where
       one_more b r role taken admitted follow separated part = grind (arith, walk_append, linked, group_append)
 
       internal : u.flag (separators_in (part_of s.stage)).internal ≡ true
-      internal = same_internal m (part_of s.stage) (sizes.internal (part_of s.stage) (ap (has_size m) (sym linked.part) ∙ is.sized))
+      internal = same_internal m (part_of s.stage) (allowed (part_of s.stage) (ap (has_size m) (sym linked.part) ∙ is.sized)) where
+        allowed : (part : Part) → has_size m part ≡ true → m.flag (separators_in part).internal ≡ true
+        allowed parts.Integer sized = sizes.internal sized
+        allowed _ sized = absurd (false≢true sized)
 
       follow : may_follow u s.stage ≡ true
       follow = elim (cases_Bool s.gap) [
@@ -172,7 +175,7 @@ module _ (m : Notation) where
       admitted : (b : ℕ) (r : Role) → (roles.Sign ≡ r → ⊥) → admits u.condition s b r ≡ true
       admitted b r other = admits_settled u s b r opened.settled other
 
-      zero_more : nat_lt g.digits (most m g.part) ≡ true → Filling (text ++ 48 ∷ []) (after s true roles.Digit) (grown g (Some roles.Digit))
+      zero_more : nat_lt g.digits (most m) ≡ true → Filling (text ++ 48 ∷ []) (after s true roles.Digit) (grown g (Some roles.Digit))
       zero_more small = one_more 48 roles.Digit (digit_role m g.part 48 (h.zero_is_digit g.part))
           (and_from _ _ (grind (arith, opened)) (and_from _ _ (place (has_digit s.stage) s.gap opened.digit) follow))
           (admitted 48 roles.Digit (λ e. cc)) (or_right _ _ small) is.separated refl where
@@ -181,10 +184,10 @@ module _ (m : Notation) where
             place true true seen = internal
             place false true seen = absurd (false≢true seen)
 
-      separator_more : s.gap ≡ false → inner_fits m g.part g.digits ≡ true
+      separator_more : s.gap ≡ false → (g.digits == higher m) ≡ true
           → Filling (text ++ sizes.separator ∷ []) (after s (sizes.separator == 48) roles.Separator) (grown g (Some roles.Separator))
       separator_more closed fit = one_more sizes.separator roles.Separator
-          (is_role m g.part sizes.separator h roles.Separator (λ e. cc) (sizes.has_separator (grind (arith, is.sized))))
+          (is_role m g.part sizes.separator h roles.Separator (λ e. cc) (sizes.has_separator (some_size m g.part is.sized)))
           (and_from _ _ (grind (arith, opened)) (and_from _ _ (or_left _ _ (ap not closed)) (or_left _ _ (place (has_digit s.stage) opened.digit))))
           (admitted _ roles.Separator (λ e. cc)) (rw (is.separated) fit) refl refl where
             place : (digit : Bool) → digit ≡ true → (is_place u (part_of s.stage) digit true && may_follow u s.stage) ≡ true
@@ -199,19 +202,19 @@ module _ (m : Notation) where
     closable_from text x is = (x ++ is.0, is.1, subst (Reads m is.1) (append_assoc text x is.0) is.2)
 
     -- So many zeros more, behind which the text can be completed.
-    zeros : (k : ℕ) (text : List ℕ) (s : Summary) (g : Group) → Filling text s g → g.digits + k ≤ most m g.part
-        → ((x : List ℕ) (t : Summary) (last : Group) → Filling x t last → last.part ≡ g.part → last.digits ≡ g.digits + k → Closable x) → Closable text
-    zeros zero text s g is within next = next text s g is refl (omega arith)
+    zeros : (k : ℕ) (text : List ℕ) (s : Summary) (g : Group) → Filling text s g → g.digits + k ≤ most m
+        → ((x : List ℕ) (t : Summary) (last : Group) → Filling x t last → last.digits ≡ g.digits + k → Closable x) → Closable text
+    zeros zero text s g is within next = next text s g is (omega arith)
     zeros (suc k) text s g is within next =
-        let small : nat_lt g.digits (most m g.part) ≡ true = let low : g.digits + suc k ≤ most m g.part = within in grind (arith, nat_tests) in
+        let small : nat_lt g.digits (most m) ≡ true = let low : g.digits + suc k ≤ most m = within in grind (arith, nat_tests) in
         closable_from text (48 ∷ []) (zeros k (text ++ 48 ∷ []) (after s true roles.Digit) (grown g (Some roles.Digit)) (zero_more text s g is small)
-        (omega (arith, within)) (λ x t last more part same. next x t last more part (same ∙ omega arith)))
+        (omega (arith, within)) (λ x t last more same. next x t last more (same ∙ omega arith)))
 
     -- A full group.
-    close : (text : List ℕ) (s : Summary) (g : Group) → Filling text s g → last_fits m g.part g.digits ≡ true → Closable text
+    close : (text : List ℕ) (s : Summary) (g : Group) → Filling text s g → (g.digits == m.number conditions.IntegerGroupSize) ≡ true → Closable text
     close text s g is fit =
         let closed = opened text s g is in
-        let gap : s.gap ≡ false = closed.gap ∙ some g.digits (not_empty m g.part sizes is.sized).2 fit in
+        let gap : s.gap ≡ false = closed.gap ∙ some g.digits (not_empty m sizes (some_size m g.part is.sized)).1 fit in
         let end = ended_there u ready text s is.read closed.going gap (closed.run gap) in
         let more = end.0.more in
         let found = literal_there u ready text s is.read more end.0.accepts in
@@ -222,43 +225,23 @@ module _ (m : Notation) where
           as_sized m h sizes found.0 (text ++ more) found.1
               (ap (ends m) (group_append m (Some first_group) text more ∙ ap (λ o. group_after m o more) is.grouped) ∙ full),
         ) where
-          some : (digits : ℕ) → last_fits m g.part 0 ≡ false → last_fits m g.part digits ≡ true → (digits == 0) ≡ false
-          some zero none fit = absurd (false≢true (sym none ∙ fit))
-          some (suc digits) none fit = grind (arith, nat_tests)
+          some : (digits : ℕ) → 0 < m.number conditions.IntegerGroupSize → (digits == m.number conditions.IntegerGroupSize) ≡ true → (digits == 0) ≡ false
+          some digits none fit = grind (arith, nat_tests)
 
-    close_integer : (text : List ℕ) (s : Summary) (g : Group) → Filling text s g → g.part ≡ parts.Integer → Closable text
-    close_integer text s g is part = elim (cases_Bool (nat_le g.digits (m.number conditions.IntegerGroupSize))) [
-      | inl low ↦ last text s g is part low
+    close_group : (text : List ℕ) (s : Summary) (g : Group) → Filling text s g → Closable text
+    close_group text s g is = elim (cases_Bool (nat_le g.digits (m.number conditions.IntegerGroupSize))) [
+      | inl low ↦ last text s g is low
       | inr high ↦
-          let within = subst (λ part. g.digits ≤ most m part) part (opened text s g is).within in
-          zeros (higher m - g.digits) text s g is (subst (λ part. g.digits + (higher m - g.digits) ≤ most m part) (sym part) (grind (arith, nat_tests)))
-          (λ x t full more same count.
+          let within = (opened text s g is).within in
+          zeros (higher m - g.digits) text s g is (grind (arith, nat_tests)) (λ x t full more count.
           let some : (full.digits == 0) ≡ false = grind (arith, nat_tests) in
-          let fit = subst (λ part. inner_fits m part full.digits ≡ true) (sym (same ∙ part)) (grind (arith, nat_tests)) in
           closable_from x (sizes.separator ∷ []) (last (x ++ sizes.separator ∷ []) (after t (sizes.separator == 48) roles.Separator)
-          (grown full (Some roles.Separator)) (separator_more x t full more ((opened x t full more).gap ∙ some) fit) (same ∙ part) (grind (arith, nat_tests))))
+          (grown full (Some roles.Separator)) (separator_more x t full more ((opened x t full more).gap ∙ some) (grind (arith, nat_tests)))
+          (grind (arith, nat_tests))))
     ] where
-      last : (text : List ℕ) (s : Summary) (g : Group) → Filling text s g → g.part ≡ parts.Integer
-          → nat_le g.digits (m.number conditions.IntegerGroupSize) ≡ true → Closable text
-      last text s g is part low = zeros (m.number conditions.IntegerGroupSize - g.digits) text s g is
-          (subst (λ part. g.digits + (m.number conditions.IntegerGroupSize - g.digits) ≤ most m part) (sym part) (grind (arith, nat_tests)))
-          (λ x t full more same count. close x t full more (subst (λ part. last_fits m part full.digits ≡ true) (sym (same ∙ part)) (grind (arith, nat_tests))))
-
-    close_fraction : (text : List ℕ) (s : Summary) (g : Group) → Filling text s g → g.part ≡ parts.Fraction → Closable text
-    close_fraction text s g is part =
-        let size = sizes.fraction (ap (has_size m) (sym part) ∙ is.sized) in
-        let within = subst (λ part. g.digits ≤ most m part) part (opened text s g is).within in
-        elim (cases_Bool (nat_lt 0 g.digits)) [
-          | inl some ↦ close text s g is (subst (λ part. last_fits m part g.digits ≡ true) (sym part) (grind (arith, nat_tests)))
-          | inr none ↦ zeros 1 text s g is (subst (λ part. g.digits + 1 ≤ most m part) (sym part) (grind (arith, nat_tests)))
-              (λ x t full more same count. close x t full more (subst (λ part. last_fits m part full.digits ≡ true) (sym (same ∙ part))
-              (grind (arith, nat_tests))))
-        ]
-
-    close_group : (text : List ℕ) (s : Summary) (g : Group) (part : Part) → g.part ≡ part → Filling text s g → Closable text
-    close_group text s g parts.Integer part is = close_integer text s g is part
-    close_group text s g parts.Fraction part is = close_fraction text s g is part
-    close_group text s g parts.Exponent part is = absurd (false≢true (sym (ap (has_size m) part) ∙ is.sized))
+      last : (text : List ℕ) (s : Summary) (g : Group) → Filling text s g → nat_le g.digits (m.number conditions.IntegerGroupSize) ≡ true → Closable text
+      last text s g is low = zeros (m.number conditions.IntegerGroupSize - g.digits) text s g is (grind (arith, nat_tests))
+          (λ x t full more count. close x t full more (grind (arith, nat_tests)))
 
     -- What has been read, and whose groups fit, is a front.
     pub front_of : (text : List ℕ) (s : Summary) (g : Group) → walk u (Some start) text ≡ Some s → group_after m (Some first_group) text ≡ Some g
@@ -267,7 +250,7 @@ module _ (m : Notation) where
       completed : Closable text
       completed = elim (cases_Bool (is_sized g)) [
         | inl sized ↦ let both = and_parts g.separated _ sized in
-            close_group text s g g.part refl (record { read = read; grouped = grouped; separated = both.0; sized = both.1 })
+            close_group text s g (record { read = read; grouped = grouped; separated = both.0; sized = both.1 })
         | inr calm ↦
             let more = completed_there u ready text s read in
             let found = literal_there u ready text s read more.more more.accepts in (

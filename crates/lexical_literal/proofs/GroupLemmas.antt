@@ -1,11 +1,14 @@
 -- Groups, counted at once and byte by byte, and runs without empty groups.
 use Rattle.lexical_literal.proofs.Common.{Bool, Condition, Flag, Group, HasRoles, HasSizes, List, None, Notation, Part, Some, [], and_from, and_parts, ap}
-use Rattle.lexical_literal.proofs.Common.{arith, cases_Bool, drop, false, false_from_ne_true, false≢true, follows, gap_fits, get_or, grown, has_size}
+use Rattle.lexical_literal.proofs.Common.{arith, cases_Bool, drop, false, false_from_ne_true, false≢true, follows, gap_fits, get_or, grown, has_sizes}
 use Rattle.lexical_literal.proofs.Common.{if◌then◌else◌, inl, length}
-use Rattle.lexical_literal.proofs.Common.{inner_fits, inr, is_grouped, is_size, last_fits, most, nat_lt, nat_tests, not, or_left, or_right, refl, separators_in}
+use Rattle.lexical_literal.proofs.Common.{higher, inr, is_grouped, is_size, most, nat_le, nat_lt, nat_tests, not, or_left, or_right, refl, separators_in}
 use Rattle.lexical_literal.proofs.Common.{subst, sym, true, unsized, with_rules, ℕ, ◌&&◌, ◌+◌, ◌==◌, ◌||◌, ◌∙◌, ◌∷◌, ◌≡◌, ◌≤◌}
-use Rattle.lexical_literal.specs.Groups.{all_fit, first_fits, group_sizes, one_more, rest_fits}
+use Rattle.lexical_literal.proofs.Common.{◌<◌}
+use Rattle.lexical_literal.specs.Groups.{all_fit, group_sizes, one_more, rest_fits}
 use Rattle.lexical_util.specs.declared.feature_format.roles.Role.TheVariants as roles
+use Rattle.lexical_util.specs.declared.format_flags.Part.TheVariants as parts
+use Rattle.lexical_literal.specs.declared.syntax.Condition.TheVariants as conditions
 use Rattle.lexical_literal.proofs.RunLemmas.{is_rest}
 use Rattle.lexical_literal.proofs.WalkLemmas.{as_role, digit_role}
 
@@ -13,7 +16,7 @@ use Rattle.lexical_literal.proofs.WalkLemmas.{as_role, digit_role}
 abbrev pub group : Part → Bool → ℕ → Group
 group part separated digits = record { part = part; separated = separated; digits = digits }
 
--- `run_fits m g run` is true if the bytes of `run` may follow the group `g`, and the part may end behind them.
+-- `run_fits m g run` is true if the bytes of `run` may follow the group `g`, and the integer may end behind them.
 abbrev pub run_fits : Notation → Group → List ℕ → Bool
 run_fits m g [] = follows m g None
 run_fits m g (b ∷ run) = if m.separator b
@@ -28,12 +31,12 @@ more n (count ∷ counts) = (n + count) ∷ counts
 module _ (m : Notation) where
   -- `counted g run` is true if the groups of `run` have the right sizes, where the first of them has the digits of `g` before it.
   abbrev pub counted : Group → List ℕ → Bool
-  counted g run = if g.separated then rest_fits m g.part (more g.digits (group_sizes m.separator run))
-      else all_fit m g.part (more g.digits (group_sizes m.separator run))
+  counted g run = if g.separated then rest_fits m (more g.digits (group_sizes m.separator run))
+      else all_fit m (more g.digits (group_sizes m.separator run))
 
   -- No group behind a separator has more digits than the greatest.
-  at_most : (part : Part) (count : ℕ) → (inner_fits m part count || last_fits m part count) ≡ true → count ≤ most m part
-  at_most part count fit = grind arith
+  at_most : (count : ℕ) → (count == higher m || count == m.number conditions.IntegerGroupSize) ≡ true → count ≤ most m
+  at_most count fit = grind (arith, nat_tests)
 
   -- Groups that are counted at once are those that are counted byte by byte.
   one_more_is : (digits : ℕ) (counts : List ℕ) → more digits (one_more counts) ≡ more (digits + 1) counts
@@ -57,12 +60,12 @@ module _ (m : Notation) where
       → counted g (b ∷ run) ≡ (follows m g (Some roles.Separator) && counted (grown g (Some roles.Separator)) run)
   counts_separator g b run is = let some = some_counts run in let same : g.digits + 0 ≡ g.digits = omega arith in
       rw (is, none_more (group_sizes m.separator run), some.2, same) (either g.separated) where
-        either : (separated : Bool) → (if separated then rest_fits m g.part (g.digits ∷ (some_counts run).0 ∷ (some_counts run).1)
-            else all_fit m g.part (g.digits ∷ (some_counts run).0 ∷ (some_counts run).1))
-            ≡ ((if separated then inner_fits m g.part g.digits else first_fits m g.part g.digits)
-            && rest_fits m g.part ((some_counts run).0 ∷ (some_counts run).1))
+        either : (separated : Bool) → (if separated then rest_fits m (g.digits ∷ (some_counts run).0 ∷ (some_counts run).1)
+            else all_fit m (g.digits ∷ (some_counts run).0 ∷ (some_counts run).1))
+            ≡ ((if separated then g.digits == higher m else nat_lt 0 g.digits && nat_le g.digits (higher m))
+            && rest_fits m ((some_counts run).0 ∷ (some_counts run).1))
         either true = refl
-        either false = refl
+        either false = grind arith
 
   -- The first of some bytes is counted.
   pub counts_first : (g : Group) (text : List ℕ) → 1 ≤ length text → counted g text ≡ (if m.separator (get_or text 0 0)
@@ -76,13 +79,14 @@ module _ (m : Notation) where
 
   pub counts_end : (g : Group) → follows m g None ≡ counted g []
   counts_end g = let same : g.digits + 0 ≡ g.digits = omega arith in rw (same) (either g.separated) where
-    either : (separated : Bool) → (not separated || last_fits m g.part g.digits) ≡ (if separated then last_fits m g.part g.digits else true)
+    either : (separated : Bool) → (not separated || g.digits == m.number conditions.IntegerGroupSize)
+        ≡ (if separated then g.digits == m.number conditions.IntegerGroupSize else true)
     either true = refl
     either false = refl
 
   -- A group of several is not too large for one digit more.
-  may_grow : (part : Part) (digits count : ℕ) (counts : List ℕ) → rest_fits m part ((digits + 1 + count) ∷ counts) ≡ true → nat_lt digits (most m part) ≡ true
-  may_grow part digits count x2 fit = grind (arith, at_most, nat_tests)
+  may_grow : (digits count : ℕ) (counts : List ℕ) → rest_fits m ((digits + 1 + count) ∷ counts) ≡ true → nat_lt digits (most m) ≡ true
+  may_grow digits count x2 fit = grind (arith, at_most, nat_tests)
 
   absorbed : (a b : Bool) → (b ≡ true → a ≡ true) → (a && b) ≡ b
   absorbed x0 b if_b = grind arith
@@ -95,19 +99,18 @@ module _ (m : Notation) where
         rw (step) (rw (other, rest) (longer g.separated))
   ] where
     longer : (separated : Bool)
-        → ((not separated || nat_lt g.digits (most m g.part)) && counted (record g { separated = separated; digits = g.digits + 1 }) run)
+        → ((not separated || nat_lt g.digits (most m)) && counted (record g { separated = separated; digits = g.digits + 1 }) run)
         ≡ counted (record g { separated = separated; digits = g.digits + 1 }) run
-    longer true = let some = some_counts run in rw (some.2) (absorbed _ _ (may_grow g.part g.digits some.0 some.1))
+    longer true = let some = some_counts run in rw (some.2) (absorbed _ _ (may_grow g.digits some.0 some.1))
     longer false = refl
 
 -- A digit run is grouped if its bytes fit one by one.
-pub grouped_is : (m : Notation) (part : Part) (run : List ℕ) → is_grouped m part run ≡ run_fits m (group part false 0) run
-grouped_is m part run = ap (all_fit m part) (sym (none_more m (group_sizes m.separator run))) ∙ sym (sizes_fit m (group part false 0) run)
+pub grouped_is : (m : Notation) (run : List ℕ) → is_grouped m run ≡ run_fits m (group parts.Integer false 0) run
+grouped_is m run = ap (all_fit m) (sym (none_more m (group_sizes m.separator run))) ∙ sym (sizes_fit m (group parts.Integer false 0) run)
 
 -- No group of several is empty.
-pub not_empty : (m : Notation) (part : Part) → HasSizes m → has_size m part ≡ true → (first_fits m part 0 ≡ false) × (inner_fits m part 0 ≡ false)
-    × (last_fits m part 0 ≡ false)
-not_empty m x1 sizes is = grind arith
+pub not_empty : (m : Notation) → HasSizes m → has_sizes m ≡ true → (0 < higher m) × (0 < m.number conditions.IntegerGroupSize)
+not_empty m sizes is = grind (arith, nat_tests)
 
 -- A digit is no separator.
 pub one_role : (m : Notation) → HasRoles m → (part : Part) (b : ℕ) → m.digit part b ≡ true → m.separator b ≡ false
@@ -115,7 +118,7 @@ one_role m h part b digit = false_from_ne_true _ (λ is.
     let same = h.one roles.Digit roles.Separator b (as_role m part b roles.Digit (digit_role m part b digit)) is in cc)
 
 -- A run without empty groups needs no flag but the one on separators between digits.
-module _ (m : Notation) (h : HasRoles m) (part : Part) (sizes : HasSizes m) (sized : has_size m part ≡ true) (B : Flag → Bool) (D : Condition → Bool)
+module _ (m : Notation) (h : HasRoles m) (part : Part) (sizes : HasSizes m) (sized : has_sizes m ≡ true) (B : Flag → Bool) (D : Condition → Bool)
     (internal : m.flag (separators_in part).internal ≡ true → B (separators_in part).internal ≡ true) where
   abbrev n : Notation
   n = with_rules m B D

@@ -23,7 +23,7 @@ pub second : (n k : ℕ) → n ≡ 0 → not (k == 0) ≡ (not (n == 0) || not (
 second n k none = grind arith
 
 -- Without conditions but `NegativeSign`, groups have no sizes.
-no_sizes : (c : Conditions) → are_usual c ≡ true → (has c conditions.IntegerGroupSize || has c conditions.FractionGroupSize) ≡ false
+no_sizes : (c : Conditions) → are_usual c ≡ true → has c conditions.IntegerGroupSize ≡ false
 no_sizes c usual = grind (arith, nat_tests)
 
 pub usual_sizes : (g : Grammar) → IsUsual g → has_sizes (notation_of g) ≡ false

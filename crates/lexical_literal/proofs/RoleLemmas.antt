@@ -12,7 +12,7 @@ use Rattle.lexical_literal.specs.Additions.Fields.{exponent_in, point_in}
 use Rattle.lexical_util.specs.Unfoldable.{Disjoint, Holds, Lawful, byte_value, cased}
 use Rattle.lexical_literal.specs.declared.syntax.ConditionsError.{ConditionsError}
 use Rattle.lexical_literal.specs.declared.syntax.ConditionsErrorKind.{ConditionsErrorKind}
-use Rattle.lexical_literal.specs.Syntax.{FitIfAny, IsSyntax, fault, lacks_separator, missing}
+use Rattle.lexical_literal.specs.Syntax.{FitIfAny, IsSyntax, fault, missing}
 use Rattle.lexical_flags.proofs.RuleLemmas.{Holds-from_lawful}
 use Rattle.lexical_flags.specs.declared.format_flags.rule.Rule.TheVariants as rules
 use Rattle.lexical_util.specs.Additions.ByteRoles as bytes
@@ -61,20 +61,15 @@ module _ (r : Record) (c : Conditions) (none : contradiction r c ≡ None) where
   unfolding fault
   not_missing d set is = grind (arith, nat_tests, has, nat_le, number_of, option_map)
 
-  -- A part whose groups have sizes may have separators between digits.
-  has_separators : (f : Flag) (kind : ConditionsErrorKind) → lacks_separator r f kind ≡ None
-      → (r.flag f ≡ true) × ((r.byte layout.digit_separator == 0) ≡ false)
-  has_separators f kind is = grind arith
+  -- An integer whose groups have sizes may have separators between digits.
+  separator_of : missing r c conditions.IntegerGroupSize ≡ None
+      → (r.flag layout.integer_internal_digit_separator ≡ true) × ((r.byte layout.digit_separator == 0) ≡ false)
+  separator_of is = grind arith
 
-  integer_separator : has c conditions.IntegerGroupSize ≡ true → (r.flag layout.integer_internal_digit_separator ≡ true)
-      × ((r.byte layout.digit_separator == 0) ≡ false)
+  integer_separator : has c conditions.IntegerGroupSize ≡ true
+      → (r.flag layout.integer_internal_digit_separator ≡ true) × ((r.byte layout.digit_separator == 0) ≡ false)
   integer_separator set = let (prefix, (suffix, (sign, (integer, more)))) = each_none all_conditions none in
-      has_separators _ faults.NoInternalSeparator (not_missing conditions.IntegerGroupSize set integer)
-
-  fraction_separator : has c conditions.FractionGroupSize ≡ true → (r.flag layout.fraction_internal_digit_separator ≡ true)
-      × ((r.byte layout.digit_separator == 0) ≡ false)
-  fraction_separator set = let (prefix, (suffix, (sign, (integer, (higher, (fraction, end)))))) = each_none all_conditions none in
-      has_separators _ faults.NoFractionSeparator (not_missing conditions.FractionGroupSize set fraction)
+      separator_of (not_missing conditions.IntegerGroupSize set integer)
 
   some_size : (number : ℕ) → not (number == 0) ≡ true → 0 < number
   some_size number some = grind (arith, nat_tests)
@@ -82,18 +77,13 @@ module _ (r : Record) (c : Conditions) (none : contradiction r c ≡ None) where
   used : separator_allowed r ≡ true → (r.byte layout.digit_separator == 0) ≡ false → sets.used_separator r (r.byte layout.digit_separator) ≡ true
   used allowed some = and_from _ _ allowed (cased_present true (r.byte layout.digit_separator) some)
 
--- The sizes of a syntax are at least 1, and separators may be between digits.
+-- The groups of a syntax have at least one digit, and separators may be between digits.
 pub has_sizes_of : (g : Grammar) → IsSyntax g → HasSizes (notation_of g)
 has_sizes_of g is = record {
-  integer = λ set. some_size r c none _ set;
-  fraction = λ set. some_size r c none _ set;
-  internal = internal;
+  some = λ set. some_size r c none _ set;
+  internal = λ set. (integer_separator r c none set).0;
   separator = r.byte layout.digit_separator;
-  has_separator = λ set. elim (cases_Bool (has c conditions.IntegerGroupSize)) [
-    | inl integer ↦ let is = integer_separator r c none integer in used r c none (let flag = is.0 in grind arith) is.1
-    | inr other ↦ let is = fraction_separator r c none (sym (ap (λ t. t || has c conditions.FractionGroupSize) other) ∙ set) in
-        used r c none (let flag = is.0 in grind arith) is.1
-  ];
+  has_separator = λ set. let is = integer_separator r c none set in used r c none (let flag = is.0 in grind arith) is.1;
 } where
   r : Record
   r = raw g.word
@@ -103,11 +93,6 @@ has_sizes_of g is = record {
 
   none : contradiction r c ≡ None
   none = is.conditions
-
-  internal : (part : Part) → has_size (notation_of g) part ≡ true → (raw g.word).flag (separators_in part).internal ≡ true
-  internal parts.Integer set = (integer_separator r c none set).0
-  internal parts.Fraction set = (fraction_separator r c none set).0
-  internal parts.Exponent set = absurd (false≢true set)
 
 -- A lawful format is as each rule demands.
 demanded : (rule : Rule) (word : ℕ) → Lawful word → Meets (shape_of rule) word

@@ -183,6 +183,9 @@ module _ (m : Notation) where
   as_spelled : (l : Literal) → IsSpelled u l → IsSpelled m l
   as_spelled = spelled_too u m.flag m.condition required (λ f set. or_left _ _ (kept_flag f set))
 
+  pub some_size : (part : Part) → has_size m part ≡ true → has_sizes m ≡ true
+  some_size x0 is = grind arith
+
   keeps : (part : Part) → has_size m part ≡ false → KeepsPlaces m u.flag u.condition part
   keeps x0 none = grind arith
 
@@ -192,34 +195,25 @@ module _ (m : Notation) where
   module _ (h : HasRoles m) (sizes : HasSizes m) where
     run_too : (part : Part) (run : List ℕ) → part_fits part false 0 run ≡ true → is_run m part run ≡ true → is_run u part run ≡ true
     run_too part run fit is = elim (cases_Bool (has_size m part)) [
-      | inl sized ↦ sym (rest_of_none u part run) ∙ tighter m h part sizes sized u.flag u.condition (same_internal part) false 0 run
+      | inl sized ↦ sym (rest_of_none u part run) ∙ tighter m h part sizes (some_size part sized) u.flag u.condition (same_internal part) false 0 run
           (rw (sized) at fit) (rest_of_none m part run ∙ is)
       | inr none ↦ all_fit m u.flag u.condition part (keeps part none) [] run is
     ]
 
-    grouped : (part : Part) (run : List ℕ) → (has_size m part ≡ true → is_grouped m part run ≡ true) → part_fits part false 0 run ≡ true
-    grouped part run is = grind (arith, grouped_is)
-
-    sized_run : (part : Part) (run : List ℕ) → part_fits part false 0 run ≡ true → has_size m part ≡ true → is_grouped m part run ≡ true
-    sized_run part run fit sized = grouped_is m part run ∙ (rw (sized) at fit)
-
-    abbrev both_fit : Literal → Bool
-    both_fit l = part_fits parts.Integer false 0 l.integer && part_fits parts.Fraction false 0 l.fraction
-
-    -- The groups of a literal fit.
-    literal_ends : (l : Literal) → IsSpelled m l → ends (group_after m (Some first_group) (text_of l)) ≡ both_fit l
-    literal_ends l is = grind (arith, literal_fits, all_end)
+    -- The groups of a literal fit if its integer is grouped.
+    literal_ends : (l : Literal) → IsSpelled m l → ends (group_after m (Some first_group) (text_of l)) ≡ (not (has_sizes m) || is_grouped m l.integer)
+    literal_ends l is = grind (arith, literal_fits, all_end, grouped_is, and_true)
 
     pub as_unsized : (l : Literal) (text : List ℕ) → Reads m l text → Reads u l text × (ends (group_after m (Some first_group) text) ≡ true)
-    as_unsized l text is = grind (arith, grouped, run_too, literal_ends)
+    as_unsized l text is = grind (arith, grouped_is, run_too, literal_ends)
 
     pub as_sized : (l : Literal) (text : List ℕ) → Reads u l text → ends (group_after m (Some first_group) text) ≡ true → Reads m l text
-    as_sized l text is end = grind (arith, as_spelled, and_parts, literal_ends, sized_run)
+    as_sized l text is end = grind (arith, as_spelled, literal_ends)
 
-    -- A literal whose integer is grouped may end, where its fraction has no sizes.
-    pub may_end : (l : Literal) (text : List ℕ) → Reads u l text → has_size m parts.Fraction ≡ false → is_grouped m parts.Integer l.integer ≡ true
+    -- A literal whose integer is grouped may end.
+    pub may_end : (l : Literal) (text : List ℕ) → Reads u l text → is_grouped m l.integer ≡ true
         → (g : Group) × (group_after m (Some first_group) text ≡ Some g) × (group_allows m g None ≡ true)
-    may_end l text is none fit = some (group_after m (Some first_group) text) (grind (arith, as_spelled, and_parts, literal_ends, grouped)) where
+    may_end l text is fit = some (group_after m (Some first_group) text) (grind (arith, as_spelled, literal_ends)) where
       some : (o : Option Group) → ends o ≡ true → (g : Group) × (o ≡ Some g) × (group_allows m g None ≡ true)
       some None is = absurd (false≢true is)
       some (Some g) is = (g, refl, is)

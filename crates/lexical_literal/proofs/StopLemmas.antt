@@ -13,7 +13,7 @@ use Rattle.lexical_literal.proofs.FitLemmas.{linked_there}
 use Rattle.lexical_literal.proofs.PartOfLemmas.{ends_in}
 use Rattle.lexical_literal.proofs.RefusalLemmas.{other_roles}
 use Rattle.lexical_literal.proofs.WalkLemmas.{as_role, digit_role}
-use Rattle.lexical_literal.proofs.SizeLemmas.{group_none}
+use Rattle.lexical_literal.proofs.SizeLemmas.{group_none, some_size}
 
 module _ (m : Notation) (h : HasRoles m) where
   abbrev no_digit : ByteSet
@@ -52,12 +52,9 @@ module _ (m : Notation) (ready : IsReady (unsized m)) (sizes : HasSizes m) (fron
   abbrev last : Group
   last = record { part = part_of s.stage; separated = g.separated; digits = (marks_of m front).size - (marks_of m front).group }
 
-  some_size : (part : Part) → has_size m part ≡ true → has_sizes m ≡ true
-  some_size x0 is = grind arith
-
   same_group : has_size m g.part ≡ true → g ≡ last
   same_group is =
-      let sized = some_size g.part is in
+      let sized = some_size m g.part is in
       let counts = counts_all m h sized [] front first_group g (λ _. refl) grouped is in
       let digits : g.digits ≡ length front - (marks_of m front).group = rw (sized) (omega (arith, counts)) in
       λ j. record { part = linked_there m sized front s g read grouped j; separated = g.separated; digits = digits j }

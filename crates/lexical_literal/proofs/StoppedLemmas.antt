@@ -338,13 +338,13 @@ module _ (m : Notation) (ready : IsReady (unsized m)) (sizes : HasSizes m) (text
         (is.0, stops_at counted.at group (record { begun = found.begun; grouped = grouped }) (λ _. inl is.1));
   }
 
-  -- What has been found without sizes, if its integer is grouped, and fractions have no sizes.
-  pub begun_grouped : (counted : Begun) (found : HasFound u text counted) (whole : IsTrue counted.complete) → has_size m parts.Fraction ≡ false
-      → is_grouped m parts.Integer (found.literal whole).0.integer ≡ true → HasBegun m text counted
-  begun_grouped counted found whole none fit =
-      let l = found.literal whole in let last = may_end m h sizes l.0 (take counted.at.size text) l.1 none fit in
+  -- What has been found without sizes, if its integer is grouped.
+  pub begun_grouped : (counted : Begun) (found : HasFound u text counted) (whole : IsTrue counted.complete)
+      → is_grouped m (found.literal whole).0.integer ≡ true → HasBegun m text counted
+  begun_grouped counted found whole fit =
+      let l = found.literal whole in let last = may_end m h sizes l.0 (take counted.at.size text) l.1 fit in
       begun_with counted found last.0 last.1 (λ _. last.2)
 
   pub begun_free : (counted : Begun) → HasFound u text counted → has_sizes m ≡ false → HasBegun m text counted
   begun_free counted found none = begun_with counted found first_group (all_end m none first_group (take counted.at.size text))
-      (λ _. ap (λ t. not t || true) (or_parts (m.condition conditions.IntegerGroupSize) _ none).0)
+      (λ _. ap (λ t. not t || true) none)

@@ -15,7 +15,6 @@ use Rattle.lexical_util.specs.Roles.{other_case, signs}
 use Rattle.lexical_util.specs.declared.format_flags.Part.{Part}
 use Rattle.lexical_util.specs.declared.format_flags.Part.TheVariants as parts
 use Rattle.lexical_literal.specs.Front.{BeginsBy, IsValidBy, NoneBy}
-use Rattle.lexical_literal.specs.Groups.{has_sizes}
 use Rattle.lexical_literal.specs.Literal.{Literal, Reads}
 use Rattle.lexical_literal.specs.Notation.{all_conditions, Notation, has, order}
 use Rattle.lexical_literal.specs.declared.syntax.Condition.{Condition}
@@ -183,7 +182,7 @@ marks_of m front = record {
   exponent = index_behind (λ byte. not (m.separator byte || signs byte)) front;
   first = position_or_len (m.digit parts.Integer) (take (index_behind (λ byte. not (m.separator byte)) front) front);
   run = index_behind (λ byte. not (m.separator byte)) front;
-  group = if has_sizes m then index_behind (λ byte. not (m.digit parts.Integer byte)) front else 0;
+  group = if m.condition conditions.IntegerGroupSize then index_behind (λ byte. not (m.digit parts.Integer byte)) front else 0;
 }
 
 -- `is_in A next` is true if `next` is a byte of `A`.
@@ -227,7 +226,6 @@ abbrev pub condition_shown : Condition → Notation → Marks → Option ℕ →
 condition_shown conditions.BasePrefix m k next = at k.first k.first errors.InvalidDigit
 condition_shown conditions.NegativeSign m k next = at k.size (wrong_end k next) errors.InvalidNegativeSign
 condition_shown conditions.IntegerGroupSize m k next = at k.group (if is_in (m.digit parts.Integer) next then wrong_end k next else k.size) errors.InvalidDigit
-condition_shown conditions.FractionGroupSize m k next = at k.group (if is_in (m.digit parts.Integer) next then wrong_end k next else k.size) errors.InvalidDigit
 condition_shown _ m k next = at k.size (wrong_end k next) errors.InvalidDigit
 
 -- `first_unmet mask unmet` is the first of the conditions `unmet` if no flag of `mask` is to blame, and `None` otherwise.

@@ -110,9 +110,8 @@ abbrev pub condition : Condition → Notation → Literal → Bool
 condition conditions.BasePrefix m l = is_present l.prefix
 condition conditions.BaseSuffix m l = is_present l.suffix
 condition conditions.NegativeSign m l = is_absent l.sign || is_plus l.sign
-condition conditions.IntegerGroupSize m l = is_grouped m parts.Integer l.integer
+condition conditions.IntegerGroupSize m l = is_grouped m l.integer
 condition conditions.HigherGroupSize m l = true
-condition conditions.FractionGroupSize m l = is_grouped m parts.Fraction l.fraction
 condition c m l = begins c m l
 
 -- `IsSpelled m l` holds if each part of `l` is spelled as `m` allows, if the parts go together, and if they are as each flag that is set requires.

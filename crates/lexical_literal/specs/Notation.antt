@@ -53,7 +53,7 @@ lacks_options (Some options) = false
 -- `all_conditions` lists the conditions, and `order d` is the place of `d` in this list.
 abbrev pub all_conditions : List Condition
 all_conditions = conditions.BasePrefix ∷ conditions.BaseSuffix ∷ conditions.NegativeSign ∷ conditions.IntegerGroupSize
-    ∷ conditions.HigherGroupSize ∷ conditions.FractionGroupSize ∷ conditions.LeadingZero ∷ conditions.DecimalFirstDigit ∷ []
+    ∷ conditions.HigherGroupSize ∷ conditions.LeadingZero ∷ conditions.DecimalFirstDigit ∷ []
 
 abbrev pub order : Condition → ℕ
 order conditions.BasePrefix = 0
@@ -61,9 +61,8 @@ order conditions.BaseSuffix = 1
 order conditions.NegativeSign = 2
 order conditions.IntegerGroupSize = 3
 order conditions.HigherGroupSize = 4
-order conditions.FractionGroupSize = 5
-order conditions.LeadingZero = 6
-order conditions.DecimalFirstDigit = 7
+order conditions.LeadingZero = 5
+order conditions.DecimalFirstDigit = 6
 
 -- `is_same d e` is true if `d` and `e` are the same condition.
 abbrev pub is_same : Condition → Condition → Bool

@@ -2,7 +2,6 @@
 use Rattle.std.specs.Prelude.{ℕ, ⊤, ◌≡◌, ◌==◌, ◌&&◌, ◌||◌, nat_le, if◌then◌else◌, List, [], ◌∷◌, Option, Some, None, option_map}
 use Rattle.std.specs.Option.{option_or}
 use Rattle.lexical_util.specs.Layout as layout
-use Rattle.lexical_util.specs.Layout.{Flag}
 use Rattle.lexical_util.specs.NormalForm.{IsNormal}
 use Rattle.lexical_util.specs.Options.{OptionsFit}
 use Rattle.lexical_util.specs.Record.{Record, raw}
@@ -26,14 +25,7 @@ FitIfAny word (Some options) = OptionsFit word options.exponent options.point
 abbrev pub limits : Condition → ℕ × ℕ
 limits conditions.IntegerGroupSize = (2, 8)
 limits conditions.HigherGroupSize = (2, 8)
-limits conditions.FractionGroupSize = (2, 8)
 limits _ = (1, 1)
-
--- `lacks_separator r flag kind` is `Some kind` if the format `r` does not have `flag`, `NoSeparator` if it has no digit separator,
--- and `None` if it has both.
-abbrev pub lacks_separator : Record → Flag → ConditionsErrorKind → Option ConditionsErrorKind
-lacks_separator r flag kind =
-    if r.flag flag then (if r.byte layout.digit_separator == 0 then Some faults.NoSeparator else None) else Some kind
 
 -- `forbids_zeros r` is `NoLeadingZeros` if a flag of the format `r` forbids leading zeros, and `None` otherwise.
 abbrev pub forbids_zeros : Record → Option ConditionsErrorKind
@@ -45,9 +37,9 @@ abbrev pub missing : Record → Conditions → Condition → Option ConditionsEr
 missing r c conditions.BasePrefix = if r.byte layout.base_prefix == 0 then Some faults.NoBasePrefix else None
 missing r c conditions.BaseSuffix = if r.byte layout.base_suffix == 0 then Some faults.NoBaseSuffix else None
 missing r c conditions.NegativeSign = None
-missing r c conditions.IntegerGroupSize = lacks_separator r layout.integer_internal_digit_separator faults.NoInternalSeparator
+missing r c conditions.IntegerGroupSize = if r.flag layout.integer_internal_digit_separator
+    then (if r.byte layout.digit_separator == 0 then Some faults.NoSeparator else None) else Some faults.NoInternalSeparator
 missing r c conditions.HigherGroupSize = if has c conditions.IntegerGroupSize then None else Some faults.NoIntegerGroupSize
-missing r c conditions.FractionGroupSize = lacks_separator r layout.fraction_internal_digit_separator faults.NoFractionSeparator
 missing r c conditions.LeadingZero = forbids_zeros r
 missing r c conditions.DecimalFirstDigit = forbids_zeros r
 

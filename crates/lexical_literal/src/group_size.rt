@@ -1,8 +1,8 @@
-//! Sizes of digit groups: how many digits are between the separators of a part, and which bytes may follow.
+//! Sizes of digit groups: how many digits are between the separators of an integer, and which bytes may follow.
 
 ghost use Rattle.std.specs.Prelude.{◌≡◌, ◌<◌, ◌≤◌, ◌^◌, Some, length, take};
-ghost use Rattle.lexical_literal.specs.Additions.GroupSize.{first_group, group_allows, follows, group_after, grow, grown, most};
-ghost use Rattle.lexical_literal.specs.Groups.{first_fits, has_size, higher, inner_fits, is_grouped, last_fits};
+ghost use Rattle.lexical_literal.specs.Additions.GroupSize.{first_group, group_allows, follows, group_after, grow, grown, has_size, most};
+ghost use Rattle.lexical_literal.specs.Groups.{higher, is_grouped};
 ghost use Rattle.lexical_literal.specs.Notation.{notation_of};
 
 use crate::step::{is_separator, role_at};
@@ -24,15 +24,11 @@ pub(crate) const FIRST: Group = Group {
     digits: 0,
 };
 
-// Returns whether a condition is on groups of `part`.
+// Returns whether the condition on groups is on those of `part`.
 pub(crate) const fn has_size(grammar: Grammar, part: Part) -> bool
     ensures { result ≡ has_size (notation_of grammar) part }
 {
-    match part {
-        Part::Integer => grammar.conditions().has(Condition::IntegerGroupSize),
-        Part::Fraction => grammar.conditions().has(Condition::FractionGroupSize),
-        Part::Exponent => false,
-    }
+    matches!(part, Part::Integer) && has_sizes(grammar)
 }
 
 // Returns the number of a condition.
@@ -42,7 +38,7 @@ const fn size(grammar: Grammar, condition: Condition) -> usize
     grammar.conditions().number(condition) as usize
 }
 
-// Returns the number of digits of a group of the integer before the last one.
+// Returns the number of digits of a group before the last one.
 const fn higher(grammar: Grammar) -> usize
     ensures { result ≡ higher (notation_of grammar) }
 {
@@ -52,63 +48,29 @@ const fn higher(grammar: Grammar) -> usize
     }
 }
 
-// Returns whether the first of several groups may have `count` digits.
-const fn first_fits(grammar: Grammar, part: Part, count: usize) -> bool
-    ensures { result ≡ first_fits (notation_of grammar) part count }
-{
-    match part {
-        Part::Integer => 0 < count && count <= higher(grammar),
-        _ => count == size(grammar, Condition::FractionGroupSize),
-    }
-}
-
-// Returns whether a group between others may have `count` digits.
-const fn inner_fits(grammar: Grammar, part: Part, count: usize) -> bool
-    ensures { result ≡ inner_fits (notation_of grammar) part count }
-{
-    match part {
-        Part::Integer => count == higher(grammar),
-        _ => count == size(grammar, Condition::FractionGroupSize),
-    }
-}
-
-// Returns whether the last of several groups may have `count` digits.
-const fn last_fits(grammar: Grammar, part: Part, count: usize) -> bool
-    ensures { result ≡ last_fits (notation_of grammar) part count }
-{
-    match part {
-        Part::Integer => count == size(grammar, Condition::IntegerGroupSize),
-        _ => 0 < count && count <= size(grammar, Condition::FractionGroupSize),
-    }
-}
-
 // Returns the number of digits that a group behind a separator has at most.
-const fn most(grammar: Grammar, part: Part) -> usize
-    ensures { result ≡ most (notation_of grammar) part }
+const fn most(grammar: Grammar) -> usize
+    ensures { result ≡ most (notation_of grammar) }
 {
-    let last = size(grammar, Condition::IntegerGroupSize);
-    match part {
-        Part::Integer if higher(grammar) < last => last,
-        Part::Integer => higher(grammar),
-        _ => size(grammar, Condition::FractionGroupSize),
-    }
+    let (higher, last) = (higher(grammar), size(grammar, Condition::IntegerGroupSize));
+    if higher < last { last } else { higher }
 }
 
-// Returns whether a byte with the role `role` may follow `group`, of a part whose groups have sizes. If it has no role, or none
-// follows, the part ends.
+// Returns whether a byte with the role `role` may follow `group`, of an integer whose groups have sizes. If it has no role, or none
+// follows, the integer ends.
 pub(crate) const fn follows(grammar: Grammar, group: Group, role: Option<Role>) -> bool
     ensures { result ≡ follows (notation_of grammar) group role }
 {
     let Group {
-        part,
         separated,
         digits,
+        ..
     } = group;
     match role {
-        Some(Role::Digit) => !separated || digits < most(grammar, part),
-        Some(Role::Separator) if separated => inner_fits(grammar, part, digits),
-        Some(Role::Separator) => first_fits(grammar, part, digits),
-        _ => !separated || last_fits(grammar, part, digits),
+        Some(Role::Digit) => !separated || digits < most(grammar),
+        Some(Role::Separator) if separated => digits == higher(grammar),
+        Some(Role::Separator) => 0 < digits && digits <= higher(grammar),
+        _ => !separated || digits == size(grammar, Condition::IntegerGroupSize),
     }
 }
 
@@ -161,7 +123,7 @@ pub(crate) const fn grow(grammar: Grammar, group: Group, role: Option<Role>) -> 
 #[tactic(auto, using(crate::proofs::GroupLemmas::counts_first, crate::proofs::GroupLemmas::counts_end))]
 #[inline(always)]
 pub(crate) const fn is_grouped(grammar: Grammar, run: &[u8]) -> bool
-    ensures { result ≡ is_grouped (notation_of grammar) Part.Integer run.now }
+    ensures { result ≡ is_grouped (notation_of grammar) run.now }
 {
     let mut group = FIRST;
     let mut rest = run;

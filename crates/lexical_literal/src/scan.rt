@@ -17,7 +17,7 @@ ghost use Rattle.lexical_literal.specs.Additions.Step.{HasLengths, after_point, 
 ghost use Rattle.lexical_literal.specs.Additions.Step.{is_signed, part_of};
 ghost use Rattle.lexical_literal.specs.declared.syntax.Condition.TheVariants as conditions;
 
-use crate::group_size::{group_after, group_allows, has_size, is_grouped};
+use crate::group_size::{group_after, group_allows, is_grouped};
 use crate::literal::{NOTHING, Sum, Sums};
 use crate::step::{
     INTERNAL, Stage, Summary, after_point, allows_minus, allows_plus, awaits_integer, digits_of,
@@ -348,10 +348,7 @@ fn sized(grammar: Grammar, text: &[u8], begun: Begun) -> Begun
     ensures begun { HasBegun (notation_of grammar) text.now result }
     ensures summed { IsSummed (raw grammar.word) text.now result }
 {
-    if begun.complete
-        && !has_size(grammar, Part::Fraction)
-        && is_grouped(grammar, integer_of(text, begun))
-    {
+    if begun.complete && is_grouped(grammar, integer_of(text, begun)) {
         return begun;
     }
     match group_after(grammar, text, begun.at.size) {

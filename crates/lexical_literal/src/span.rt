@@ -203,7 +203,7 @@ impl Spot {
         match condition {
             Condition::BasePrefix => (self.first, self.first, Error::InvalidDigit(self.first)),
             Condition::NegativeSign => (size, end, Error::InvalidNegativeSign(size)),
-            Condition::IntegerGroupSize | Condition::FractionGroupSize => {
+            Condition::IntegerGroupSize => {
                 let end = if self.is_at(ByteKind::Digit) {
                     end
                 } else {

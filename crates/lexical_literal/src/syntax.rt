@@ -12,8 +12,7 @@ ghost use Rattle.lexical_util.specs.Options.{OptionsFit, IsOptionsError};
 ghost use Rattle.lexical_util.specs.declared.lawful.Rejected.TheVariants as rejected;
 ghost use Rattle.lexical_literal.specs.Additions.Fields.{flag_of, options_if};
 ghost use Rattle.lexical_literal.specs.Additions.Scan.{HasSizes, IsDecimal, IsReady, IsUsual, are_usual, is_usual};
-ghost use Rattle.lexical_literal.specs.Additions.GroupSize.{steps_of};
-ghost use Rattle.lexical_literal.specs.Groups.{has_sizes};
+ghost use Rattle.lexical_literal.specs.Additions.GroupSize.{has_sizes, steps_of};
 ghost use Rattle.lexical_literal.specs.declared.syntax.Condition.{Condition};
 ghost use Rattle.lexical_literal.specs.declared.syntax.Condition.TheVariants as conditions;
 ghost use Rattle.lexical_literal.specs.declared.syntax.Options.{Options};
@@ -24,10 +23,10 @@ use crate::step::role_at;
 use lexical_util::format::{Format, FormatError, NumberFormat, Part, Role};
 use lexical_util::format_flags::{
     BASE_PREFIX_SHIFT, BASE_SUFFIX_SHIFT, DIGIT_SEPARATOR_SHIFT, EXPONENT_BASE_SHIFT,
-    EXPONENT_RADIX_SHIFT, FRACTION_INTERNAL_DIGIT_SEPARATOR, INTEGER_INTERNAL_DIGIT_SEPARATOR,
-    MANTISSA_RADIX_SHIFT, NO_FLOAT_LEADING_ZEROS, NO_INTEGER_LEADING_ZEROS,
-    REQUIRED_EXPONENT_NOTATION, REQUIRED_MANTISSA_SIGN, base_prefix, base_suffix, digit_separator,
-    exponent_base, exponent_radix, is_separator_allowed, mantissa_radix,
+    EXPONENT_RADIX_SHIFT, INTEGER_INTERNAL_DIGIT_SEPARATOR, MANTISSA_RADIX_SHIFT,
+    NO_FLOAT_LEADING_ZEROS, NO_INTEGER_LEADING_ZEROS, REQUIRED_EXPONENT_NOTATION,
+    REQUIRED_MANTISSA_SIGN, base_prefix, base_suffix, digit_separator, exponent_base,
+    exponent_radix, is_separator_allowed, mantissa_radix,
 };
 use lexical_util::laws::flags::role_facts;
 use std::marker::Model;
@@ -57,9 +56,6 @@ pub enum Condition {
     /// The groups of the integer before the last have as many digits as the number says, and the first may have fewer. The
     /// last has as many as [`IntegerGroupSize`][Self::IntegerGroupSize] says.
     HigherGroupSize,
-    /// The fraction of a literal has no digit separators, or has them between groups of as many digits as the number says,
-    /// counted from the left.
-    FractionGroupSize,
     /// Behind its sign, a literal begins with the digit 0, which may be that of its base prefix.
     LeadingZero,
     /// Behind its sign, a literal begins with a digit that is not a letter, which may be the 0 of its base prefix.
@@ -67,13 +63,12 @@ pub enum Condition {
 }
 
 /// All conditions, in the order in which they are checked and printed.
-pub const CONDITIONS: [Condition; 8] = [
+pub const CONDITIONS: [Condition; 7] = [
     Condition::BasePrefix,
     Condition::BaseSuffix,
     Condition::NegativeSign,
     Condition::IntegerGroupSize,
     Condition::HigherGroupSize,
-    Condition::FractionGroupSize,
     Condition::LeadingZero,
     Condition::DecimalFirstDigit,
 ];
@@ -85,9 +80,7 @@ impl Condition {
         ensures { result ≡ limits self }
     {
         match self {
-            Condition::IntegerGroupSize
-            | Condition::HigherGroupSize
-            | Condition::FractionGroupSize => (2, 8),
+            Condition::IntegerGroupSize | Condition::HigherGroupSize => (2, 8),
             _ => (1, 1),
         }
     }
@@ -158,7 +151,7 @@ impl Conditions {
     const fn are_usual(self) -> bool
         ensures { result ≡ are_usual self }
     {
-        matches!(self.numbers, [0, 0, _, 0, 0, 0, 0, 0])
+        matches!(self.numbers, [0, 0, _, 0, 0, 0, 0])
     }
 
     // Returns the first of the conditions, in the order in which they are checked.
@@ -205,8 +198,6 @@ pub enum ConditionsErrorKind {
     NoBaseSuffix,
     /// No flag allows a separator between digits of the integer.
     NoInternalSeparator,
-    /// No flag allows a separator between digits of the fraction.
-    NoFractionSeparator,
     /// The format has no digit separator.
     NoSeparator,
     /// `integer_group_size` is not one of the conditions.
@@ -578,13 +569,12 @@ impl Syntax {
     }
 }
 
-// Returns whether a condition is on groups of some part.
+// Returns whether a condition is on groups.
 #[inline(always)]
 pub(crate) const fn has_sizes(grammar: Grammar) -> bool
     ensures { result ≡ has_sizes (notation_of grammar) }
 {
     grammar.conditions.has(Condition::IntegerGroupSize)
-        || grammar.conditions.has(Condition::FractionGroupSize)
 }
 
 // The flags that a usual syntax does not have.
@@ -667,12 +657,7 @@ const fn missing(
         Condition::IntegerGroupSize if !grammar.has(INTEGER_INTERNAL_DIGIT_SEPARATOR) => {
             Some(ConditionsErrorKind::NoInternalSeparator)
         }
-        Condition::FractionGroupSize if !grammar.has(FRACTION_INTERNAL_DIGIT_SEPARATOR) => {
-            Some(ConditionsErrorKind::NoFractionSeparator)
-        }
-        Condition::IntegerGroupSize | Condition::FractionGroupSize if separator == 0 => Some(
-            ConditionsErrorKind::NoSeparator,
-        ),
+        Condition::IntegerGroupSize if separator == 0 => Some(ConditionsErrorKind::NoSeparator),
         Condition::HigherGroupSize if !conditions.has(Condition::IntegerGroupSize) => Some(
             ConditionsErrorKind::NoIntegerGroupSize,
         ),

@@ -3,7 +3,8 @@ use Rattle.lexical_writer.proofs.Common.{AllBelowBase, Bool, ByteSet, List, Nota
 use Rattle.lexical_writer.proofs.Common.{at_least, byte_value, cases_lt, character, digits_of, div-add-mod, ends_group, false, false≢true, first_digits_of}
 use Rattle.lexical_writer.proofs.Common.{get_or, grouped, has_leading_zero, inl, inr, is_grouped, length, mod-mul-add, nat_tests, refl, separators_in, subst}
 use Rattle.lexical_writer.proofs.Common.{suc, sym, true, zero, ℕ, ◌%◌, ◌*◌, ◌+◌, ◌-◌, ◌/◌, ◌<◌, ◌==◌, ◌∙◌, ◌∷◌, ◌≡◌, ◌≤◌}
-use Rattle.lexical_literal.specs.Groups.{all_fit, first_fits, group_sizes, inner_fits, last_fits, one_more, rest_fits}
+use Rattle.lexical_literal.specs.Groups.{all_fit, group_sizes, higher, one_more, rest_fits}
+use Rattle.lexical_literal.specs.declared.syntax.Condition.TheVariants as conditions
 use Rattle.lexical_literal.proofs.RunLemmas.{is_rest}
 use Rattle.lexical_writer.proofs.DigitLemmas.{character_value, enough}
 
@@ -51,12 +52,11 @@ module _ (m : Notation) (radix : ℕ) (pattern : Pattern) (digit : (d : ℕ) →
       let more : length digits + 1 ≡ length (d ∷ digits) = omega arith in
       next_inside d digits all.0 inside ∙ ap one_more (single digits all.1 none) ∙ ap (λ n. n ∷ []) more
 
-  pub single_fits : (part : Part) (digits : List ℕ) → AllBelowBase radix digits → pattern.higher ≡ 0
-      → is_grouped m part (grouped pattern digits) ≡ true
-  single_fits part digits all none = ap (all_fit m part) (single digits all none)
+  pub single_fits : (digits : List ℕ) → AllBelowBase radix digits → pattern.higher ≡ 0 → is_grouped m (grouped pattern digits) ≡ true
+  single_fits digits all none = ap (all_fit m) (single digits all none)
 
-  module _ (part : Part) (own : m.separator pattern.separator ≡ true) (fits_last : last_fits m part pattern.last ≡ true)
-      (fits_inner : inner_fits m part pattern.higher ≡ true) (two : 0 < pattern.last) (some : 0 < pattern.higher) where
+  module _ (own : m.separator pattern.separator ≡ true) (is_last : pattern.last ≡ m.number conditions.IntegerGroupSize)
+      (is_higher : pattern.higher ≡ higher m) (two : 0 < pattern.last) (some : 0 < pattern.higher) where
     next_outside : (d : ℕ) (digits : List ℕ) → d < radix → ends_group pattern (length digits) ≡ true → sizes (d ∷ digits) ≡ 1 ∷ sizes digits
     next_outside d digits below outside = let is = digit d below in rw (is, outside, own) refl
 
@@ -65,7 +65,7 @@ module _ (m : Notation) (radix : ℕ) (pattern : Pattern) (digit : (d : ℕ) →
       pub inner : ℕ
       pub within : (0 < count) × (count ≤ pattern.higher)
       pub total : left ≡ inner * pattern.higher + count + pattern.last
-      pub rest : rest_fits m part counts ≡ true
+      pub rest : rest_fits m counts ≡ true
 
     -- The groups of `left` digits: the last one alone, or others, too.
     abbrev pub State : ℕ → List ℕ → Type 0
@@ -97,7 +97,7 @@ module _ (m : Notation) (radix : ℕ) (pattern : Pattern) (digit : (d : ℕ) →
                     (omega (arith, is.0), omega arith, omega (arith, part))
                 | inr whole ↦
                     let same : n ≡ 0 * pattern.higher + 0 + pattern.last = omega (arith, whole, is.2) in
-                    let fits : last_fits m part count ≡ true = subst (λ k. last_fits m part k ≡ true) (omega (arith, whole, is.0, is.2)) fits_last in
+                    let fits = eq-eqb count (m.number conditions.IntegerGroupSize) (omega (arith, whole, is.0, is.2, is_last)) in
                     subst (State (n + 1)) (sym (next_outside d (e ∷ digits) all.0 (ends 0 0 n same (refl)) ∙ ap (λ counts. 1 ∷ counts) are))
                     (record { inner = 0; within = (omega arith, omega arith); total = omega (arith, same); rest = fits })
               ]
@@ -113,36 +113,21 @@ module _ (m : Notation) (radix : ℕ) (pattern : Pattern) (digit : (d : ℕ) →
                 | inr whole ↦
                     let full : count ≡ pattern.higher = omega (arith, whole, is.within.1) in
                     let same : n ≡ (is.inner + 1) * pattern.higher + 0 + pattern.last = omega (arith, is.total, full) in
-                    let fits : inner_fits m part count ≡ true = subst (λ k. inner_fits m part k ≡ true) (sym full) fits_inner in
+                    let fits = eq-eqb count (higher m) (full ∙ is_higher) in
                     subst (State (n + 1)) (sym (next_outside d (e ∷ digits) all.0 (ends (is.inner + 1) 0 n same refl) ∙ ap (λ counts. 1 ∷ counts) are))
                     (record { inner = is.inner + 1; within = (omega arith, omega arith); total = omega (arith, same); rest = and_from _ _ fits is.rest })
               ]
 
-    -- `FirstFits n` holds if the first of the groups of `n` digits has as many digits as it may have.
-    abbrev pub FirstFits : ℕ → Type 0
-    FirstFits n = (inner count : ℕ) → 0 < count → count ≤ pattern.higher → n ≡ inner * pattern.higher + count + pattern.last
-        → first_fits m part count ≡ true
-
-    fit : (n : ℕ) (counts : List ℕ) → FirstFits n → State n counts → all_fit m part counts ≡ true
-    fit n [] first is = absurd is
-    fit n (count ∷ []) first is = refl
-    fit n (count ∷ next ∷ counts) first is = and_from _ _ (first is.inner count is.within.0 is.within.1 is.total) is.rest
+    fit : (n : ℕ) (counts : List ℕ) → State n counts → all_fit m counts ≡ true
+    fit n [] is = absurd is
+    fit n (count ∷ []) is = refl
+    fit n (count ∷ next ∷ counts) is = and_from _ _ (lt-ltb 0 count is.within.0)
+        (and_from _ _ (le-leb count (higher m) (omega (arith, is.within.1, is_higher))) is.rest)
 
     -- Digits in groups of the required sizes are in groups.
-    pub right_groups : (digits : List ℕ) → AllBelowBase radix digits → FirstFits (length digits) → is_grouped m part (grouped pattern digits) ≡ true
-    right_groups [] all first = refl
-    right_groups (d ∷ digits) all first = fit _ _ first (state d digits all)
-
--- Digits that are counted from the left, of which the last are what is left, begin with a whole group.
-pub left_first : (n size inner count : ℕ) → 0 < n → 0 < count → count ≤ size → n ≡ inner * size + count + ((n - 1) % size + 1) → count ≡ size
-left_first n size inner count some first most total = elim (cases_lt count size) [
-  | inl part ↦
-      let parts = div-add-mod (n - 1) size in
-      let same : inner * size + count ≡ (n - 1) / size * size + 0 = omega (arith, some, total, parts) in
-      let place = sym (mod-mul-add inner size count part) ∙ ap (λ k. k % size) same ∙ mod-mul-add ((n - 1) / size) size 0 (omega (arith, first, most)) in
-      absurd (omega (arith, place, first))
-  | inr whole ↦ omega (arith, whole, most)
-]
+    pub right_groups : (digits : List ℕ) → AllBelowBase radix digits → is_grouped m (grouped pattern digits) ≡ true
+    right_groups [] all = refl
+    right_groups (d ∷ digits) all = fit _ _ (state d digits all)
 
 -- A number is written without leading zeros.
 zero_value : byte_value 48 ≡ 0

@@ -21,7 +21,7 @@ use Rattle.lexical_literal.specs.Run.{is_run}
 use Rattle.lexical_literal.specs.Syntax.{FitIfAny, contradiction, fault, first_fault, forbids_zeros, limits, missing}
 use Rattle.lexical_literal.specs.declared.syntax.Condition.{Condition}
 use Rattle.lexical_literal.specs.declared.syntax.ConditionsError.{ConditionsError}
-use Rattle.lexical_writer.specs.Layout.{after_zero, base_byte, fraction_pattern, fraction_text, integer_pattern, least_digits, led_digits, options_of}
+use Rattle.lexical_writer.specs.Layout.{after_zero, base_byte, fraction_text, integer_pattern, least_digits, led_digits, options_of}
 use Rattle.lexical_writer.specs.Layout.{pattern_of, sign_of}
 use Rattle.lexical_literal.proofs.RunLemmas.{rest_of_none}
 use Rattle.lexical_util.specs.Layout as layout
@@ -31,7 +31,7 @@ use Rattle.lexical_literal.specs.declared.syntax.Condition.TheVariants as condit
 use Rattle.lexical_writer.specs.declared.layout.WriteError.TheVariants as errors
 use Rattle.lexical_writer.proofs.DigitLemmas.{character_value, decimal_first, grouped_digits, grouped_present, least_below, least_number, values_below}
 use Rattle.lexical_writer.proofs.DigitLemmas.{zero_first}
-use Rattle.lexical_writer.proofs.GroupLemmas.{Between, grouped_rest, left_first, no_leading_zero, right_groups, single_fits}
+use Rattle.lexical_writer.proofs.GroupLemmas.{Between, grouped_rest, no_leading_zero, right_groups, single_fits}
 
 -- The flags of a lawful format agree.
 agree : (word : ℕ) → Lawful word → (((raw word).flag layout.no_exponent_notation && (raw word).flag layout.required_exponent_notation) ≡ false)
@@ -76,7 +76,7 @@ no_led_digits : (r : Record) (c : Conditions) (float : Bool) (digits : List ℕ)
     → r.flag (if float then layout.no_float_leading_zeros else layout.no_integer_leading_zeros) ≡ true → led_digits c false digits ≡ 1
 no_led_digits r c float digits none set =
     let some = some_flag float set in
-    let (prefix, (suffix, (sign, (last, (higher, (fraction, (zero, (decimal, end)))))))) = each_none r c all_conditions none in
+    let (prefix, (suffix, (sign, (last, (higher, (zero, (decimal, end))))))) = each_none r c all_conditions none in
     neither _ _ _ _ (unset r c conditions.LeadingZero refl zero some) (unset r c conditions.DecimalFirstDigit refl decimal some)
   where
     some_flag : (float : Bool) → r.flag (if float then layout.no_float_leading_zeros else layout.no_integer_leading_zeros) ≡ true
@@ -100,13 +100,6 @@ required g style none set groups =
     let last_least = (least (raw g.word) g.conditions none).0 set in
     let higher_least = (least (raw g.word) g.conditions none).1 in
     record { last = grind (arith, nat_tests); size = grind (arith, nat_tests); two = grind (arith, nat_tests); some = grind (arith, nat_tests) }
-
--- The groups of a fraction have the size that a condition requires.
-required_fraction : (g : Grammar) (style : Style) (n : ℕ) → has g.conditions conditions.FractionGroupSize ≡ true
-    → 0 < (fraction_pattern (raw g.word) g.conditions style n).higher
-    → ((fraction_pattern (raw g.word) g.conditions style n).higher ≡ (notation_of g).number conditions.FractionGroupSize)
-    × ((fraction_pattern (raw g.word) g.conditions style n).last ≡ (n - 1) % (notation_of g).number conditions.FractionGroupSize + 1)
-required_fraction g style n set some = (grind (arith, nat_tests), grind (arith, nat_tests))
 
 -- Punctuation is not 0.
 some_byte : (r : Record) (byte : ℕ) → IsPunctuation r byte → (byte == 0) ≡ false
@@ -142,10 +135,10 @@ some_sign : (here negative required : Bool) (byte : ℕ) → required ≡ true
 some_sign here negative required byte is = grind arith
 
 -- Without a decimal point, there is no fraction, and without an exponent character, no exponent.
-no_fraction : (r : Record) (c : Conditions) (style : Style) (amount : Amount) (other : Bool) (byte : ℕ)
+no_fraction : (r : Record) (style : Style) (amount : Amount) (other : Bool) (byte : ℕ)
     → is_absent (option_to_list (only_if (is_some amount.fraction || other) byte)) ≡ true
-    → fraction_text r c style (is_some amount.fraction || other) amount ≡ []
-no_fraction r c style amount other byte absent = grind arith
+    → fraction_text r style (is_some amount.fraction || other) amount ≡ []
+no_fraction r style amount other byte absent = grind arith
 
 no_power : (amount : Amount) (other required lowercase : Bool) (byte radix : ℕ)
     → is_absent (option_to_list (only_if (is_some amount.exponent || other) byte)) ≡ true
@@ -187,14 +180,8 @@ groups_allowed r allowed lowercase last size some =
     go true is some = absurd (omega (arith, some))
     go false is some = (grind arith, grind arith, refl)
 
-internal_allowed : (r : Record) (part : Part) → r.flag (separators_in part).internal ≡ true → separator_allowed r ≡ true
-internal_allowed r parts.Integer set = grind arith
-internal_allowed r parts.Fraction set = grind arith
-internal_allowed r parts.Exponent set = grind arith
-
--- Tests of sizes.
-within_test : (count most size : ℕ) → 0 < count → count ≤ most → most ≡ size → (nat_lt 0 count && nat_le count size) ≡ true
-within_test count most size some within same = grind (arith, nat_tests)
+internal_allowed : (r : Record) → r.flag layout.integer_internal_digit_separator ≡ true → separator_allowed r ≡ true
+internal_allowed r set = grind arith
 
 least_some : (c : Conditions) (prefix : Bool) (digits : List ℕ) (other : ℕ) → nat_lt 0 (max (led_digits c prefix digits) other) ≡ true
 least_some c prefix digits other = grind (arith, nat_tests)
@@ -299,7 +286,7 @@ module _ (g : Grammar) (style : Style) (amount : Amount) (is : IsSyntax g)
   fraction_digits = at_least least_fraction (values_of radix (given_fraction amount))
 
   abbrev fraction_groups : Pattern
-  fraction_groups = fraction_pattern r g.conditions style (length fraction_digits)
+  fraction_groups = no_groups style.lowercase
 
   abbrev exponent_radix : ℕ
   exponent_radix = effective_exponent_radix r
@@ -322,24 +309,23 @@ module _ (g : Grammar) (style : Style) (amount : Amount) (is : IsSyntax g)
             (at_least least digits) below,
       )
 
-  between : (part : Part) (allowed lowercase : Bool) (last size : ℕ) → m.flag (separators_in part).internal ≡ allowed → radix_of r part ≡ radix
-      → Between m part (pattern_of r allowed last size lowercase)
-  between part allowed lowercase last size flag same some =
-      let are = groups_allowed r allowed lowercase last size some in
+  between : Between m parts.Integer pattern
+  between some =
+      let are = groups_allowed r _ style.lowercase _ _ some in
       let byte = r.byte layout.digit_separator in
-      let in_use : sets.used_separator r byte ≡ true = and_from _ _ (internal_allowed r part (flag ∙ are.0)) (own true byte are.1) in
-      rw are.2 (in_use, flag ∙ are.0, false_from_ne_true _ (λ below. apart byte (subst (λ k. byte_value byte < k) same (ltb-true _ _ below)) in_use))
+      let in_use : sets.used_separator r byte ≡ true = and_from _ _ (internal_allowed r are.0) (own true byte are.1) in
+      rw are.2 (in_use, are.0, false_from_ne_true _ (λ below. apart byte (ltb-true _ _ below) in_use))
 
   plain : (part : Part) (lowercase : Bool) → Between m part (no_groups lowercase)
   plain part lowercase some = absurd (omega (arith, some))
 
   integer_run : (is_run m parts.Integer l.integer ≡ true)
       × (digits_in radix l.integer ≡ at_least least_integer (digits_of radix (size_of radix amount.integer)))
-  integer_run = run parts.Integer pattern least_integer (digits_of radix (size_of radix amount.integer)) (between parts.Integer _ _ _ _ refl refl)
+  integer_run = run parts.Integer pattern least_integer (digits_of radix (size_of radix amount.integer)) between
       (all_below_base_digits_of radix (size_of radix amount.integer) (radixes g.word is.lawful parts.Integer).0)
 
   fraction_run : (is_run m parts.Fraction l.fraction ≡ true) × (digits_in radix l.fraction ≡ fraction_digits)
-  fraction_run = run parts.Fraction fraction_groups least_fraction (values_of radix (given_fraction amount)) (between parts.Fraction _ _ _ _ refl refl)
+  fraction_run = run parts.Fraction fraction_groups least_fraction (values_of radix (given_fraction amount)) (plain parts.Fraction style.lowercase)
       (values_below radix (given_fraction amount) (radixes g.word is.lawful parts.Fraction).0)
 
   exponent_run : (is_run m parts.Exponent l.exponent ≡ true)
@@ -366,13 +352,13 @@ module _ (g : Grammar) (style : Style) (amount : Amount) (is : IsSyntax g)
     exponent = same_number exponent_radix _ _ l.exponent (radixes g.word is.lawful parts.Exponent).0 exponent_run.1;
   }
 
-  -- The integer and the fraction are in groups.
+  -- The integer is in groups.
   no_separator : (lowercase : Bool) (d : ℕ) → d < radix → m.separator (character lowercase d) ≡ false
   no_separator lowercase d below =
       let small : radix ≤ 36 = (radixes g.word is.lawful parts.Integer).1 in
       false_from_ne_true _ (λ in_use. apart (character lowercase d) (omega (arith, character_value lowercase d (omega arith))) in_use)
 
-  in_groups : m.condition conditions.IntegerGroupSize ≡ true → is_grouped m parts.Integer l.integer ≡ true
+  in_groups : m.condition conditions.IntegerGroupSize ≡ true → is_grouped m l.integer ≡ true
   in_groups set =
       let digits = at_least least_integer (digits_of radix (size_of radix amount.integer)) in
       let all : AllBelowBase radix digits = least_below radix least_integer _ (radixes g.word is.lawful parts.Integer).0
@@ -380,28 +366,9 @@ module _ (g : Grammar) (style : Style) (amount : Amount) (is : IsSyntax g)
       elim (cases_lt 0 pattern.higher) [
         | inl some ↦
             let are = required g style is.conditions set some in
-            right_groups m radix pattern (no_separator pattern.lowercase) parts.Integer (between parts.Integer _ _ _ _ refl refl some).0
-            (eq-eqb _ _ are.last) (eq-eqb _ _ are.size) (let two = are.two in omega (arith, two)) some digits all
-            (λ inner count first most total. within_test count pattern.higher (higher m) first most are.size)
-        | inr none ↦ single_fits m radix pattern (no_separator pattern.lowercase) parts.Integer digits all (omega (arith, none))
-      ]
-
-  fraction_in_groups : m.condition conditions.FractionGroupSize ≡ true → is_grouped m parts.Fraction l.fraction ≡ true
-  fraction_in_groups set =
-      let all : AllBelowBase radix fraction_digits = least_below radix least_fraction _ (radixes g.word is.lawful parts.Fraction).0
-      (values_below radix (given_fraction amount) (radixes g.word is.lawful parts.Fraction).0) in
-      elim (cases_lt 0 fraction_groups.higher) [
-        | inl some ↦
-            let are = required_fraction g style (length fraction_digits) set some in
-            let size = fraction_groups.higher in
-            let last : fraction_groups.last ≡ (length fraction_digits - 1) % size + 1 = are.1 ∙ sym (ap (λ k. (length fraction_digits - 1) % k + 1) are.0) in
-            let least = mod-lt (length fraction_digits - 1) some in
-            right_groups m radix fraction_groups (no_separator fraction_groups.lowercase) parts.Fraction (between parts.Fraction _ _ _ _ refl refl some).0
-            (within_test _ size _ (omega (arith, last)) (omega (arith, last, least)) are.0) (eq-eqb _ _ are.0)
-            (omega (arith, last)) some fraction_digits all
-            (λ inner count first most total. eq-eqb _ _ (left_first (length fraction_digits) size inner count (omega (arith, total, first)) first most
-            (total ∙ ap (λ k. inner * size + count + k) last) ∙ are.0))
-        | inr none ↦ single_fits m radix fraction_groups (no_separator fraction_groups.lowercase) parts.Fraction fraction_digits all (omega (arith, none))
+            right_groups m radix pattern (no_separator pattern.lowercase) (between some).0 are.last are.size
+            (let two = are.two in omega (arith, two)) some digits all
+        | inr none ↦ single_fits m radix pattern (no_separator pattern.lowercase) digits all (omega (arith, none))
       ]
 
   -- No exponent is written where none is allowed.
@@ -497,7 +464,6 @@ module _ (g : Grammar) (style : Style) (amount : Amount) (is : IsSyntax g)
   conditions_met conditions.NegativeSign set = grind (arith, allowed)
   conditions_met conditions.IntegerGroupSize set = in_groups set
   conditions_met conditions.HigherGroupSize set = refl
-  conditions_met conditions.FractionGroupSize set = fraction_in_groups set
   conditions_met conditions.LeadingZero set = begun conditions.LeadingZero refl
       (λ none. zero_first _ pattern (least_integer - length integer_digits) integer_digits (zero_begins conditions.LeadingZero refl)
       (let more = zero_more (is_some prefix) none set in omega (arith, more)))
@@ -541,7 +507,7 @@ module _ (g : Grammar) (style : Style) (amount : Amount) (is : IsSyntax g)
     exponent_sign = one_sign (given_power amount).negative _;
     exponent = exponent_run.0;
     suffix = one_suffix (style.base || has g.conditions conditions.BaseSuffix);
-    after_point = no_fraction r g.conditions style amount _ (options_of g).point;
+    after_point = no_fraction r style amount _ (options_of g).point;
     after_character = no_power amount _ _ style.lowercase (options_of g).exponent exponent_radix;
     some_number = fraction_is_float (is_present l.integer) amount _ (is_present l.exponent_character) radix (options_of g).point (or_left _ _ integer_some);
     requirements = met;

@@ -88,14 +88,6 @@ integer_pattern r c style =
     let last = group_size (number_of c conditions.IntegerGroupSize) style.group in
     pattern_of r (r.flag layout.integer_internal_digit_separator) last (either (number_of c conditions.HigherGroupSize) last) style.lowercase
 
--- `fraction_pattern r c style count` is the pattern of a fraction of `count` digits. Its groups have the size that the conditions `c`
--- require. They are counted from the left, so the last one has what is left.
-abbrev pub fraction_pattern : Record → Conditions → Style → ℕ → Pattern
-fraction_pattern r c style count =
-    let given = number_of c conditions.FractionGroupSize in
-    let size = if given == 0 then 0 else group_size given style.group in
-    pattern_of r (r.flag layout.fraction_internal_digit_separator) (if size == 0 then 0 else (count - 1) % size + 1) size style.lowercase
-
 -- `needs_exponent g` is true if each literal of `g` has an exponent.
 abbrev pub needs_exponent : Grammar → Bool
 needs_exponent g = (raw g.word).flag layout.required_exponent_notation && not (lacks_options g.options)
@@ -136,12 +128,11 @@ integer_text r c style prefix float amount = grouped (integer_pattern r c style)
     (at_least (least_digits r c style prefix float amount)
     (digits_of (r.byte layout.mantissa_radix) (size_of (r.byte layout.mantissa_radix) amount.integer)))
 
--- `fraction_text r c style point amount` is the fraction that is written, with a decimal point or not: that of `amount`, or a 0 behind a
+-- `fraction_text r style point amount` is the fraction that is written, with a decimal point or not: that of `amount`, or a 0 behind a
 -- point if it has no digits.
-abbrev pub fraction_text : Record → Conditions → Style → Bool → Amount → List ℕ
-fraction_text r c style point amount =
-    let digits = at_least (one_if point) (values_of (r.byte layout.mantissa_radix) (given_fraction amount)) in
-    grouped (fraction_pattern r c style (length digits)) digits
+abbrev pub fraction_text : Record → Style → Bool → Amount → List ℕ
+fraction_text r style point amount =
+    grouped (no_groups style.lowercase) (at_least (one_if point) (values_of (r.byte layout.mantissa_radix) (given_fraction amount)))
 
 -- `laid_out g style amount` is the literal of `g` that is written for `amount`.
 abbrev pub laid_out : Grammar → Style → Amount → Literal
@@ -155,7 +146,7 @@ laid_out g style amount =
       prefix = after_zero prefix;
       integer = integer_text r g.conditions style (is_some prefix) (point || exponent) amount;
       point = option_to_list (only_if point (options_of g).point);
-      fraction = fraction_text r g.conditions style point amount;
+      fraction = fraction_text r style point amount;
       exponent_character = option_to_list (only_if exponent (options_of g).exponent);
       exponent_sign = option_to_list (sign_of (given_power amount).negative (exponent && r.flag layout.required_exponent_sign));
       exponent = grouped (no_groups style.lowercase)

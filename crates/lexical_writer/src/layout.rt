@@ -9,13 +9,13 @@ ghost use Rattle.lexical_literal.specs.Notation.{has, lacks_options, notation_of
 ghost use Rattle.lexical_literal.specs.Syntax.{IsSyntax};
 ghost use Rattle.lexical_literal.specs.declared.syntax.Condition.TheVariants as conditions;
 ghost use Rattle.lexical_writer.specs.Digits.{at_least, grouped, no_groups, only_if, run_text, size_of, values_of};
-ghost use Rattle.lexical_writer.specs.Layout.{HasNumber, IsLaidOut, allows_exponent, base_byte, first_error, fraction_pattern, fraction_text};
+ghost use Rattle.lexical_writer.specs.Layout.{HasNumber, IsLaidOut, allows_exponent, base_byte, first_error, fraction_text};
 ghost use Rattle.lexical_writer.specs.Layout.{has_exponent, has_point, integer_pattern, integer_text, laid_out};
 ghost use Rattle.lexical_writer.specs.Layout.{least_digits, led_digits, literal_of, needs_exponent, number_of_size, one_if, refusal, sign_of};
 ghost use Rattle.lexical_writer.specs.Buffer.{IsIn, IsTaken};
 
 use crate::digits::{only_if, put_if_any, without_zeros};
-use crate::patterns::{fraction_pattern, integer_pattern, no_groups};
+use crate::patterns::{integer_pattern, no_groups};
 use crate::run::{Run, Source};
 use crate::sink::{Sink, Window};
 use lexical_literal::syntax::{Condition, Conditions, Options, Syntax};
@@ -280,7 +280,7 @@ impl<'a> Amount<'a> {
             prefix,
             integer: self.integer_run(format, conditions, style, prefix.is_some(), float),
             point: only_if(point, options.point),
-            fraction: self.fraction_run(format, conditions, style, point),
+            fraction: self.fraction_run(format, style, point),
             exponent_character: only_if(exponent, options.exponent),
             exponent_sign: sign_of(power.negative, exponent & format.required_exponent_sign()),
             exponent: exponent_run(power.source, format, style, exponent),
@@ -332,29 +332,15 @@ impl<'a> Amount<'a> {
 
     // Returns the fraction, which has a digit behind a point.
     #[inline]
-    fn fraction_run(
-        &self,
-        format: NumberFormat,
-        conditions: Conditions,
-        style: Style,
-        point: bool,
-    ) -> Run<'a>
+    fn fraction_run(&self, format: NumberFormat, style: Style, point: bool) -> Run<'a>
         requires { Lawful format }
-        ensures { run_text result ≡ fraction_text (raw format) conditions style point self.now }
+        ensures { run_text result ≡ fraction_text (raw format) style point self.now }
     {
-        let radix = format.mantissa_radix();
-        let run = Run {
+        Run {
             source: self.fraction.unwrap_or(Source::Number(0)),
-            radix,
+            radix: format.mantissa_radix(),
             least: one_if(point),
             pattern: no_groups(style.lowercase),
-        };
-        let pattern = fraction_pattern(format, conditions, style, &run);
-        Run {
-            source: run.source,
-            radix,
-            least: run.least,
-            pattern,
         }
     }
 

@@ -1,12 +1,12 @@
 //! The groups in which digits are written.
 
-ghost use Rattle.std.specs.Prelude.{◌≡◌, length};
+ghost use Rattle.std.specs.Prelude.{◌≡◌};
 ghost use Rattle.lexical_util.specs.Record.{raw};
-ghost use Rattle.lexical_writer.specs.Digits.{no_groups, run_digits};
-ghost use Rattle.lexical_writer.specs.Layout.{either, fraction_pattern, group_size, integer_pattern, pattern_of};
+ghost use Rattle.lexical_writer.specs.Digits.{no_groups};
+ghost use Rattle.lexical_writer.specs.Layout.{either, group_size, integer_pattern, pattern_of};
 
 use crate::layout::{Grouping, Style};
-use crate::run::{Pattern, Run};
+use crate::run::Pattern;
 use lexical_literal::syntax::{Condition, Conditions};
 use lexical_util::format::{NumberFormat, digit_separator};
 
@@ -23,30 +23,6 @@ pub(crate) const fn integer_pattern(
     let higher = either(conditions.number(Condition::HigherGroupSize), last);
     let allowed = format.integer_internal_digit_separator();
     pattern_of(format, allowed, last, higher, style.lowercase)
-}
-
-// Returns the pattern of a fraction with the digits of `run`. It has groups, which are counted from the left, only where a condition requires
-// them.
-#[inline]
-pub(crate) fn fraction_pattern(
-    format: NumberFormat,
-    conditions: Conditions,
-    style: Style,
-    run: &Run,
-) -> Pattern
-    ensures { result ≡ fraction_pattern (raw format) conditions style (length (run_digits run.now)) }
-{
-    let size = match conditions.number(Condition::FractionGroupSize) {
-        0 => 0,
-        given => group_size(given, style.group),
-    };
-    let last = if size == 0 {
-        0
-    } else {
-        (run.length().saturating_sub(1) % size as u128) as usize + 1
-    };
-    let allowed = format.fraction_internal_digit_separator();
-    pattern_of(format, allowed, last, size, style.lowercase)
 }
 
 // Returns the pattern of digits in groups, unless there are none, or the format does not allow them.

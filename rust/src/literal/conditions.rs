@@ -3,8 +3,7 @@
 use core::fmt;
 
 use crate::edits::ArgumentKind;
-use crate::format::{BASE_PREFIX, BASE_SUFFIX, DIGIT_SEPARATOR};
-use crate::format::{FRACTION_INTERNAL_DIGIT_SEPARATOR, INTEGER_INTERNAL_DIGIT_SEPARATOR};
+use crate::format::{BASE_PREFIX, BASE_SUFFIX, DIGIT_SEPARATOR, INTEGER_INTERNAL_DIGIT_SEPARATOR};
 use crate::format::{NO_FLOAT_LEADING_ZEROS, NO_INTEGER_LEADING_ZEROS};
 use crate::lawful::Rejected;
 use crate::literal::syntax::{fault, CONDITIONS};
@@ -58,9 +57,6 @@ conditions! {
     /// Requires groups of as many digits before the last one of the integer, from 2 to 8. The last one has the size of
     /// `integer_group_size`: with 2 and 3, a reader accepts `12,34,567`, and refuses `123,456`.
     HigherGroupSize: higher_group_size(number);
-    /// Requires groups of as many fraction digits, from 2 to 8, counted from the left, if there are separators. With 3, a
-    /// reader accepts `0.1234` and `0.123,4`, and refuses `0.12,345`.
-    FractionGroupSize: fraction_group_size(number);
     /// Requires that a number begins with `0` behind its sign. If set, a reader of C's octal integers accepts `0` and `017`,
     /// and refuses `17`, and a writer adds the zero.
     LeadingZero: required_leading_zero(flag);
@@ -155,11 +151,6 @@ impl ConditionsErrorKind {
                 Error::InvalidDigitSeparator,
                 INTEGER_INTERNAL_DIGIT_SEPARATOR,
                 "the format has no integer_internal_digit_separator",
-            ),
-            Self::NoFractionSeparator => (
-                Error::InvalidDigitSeparator,
-                FRACTION_INTERNAL_DIGIT_SEPARATOR,
-                "the format has no fraction_internal_digit_separator",
             ),
             Self::NoSeparator => (Error::InvalidDigitSeparator, DIGIT_SEPARATOR, "the format has no digit separator"),
             Self::NoIntegerGroupSize => (Error::InvalidDigitSeparator, 0, "integer_group_size is not"),

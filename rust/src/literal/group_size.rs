@@ -1,6 +1,6 @@
 // Made by rust/tools/erase.py from crates/lexical_literal/src/group_size.rt: change that file.
 
-//! Sizes of digit groups: how many digits are between the separators of a part, and which bytes may follow.
+//! Sizes of digit groups: how many digits are between the separators of an integer, and which bytes may follow.
 
 use crate::literal::step::{is_separator, role_at};
 use crate::literal::syntax::{has_sizes, Condition, Grammar};
@@ -17,13 +17,9 @@ pub struct Group {
 // The group before any byte.
 pub(crate) const FIRST: Group = Group { part: Part::Integer, separated: false, digits: 0 };
 
-// Returns whether a condition is on groups of `part`.
+// Returns whether the condition on groups is on those of `part`.
 pub(crate) const fn has_size(grammar: &Grammar, part: Part) -> bool {
-    match part {
-        Part::Integer => grammar.conditions().has(Condition::IntegerGroupSize),
-        Part::Fraction => grammar.conditions().has(Condition::FractionGroupSize),
-        Part::Exponent => false,
-    }
+    matches!(part, Part::Integer) && has_sizes(grammar)
 }
 
 // Returns the number of a condition.
@@ -31,7 +27,7 @@ const fn size(grammar: &Grammar, condition: Condition) -> usize {
     grammar.conditions().number(condition) as usize
 }
 
-// Returns the number of digits of a group of the integer before the last one.
+// Returns the number of digits of a group before the last one.
 const fn higher(grammar: &Grammar) -> usize {
     match size(grammar, Condition::HigherGroupSize) {
         0 => size(grammar, Condition::IntegerGroupSize),
@@ -39,49 +35,25 @@ const fn higher(grammar: &Grammar) -> usize {
     }
 }
 
-// Returns whether the first of several groups may have `count` digits.
-const fn first_fits(grammar: &Grammar, part: Part, count: usize) -> bool {
-    match part {
-        Part::Integer => 0 < count && count <= higher(grammar),
-        _ => count == size(grammar, Condition::FractionGroupSize),
-    }
-}
-
-// Returns whether a group between others may have `count` digits.
-const fn inner_fits(grammar: &Grammar, part: Part, count: usize) -> bool {
-    match part {
-        Part::Integer => count == higher(grammar),
-        _ => count == size(grammar, Condition::FractionGroupSize),
-    }
-}
-
-// Returns whether the last of several groups may have `count` digits.
-const fn last_fits(grammar: &Grammar, part: Part, count: usize) -> bool {
-    match part {
-        Part::Integer => count == size(grammar, Condition::IntegerGroupSize),
-        _ => 0 < count && count <= size(grammar, Condition::FractionGroupSize),
-    }
-}
-
 // Returns the number of digits that a group behind a separator has at most.
-const fn most(grammar: &Grammar, part: Part) -> usize {
-    let last = size(grammar, Condition::IntegerGroupSize);
-    match part {
-        Part::Integer if higher(grammar) < last => last,
-        Part::Integer => higher(grammar),
-        _ => size(grammar, Condition::FractionGroupSize),
+const fn most(grammar: &Grammar) -> usize {
+    let (higher, last) = (higher(grammar), size(grammar, Condition::IntegerGroupSize));
+    if higher < last {
+        last
+    } else {
+        higher
     }
 }
 
-// Returns whether a byte with the role `role` may follow `group`, of a part whose groups have sizes. If it has no role, or none
-// follows, the part ends.
+// Returns whether a byte with the role `role` may follow `group`, of an integer whose groups have sizes. If it has no role, or none
+// follows, the integer ends.
 pub(crate) const fn follows(grammar: &Grammar, group: Group, role: Option<Role>) -> bool {
-    let Group { part, separated, digits } = group;
+    let Group { separated, digits, .. } = group;
     match role {
-        Some(Role::Digit) => !separated || digits < most(grammar, part),
-        Some(Role::Separator) if separated => inner_fits(grammar, part, digits),
-        Some(Role::Separator) => first_fits(grammar, part, digits),
-        _ => !separated || last_fits(grammar, part, digits),
+        Some(Role::Digit) => !separated || digits < most(grammar),
+        Some(Role::Separator) if separated => digits == higher(grammar),
+        Some(Role::Separator) => 0 < digits && digits <= higher(grammar),
+        _ => !separated || digits == size(grammar, Condition::IntegerGroupSize),
     }
 }
 

@@ -7,7 +7,7 @@
 //! of a part are absent, so that fewer paths join.
 
 use crate::digit::{char_to_digit, char_to_digit_const};
-use crate::literal::group_size::{group_after, group_allows, has_size, is_grouped};
+use crate::literal::group_size::{group_after, group_allows, is_grouped};
 use crate::literal::literal::{Sum, Sums, NOTHING};
 use crate::literal::step::{
     after_point, allows_minus, allows_plus, awaits_integer, digits_of, has_digit, has_place, is_complete, is_digit,
@@ -208,7 +208,7 @@ const fn integer_of(text: &[u8], begun: Begun) -> &[u8] {
 // Returns what has been read without regard to sizes of groups, or that nothing has if a group has not the right size.
 #[inline(always)]
 const fn sized(grammar: &Grammar, text: &[u8], begun: Begun) -> Begun {
-    if begun.complete && !has_size(grammar, Part::Fraction) && is_grouped(grammar, integer_of(text, begun)) {
+    if begun.complete && is_grouped(grammar, integer_of(text, begun)) {
         return begun;
     }
     match group_after(grammar, text, begun.at.size) {

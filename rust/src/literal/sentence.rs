@@ -169,9 +169,6 @@ impl ReadError {
                     higher => groups.decimal(higher as usize).and(" digits and a last one of ").decimal(last),
                 }
             }
-            Condition::FractionGroupSize => {
-                groups.decimal(conditions.number(condition) as usize).and(" fraction digits")
-            }
             Condition::LeadingZero => ShortText::of("expected a leading zero"),
             Condition::DecimalFirstDigit => ShortText::of("expected a first digit from 0 to 9"),
         }

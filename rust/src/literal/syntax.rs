@@ -5,8 +5,8 @@
 use crate::format_flags::{
     base_prefix, base_suffix, digit_separator, exponent_base, exponent_radix, is_separator_allowed, mantissa_radix,
     BASE_PREFIX_SHIFT, BASE_SUFFIX_SHIFT, DIGIT_SEPARATOR_SHIFT, EXPONENT_BASE_SHIFT, EXPONENT_RADIX_SHIFT,
-    FRACTION_INTERNAL_DIGIT_SEPARATOR, INTEGER_INTERNAL_DIGIT_SEPARATOR, MANTISSA_RADIX_SHIFT, NO_FLOAT_LEADING_ZEROS,
-    NO_INTEGER_LEADING_ZEROS, REQUIRED_EXPONENT_NOTATION, REQUIRED_MANTISSA_SIGN,
+    INTEGER_INTERNAL_DIGIT_SEPARATOR, MANTISSA_RADIX_SHIFT, NO_FLOAT_LEADING_ZEROS, NO_INTEGER_LEADING_ZEROS,
+    REQUIRED_EXPONENT_NOTATION, REQUIRED_MANTISSA_SIGN,
 };
 use crate::literal::step::role_at;
 use crate::word::{Format, FormatError, FormatView, Part, Role};
@@ -37,9 +37,6 @@ pub enum Condition {
     /// The groups of the integer before the last have as many digits as the number says, and the first may have fewer. The
     /// last has as many as [`IntegerGroupSize`][Self::IntegerGroupSize] says.
     HigherGroupSize,
-    /// The fraction of a literal has no digit separators, or has them between groups of as many digits as the number says,
-    /// counted from the left.
-    FractionGroupSize,
     /// Behind its sign, a literal begins with the digit 0, which may be that of its base prefix.
     LeadingZero,
     /// Behind its sign, a literal begins with a digit that is not a letter, which may be the 0 of its base prefix.
@@ -47,13 +44,12 @@ pub enum Condition {
 }
 
 /// All conditions, in the order in which they are checked and printed.
-pub const CONDITIONS: [Condition; 8] = [
+pub const CONDITIONS: [Condition; 7] = [
     Condition::BasePrefix,
     Condition::BaseSuffix,
     Condition::NegativeSign,
     Condition::IntegerGroupSize,
     Condition::HigherGroupSize,
-    Condition::FractionGroupSize,
     Condition::LeadingZero,
     Condition::DecimalFirstDigit,
 ];
@@ -63,7 +59,7 @@ impl Condition {
     #[must_use]
     pub const fn limits(self) -> (u8, u8) {
         match self {
-            Condition::IntegerGroupSize | Condition::HigherGroupSize | Condition::FractionGroupSize => (2, 8),
+            Condition::IntegerGroupSize | Condition::HigherGroupSize => (2, 8),
             _ => (1, 1),
         }
     }
@@ -121,7 +117,7 @@ impl Conditions {
     // Returns whether there are no conditions but `NegativeSign`, of which the number is the third.
     #[inline(always)]
     const fn are_usual(self) -> bool {
-        matches!(self.numbers, [0, 0, _, 0, 0, 0, 0, 0])
+        matches!(self.numbers, [0, 0, _, 0, 0, 0, 0])
     }
 
     // Returns the first of the conditions, in the order in which they are checked.
@@ -165,8 +161,6 @@ pub enum ConditionsErrorKind {
     NoBaseSuffix,
     /// No flag allows a separator between digits of the integer.
     NoInternalSeparator,
-    /// No flag allows a separator between digits of the fraction.
-    NoFractionSeparator,
     /// The format has no digit separator.
     NoSeparator,
     /// `integer_group_size` is not one of the conditions.
@@ -423,10 +417,10 @@ impl Syntax {
     }
 }
 
-// Returns whether a condition is on groups of some part.
+// Returns whether a condition is on groups.
 #[inline(always)]
 pub(crate) const fn has_sizes(grammar: &Grammar) -> bool {
-    grammar.conditions.has(Condition::IntegerGroupSize) || grammar.conditions.has(Condition::FractionGroupSize)
+    grammar.conditions.has(Condition::IntegerGroupSize)
 }
 
 // The flags that a usual syntax does not have.
@@ -488,12 +482,7 @@ const fn missing(grammar: &Grammar, conditions: Conditions, condition: Condition
         Condition::IntegerGroupSize if !grammar.has(INTEGER_INTERNAL_DIGIT_SEPARATOR) => {
             Some(ConditionsErrorKind::NoInternalSeparator)
         }
-        Condition::FractionGroupSize if !grammar.has(FRACTION_INTERNAL_DIGIT_SEPARATOR) => {
-            Some(ConditionsErrorKind::NoFractionSeparator)
-        }
-        Condition::IntegerGroupSize | Condition::FractionGroupSize if separator == 0 => {
-            Some(ConditionsErrorKind::NoSeparator)
-        }
+        Condition::IntegerGroupSize if separator == 0 => Some(ConditionsErrorKind::NoSeparator),
         Condition::HigherGroupSize if !conditions.has(Condition::IntegerGroupSize) => {
             Some(ConditionsErrorKind::NoIntegerGroupSize)
         }

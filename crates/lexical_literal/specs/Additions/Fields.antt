@@ -7,6 +7,7 @@ use Rattle.lexical_flags.proofs.Packing.{low-half, raw-fields}
 use Rattle.lexical_util.specs.Layout as layout
 use Rattle.lexical_util.specs.Layout.{Byte, Flag, bit}
 use Rattle.lexical_util.specs.Record.{Record, SeparatorAllowedOrAbsent, bytes_of, effective, record_of, word_from}
+use Rattle.lexical_literal.specs.Notation.{all_conditions}
 use Rattle.lexical_literal.specs.Worded.{Worded}
 use Rattle.lexical_literal.specs.declared.syntax.Options.{Options}
 use Rattle.lexical_literal.specs.declared.syntax.Grammar.TheInside.{Inside}
@@ -41,7 +42,7 @@ pub record AreFields (a : Inside) : Type 0 where
   pub radix : effective a.exponent_radix a.radix ≡ a.exponent_radix
   pub separator : SeparatorAllowedOrAbsent (record_of a.flags (byte_of a))
   pub exponent : a.point ≡ 0 → a.exponent ≡ 0
-  pub conditions : length a.conditions.numbers ≡ 8
+  pub conditions : length a.conditions.numbers ≡ length all_conditions
 
 -- `exponent_in options` and `point_in options` are the exponent character and the decimal point, or 0.
 abbrev pub exponent_in : Option Options → ℕ

@@ -1,13 +1,14 @@
--- What has been read of the digit groups of a part, and which bytes may follow.
-use Rattle.std.specs.Prelude.{ℕ, ◌≡◌, ◌↔◌, Bool, true, false, not, ◌+◌, ◌&&◌, ◌||◌, nat_lt, if◌then◌else◌, List, [], ◌∷◌, Option, Some, None}
+-- What has been read of the digit groups of an integer, and which bytes may follow.
+use Rattle.std.specs.Prelude.{ℕ, ◌≡◌, ◌↔◌, Bool, true, false, not, ◌+◌, ◌==◌, ◌&&◌, ◌||◌, nat_le, nat_lt, if◌then◌else◌, List, [], ◌∷◌, Option, Some, None}
 use Rattle.std.specs.List.{list_any}
-use Rattle.lexical_util.specs.Layout.{Flag, separators_in}
+use Rattle.lexical_util.specs.Layout as layout
+use Rattle.lexical_util.specs.Layout.{Flag}
 use Rattle.lexical_util.specs.declared.feature_format.roles.Role.{Role}
 use Rattle.lexical_util.specs.declared.feature_format.roles.Role.TheVariants as roles
 use Rattle.lexical_util.specs.declared.format_flags.Part.{Part}
 use Rattle.lexical_util.specs.declared.format_flags.Part.TheVariants as parts
 use Rattle.lexical_literal.specs.Cause.{Allows, is_one_of}
-use Rattle.lexical_literal.specs.Groups.{first_fits, has_size, has_sizes, higher, inner_fits, last_fits}
+use Rattle.lexical_literal.specs.Groups.{higher}
 use Rattle.lexical_literal.specs.Notation.{Notation, notation_of}
 use Rattle.lexical_literal.specs.Additions.Causes.{IsWeaker, lets}
 use Rattle.lexical_literal.specs.Additions.Step.{part_of, role_at}
@@ -27,16 +28,24 @@ with_rules m flag condition = record m { flag = flag; condition = condition }
 abbrev pub is_size : Condition → Bool
 is_size conditions.IntegerGroupSize = true
 is_size conditions.HigherGroupSize = true
-is_size conditions.FractionGroupSize = true
 is_size _ = false
 
--- `makes_empty part f` is true if the flag `f` allows an empty group in `part`.
-abbrev pub makes_empty : Part → Flag → Bool
-makes_empty part f = is_one_of ((separators_in part).leading ∷ (separators_in part).trailing ∷ (separators_in part).consecutive ∷ []) f
+-- `has_sizes m` is true if a condition of `m` is on groups, and `has_size m part` if it is on groups of `part`.
+abbrev pub has_sizes : Notation → Bool
+has_sizes m = m.condition conditions.IntegerGroupSize
+
+abbrev pub has_size : Notation → Part → Bool
+has_size m parts.Integer = has_sizes m
+has_size m _ = false
+
+-- `makes_empty f` is true if the flag `f` allows an empty group in the integer.
+abbrev pub makes_empty : Flag → Bool
+makes_empty f = is_one_of (layout.integer_leading_digit_separator ∷ layout.integer_trailing_digit_separator
+    ∷ layout.integer_consecutive_digit_separator ∷ []) f
 
 -- `is_idle m f` is true if the flag `f` allows an empty group where a condition of `m` refuses it.
 abbrev pub is_idle : Notation → Flag → Bool
-is_idle m f = (makes_empty parts.Integer f && has_size m parts.Integer) || (makes_empty parts.Fraction f && has_size m parts.Fraction)
+is_idle m f = makes_empty f && has_sizes m
 
 -- `unsized m` is `m` without conditions on groups, and without the flags that these make idle.
 abbrev pub unsized : Notation → Notation
@@ -48,17 +57,16 @@ steps_of g = unsized (notation_of g)
 
 -- THE GROUP THAT IS BEING READ
 
--- `most m part` is the number of digits that a group of `part` behind a separator has at most.
-abbrev pub most : Notation → Part → ℕ
-most m parts.Integer = if nat_lt (higher m) (m.number conditions.IntegerGroupSize) then m.number conditions.IntegerGroupSize else higher m
-most m _ = m.number conditions.FractionGroupSize
+-- `most m` is the number of digits that a group behind a separator has at most.
+abbrev pub most : Notation → ℕ
+most m = if nat_lt (higher m) (m.number conditions.IntegerGroupSize) then m.number conditions.IntegerGroupSize else higher m
 
--- `follows m g role` is true if a byte with the role `role` may follow the group `g` of a part whose groups have sizes. If it has no
--- role, or none follows, the part ends.
+-- `follows m g role` is true if a byte with the role `role` may follow the group `g` of an integer whose groups have sizes. If it has
+-- no role, or none follows, the integer ends.
 abbrev pub follows : Notation → Group → Option Role → Bool
-follows m g (Some roles.Digit) = not g.separated || nat_lt g.digits (most m g.part)
-follows m g (Some roles.Separator) = if g.separated then inner_fits m g.part g.digits else first_fits m g.part g.digits
-follows m g _ = not g.separated || last_fits m g.part g.digits
+follows m g (Some roles.Digit) = not g.separated || nat_lt g.digits (most m)
+follows m g (Some roles.Separator) = if g.separated then g.digits == higher m else nat_lt 0 g.digits && nat_le g.digits (higher m)
+follows m g _ = not g.separated || g.digits == m.number conditions.IntegerGroupSize
 
 -- `group_allows m g role` is true if a byte with the role `role` may follow the group `g`.
 abbrev pub group_allows : Notation → Group → Option Role → Bool

@@ -11,9 +11,9 @@ use Rattle.lexical_util.specs.declared.feature_format.roles.Role.{Role}
 use Rattle.lexical_util.specs.declared.feature_format.roles.Role.TheVariants as roles
 use Rattle.lexical_util.specs.declared.format_flags.Part.{Part}
 use Rattle.lexical_util.specs.declared.format_flags.Part.TheVariants as parts
-use Rattle.lexical_literal.specs.Groups.{has_size, has_sizes}
 use Rattle.lexical_util.specs.Record.{Record, bytes_of, raw}
 use Rattle.lexical_literal.specs.Notation.{Notation, all_conditions, has, is_same, radix_of, set_of_role}
+use Rattle.lexical_literal.specs.Additions.GroupSize.{has_sizes}
 use Rattle.lexical_literal.specs.Additions.Step.{Cuts, add_more, after_mark, awaits_integer, cuts_of, digits_piece, has_digit, implies, is_run, is_signed}
 use Rattle.lexical_literal.specs.Additions.Step.{lacks_prefix, no_cuts, part_of, piece_of, walk, start, step, takes, tally}
 use Rattle.lexical_literal.specs.declared.stop.Stopped.{Stopped}
@@ -49,11 +49,10 @@ pub record IsReady (m : Notation) : Type 0 where
   pub agree : (m.flag layout.no_exponent_notation && m.flag layout.required_exponent_notation) ≡ false
   pub no_sizes : has_sizes m ≡ false
 
--- `HasSizes m` holds if sizes of groups are at least 1, and if a separator may be between digits of a part that has one.
+-- `HasSizes m` holds if groups that have sizes have at least one digit, and if a separator may be between digits of the integer.
 pub record HasSizes (m : Notation) : Type 0 where
-  pub integer : has_size m parts.Integer ≡ true → 0 < m.number conditions.IntegerGroupSize
-  pub fraction : has_size m parts.Fraction ≡ true → 0 < m.number conditions.FractionGroupSize
-  pub internal : (part : Part) → has_size m part ≡ true → m.flag (separators_in part).internal ≡ true
+  pub some : has_sizes m ≡ true → 0 < m.number conditions.IntegerGroupSize
+  pub internal : has_sizes m ≡ true → m.flag layout.integer_internal_digit_separator ≡ true
   pub separator : ℕ
   pub has_separator : has_sizes m ≡ true → m.separator separator ≡ true
 

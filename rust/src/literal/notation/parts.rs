@@ -5,11 +5,10 @@ use crate::literal::step::{self, allows_minus, allows_plus, is_digit, is_separat
 use crate::literal::syntax::{Condition, Conditions, Grammar};
 use crate::word::Part;
 
-/// Returns the sizes of the last group of the integer, of its others, and of those of the fraction. None is 0.
-pub(super) fn group_sizes(conditions: Conditions) -> [u8; 3] {
-    let sizes = [Condition::IntegerGroupSize, Condition::HigherGroupSize, Condition::FractionGroupSize];
-    let [last, higher, fraction] = sizes.map(|it| conditions.number(it));
-    [last, if higher == 0 { last } else { higher }, fraction]
+/// Returns the sizes of the last group of the integer, and of its others. None is 0.
+pub(super) fn group_sizes(conditions: Conditions) -> [u8; 2] {
+    let [last, higher] = [Condition::IntegerGroupSize, Condition::HigherGroupSize].map(|it| conditions.number(it));
+    [last, if higher == 0 { last } else { higher }]
 }
 
 /// Returns whether leading zeros are forbidden in integers, and whether in floats. Both are the same if no literal is
@@ -68,16 +67,12 @@ fn runs<'a>(
     [prefix, digit]: [Expression<'a>; 2],
 ) -> [Expression<'a>; 4] {
     let separator = pool.byte(|it| is_separator(grammar, it));
-    let exactly = |size| digit.times(size, Some(size));
     // What is in groups, and what is behind its first digit.
     let groups = match (part, group_sizes(grammar.conditions)) {
-        (Part::Integer, [last @ 1..=u8::MAX, higher, _]) => {
-            let [lowest, others] = [last, higher].map(|size| separator + exactly(size));
+        (Part::Integer, [last @ 1..=u8::MAX, higher]) => {
+            let [lowest, others] = [last, higher].map(|size| separator + digit.times(size, Some(size)));
             let behind = if last == higher { lowest.times(1, None) } else { others.times(0, None) + lowest };
             Some([digit.times(1, Some(higher)) + behind, digit.times(0, Some(higher - 1)) + behind])
-        }
-        (Part::Fraction, [.., size @ 1..=u8::MAX]) => {
-            Some([(exactly(size) + separator).times(1, None) + digit.times(1, Some(size)); 2])
         }
         _ => None,
     };

@@ -31,8 +31,8 @@ struct Terms {
     view: FormatView,
     floats: bool,
     has_exponent: bool,
-    /// The sizes of the last group of the integer, of its others, and of those of the fraction.
-    groups: [u8; 3],
+    /// The sizes of the last group of the integer, and of its others.
+    groups: [u8; 2],
     /// Whether leading zeros are forbidden in integers, and in floats.
     no_zeros: [bool; 2],
 }
@@ -52,18 +52,17 @@ impl Terms {
 
     /// Returns the parts in which flags allow separators, and not sizes of groups. Without a separator, there are none.
     fn places(&self, is_allowed: fn(Separators) -> bool) -> [bool; 3] {
-        let [last, _, small] = self.groups;
         let [integer, fraction, exponent] = [Part::Integer, Part::Fraction, Part::Exponent]
             .map(|part| self.grammar.separator != 0 && is_allowed(self.view.separators(part)));
-        [integer && last == 0, self.floats && fraction && small == 0, self.has_exponent && exponent]
+        [integer && self.groups[0] == 0, self.floats && fraction, self.has_exponent && exponent]
     }
 
     /// Returns all phrases, and whether each is true of the syntax and has an effect. A `%` and the byte behind it stand
     /// for what [`Self::write`] writes.
-    fn phrases(&self) -> [(bool, &'static str); 35] {
+    fn phrases(&self) -> [(bool, &'static str); 34] {
         let Terms { grammar, view, floats, has_exponent, .. } = *self;
         let Grammar { conditions, point, exponent, prefix, suffix, .. } = grammar;
-        let ([last, higher, small], [zeros, float_zeros]) = (self.groups, self.no_zeros);
+        let ([last, higher], [zeros, float_zeros]) = (self.groups, self.no_zeros);
         let anywhere = |is_allowed| self.places(is_allowed) != [false; 3];
         [
             (true, "%r%i"),
@@ -75,7 +74,6 @@ impl Terms {
             (has_exponent && view.exponent_radix() != 10, "%R exponent digits"),
             (last != 0 && last == higher, "`%s` between groups of %l"),
             (last != higher, "`%s` between groups of %g and a last one of %l"),
-            (floats && small != 0, "`%s` between groups of %m in the fraction"),
             (anywhere(|it| it.internal), "`%s` between digits%1"),
             (anywhere(|it| it.leading), "`%s` before digits%2"),
             (anywhere(|it| it.trailing), "`%s` after digits%3"),
@@ -106,7 +104,7 @@ impl Terms {
 
     /// Writes what stands for `%` and `code` in a phrase.
     fn write(&self, code: u8, f: &mut Formatter<'_>) -> fmt::Result {
-        let ([last, higher, small], [_, float_zeros]) = (self.groups, self.no_zeros);
+        let ([last, higher], [_, float_zeros]) = (self.groups, self.no_zeros);
         let optional = |condition| if self.grammar.conditions.has(condition) { "" } else { "optional " };
         let text = match code {
             b'r' => return f.write_str(radix(self.view.mantissa_radix()).as_str()),
@@ -129,7 +127,6 @@ impl Terms {
             b'q' => optional(Condition::BaseSuffix),
             b'l' => count(last),
             b'g' => count(higher),
-            b'm' => count(small),
             b'n' if self.view.case_sensitive_special() => "case-sensitive ",
             b'z' if !float_zeros => " in integers",
             _ => "",

@@ -261,11 +261,6 @@ impl Source<'_> {
 }
 
 impl Run<'_> {
-    // Returns the number of digits that are written.
-    pub(crate) fn length(&self) -> u128 {
-        self.source.count(self.radix).max(self.least)
-    }
-
     // Writes the digits.
     #[inline(always)]
     pub(crate) fn put<S: Sink>(&self, sink: &mut S) {

@@ -4,7 +4,7 @@
 
 use crate::literal::syntax::{Condition, Conditions, Options, Syntax};
 use crate::literal::writer::digits::{only_if, put_if_any, without_zeros};
-use crate::literal::writer::patterns::{fraction_pattern, integer_pattern, no_groups};
+use crate::literal::writer::patterns::{integer_pattern, no_groups};
 use crate::literal::writer::run::{Run, Source};
 use crate::literal::writer::sink::{Sink, Window};
 use crate::word::{base_prefix, base_suffix, FormatView};
@@ -233,7 +233,7 @@ impl<'a> Amount<'a> {
             prefix,
             integer: self.integer_run(format, conditions, style, prefix.is_some(), float),
             point: only_if(point, options.point),
-            fraction: self.fraction_run(format, conditions, style, point),
+            fraction: self.fraction_run(format, style, point),
             exponent_character: only_if(exponent, options.exponent),
             exponent_sign: sign_of(power.negative, exponent & format.required_exponent_sign()),
             exponent: exponent_run(power.source, format, style, exponent),
@@ -274,16 +274,13 @@ impl<'a> Amount<'a> {
 
     // Returns the fraction, which has a digit behind a point.
     #[inline]
-    fn fraction_run(&self, format: FormatView, conditions: Conditions, style: Style, point: bool) -> Run<'a> {
-        let radix = format.mantissa_radix();
-        let run = Run {
+    fn fraction_run(&self, format: FormatView, style: Style, point: bool) -> Run<'a> {
+        Run {
             source: self.fraction.unwrap_or(Source::Number(0)),
-            radix,
+            radix: format.mantissa_radix(),
             least: one_if(point),
             pattern: no_groups(style.lowercase),
-        };
-        let pattern = fraction_pattern(format, conditions, style, &run);
-        Run { source: run.source, radix, least: run.least, pattern }
+        }
     }
 
     // Returns why the number cannot be written, if it cannot.

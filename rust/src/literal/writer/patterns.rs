@@ -4,7 +4,7 @@
 
 use crate::literal::syntax::{Condition, Conditions};
 use crate::literal::writer::layout::{Grouping, Style};
-use crate::literal::writer::run::{Pattern, Run};
+use crate::literal::writer::run::Pattern;
 use crate::word::{digit_separator, FormatView};
 
 // Returns the pattern of an integer.
@@ -14,19 +14,6 @@ pub(crate) const fn integer_pattern(format: FormatView, conditions: Conditions, 
     let higher = either(conditions.number(Condition::HigherGroupSize), last);
     let allowed = format.integer_internal_digit_separator();
     pattern_of(format, allowed, last, higher, style.lowercase)
-}
-
-// Returns the pattern of a fraction with the digits of `run`. It has groups, which are counted from the left, only where a condition requires
-// them.
-#[inline]
-pub(crate) fn fraction_pattern(format: FormatView, conditions: Conditions, style: Style, run: &Run) -> Pattern {
-    let size = match conditions.number(Condition::FractionGroupSize) {
-        0 => 0,
-        given => group_size(given, style.group),
-    };
-    let last = if size == 0 { 0 } else { (run.length().saturating_sub(1) % size as u128) as usize + 1 };
-    let allowed = format.fraction_internal_digit_separator();
-    pattern_of(format, allowed, last, size, style.lowercase)
 }
 
 // Returns the pattern of digits in groups, unless there are none, or the format does not allow them.

@@ -58,7 +58,7 @@ plain g style negative n none radix prefix suffix groups leads most =
     (λ i. integer_text r c style (is_some (before i)) (point i || none i) amount)
     ∙ (λ i. grouped (pattern i) (at_least (least i) (digits_of (radix i) n))) in
     (λ i. l.sign ++ (after_zero (before i) ++ (integer i ++ (option_to_list (only_if (point i) (options_of g).point)
-    ++ (fraction_text r c style (point i) amount ++ (option_to_list (only_if (none i) (options_of g).exponent)
+    ++ (fraction_text r style (point i) amount ++ (option_to_list (only_if (none i) (options_of g).exponent)
     ++ (option_to_list (sign_of false (none i && r.flag layout.required_exponent_sign)) ++ (grouped (no_groups style.lowercase)
     (at_least (one_if (none i)) (digits_of (effective_exponent_radix r) (size_of (effective_exponent_radix r) no_power.source)))
     ++ option_to_list (behind i)))))))))
