@@ -240,28 +240,17 @@ module _ (m : Notation) (h : HasRoles m) where
         (shown s c (b == 48) t.role refl suffix) more) where
           admitted : (r : Role) → (r ≡ roles.Sign → ⊥) → (needs_first m ≡ true → (r ≡ roles.Digit) × (is_first m b ≡ true))
               → admits C (reading stage false) b r ≡ true
-          admitted roles.Sign other first = absurd (other refl)
-          admitted roles.Digit other first = elim (cases_Bool (needs_first m)) [
-            | inl needs ↦ let fits = (first needs).1 in grind arith
-            | inr free ↦ grind arith
-          ]
           admitted r other first = elim (cases_Bool (needs_first m)) [
-            | inl needs ↦ let same = (first needs).0 in cc
+            | inl needs ↦ let both = first needs in grind arith
             | inr free ↦ grind arith
           ]
 
           calm : (r : Role) → (r ≡ roles.Sign → ⊥) → (needs_first m ≡ true → (r ≡ roles.Digit) × (is_first m b ≡ true))
               → takes m (reading stage false) (b == 43) r ≡ true → Calm (after (reading stage false) (b == 48) r)
-          calm roles.Sign other first taken = absurd (other refl)
-          calm roles.Digit other first taken = record { prefix = grind arith; sign = grind arith; first = grind arith }
-          calm r other first taken = record {
-            prefix = grind arith;
-            sign = grind arith;
-            first = elim (cases_Bool (needs_first m)) [
-              | inl needs ↦ let same = (first needs).0 in cc
-              | inr free ↦ grind arith
-            ];
-          }
+          calm r other first taken = elim (cases_Bool (needs_first m)) [
+            | inl needs ↦ let both = first needs in grind arith
+            | inr free ↦ grind arith
+          ]
 
     module _ (prefix rest : List ℕ) (is_prefix : is_none_or_prefix m.prefix prefix ≡ true)
         (has_prefix : C conditions.BasePrefix ≡ true → is_present prefix ≡ true) where

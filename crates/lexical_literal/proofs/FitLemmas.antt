@@ -1,9 +1,10 @@
 -- What some literal of a notation with sizes of groups begins with: what one without begins with, if its groups fit byte by byte.
 use Rattle.std.proofs.Common.{rules}
 use Rattle.lexical_literal.proofs.Common.{Bool, Group, HasRoles, HasSizes, IsFront, IsReady, List, Literal, None, Notation, Option, Part, Reads, Role, Some}
-use Rattle.lexical_literal.proofs.Common.{Stage, Summary, [], admits, after, after_mark, and_from, and_parts, ap, append_assoc, arith, cases_Bool, false}
-use Rattle.lexical_literal.proofs.Common.{false≢true, first_group, follows, gap_fits, group_after, group_allows, grow, grown, has_digit, has_size, has_sizes}
-use Rattle.lexical_literal.proofs.Common.{higher, if◌then◌else◌, inl, inr, is_open, is_place, is_run, is_signed, lacks_prefix, list_any}
+use Rattle.lexical_literal.proofs.Common.{Stage, Summary, [], admits, after, after_mark, and_from, and_parts, ap, append_assoc, arith, cases_Bool}
+use Rattle.lexical_literal.proofs.Common.{false, false≢true, first_group, follows, gap_fits, group_after, group_allows, grow, grown, has_digit}
+use Rattle.lexical_literal.proofs.Common.{has_size, has_sizes, higher, if◌then◌else◌, inl, inr, is_open, is_place, is_run, is_signed, lacks_prefix}
+use Rattle.lexical_literal.proofs.Common.{list_any}
 use Rattle.lexical_literal.proofs.Common.{may_follow, most, nat_le, nat_lt, nat_tests, not, or_left, or_parts, or_right, part_of, refl, role_at, separators_in}
 use Rattle.lexical_literal.proofs.Common.{start, subst, suc, sym, takes, takes_in, true, unsized, walk, zero, ℕ, ◌&&◌, ◌++◌, ◌+◌, ◌-◌, ◌==◌, ◌||◌, ◌∙◌, ◌∷◌}
 use Rattle.lexical_literal.proofs.Common.{◌<◌, ◌≡◌, ◌≤◌}
@@ -38,9 +39,7 @@ module _ (m : Notation) where
 
   -- Behind a group that need not be filled, all bytes but separators fit.
   pub calm_ends : (g : Group) (text : List ℕ) → is_sized g ≡ false → list_any m.separator text ≡ false → ends m (group_after m (Some g) text) ≡ true
-  calm_ends g [] calm joined = fit g.separated (has_size m g.part) _ calm where
-    fit : (separated size last : Bool) → (separated && size) ≡ false → (not size || (not separated || last)) ≡ true
-    fit separated size last calm = grind arith
+  calm_ends g [] calm joined = grind arith
   calm_ends g (b ∷ text) calm joined = go (λ g calm. calm_ends g text calm (or_parts (m.separator b) _ joined).1) (role_at m g.part b) refl where
     fit : (separated size more : Bool) → (separated && size) ≡ false → (not size || (not separated || more)) ≡ true
     fit separated size more calm = grind arith
@@ -77,9 +76,6 @@ module _ (m : Notation) where
   no_empty : (part : Part) → has_size m part ≡ true → (u.flag (separators_in part).leading ≡ false) × (u.flag (separators_in part).trailing ≡ false)
   no_empty x0 sized = grind arith
 
-  after_separator : (stage : Stage) → has_digit stage ≡ true → (has_digit (after_mark stage) ≡ true) × (lacks_prefix (after_mark stage) ≡ false)
-  after_separator stage digit = (grind arith, grind arith)
-
   behind_digits : (part : Part) (stage : Stage) (gap : Bool) → has_size m part ≡ true → takes_in u part stage gap false roles.Separator ≡ true
       → has_digit stage ≡ true
   behind_digits part stage gap sized taken = search (rules, has_digit, may_follow, no_empty, and_parts, is_open, is_signed, separators_in, false≢true)
@@ -90,23 +86,20 @@ module _ (m : Notation) where
   linked_after s g plus naught roles.Separator linked going taken fit = record {
     part = linked.part ∙ sym (mark_part s.stage);
     sized = λ is.
-        let digit = behind_digits (part_of s.stage) s.stage s.gap (ap (has_size m) (sym linked.part) ∙ is) taken in
-        let more = after_separator s.stage digit in record {
+        let digit = behind_digits (part_of s.stage) s.stage s.gap (ap (has_size m) (sym linked.part) ∙ is) taken in record {
           going = going;
-          digit = more.0;
-          settled = more.1;
+          digit = grind arith;
+          settled = grind arith;
           gap = refl;
           run = λ closed. absurd (false≢true (sym closed));
           within = omega arith;
         };
   }
-  linked_after s g plus naught roles.Sign linked going taken fit = grind arith
-  linked_after s g plus naught roles.Prefix linked going taken fit = grind arith
-  linked_after s g plus naught roles.Point linked going taken fit = grind arith
   linked_after s g plus naught roles.Exponent linked going taken fit = record { part = refl; sized = λ is. absurd (false≢true is) }
   linked_after s g plus naught roles.Suffix linked going taken fit = record { part = linked.part; sized = λ is. absurd (false≢true is) }
+  linked_after s g plus naught _ linked going taken fit = grind arith
 
-  fit_of : (f : Bool) (next : Group) (text : List ℕ) (last : Group) → group_after m (if f then Some next else None) text ≡ Some last
+  pub fit_of : (f : Bool) (next : Group) (text : List ℕ) (last : Group) → group_after m (if f then Some next else None) text ≡ Some last
       → (f ≡ true) × (group_after m (Some next) text ≡ Some last)
   fit_of x0 next text last is = grind (arith, group_none)
 

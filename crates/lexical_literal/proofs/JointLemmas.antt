@@ -61,11 +61,8 @@ module _ (m : Notation) where
         both x f = grind arith
   split A D s (Some byte) = split_role (with_rules m A D) s byte (role_at m (part_of s.stage) byte)
 
-  passes_free : (s : Summary) (next : Option ℕ) → passes no_condition s next ≡ true
-  passes_free s x1 = grind arith
-
   pub free_is : (A : Flag → Bool) (s : Summary) (next : Option ℕ) → lets (with_rules m A no_condition) s next ≡ free_allows (with_rules m A no_condition) s next
-  free_is A s next = split A no_condition s next ∙ (let pass = passes_free s next in grind arith)
+  free_is A s next = split A no_condition s next ∙ (let pass : passes no_condition s next ≡ true = grind arith in grind arith)
 
   implied : (c x y : Bool) → (c ≡ true → implies x y ≡ true) → implies (c && x) y ≡ true
   implied false x y each = refl
@@ -135,8 +132,6 @@ module _ (m : Notation) where
         → takes_in b part stage false plus role ≡ true → takes_in u part stage false plus role ≡ true
     whole_role parts.Exponent stage plus roles.Sign a other free = let forbidden = met a layout.no_positive_exponent_sign in grind arith
     whole_role _ stage plus roles.Sign a other free = let forbidden = met a layout.no_positive_mantissa_sign in grind arith
-    whole_role parts.Integer stages.Start plus roles.Suffix a other free = grind arith
-    whole_role parts.Integer _ plus roles.Suffix a other free = grind arith
     whole_role parts.Integer stages.Start plus role a other free = grind arith
     whole_role parts.Integer _ plus role a other free = grind arith
     whole_role parts.Fraction stages.Lone plus role a other free = grind arith

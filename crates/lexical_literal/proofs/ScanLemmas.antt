@@ -141,16 +141,13 @@ module _ (m : Notation) (text : List ℕ) where
               roles.Sign))
 
           sign_piece : (part : Part) → piece_of (part_of (fresh part)) roles.Sign ≡ piece_of part roles.Sign
-          sign_piece parts.Exponent = refl
-          sign_piece _ = refl
+          sign_piece part = grind arith
 
           sign_taken : (part : Part) (b : ℕ) → allows part b ≡ true → takes m (at_stage 0 (fresh part)).read (b == 43) roles.Sign ≡ true
-          sign_taken parts.Exponent b is = grind arith
-          sign_taken _ b is = grind arith
+          sign_taken part b is = grind arith
 
           sign_admitted : (part : Part) (b : ℕ) → allows part b ≡ true → admits m.condition (at_stage 0 (fresh part)).read b roles.Sign ≡ true
-          sign_admitted parts.Exponent b is = grind arith
-          sign_admitted _ b is = grind arith
+          sign_admitted part b is = grind arith
 
     -- The digit behind a zero that begins the integer.
     pub read_led : (size : ℕ) → size < length text → m.digit parts.Integer (get_or text size 0) ≡ true → may_follow m stages.Bare ≡ true
@@ -176,14 +173,10 @@ module _ (m : Notation) (text : List ℕ) where
         (and_from _ _ signed (and_from _ _ refl (first_follows m stage (grind arith)))))
         (ap (λ b. admits m.condition (at_stage size stage).read b roles.Digit) naught ∙ admitted stage begun)))) where
           bare : (stage : Stage) → awaits_integer stage ≡ true → after_digit stage false true ≡ stages.Bare
-          bare stages.Start is = refl
-          bare stages.Empty is = refl
-          bare _ is = absurd (false≢true is)
+          bare stage is = grind arith
 
           admitted : (stage : Stage) → awaits_integer stage ≡ true → admits m.condition (at_stage 0 stage).read 48 roles.Digit ≡ true
-          admitted stages.Start is = grind arith
-          admitted stages.Empty is = grind arith
-          admitted _ is = absurd (false≢true is)
+          admitted stage is = grind arith
 
     -- The base prefix, with its zero.
     pub read_prefix : (size : ℕ) (stage : Stage) → size + 1 < length text → get_or text size 0 ≡ 48 → m.prefix (get_or text (size + 1) 0) ≡ true
@@ -197,8 +190,7 @@ module _ (m : Notation) (text : List ℕ) where
         (read_one (at_stage (size + 1) stages.Bare) roles.Prefix inside (is_role m parts.Integer b h roles.Prefix (λ same. cc) prefix) refl refl
         (grind arith) _ ((read_zero size stage (omega (arith, inside)) naught first signed).reads c begun))) where
           same_prefix : (c : Cuts) (n : ℕ) (other : Piece) → with_prefix (add_more c pieces.Integer n) other ≡ with_prefix c other
-          same_prefix c n pieces.Integer = refl
-          same_prefix c n _ = refl
+          same_prefix c n other = grind arith
 
 -- No sign.
 pub no_sign : (m : Notation) (text : List ℕ) (part : Part) (size : ℕ) → size ≤ length text → is_signed m part (fresh part) ≡ true → IsSign m text part size 0
@@ -207,10 +199,7 @@ no_sign m text part size within signed = grind arith
 -- No literal begins with a sign that is not allowed.
 module _ (m : Notation) (h : HasRoles m) (b : ℕ) where
   sign_refused : signs b ≡ true → (takes m start (b == 43) roles.Sign && admits m.condition start b roles.Sign) ≡ false → step m start b ≡ None
-  sign_refused sign refused = ap (move_by m.condition m start b) (is_role m parts.Integer b h roles.Sign (λ e. cc) sign) ∙ none _ refused where
-    none : (x : Bool) → x ≡ false → (if x then Some (after start (b == 48) roles.Sign) else None) ≡ None
-    none true is = absurd (false≢true (sym is))
-    none false is = refl
+  sign_refused sign refused = ap (move_by m.condition m start b) (is_role m parts.Integer b h roles.Sign (λ e. cc) sign) ∙ grind arith
 
   pub plus_refused : b ≡ 43 → m.flag layout.no_positive_mantissa_sign ≡ true → step m start b ≡ None
   plus_refused plus forbidden = sign_refused (grind (arith, nat_tests)) (grind (arith, nat_tests))

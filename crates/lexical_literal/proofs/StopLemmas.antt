@@ -1,5 +1,5 @@
 -- The last group before the bytes that cannot follow, and what it allows.
-use Rattle.lexical_literal.proofs.Common.{Allows, Bool, ByteSet, Condition, Flag, Group, HasRoles, HasSizes, IsReadOf, IsReady, IsWeaker, List, None, Notation}
+use Rattle.lexical_literal.proofs.Common.{Allows, Bool, ByteSet, Condition, Flag, Group, HasRoles, HasSizes, IsReadOf, IsReady, IsWeaker, List, Notation}
 use Rattle.lexical_literal.proofs.Common.{Option, Part, Role, Some, Summary, [], ap, append-nil, append_assoc, arith, cases_Bool, false, false_from_ne_true}
 use Rattle.lexical_literal.proofs.Common.{first_group, goes, group_after, group_allows, grown, has_size, has_sizes, if◌then◌else◌, index_behind, inl, inr}
 use Rattle.lexical_literal.proofs.Common.{length, length-append, lets, marks_of, not, part_of, refl, role_at, role_next, start, subst, sym, true, unsized, walk}
@@ -9,11 +9,11 @@ use Rattle.lexical_util.specs.declared.format_flags.Part.TheVariants as parts
 use Rattle.lexical_literal.proofs.BlameLemmas.{own_weaker}
 use Rattle.lexical_literal.proofs.CauseLemmas.{behind_more}
 use Rattle.lexical_literal.proofs.DecideLemmas.{decided_of}
-use Rattle.lexical_literal.proofs.FitLemmas.{linked_there}
+use Rattle.lexical_literal.proofs.FitLemmas.{fit_of, linked_there}
 use Rattle.lexical_literal.proofs.PartOfLemmas.{ends_in}
 use Rattle.lexical_literal.proofs.RefusalLemmas.{other_roles}
 use Rattle.lexical_literal.proofs.WalkLemmas.{as_role, digit_role}
-use Rattle.lexical_literal.proofs.SizeLemmas.{group_none, some_size}
+use Rattle.lexical_literal.proofs.SizeLemmas.{some_size}
 
 module _ (m : Notation) (h : HasRoles m) where
   abbrev no_digit : ByteSet
@@ -37,11 +37,7 @@ module _ (m : Notation) (h : HasRoles m) where
   counts_all sized x [] g last counts is = let same : g ≡ last = cc in subst (λ x. Counts x last) (sym (append-nil x)) (subst (Counts x) same counts)
   counts_all sized x (b ∷ text) g last counts is = subst (λ x. Counts x last) (append_assoc x (b ∷ []) text)
       (counts_all sized (x ++ b ∷ []) text (grown g (role_at m g.part b)) last (counts_more x b g (role_at m g.part b) refl counts)
-      (go (group_allows m g (role_at m g.part b)) (rw (sized) at is))) where
-        go : (t : Bool) → group_after m (if t then Some (grown g (role_at m g.part b)) else None) text ≡ Some last
-            → group_after m (Some (grown g (role_at m g.part b))) text ≡ Some last
-        go true is = is
-        go false is = absurd (let none = group_none m text in cc)
+      (fit_of m _ (grown g (role_at m g.part b)) text last (rw (sized) at is)).1)
 
 module _ (m : Notation) (ready : IsReady (unsized m)) (sizes : HasSizes m) (front : List ℕ) (s : Summary) (g : Group)
     (read : walk (unsized m) (Some start) front ≡ Some s) (grouped : group_after m (Some first_group) front ≡ Some g) where
