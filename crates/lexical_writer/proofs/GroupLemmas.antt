@@ -2,7 +2,7 @@
 use Rattle.lexical_writer.proofs.Common.{AllBelowBase, Bool, ByteSet, List, Notation, Part, Pattern, [], all_below_base_digits_of, and_from, ap, arith}
 use Rattle.lexical_writer.proofs.Common.{at_least, byte_value, cases_lt, character, digits_of, div-add-mod, ends_group, false, false≢true, first_digits_of}
 use Rattle.lexical_writer.proofs.Common.{get_or, grouped, has_leading_zero, inl, inr, is_grouped, length, mod-mul-add, nat_tests, refl, separators_in, subst}
-use Rattle.lexical_writer.proofs.Common.{suc, sym, true, zero, ℕ, ◌%◌, ◌*◌, ◌+◌, ◌-◌, ◌/◌, ◌<◌, ◌==◌, ◌∙◌, ◌∷◌, ◌≡◌, ◌≤◌}
+use Rattle.lexical_writer.proofs.Common.{suc, sym, true, zero, ℕ, ◌%◌, ◌*◌, ◌+◌, ◌-◌, ◌<◌, ◌==◌, ◌∙◌, ◌∷◌, ◌≡◌, ◌≤◌}
 use Rattle.lexical_literal.specs.Groups.{all_fit, first_fits, group_sizes, inner_fits, last_fits, one_more, rest_fits}
 use Rattle.lexical_literal.proofs.RunLemmas.{is_rest}
 use Rattle.lexical_writer.proofs.DigitLemmas.{character_value, enough}
@@ -74,11 +74,7 @@ module _ (m : Notation) (radix : ℕ) (pattern : Pattern) (digit : (d : ℕ) →
     State left (count ∷ next ∷ counts) = Fits left count (next ∷ counts)
 
     ends : (p k n : ℕ) → n ≡ p * pattern.higher + k + pattern.last → k ≡ 0 → ends_group pattern n ≡ true
-    ends p k n total none =
-        let place : (n - pattern.last) % pattern.higher ≡ 0 =
-        ap (λ n. n % pattern.higher) {y = p * pattern.higher + 0} (omega (arith, total, none)) ∙ mod-mul-add p pattern.higher 0 (omega arith) in
-        let within : pattern.last ≤ n = omega (arith, total) in
-        grind (arith, nat_tests)
+    ends p k n total none = grind (arith, nat_tests, mod-mul-add)
 
     pub state : (d : ℕ) (digits : List ℕ) → AllBelowBase radix (d ∷ digits) → State (length (d ∷ digits)) (sizes (d ∷ digits))
     state d [] all = let is = digit d all.0 in rw is (refl, omega arith, omega arith)
@@ -135,20 +131,9 @@ module _ (m : Notation) (radix : ℕ) (pattern : Pattern) (digit : (d : ℕ) →
 
 -- Digits that are counted from the left, of which the last are what is left, begin with a whole group.
 pub left_first : (n size inner count : ℕ) → 0 < n → 0 < count → count ≤ size → n ≡ inner * size + count + ((n - 1) % size + 1) → count ≡ size
-left_first n size inner count some first most total = elim (cases_lt count size) [
-  | inl part ↦
-      let parts = div-add-mod (n - 1) size in
-      let same : inner * size + count ≡ (n - 1) / size * size + 0 = omega (arith, some, total, parts) in
-      let place = sym (mod-mul-add inner size count part) ∙ ap (λ k. k % size) same ∙ mod-mul-add ((n - 1) / size) size 0 (omega (arith, first, most)) in
-      absurd (omega (arith, place, first))
-  | inr whole ↦ omega (arith, whole, most)
-]
+left_first n size inner count some first most total = grind (arith, nat_tests, div-add-mod, mod-mul-add)
 
 -- A number is written without leading zeros.
-zero_value : byte_value 48 ≡ 0
-unfolding byte_value
-zero_value = refl
-
 pub no_leading_zero : (D : ByteSet) (radix least : ℕ) (pattern : Pattern) (n : ℕ) → least ≤ 1 → 2 ≤ radix → radix ≤ 36
     → ((d : ℕ) → d < radix → D (character pattern.lowercase d) ≡ true)
     → has_leading_zero D (grouped pattern (at_least least (digits_of radix n))) ≡ false
@@ -166,6 +151,6 @@ no_leading_zero D radix least pattern (suc n) most two small digit =
     go (d ∷ digits) all some =
         let first = digit d all.0 in
         let value = character_value pattern.lowercase d (omega (arith, small, all.0)) in
-        let zero_is = zero_value in
+        let zero_is : byte_value 48 ≡ 0 = character_value false 0 (omega arith) in
         let other : (character pattern.lowercase d == 48) ≡ false = grind (arith, nat_tests) in
         ap (λ digits. has_leading_zero D (grouped pattern digits)) (enough least (d ∷ digits) (omega (arith, most))) ∙ grind arith
