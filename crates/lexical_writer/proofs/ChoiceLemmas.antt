@@ -1,23 +1,23 @@
 -- What a list reads is the number that a form has written.
 use Rattle.lexical_writer.proofs.Common.{Bool, Form, Grammar, IsFirst, IsSomeAnd, IsWhole, Kind, List, Literal, NoForm, None, Ok, Option, Read, Reads}
-use Rattle.lexical_writer.proofs.Common.{ReadsForm, Record, Some, ap, arith, exact, false, float_worth, format_by, if◌then◌else◌, inl, inr, integer_worth}
-use Rattle.lexical_writer.proofs.Common.{is_binary, is_decimal, is_exact, is_float, is_minus, is_some, length-take-le, mantissa, nearest, negsuc, not}
-use Rattle.lexical_writer.proofs.Common.{notation_of, pos, raw, refl, slice_get, subst, suc, sym, take, true, with_sign, within, whole_of, worth, zero, ℕ, ℤ}
-use Rattle.lexical_writer.proofs.Common.{◌||◌, ◌<◌, ◌∙◌, ◌≡◌}
+use Rattle.lexical_writer.proofs.Common.{ReadsForm, Record, Some, Task, ap, arith, eqb-true, exact, false, float_worth, format_by, if◌then◌else◌, inl, inr}
+use Rattle.lexical_writer.proofs.Common.{integer_worth, is_binary, is_decimal, is_exact, is_float, is_minus, is_some, length-take-le, mantissa, nearest, negsuc}
+use Rattle.lexical_writer.proofs.Common.{not, notation_of, pos, raw, refl, slice_get, subst, suc, sym, take, text_of, true, whole_of, with_sign, within, worth}
+use Rattle.lexical_writer.proofs.Common.{zero, ℕ, ℤ, ◌<◌, ◌==◌, ◌||◌, ◌∙◌, ◌≡◌}
 use Rattle.std.proofs.lemmas.Option.{get_or_from_slice_get, slice_get_within}
 use Rattle.std.specs.Float.{Float, Format, binary64}
+use Rattle.lexical_forms.specs.FormList.{FormList}
 use Rattle.lexical_forms.specs.Forms.{ReadsIn}
 use Rattle.lexical_literal.specs.Front.{NoneBy}
-use Rattle.std.specs.Prelude.{Err, IsFalse, MatchOption, MatchResult, Result, is_ok, option_to_list}
+use Rattle.std.specs.Prelude.{Err, IsFalse, MatchOption, MatchResult, Result, is_ok}
 use Rattle.lexical_number.specs.Numeral.{size_of}
 use Rattle.lexical_number.specs.declared.numeral.Numeral.{Numeral}
 use Rattle.lexical_value.specs.Integer.{integer_size}
 use Rattle.lexical_value.specs.Kind.{IsNotWorth}
 use Rattle.lexical_value.specs.declared.integer.ValueErrorKind.{ValueErrorKind}
 use Rattle.lexical_value.specs.declared.integer.ValueErrorKind.TheVariants as kinds
-use Rattle.lexical_writer.specs.Choice.{IsAmount, IsReal, has_floats, has_worth}
-use Rattle.lexical_writer.specs.Layout.{sign_of}
-use Rattle.lexical_forms.proofs.BehindLemmas.{plain_in}
+use Rattle.lexical_writer.specs.Choice.{IsAmount, IsReadWith, IsReal, has_floats, has_worth}
+use Rattle.lexical_forms.proofs.BehindLemmas.{plain_in, plain_of}
 use Rattle.lexical_value.proofs.KindLemmas.{exact_float, limited_worth}
 use Rattle.lexical_literal.specs.declared.kind.FloatKind.TheVariants as floats
 
@@ -67,10 +67,6 @@ size_with : (a : Bool) (n : ℕ) → size_without (with_sign a n) ≡ n
 size_with false n = refl
 size_with true zero = refl
 size_with true (suc n) = refl
-
--- Only a negative number has a minus sign.
-pub minus : (negative required : Bool) → is_minus (option_to_list (sign_of negative required)) ≡ negative
-minus negative required = grind arith
 
 -- An integer literal that is written for an integer is worth it by a kind that keeps its size.
 pub kept_whole : (negative : Bool) (size : ℕ) (g : Grammar) (read : Read) → read.format ≡ g.word → is_float read.literal ≡ false
@@ -144,3 +140,23 @@ pub none_at : (forms : List Form) (form : Form) (text : List ℕ) (index : ℕ) 
 none_at forms form text index l here none reads never = subst (λ (f : Form). NoneBy (ReadsIn f) text)
     (get_or_from_slice_get forms index form form here) (never index form (slice_get_within forms index form here)) l
     (plain_in form text none l reads)
+
+-- What a list reads by a form without an opening is a literal of the form, with its kind.
+pub own_read : (forms : List Form) (form : Form) (text : List ℕ) (at index : ℕ) (read : Read) → (at == index) ≡ true → IsFirst forms text at read
+    → slice_get forms index ≡ Some form → form.opening.size ≡ 0
+    → (read.format ≡ form.syntax.word) × (read.kind ≡ form.kind) × Reads (notation_of form.syntax) read.literal text
+own_read forms form text at index read same first here none =
+    let by : ReadsForm text read form = subst (λ o. IsSomeAnd o (ReadsForm text read)) (ap (slice_get forms) (eqb-true at index same) ∙ here) first.reads in
+    (by.0, by.1, plain_of form text none read.literal by.2)
+
+-- What a form writes as `l`, and a list reads as what this is, is read as the number.
+pub read_as : (task : Task) (list : FormList) (form : Form) (text : List ℕ) (syntax : Grammar) (l own : Literal) (read : Read) (index : ℕ)
+    → syntax ≡ form.syntax → l ≡ own → Reads (notation_of form.syntax) l text → task.writes form.syntax (Ok l) → IsFirst list.forms text index read
+    → (task.writes syntax (Ok own) → task.is syntax own read)
+    → (l : Literal) × task.writes form.syntax (Ok l) × (text ≡ text_of l) × IsReadWith list None text (task.is form.syntax l)
+read_as task list form text syntax l own read index same one reads has first is = (
+  l,
+  has,
+  reads.whole,
+  (read, index, first, subst (λ (it : Grammar × Literal). task.writes it.0 (Ok it.1) → task.is it.0 it.1 read) (λ i. (same i, sym one i)) is has),
+)

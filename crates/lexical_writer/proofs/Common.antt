@@ -29,14 +29,14 @@ pub use Rattle.lexical_value.specs.Value.{denominator, numerator, power, scale}
 pub use Rattle.lexical_writer.specs.Amount.{IsDigitsOf, IsExponent, IsFinite, IsFloatOf, IsRaised, IsRounded, IsShape, IsWorth, decimals_in, float_error}
 pub use Rattle.lexical_writer.specs.Amount.{is_far, is_shown, least_places, rounded, units_at, units_in, with_minus}
 pub use Rattle.lexical_writer.specs.Buffer.{IsIn, IsTaken}
-pub use Rattle.lexical_writer.specs.Choice.{AreBefore, ArePassed, IsChosen, IsMisread, IsNoToken, IsPassedOver, IsRefused, IsSearched, IsStopped, IsWhole}
-pub use Rattle.lexical_writer.specs.Choice.{bytes_of_word, has_floats, is_asked, is_own, Task, is_short, steps, text_by, ways, whole_of, words_of}
+pub use Rattle.lexical_writer.specs.Choice.{AreBefore, ArePassed, IsChosen, IsMisread, IsPassedOver, IsRefused, IsSearched, IsStopped, IsWhole, bytes_of_word}
+pub use Rattle.lexical_writer.specs.Choice.{has_floats, is_asked, is_own, Task, is_short, steps, text_by, ways, whole_of, words_of}
 pub use Rattle.lexical_writer.specs.Private.{IsPut}
 pub use Rattle.lexical_writer.specs.Conversion.{SameFraction, own_amount}
 pub use Rattle.lexical_writer.specs.Digits.{at_least, begins_decimal, character, ends_group, grouped, grouped_front, no_groups, only_if, separated, size_of}
 pub use Rattle.lexical_writer.specs.Digits.{values_of}
 pub use Rattle.lexical_writer.specs.Layout.{HasNumber, HasValue, IsLaidOut, allows_exponent, first_error, given_fraction, given_power, has_exponent, has_point}
-pub use Rattle.lexical_writer.specs.Layout.{integer_literal, laid_out, literal_of, needs_exponent, number_of_size, one_if, refusal}
+pub use Rattle.lexical_writer.specs.Layout.{integer_literal, laid_out, literal_of, number_of_size, one_if, refusal}
 pub use Rattle.lexical_writer.specs.declared.layout.Amount.{Amount}
 pub use Rattle.lexical_writer.specs.declared.layout.Layout.{Layout}
 pub use Rattle.lexical_writer.specs.declared.layout.Power.{Power}
@@ -52,7 +52,7 @@ pub use Rattle.std.proofs.Common.{true, unwrap_or, zero, ℕ, ℤ, ◌%◌, ◌&
 pub use Rattle.std.proofs.Math.Nat.{div-add-mod, div-div-eq-div-mul, div-eq_of_lt, mod-eq_of_lt, mod-lt, one-le-pow, pow-le-pow_left, pow-le-pow_right, pow-suc}
 pub use Rattle.std.proofs.Math.Nat.{pow-zero}
 pub use Rattle.std.proofs.lemmas.Bool.Decides.{nat_tests}
-pub use Rattle.std.proofs.lemmas.Bool.{and_from, and_parts, cases_lt, eq-eqb, eqb-true, false≢true, le-leb, le-ltb, lt-leb, lt-ltb, ltb-true, ne_eqb}
+pub use Rattle.std.proofs.lemmas.Bool.{and_from, and_parts, cases_lt, eq-eqb, eqb-true, false≢true, le-ltb, lt-leb, lt-ltb, ltb-true, ne_eqb}
 pub use Rattle.std.proofs.lemmas.Int.Digits.{all_below_base_digits_of, digits_of_step, first_digits_of, length-digits_of-le, length-digits_of_step}
 pub use Rattle.std.proofs.lemmas.Int.Digits.{number_after_append, number_digits_of}
 pub use Rattle.std.proofs.lemmas.List.Elements.{filter_map-append}

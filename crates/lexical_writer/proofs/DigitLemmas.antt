@@ -1,22 +1,19 @@
 -- Digits and their characters.
 use Rattle.lexical_writer.proofs.Common.{AllBelowBase, Bool, ByteSet, List, None, Option, Pattern, Some, Source, [], add-one, all_below_base_digits_of, ap}
-use Rattle.lexical_writer.proofs.Common.{append-nil, append_assoc, arith, at_least, begins_decimal, begins_with, below, byte_value, cases_lt, character}
-use Rattle.lexical_writer.proofs.Common.{cons_option, digit_characters, digit_of, digits_in, digits_of, digits_of_step, div-div-eq-div-mul, div-mul-add, drop}
-use Rattle.lexical_writer.proofs.Common.{drop-cons, drop-set, ends_group, false, false≢true, get_or, get_or_from_slice_get, grouped, grouped_front, inl, inr}
-use Rattle.lexical_writer.proofs.Common.{is_present, length, length-append, length-digits_of_step, length-map, length-replicate, length-set, ltb-true, map}
-use Rattle.lexical_writer.proofs.Common.{map_push, max, mod-mul-add, nat_lt, nat_tests, no_groups, number, number_after_append, number_from_digits}
-use Rattle.lexical_writer.proofs.Common.{number_from_digits_after, only_if, option_to_list, pow-suc, pow-zero, refl, replicate, replicate-append-replicate}
-use Rattle.lexical_writer.proofs.Common.{separated, set, slice_get, subst, suc, sym, true, values_of, zero, ℕ, ◌%◌, ◌*◌, ◌++◌, ◌+◌, ◌-◌, ◌/◌, ◌<◌, ◌^◌, ◌||◌}
-use Rattle.lexical_writer.proofs.Common.{◌∙◌, ◌∷◌, ◌≡◌, ◌≤◌}
+use Rattle.lexical_writer.proofs.Common.{append-nil, append_assoc, arith, at_least, begins_decimal, begins_with, below, byte_value, character, cons_option}
+use Rattle.lexical_writer.proofs.Common.{digit_characters, digit_of, digits_in, digits_of, digits_of_step, div-div-eq-div-mul, div-mul-add, drop, drop-cons}
+use Rattle.lexical_writer.proofs.Common.{drop-set, ends_group, false, false≢true, get_or, get_or_from_slice_get, grouped, grouped_front, is_present, length}
+use Rattle.lexical_writer.proofs.Common.{length-append, length-digits_of_step, length-map, length-replicate, length-set, ltb-true, map, map_push, max}
+use Rattle.lexical_writer.proofs.Common.{mod-mul-add, nat_lt, nat_tests, no_groups, number, number_after_append, number_from_digits, number_from_digits_after}
+use Rattle.lexical_writer.proofs.Common.{only_if, option_to_list, pow-suc, pow-zero, refl, replicate, replicate-append-replicate, separated, set, slice_get}
+use Rattle.lexical_writer.proofs.Common.{suc, sym, true, values_of, zero, ℕ, ◌%◌, ◌*◌, ◌++◌, ◌+◌, ◌-◌, ◌/◌, ◌<◌, ◌^◌, ◌||◌, ◌∙◌, ◌∷◌, ◌≡◌, ◌≤◌}
 use Rattle.lexical_base.proofs.ValueLemmas.{byte_value-digit_character, same_at}
 use Rattle.lexical_writer.specs.declared.run.Source.TheVariants as sources
 
 -- What is left of some bytes, where a digit is, or none.
 pub left_of : (radix i : ℕ) (bytes : List ℕ) (digit : Option ℕ) → i < length bytes → digit ≡ digit_of (get_or bytes i 0) radix
     → digits_in radix (drop i bytes) ≡ cons_option digit (digits_in radix (drop (i + 1) bytes))
-left_of radix i bytes digit inside is =
-    let cons : drop i bytes ≡ get_or bytes i 0 ∷ drop (i + 1) bytes = rw add-one (drop-cons bytes i 0 inside) in
-    ap (digits_in radix) cons ∙ ap (λ digit. cons_option digit (digits_in radix (drop (i + 1) bytes))) (sym is)
+left_of radix i bytes digit inside is = grind (arith, nat_tests, add-one, drop-cons)
 
 -- Digits are below the radix.
 pub zeros_below : (radix k : ℕ) → 2 ≤ radix → AllBelowBase radix (replicate k 0)
@@ -37,8 +34,7 @@ values_below radix (sources.Padded padded) two = both_below radix _ _ (zeros_bel
 
 -- Digits that follow those of a number, and do not begin the whole with a zero, are digits of the whole.
 last : (radix n d : ℕ) → 2 ≤ radix → 0 < n * radix + d → d < radix → digits_of radix (n * radix + d) ≡ digits_of radix n ++ d ∷ []
-last radix n d two some below = digits_of_step radix (n * radix + d) two some
-    ∙ (λ i. digits_of radix (div-mul-add n radix d below i) ++ mod-mul-add n radix d below i ∷ [])
+last radix n d two some below = grind (arith, nat_tests, digits_of_step, div-mul-add, mod-mul-add)
 
 more : (n radix d : ℕ) → 0 < n → 2 ≤ radix → 0 < n * radix + d
 more n radix d some two = grind arith
@@ -68,23 +64,16 @@ some_number radix zero some = absurd (omega (arith, some))
 some_number radix (suc n) some = omega arith
 
 pub no_number : (radix n : ℕ) → 2 ≤ radix → length (digits_of radix n) ≤ 0 → n ≡ 0
-no_number radix n two none = elim (cases_lt 0 n) [
-  | inl some ↦ absurd (let more = length-digits_of_step radix n two some in omega (arith, none, more))
-  | inr least ↦ omega (arith, least)
-]
+no_number radix n two none = grind (arith, nat_tests, more, length-digits_of_step)
 
 -- Digits without leading zeros are those of the whole, with what follows.
 pub lean_front : (radix zeros : ℕ) (xs ys front : List ℕ) → 2 ≤ radix → front ≡ digits_of radix (number_from_digits radix xs) → 0 < length front
     → AllBelowBase radix ys → front ++ ys ≡ digits_of radix (number_from_digits radix (replicate zeros 0 ++ (xs ++ ys)))
-lean_front radix zeros xs ys front two is some all =
-    let positive = some_number radix (number_from_digits radix xs) (subst (λ ds. 0 < length ds) is some) in
-    ap (λ ds. ds ++ ys) is ∙ sym (followed radix (number_from_digits radix xs) ys two positive all)
-    ∙ sym (ap (digits_of radix) (zeros_number radix zeros (xs ++ ys) ∙ number_after_append radix 0 xs ys))
+lean_front radix zeros xs ys front two is some all = grind (arith, nat_tests, some_number, followed, zeros_number, number_after_append)
 
 pub zero_front : (radix zeros : ℕ) (xs ys : List ℕ) → number_from_digits radix xs ≡ 0
     → number_from_digits radix (replicate zeros 0 ++ (xs ++ ys)) ≡ number_from_digits radix ys
-zero_front radix zeros xs ys none =
-    zeros_number radix zeros (xs ++ ys) ∙ number_after_append radix 0 xs ys ∙ ap (λ n. number_from_digits_after radix n ys) none
+zero_front radix zeros xs ys none = grind (arith, nat_tests, zeros_number, number_after_append)
 
 -- What is left of the bytes at the index `i`, where a digit other than 0 is.
 pub lead : (radix i d : ℕ) (bytes : List ℕ) → 2 ≤ radix → i < length bytes → digit_of (get_or bytes i 0) radix ≡ Some d → 0 < d
@@ -161,9 +150,7 @@ enough least digits most = ap (λ k. replicate k 0 ++ digits) {x = least - lengt
 
 -- Digits with zeros before them, and more of them.
 pub least_length : (least : ℕ) (digits : List ℕ) → length (at_least least digits) ≡ max least (length digits)
-least_length least digits =
-    let all = length-append {A = ℕ} (replicate (least - length digits) 0) digits in
-    omega (arith, all, length-replicate {A = ℕ} (least - length digits) 0)
+least_length least digits = grind (arith, nat_tests, length-append {A = ℕ}, length-replicate {A = ℕ})
 
 pub least_of : (more least : ℕ) (digits : List ℕ) → at_least (max more least) digits ≡ at_least more (at_least least digits)
 least_of more least digits =
@@ -188,10 +175,7 @@ after_is radix n (d ∷ digits) =
 
 pub plain_text : (pattern : Pattern) (least : ℕ) (bytes digits : List ℕ) → bytes ≡ map (character false) digits → pattern.higher ≡ 0
     → pattern.lowercase ≡ false → least ≤ length bytes → grouped pattern (at_least least digits) ≡ bytes
-plain_text pattern least bytes digits are plain upper most =
-    let count = ap length are ∙ length-map digits (character false) in
-    ap (grouped pattern) (enough least digits (omega (arith, most, count))) ∙ grouped_plain pattern digits plain
-    ∙ ap (λ lower. map (character lower) digits) upper ∙ sym are
+plain_text pattern least bytes digits are plain upper most = grind (arith, nat_tests, length-map, enough, grouped_plain)
 
 -- The last digit of what is left of a number is written before the digits that have been written.
 pub one_more : (radix n start c : ℕ) (buffer : List ℕ) → 2 ≤ radix → 0 < n → 1 ≤ start → start ≤ length buffer
@@ -228,11 +212,7 @@ grouped_some pattern (d ∷ digits) = refl
 
 pub grouped_present : (pattern : Pattern) (least : ℕ) (digits : List ℕ)
     → is_present (grouped pattern (at_least least digits)) ≡ (nat_lt 0 least || is_present digits)
-grouped_present pattern least digits =
-    let count = length-append {A = ℕ} (replicate (least - length digits) 0) digits in
-    let zeros = length-replicate {A = ℕ} (least - length digits) 0 in
-    let is = present_if digits in
-    grouped_some pattern (at_least least digits) ∙ present_if (at_least least digits) ∙ grind (arith, nat_tests, count, zeros, is)
+grouped_present pattern least digits = grind (arith, nat_tests, length-append {A = ℕ}, length-replicate {A = ℕ}, present_if, grouped_some)
   where
     present_if : (xs : List ℕ) → is_present xs ≡ nat_lt 0 (length xs)
     present_if [] = refl
@@ -266,21 +246,20 @@ grouped_last pattern left digits is =
 pub padded_text : (pattern : Pattern) (text a b c : List ℕ) (n behind last : ℕ) → n ≡ length (a ++ (b ++ c)) → behind ≡ n - length a
     → last ≡ behind - length b
     → ((text ++ grouped_front pattern n a) ++ grouped_front pattern behind b) ++ grouped_front pattern last c ≡ text ++ grouped pattern (a ++ (b ++ c))
-padded_text pattern text a b c n behind last all second third =
-    let rest = length-append a (b ++ c) in
-    let end = length-append b c in
-    let front = grouped_front pattern in
-    append_assoc (text ++ front n a) (front behind b) (front last c) ∙ append_assoc text (front n a) (front behind b ++ front last c)
-    ∙ sym (ap (λ it. text ++ it) (grouped_parts pattern n a (b ++ c) all ∙ ap (λ it. front n a ++ it)
-    (grouped_parts pattern behind b c (omega (arith, all, rest, second)) ∙ ap (λ it. front behind b ++ it)
-    (sym (grouped_last pattern last c (omega (arith, all, rest, end, second, third)))))))
+padded_text pattern text a b c n behind last all second third = grind (arith, nat_tests, length-append {A = ℕ}, append_assoc, grouped_parts, grouped_last)
 
 -- Bytes from an index on that are uppercase digits.
 pub more_characters : (radix i d : ℕ) (bytes : List ℕ) (digit : Option ℕ) → i < length bytes → digit ≡ digit_of (get_or bytes i 0) radix
     → digit ≡ Some d → character false d ≡ get_or bytes i 0 → drop (i + 1) bytes ≡ map (character false) (digits_in radix (drop (i + 1) bytes))
     → drop i bytes ≡ map (character false) (digits_in radix (drop i bytes))
-more_characters radix i d bytes digit inside is some same rest =
-    let cons : drop i bytes ≡ get_or bytes i 0 ∷ drop (i + 1) bytes = rw add-one (drop-cons bytes i 0 inside) in
-    let digits : digits_in radix (drop i bytes) ≡ d ∷ digits_in radix (drop (i + 1) bytes) = left_of radix i bytes digit inside is
-    ∙ ap (λ digit. cons_option digit (digits_in radix (drop (i + 1) bytes))) some in
-    cons ∙ ap (λ b. b ∷ drop (i + 1) bytes) (sym same) ∙ ap (λ rest. character false d ∷ rest) rest ∙ sym (ap (map (character false)) digits)
+more_characters radix i d bytes digit inside is some same rest = grind (arith, nat_tests, add-one, drop-cons, left_of)
+
+-- A number without its last digit is shorter, and without two.
+pub shorter : (radix n : ℕ) → 2 ≤ radix → 0 < n → length (digits_of radix n) ≡ length (digits_of radix (n / radix)) + 1
+shorter radix n two some = let step = length-digits_of_step radix n two some in omega arith
+
+pub two_shorter : (n : ℕ) → 10 ≤ n → length (digits_of 10 n) ≡ length (digits_of 10 (n / 100)) + 2
+two_shorter n two =
+    let last = length-digits_of_step 10 n (omega arith) (omega (arith, two)) in
+    let before = length-digits_of_step 10 (n / 10) (omega arith) (omega (arith, two)) in
+    omega (arith, last, before, ap (λ k. length (digits_of 10 k)) (div-div-eq-div-mul n 10 10))

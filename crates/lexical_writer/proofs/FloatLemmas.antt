@@ -1,16 +1,15 @@
 -- Digits with a point, zeros around them and an exponent have the value of the literal that is written.
-use Rattle.lexical_writer.proofs.Common.{Amount, Bool, Err, Float, Grammar, HasNumber, IfErr, IfOk, IsCutTo, IsErrAnd, IsFinite, IsFloatOf, IsLaidOut}
-use Rattle.lexical_writer.proofs.Common.{IsRounded, IsWorth, Layout, List, Literal, None, Ok, Option, Power, Record, Result, Some, Style, WriteError, [], allows_exponent}
-use Rattle.lexical_writer.proofs.Common.{ap, append_assoc, arith, cond, cons_option, decimals_in, denominator, digit_of, digits_in, div-add-mod', drop, dvd-mul_right}
-use Rattle.lexical_writer.proofs.Common.{effective_exponent_base, effective_exponent_radix, eq-eqb, eq-zero-or-pos, eq_of_mul-eq-mul_right, exponent, false}
-use Rattle.lexical_writer.proofs.Common.{false≢true, filter_map-append, first_error, float_error, if◌then◌else◌, inl, inr, is_binary, is_decimal}
-use Rattle.lexical_writer.proofs.Common.{is_minus, is_power_of_two, is_present, is_some, is_whole, lacks_options, laid_out, le-ltb, length, length-append}
-use Rattle.lexical_writer.proofs.Common.{literal_of, low, lt-leb, mantissa, mod-eq_of_lt, mod-lt, mod-mod_of_dvd, mul-le-mul_right, mul-mod_left, mul-pos, nat_lt}
-use Rattle.lexical_writer.proofs.Common.{nat_tests, ne_eqb, nearest, not, number_after_append, number_from_digits}
-use Rattle.lexical_writer.proofs.Common.{numerator, one-le-pow, one_if, pow-add, pow-le-pow_right, pow-suc, pow-zero, prec, raised_down, raised_up}
-use Rattle.lexical_writer.proofs.Common.{raw, refl, refusal, replicate, round, round_same, rounded, scale, subst, suc, sym, take, take-append-drop, true}
-use Rattle.lexical_writer.proofs.Common.{unwrap_or, with_minus, zero, ℕ, ◌%◌, ◌&&◌, ◌*◌, ◌++◌, ◌+◌, ◌-◌, ◌/◌, ◌<◌, ◌==◌, ◌^◌, ◌∙◌, ◌∷◌}
-use Rattle.lexical_writer.proofs.Common.{IsShape, has, units_in, ◌||◌, ◌≡◌, ◌≢◌, ◌≤◌}
+use Rattle.lexical_writer.proofs.Common.{Amount, Bool, Err, Float, Grammar, HasNumber, IfOk, IsCutTo, IsFinite, IsFloatOf, IsLaidOut, IsRounded, IsShape}
+use Rattle.lexical_writer.proofs.Common.{IsWorth, Layout, List, Literal, None, Ok, Option, Power, Record, Result, Some, Style, WriteError, [], allows_exponent}
+use Rattle.lexical_writer.proofs.Common.{ap, append_assoc, arith, cond, cons_option, decimals_in, denominator, digit_of, digits_in, div-add-mod', drop}
+use Rattle.lexical_writer.proofs.Common.{dvd-mul_right, effective_exponent_base, effective_exponent_radix, eq-eqb, eq-zero-or-pos, eq_of_mul-eq-mul_right}
+use Rattle.lexical_writer.proofs.Common.{exponent, false, false≢true, filter_map-append, first_error, float_error, has, if◌then◌else◌, inl, inr, is_binary}
+use Rattle.lexical_writer.proofs.Common.{is_decimal, is_minus, is_power_of_two, is_present, is_some, is_whole, lacks_options, laid_out, le-ltb, length}
+use Rattle.lexical_writer.proofs.Common.{length-append, literal_of, low, lt-leb, mantissa, mod-eq_of_lt, mod-lt, mod-mod_of_dvd, mul-le-mul_right, mul-mod_left}
+use Rattle.lexical_writer.proofs.Common.{mul-pos, nat_lt, nat_tests, ne_eqb, nearest, not, number_after_append, number_from_digits, numerator, one-le-pow}
+use Rattle.lexical_writer.proofs.Common.{one_if, pow-add, pow-le-pow_right, pow-suc, pow-zero, prec, raised_down, raised_up, raw, refl, refusal, replicate}
+use Rattle.lexical_writer.proofs.Common.{round, round_same, rounded, scale, subst, suc, sym, take, take-append-drop, true, units_in, unwrap_or, with_minus}
+use Rattle.lexical_writer.proofs.Common.{zero, ℕ, ◌%◌, ◌&&◌, ◌*◌, ◌++◌, ◌+◌, ◌-◌, ◌/◌, ◌<◌, ◌==◌, ◌^◌, ◌||◌, ◌∙◌, ◌∷◌, ◌≡◌, ◌≢◌, ◌≤◌}
 use Rattle.std.proofs.Math.Nat.{div-eq_of_lt-le, div-lt_iff_lt-mul, mod-eq-sub-div-mul}
 use lib.Ieee.{Format, down, fin, hid, inf, is_nan, nan, neg, odd, of_bits, of_fields, ones, top, up}
 use lib.Ieee.Exact.{HasValue, odd_sign}
@@ -29,9 +28,7 @@ use Rattle.lexical_writer.proofs.PlainLemmas.{zeros_after}
 -- Digits behind others, with zeros behind them.
 pub behind : (radix : ℕ) (xs ys : List ℕ) (after : ℕ)
     → number_from_digits radix (xs ++ (ys ++ replicate after 0)) ≡ number_from_digits radix (xs ++ ys) * radix ^ after
-behind radix xs ys after =
-    ap (number_from_digits radix) (sym (append_assoc xs ys (replicate after 0))) ∙ number_after_append radix 0 (xs ++ ys) (replicate after 0)
-    ∙ zeros_after radix (number_from_digits radix (xs ++ ys)) after
+behind radix xs ys after = grind (arith, nat_tests, append_assoc, number_after_append, zeros_after)
 
 -- Digits between zeros, with more zeros behind a point.
 pub around : (radix before : ℕ) (digits : List ℕ) (after places : ℕ)
@@ -75,21 +72,7 @@ twos i j less = pow-le-pow_right (omega arith) less
 -- A number that is cut to halves of its units is rounded to units.
 pub halved : (num den q : ℕ) (more : Bool) → IsCutTo (num * 2) q more den
     → q / 2 + (if nat_lt 2 (q % 4) || (q % 4 == 1 && more) then 1 else 0) ≡ rounded num den
-halved num den q more cut = elim (eq-zero-or-pos (q % 2)) [
-  | inl z ↦
-      let none : q % 2 * den ≡ 0 = ap (λ k. k * den) z ∙ omega arith in
-      let small : num % den * 2 < den = omega (arith, rest, times, none, below) in
-      let last : q % 4 ≤ 2 = omega (arith, z) in
-      let not_one : q % 4 ≢ 1 = λ one. omega (arith, z, one) in
-      grind (arith, nat_tests, whole, small, last, not_one)
-  | inr p ↦
-      let one : q % 2 ≡ 1 = omega (arith, p) in
-      let once : q % 2 * den ≡ den = ap (λ k. k * den) one ∙ omega arith in
-      let last : q % 4 ≡ q / 2 % 2 * 2 + 1 = omega (arith, one) in
-      let some : more ≡ nat_lt den (num % den * 2) = cut.some ∙ grind (arith, nat_tests, times, once, rest, from, below) in
-      let large : den ≤ num % den * 2 = omega (arith, rest, times, once, from) in
-      grind (arith, nat_tests, whole, last, some, large)
-]
+halved num den q more cut = grind (arith, nat_tests, eq-zero-or-pos, rest, times, whole, from)
   where
     times : q * den ≡ q / 2 * den * 2 + q % 2 * den
     times = ap (λ k. k * den) {x = q} {y = q / 2 * 2 + q % 2} (omega arith) ∙ omega arith
@@ -201,11 +184,6 @@ pub special_error : (g : Grammar) (x : Float) → ((negative : Bool) → IsFinit
 special_error g nan none = refl
 special_error g (inf t) none = refl
 special_error g (fin t m e) none = absurd (none t (m * up e, down e, (refl, refl)))
-
--- What follows from an error that is passed on.
-pub residual : {A : Type 0} (result : Result A WriteError) (Q P : WriteError → Type 0) → IsErrAnd result Q → ((e : WriteError) → Q e → P e) → IfErr result P
-residual (Ok it) Q P is follows = tt
-residual (Err error) Q P is follows = follows error is
 
 -- What follows from what a layout is, and from the number that it has.
 pub if_numbered : (g : Grammar) (style : Style) (amount : Amount) (P : Layout → Type 0) (result : Result Layout WriteError)

@@ -74,11 +74,7 @@ module _ (m : Notation) (radix : ℕ) (pattern : Pattern) (digit : (d : ℕ) →
     State left (count ∷ next ∷ counts) = Fits left count (next ∷ counts)
 
     ends : (p k n : ℕ) → n ≡ p * pattern.higher + k + pattern.last → k ≡ 0 → ends_group pattern n ≡ true
-    ends p k n total none =
-        let place : (n - pattern.last) % pattern.higher ≡ 0 =
-        ap (λ n. n % pattern.higher) {y = p * pattern.higher + 0} (omega (arith, total, none)) ∙ mod-mul-add p pattern.higher 0 (omega arith) in
-        let within : pattern.last ≤ n = omega (arith, total) in
-        grind (arith, nat_tests)
+    ends p k n total none = grind (arith, nat_tests, mod-mul-add)
 
     pub state : (d : ℕ) (digits : List ℕ) → AllBelowBase radix (d ∷ digits) → State (length (d ∷ digits)) (sizes (d ∷ digits))
     state d [] all = let is = digit d all.0 in rw is (refl, omega arith, omega arith)
@@ -130,10 +126,6 @@ module _ (m : Notation) (radix : ℕ) (pattern : Pattern) (digit : (d : ℕ) →
     right_groups (d ∷ digits) all = fit _ _ (state d digits all)
 
 -- A number is written without leading zeros.
-zero_value : byte_value 48 ≡ 0
-unfolding byte_value
-zero_value = refl
-
 pub no_leading_zero : (D : ByteSet) (radix least : ℕ) (pattern : Pattern) (n : ℕ) → least ≤ 1 → 2 ≤ radix → radix ≤ 36
     → ((d : ℕ) → d < radix → D (character pattern.lowercase d) ≡ true)
     → has_leading_zero D (grouped pattern (at_least least (digits_of radix n))) ≡ false
@@ -151,6 +143,6 @@ no_leading_zero D radix least pattern (suc n) most two small digit =
     go (d ∷ digits) all some =
         let first = digit d all.0 in
         let value = character_value pattern.lowercase d (omega (arith, small, all.0)) in
-        let zero_is = zero_value in
+        let zero_is : byte_value 48 ≡ 0 = character_value false 0 (omega arith) in
         let other : (character pattern.lowercase d == 48) ≡ false = grind (arith, nat_tests) in
         ap (λ digits. has_leading_zero D (grouped pattern digits)) (enough least (d ∷ digits) (omega (arith, most))) ∙ grind arith

@@ -1,14 +1,14 @@
 -- What is laid out is a literal with the digits of the amount.
-use Rattle.lexical_writer.proofs.Common.{AllBelowBase, Amount, Bool, ByteSet, Conditions, Grammar, HasNumber, IsSyntax, IsTrue}
-use Rattle.lexical_writer.proofs.Common.{List, Literal, None, Notation, Option, Options, Part, Pattern, Reads, Record, Some, Style, []}
-use Rattle.lexical_writer.proofs.Common.{all_below_base_digits_of, and_from, ap, arith, at_least, begins_decimal, begins_with, byte_value, cases_lt, character}
-use Rattle.lexical_writer.proofs.Common.{cond, digits_in, digits_of, effective_exponent_radix, eq-eqb, exponent_character_of, false, false≢true, given_fraction}
-use Rattle.lexical_writer.proofs.Common.{given_power, grouped, has, has_exponent, has_leading_zero, has_point, if◌then◌else◌, inl, inr, is_absent, is_float}
-use Rattle.lexical_writer.proofs.Common.{is_grouped, is_minus, is_none_or_one, is_plus, is_present, is_some, lacks_options, laid_out, length}
-use Rattle.lexical_writer.proofs.Common.{lt-ltb, ltb-true, max, mod-lt, nat_le, nat_lt, nat_tests, no_groups, not, notation_of, number, number_digits_of}
-use Rattle.lexical_writer.proofs.Common.{number_from_digits, one_if, only_if, option_to_list, point_of, raw, refl, refusal, separators_in, size_of, subst, sym}
-use Rattle.lexical_writer.proofs.Common.{text_of, true, unwrap_or, values_of, ℕ, ◌%◌, ◌&&◌, ◌*◌, ◌++◌, ◌+◌, ◌-◌, ◌<◌, ◌==◌, ◌||◌, ◌∙◌, ◌∷◌, ◌≡◌, ◌≤◌, ◌⊎◌}
-use Rattle.std.proofs.lemmas.Bool.{agree_below_at, false_from_ne_true, not-false, or_left, or_right}
+use Rattle.lexical_writer.proofs.Common.{AllBelowBase, Amount, Bool, ByteSet, Conditions, Grammar, HasNumber, IsSyntax, IsTrue, List, Literal, None, Notation}
+use Rattle.lexical_writer.proofs.Common.{Option, Options, Part, Pattern, Reads, Record, Some, Style, [], all_below_base_digits_of, and_from, ap, arith}
+use Rattle.lexical_writer.proofs.Common.{at_least, begins_decimal, begins_with, byte_value, cases_lt, character, cond, digits_in, digits_of}
+use Rattle.lexical_writer.proofs.Common.{effective_exponent_radix, eq-eqb, exponent_character_of, false, false≢true, given_fraction, given_power, grouped, has}
+use Rattle.lexical_writer.proofs.Common.{has_exponent, has_leading_zero, has_point, if◌then◌else◌, inl, inr, is_absent, is_float, is_grouped, is_minus}
+use Rattle.lexical_writer.proofs.Common.{is_none_or_one, is_present, is_some, lacks_options, laid_out, length, lt-ltb, ltb-true, max, mod-lt, nat_le, nat_lt}
+use Rattle.lexical_writer.proofs.Common.{nat_tests, no_groups, not, notation_of, number, number_digits_of, one_if, only_if, option_to_list, point_of, raw, refl}
+use Rattle.lexical_writer.proofs.Common.{refusal, separators_in, size_of, subst, sym, text_of, true, unwrap_or, values_of, ℕ, ◌%◌, ◌&&◌, ◌*◌, ◌++◌, ◌+◌, ◌-◌}
+use Rattle.lexical_writer.proofs.Common.{◌<◌, ◌==◌, ◌||◌, ◌∙◌, ◌∷◌, ◌≡◌, ◌≤◌, ◌⊎◌}
+use Rattle.std.proofs.lemmas.Bool.{agree_below_at, false_from_ne_true, not-false, or_left}
 use Rattle.std.specs.List.{AllByRecursion}
 use Rattle.std.specs.Option.{option_or}
 use Rattle.lexical_literal.specs.Literal.{IsSpelled, begins, condition, is_none_or_prefix, is_zero_led, may_begin, requirement}
@@ -62,9 +62,7 @@ at_least_2 r c d two none set = grind (arith, nat_tests)
 least : (r : Record) (c : Conditions) → contradiction r c ≡ None
     → (has c conditions.IntegerGroupSize ≡ true → 2 ≤ number_of c conditions.IntegerGroupSize)
     × (has c conditions.HigherGroupSize ≡ true → 2 ≤ number_of c conditions.HigherGroupSize)
-least r c none =
-    let (prefix, (suffix, (sign, (last, (higher, rest))))) = each_none r c all_conditions none in
-    (at_least_2 r c conditions.IntegerGroupSize refl last, at_least_2 r c conditions.HigherGroupSize refl higher)
+least r c none = grind (arith, nat_tests, each_none, at_least_2)
 
 -- Where a flag forbids leading zeros, no condition is on the first digit.
 unset : (r : Record) (c : Conditions) (d : Condition) → missing r c d ≡ forbids_zeros r → fault r c d ≡ None
@@ -75,18 +73,10 @@ unset r c d is none set = grind (arith, nat_tests)
 no_led_digits : (r : Record) (c : Conditions) (float : Bool) (digits : List ℕ) → contradiction r c ≡ None
     → r.flag (if float then layout.no_float_leading_zeros else layout.no_integer_leading_zeros) ≡ true → led_digits c false digits ≡ 1
 no_led_digits r c float digits none set =
-    let some = some_flag float set in
     let (prefix, (suffix, (sign, (last, (higher, (zero, (decimal, end))))))) = each_none r c all_conditions none in
-    neither _ _ _ _ (unset r c conditions.LeadingZero refl zero some) (unset r c conditions.DecimalFirstDigit refl decimal some)
-  where
-    some_flag : (float : Bool) → r.flag (if float then layout.no_float_leading_zeros else layout.no_integer_leading_zeros) ≡ true
-        → (r.flag layout.no_integer_leading_zeros || r.flag layout.no_float_leading_zeros) ≡ true
-    some_flag true set = or_right (r.flag layout.no_integer_leading_zeros) _ set
-    some_flag false set = or_left _ _ set
-
-    neither : (zero decimal other : Bool) (n : ℕ) → zero ≡ false → decimal ≡ false
-        → (if not false && (zero || (decimal && other)) then n else 1) ≡ 1
-    neither zero decimal other n first second = grind arith
+    let first = unset r c conditions.LeadingZero refl zero in
+    let second = unset r c conditions.DecimalFirstDigit refl decimal in
+    grind (arith, first, second)
 
 record AreRequired (m : Notation) (pattern : Pattern) : Type 0 where
   last : pattern.last ≡ m.number conditions.IntegerGroupSize
@@ -111,28 +101,12 @@ no_refusal : (n a b : Bool) → (if n then Some errors.Negative else (if a then 
     → (n ≡ false) × (a ≡ false) × (b ≡ false)
 no_refusal n a b none = (grind arith, grind arith, grind arith)
 
-exponent_none : (lacks forbidden required some : Bool) → (forbidden && required) ≡ false → ((lacks || forbidden) && some) ≡ false
-    → (lacks || forbidden) ≡ true → (some || (required && not lacks)) ≡ false
-exponent_none lacks forbidden required some agree can none = grind arith
-
 one_byte : (S : ByteSet) (lacks test : Bool) (byte : ℕ) → (lacks ≡ true → test ≡ false) → (lacks ≡ false → S byte ≡ true)
     → is_none_or_one S (option_to_list (only_if test byte)) ≡ true
 one_byte S lacks test byte none some = grind arith
 
-absent_unless : (b : Bool) (byte : ℕ) → is_absent (option_to_list (only_if b byte)) ≡ not b
-absent_unless b byte = grind arith
-
 fraction_digits_present : (point some : Bool) (byte : ℕ) → (is_absent (option_to_list (only_if point byte)) || (nat_lt 0 (one_if point) || some)) ≡ true
 fraction_digits_present point some byte = grind (arith, nat_tests)
-
--- A plus sign is written where a sign is required, if `here` is true.
-no_plus : (here negative forbidden required : Bool) → (forbidden && required) ≡ false → forbidden ≡ true
-    → not (is_plus (option_to_list (sign_of negative (here && required)))) ≡ true
-no_plus here negative forbidden required agree is = grind arith
-
-some_sign : (here negative required : Bool) (byte : ℕ) → required ≡ true
-    → (is_absent (option_to_list (only_if here byte)) || is_present (option_to_list (sign_of negative (here && required)))) ≡ true
-some_sign here negative required byte is = grind arith
 
 -- Without a decimal point, there is no fraction, and without an exponent character, no exponent.
 no_fraction : (r : Record) (style : Style) (amount : Amount) (other : Bool) (byte : ℕ)
@@ -146,11 +120,9 @@ no_power : (amount : Amount) (other required lowercase : Bool) (byte radix : ℕ
     × (grouped (no_groups lowercase) (at_least (one_if (is_some amount.exponent || other)) (digits_of radix (size_of radix (given_power amount).source))) ≡ [])
 no_power amount other required lowercase byte radix absent = (grind arith, grind arith)
 
--- Digits of a fraction make a float.
-fraction_is_float : (integer : Bool) (amount : Amount) (other exponent : Bool) (radix byte : ℕ)
-    → (integer || is_present (values_of radix (given_fraction amount))) ≡ true
-    → (integer || (is_present (option_to_list (only_if (is_some amount.fraction || other) byte)) || exponent)) ≡ true
-fraction_is_float integer amount other exponent radix byte some = grind arith
+-- Only a negative number has a minus sign.
+pub minus : (negative required : Bool) → is_minus (option_to_list (sign_of negative required)) ≡ negative
+minus negative required = grind arith
 
 -- The radixes of a lawful format are between 2 and 36.
 pub radixes : (word : ℕ) → Lawful word → (part : Part) → (2 ≤ radix_of (raw word) part) × (radix_of (raw word) part ≤ 36)
@@ -167,28 +139,13 @@ own counts byte some = grind (arith, nat_tests)
 groups_allowed : (r : Record) (allowed lowercase : Bool) (last size : ℕ) → 0 < (pattern_of r allowed last size lowercase).higher
     → (allowed ≡ true) × ((r.byte layout.digit_separator == 0) ≡ false)
     × ((pattern_of r allowed last size lowercase).separator ≡ r.byte layout.digit_separator)
-groups_allowed r allowed lowercase last size some =
-    go (last == 0 || not allowed || r.byte layout.digit_separator == 0) refl some
-  where
-    go : (test : Bool) → (last == 0 || not allowed || r.byte layout.digit_separator == 0) ≡ test
-        → 0 < (if test then no_groups lowercase
-        else record { last = last; higher = size; separator = r.byte layout.digit_separator; lowercase = lowercase }).higher
-        → (allowed ≡ true) × ((r.byte layout.digit_separator == 0) ≡ false)
-        × ((if test then no_groups lowercase
-        else record { last = last; higher = size; separator = r.byte layout.digit_separator; lowercase = lowercase }).separator
-        ≡ r.byte layout.digit_separator)
-    go true is some = absurd (omega (arith, some))
-    go false is some = (grind arith, grind arith, refl)
+groups_allowed r allowed lowercase last size some = (grind (arith, nat_tests), grind (arith, nat_tests), grind (arith, nat_tests))
 
 internal_allowed : (r : Record) → r.flag layout.integer_internal_digit_separator ≡ true → separator_allowed r ≡ true
 internal_allowed r set = grind arith
 
 least_some : (c : Conditions) (prefix : Bool) (digits : List ℕ) (other : ℕ) → nat_lt 0 (max (led_digits c prefix digits) other) ≡ true
 least_some c prefix digits other = grind (arith, nat_tests)
-
-point_if : (exponent flag fraction : Bool) (a b : ℕ) → flag ≡ true
-    → (is_absent (option_to_list (only_if exponent a)) || is_present (option_to_list (only_if (fraction || (exponent && flag)) b))) ≡ true
-point_if exponent flag fraction a b set = grind arith
 
 digits_if : (exponent some : Bool) (byte : ℕ)
     → (is_absent (option_to_list (only_if exponent byte)) || (nat_lt 0 (one_if exponent) || some)) ≡ true
@@ -203,12 +160,7 @@ least_one : (r : Record) (c : Conditions) (style : Style) (float : Bool) (amount
     → r.flag (if float then layout.no_float_leading_zeros else layout.no_integer_leading_zeros) ≡ true → least_digits r c style false float amount ≤ 1
 least_one r c style float amount none set =
     let radix = r.byte layout.mantissa_radix in
-    let digits = digits_of radix (size_of radix amount.integer) in
-    go _ set (led_digits c false digits) style.min_digits (no_led_digits r c float digits none set)
-  where
-    go : (flag : Bool) → flag ≡ true → (led wish : ℕ) → led ≡ 1 → max led (if not flag then wish else 0) ≤ 1
-    go true set led wish is = omega (arith, is)
-    go false set led wish is = absurd (false≢true set)
+    let one = no_led_digits r c float (digits_of radix (size_of radix amount.integer)) none set in grind (arith, nat_tests, one, set)
 
 -- What begins with a digit that a condition allows.
 begins_more : (A : ByteSet) (x y : List ℕ) → begins_with A x ≡ true → begins_with A (x ++ y) ≡ true
@@ -227,11 +179,6 @@ zero_character false = refl
 decimal_character : (lowercase : Bool) (d : ℕ) → d < 10 → nat_le (character lowercase d) 57 ≡ true
 decimal_character true d below = agree_below_at (λ d. nat_le (character true d) 57) (λ _. true) 10 d refl below
 decimal_character false d below = agree_below_at (λ d. nat_le (character false d) 57) (λ _. true) 10 d refl below
-
--- How many digits there are with the zero that a condition requires.
-zero_least : (zero decimal other : Bool) (n b : ℕ) → zero ≡ true → n < max (if not false && (zero || (decimal && other)) then n + 1 else 1) b
-zero_least true decimal other n b set = omega arith
-zero_least false decimal other n b set = absurd (false≢true set)
 
 decimal_least : (zero decimal begins : Bool) (n b : ℕ) → decimal ≡ true
     → (n < max (if not false && (zero || (decimal && not begins)) then n + 1 else 1) b) ⊎ (begins ≡ true)
@@ -336,11 +283,7 @@ module _ (g : Grammar) (style : Style) (amount : Amount) (is : IsSyntax g)
       (all_below_base_digits_of exponent_radix size (radixes g.word is.lawful parts.Exponent).0)
 
   same_number : (radix n least : ℕ) (bytes : List ℕ) → 2 ≤ radix → digits_in radix bytes ≡ at_least least (digits_of radix n) → number radix bytes ≡ n
-  same_number radix n least bytes two is =
-      ap (number_from_digits radix) is ∙ least_number radix least (digits_of radix n) ∙ number_digits_of radix n two
-
-  minus : (negative required : Bool) → is_minus (option_to_list (sign_of negative required)) ≡ negative
-  minus negative required = grind arith
+  same_number radix n least bytes two is = grind (arith, nat_tests, least_number, number_digits_of)
 
   has_number : HasNumber g amount l
   has_number = record {
@@ -377,8 +320,7 @@ module _ (g : Grammar) (style : Style) (amount : Amount) (is : IsSyntax g)
   allowed = no_refusal _ (lacks_options g.options && is_some amount.fraction) _ can
 
   no_exponent : (lacks_options g.options || r.flag layout.no_exponent_notation) ≡ true → exponent ≡ false
-  no_exponent none =
-      exponent_none (lacks_options g.options) (r.flag layout.no_exponent_notation) _ (is_some amount.exponent) (agree g.word is.lawful).0 allowed.2 none
+  no_exponent none = let agrees = (agree g.word is.lawful).0 in let can = allowed.2 in grind (arith, agrees, can)
 
   integer_present : is_present l.integer ≡ (nat_lt 0 least_integer || is_present (digits_of radix (size_of radix amount.integer)))
   integer_present = grouped_present pattern least_integer (digits_of radix (size_of radix amount.integer))
@@ -397,14 +339,8 @@ module _ (g : Grammar) (style : Style) (amount : Amount) (is : IsSyntax g)
       (least_one r g.conditions style float amount is.conditions set))
       (radixes g.word is.lawful parts.Integer).0 (radixes g.word is.lawful parts.Integer).1 (digit parts.Integer pattern.lowercase))
 
-  some_point : r.flag layout.no_exponent_without_fraction ≡ true → (is_absent l.exponent_character || is_present l.point) ≡ true
-  some_point set = point_if exponent _ (is_some amount.fraction) _ _ set
-
   is_float_if : is_float l ≡ (point || exponent)
   is_float_if = float_if point exponent _ _
-
-  some_exponent : r.flag layout.required_exponent_notation ≡ true → (lacks_options g.options || is_present l.exponent_character) ≡ true
-  some_exponent set = grind arith
 
   exponent_digits : (is_absent l.exponent_character || is_present l.exponent) ≡ true
   exponent_digits =
@@ -416,15 +352,15 @@ module _ (g : Grammar) (style : Style) (amount : Amount) (is : IsSyntax g)
   met layout.required_fraction_digits set = rw fraction_present (fraction_digits_present point _ _)
   met layout.required_exponent_digits set = exponent_digits
   met layout.required_mantissa_digits set = or_left _ _ integer_some
-  met layout.no_positive_mantissa_sign set = no_plus true amount.negative _ _ (agree g.word is.lawful).1 set
-  met layout.required_mantissa_sign set = some_sign true amount.negative _ 0 set
-  met layout.no_exponent_notation set = absent_unless exponent _ ∙ ap not (no_exponent (or_right (lacks_options g.options) _ set))
-  met layout.no_positive_exponent_sign set = no_plus exponent (given_power amount).negative _ _ (agree g.word is.lawful).2 set
-  met layout.required_exponent_sign set = some_sign exponent (given_power amount).negative _ _ set
-  met layout.no_exponent_without_fraction set = some_point set
+  met layout.no_positive_mantissa_sign set = let agrees = (agree g.word is.lawful).1 in grind (arith, agrees)
+  met layout.required_mantissa_sign set = grind arith
+  met layout.no_exponent_notation set = grind (arith, no_exponent)
+  met layout.no_positive_exponent_sign set = let agrees = (agree g.word is.lawful).2 in grind (arith, agrees)
+  met layout.required_exponent_sign set = grind arith
+  met layout.no_exponent_without_fraction set = grind arith
   met layout.no_integer_leading_zeros set = by_kind (is_float l) (is_zero_led m l) (λ kind. no_lead false (sym is_float_if ∙ kind) set)
   met layout.no_float_leading_zeros set = by_kind (not (is_float l)) (is_zero_led m l) (λ kind. no_lead true (sym is_float_if ∙ not-false _ kind) set)
-  met layout.required_exponent_notation set = some_exponent set
+  met layout.required_exponent_notation set = grind arith
   met _ set = refl
 
   -- The first digit is one that conditions allow.
@@ -437,9 +373,7 @@ module _ (g : Grammar) (style : Style) (amount : Amount) (is : IsSyntax g)
 
   zero_more : (prefixed : Bool) → prefixed ≡ false → has g.conditions conditions.LeadingZero ≡ true
       → length integer_digits < least_digits r g.conditions style prefixed (point || exponent) amount
-  zero_more true none set = absurd (false≢true (sym none))
-  zero_more false none set = zero_least (has g.conditions conditions.LeadingZero) (has g.conditions conditions.DecimalFirstDigit)
-      (not (begins_decimal integer_digits)) (length integer_digits) wish set
+  zero_more prefixed none set = grind (arith, nat_tests)
 
   decimal_more : (prefixed : Bool) → prefixed ≡ false → has g.conditions conditions.DecimalFirstDigit ≡ true
       → (length integer_digits < least_digits r g.conditions style prefixed (point || exponent) amount) ⊎ (begins_decimal integer_digits ≡ true)
@@ -509,7 +443,7 @@ module _ (g : Grammar) (style : Style) (amount : Amount) (is : IsSyntax g)
     suffix = one_suffix (style.base || has g.conditions conditions.BaseSuffix);
     after_point = no_fraction r style amount _ (options_of g).point;
     after_character = no_power amount _ _ style.lowercase (options_of g).exponent exponent_radix;
-    some_number = fraction_is_float (is_present l.integer) amount _ (is_present l.exponent_character) radix (options_of g).point (or_left _ _ integer_some);
+    some_number = grind (arith, integer_some);
     requirements = met;
   }
 

@@ -5,13 +5,9 @@ use Rattle.std.proofs.lemmas.List.{length-map}
 use Rattle.std.proofs.lemmas.Option.{slice_get-map, slice_get-get_or, slice_get_within}
 use Rattle.lexical_forms.specs.FormList.{FormList}
 use Rattle.lexical_writer.specs.declared.choice.Own.{Own}
-use Rattle.lexical_writer.proofs.Common.{ArePassed, AreBefore, Bool, Form, IsRefused, IsSearched, IsSomeAnd, List, None, Option, Task, Some, WriteError, [], ap}
-use Rattle.lexical_writer.proofs.Common.{arith, cases_lt, false, false≢true, if◌then◌else◌, is_short, suc, ways, words_of, inl, inr, is_some, length, refl}
-use Rattle.lexical_writer.proofs.Common.{slice_get, slice_index_or, subst, sym, true, unwrap_or, ℕ, ◌+◌, ◌<◌, ◌∙◌, ◌≡◌, ◌≤◌, ◌⊎◌}
-
--- The form at an index is one alone.
-one_form : (o : Option Form) (form it : Form) → o ≡ Some form → o ≡ Some it → form ≡ it
-one_form o form it here there = ap (λ o. unwrap_or o form) (sym here ∙ there)
+use Rattle.lexical_writer.proofs.Common.{AreBefore, ArePassed, Bool, Form, IsRefused, IsSearched, IsSomeAnd, List, None, Option, Some, Task, WriteError, [], ap}
+use Rattle.lexical_writer.proofs.Common.{arith, cases_lt, false, false≢true, if◌then◌else◌, inl, inr, is_short, is_some, length, refl, slice_get}
+use Rattle.lexical_writer.proofs.Common.{slice_index_or, subst, suc, sym, true, unwrap_or, ways, words_of, ℕ, ◌+◌, ◌<◌, ◌∙◌, ◌≡◌, ◌≤◌, ◌⊎◌}
 
 -- In a step, the next form is asked behind those before it.
 pub before_more : {P : ℕ → Form → Type 0} {asked : ℕ → Form → Bool} {forms : List Form} {step index : ℕ} (form : Form) → slice_get forms index ≡ Some form
@@ -23,7 +19,7 @@ before_more {P} {asked} {forms} {step} {index} form here new old = record {
       | inl less ↦ old.each before at it (inr (same.0, less)) there now
       | inr least ↦
           let next : index ≡ at = omega (arith, least, same.1) in
-          let one : form ≡ it = one_form (slice_get forms index) form it here (ap (slice_get forms) next ∙ there) in
+          let one : form ≡ it = ap (λ o. unwrap_or o form) (sym here ∙ ap (slice_get forms) next ∙ there) in
           subst (λ i. P i it) next (subst (P index) one
           (new (subst (λ s. asked s form ≡ true) same.0 (subst (λ f. asked before f ≡ true) (sym one) now))))
     ]
@@ -83,9 +79,6 @@ module _ (P : ℕ → Form → WriteError → Type 0) (asked : ℕ → Form → 
 
 -- The ways in which a form is asked to write a number, in their order.
 module _ (task : Task) (room : ℕ) (list : FormList) (index : ℕ) (form : Form) where
-  pub passed_none : ArePassed task room list index form 0
-  passed_none at word less there = absurd (omega (arith, less))
-
   -- The form does not write the number in the next way either.
   pub passed_more : (n : ℕ) (word : Option (List ℕ)) (error : WriteError) → slice_get (ways task.own.integer form) n ≡ Some word
       → IsRefused task room list index form word error → is_short error ≡ false → ArePassed task room list index form n
@@ -98,11 +91,6 @@ module _ (task : Task) (room : ℕ) (list : FormList) (index : ℕ) (form : Form
         subst (λ word. (error : WriteError) × IsRefused task room list index form word error × (is_short error ≡ false)) one
         (error, refused, fits)
   ]
-
-  -- Without a word, it does not.
-  pub passed_first : (error : WriteError) → IsRefused task room list index form None error → is_short error ≡ false
-      → ArePassed task room list index form 1
-  passed_first error refused fits = passed_more 0 None error refl refused fits passed_none
 
 -- `words integer form` are the words with which a form writes a number.
 abbrev pub words : Bool → Form → List (Bor (List ℕ))

@@ -1,11 +1,11 @@
 -- A number times a power, and its digits in a radix and with an exponent base that are powers of the same base.
 use Rattle.lexical_writer.proofs.Common.{Bool, Grammar, IsShape, None, Record, Some, Style, all_below_base_digits_of, ap, arith, cases_lt, count_trailing_zeros}
-use Rattle.lexical_writer.proofs.Common.{decimals_in, digits_of, div-add-mod', div-div-eq-div-mul, effective_exponent_base, eq-zero-or-pos, eq_of_mul-eq-mul_right, false}
-use Rattle.lexical_writer.proofs.Common.{if◌then◌else◌, inl, inr, is_far, is_shown, lacks_options, le_of_mul-le-mul_right, length, length-digits_of-le}
-use Rattle.lexical_writer.proofs.Common.{length-digits_of_step, lt-ltb, lt_of_mul-lt-mul_right, max, min, mod-eq_of_lt, mod-lt, mul-le-mul_right}
-use Rattle.lexical_writer.proofs.Common.{mul-lt-mul_of_pos_right, mul-mod_left, mul-pos, nat_le, nat_lt, nat_tests, not, number_digits_of, one-le-pow, one_if}
-use Rattle.lexical_writer.proofs.Common.{pow-add, pow-le-pow_right, pow-suc, pow-zero, raw, refl, subst, suc, sym, true, zero, ℕ, ◌%◌}
-use Rattle.lexical_writer.proofs.Common.{◌&&◌, ◌*◌, ◌+◌, ◌-◌, ◌/◌, ◌<◌, ◌^◌, ◌||◌, ◌∙◌, ◌≡◌, ◌≤◌, ◌⊎◌}
+use Rattle.lexical_writer.proofs.Common.{decimals_in, digits_of, div-add-mod', div-div-eq-div-mul, effective_exponent_base, eq-zero-or-pos}
+use Rattle.lexical_writer.proofs.Common.{eq_of_mul-eq-mul_right, false, if◌then◌else◌, inl, inr, is_far, is_shown, lacks_options, le_of_mul-le-mul_right}
+use Rattle.lexical_writer.proofs.Common.{length, length-digits_of-le, length-digits_of_step, lt-ltb, lt_of_mul-lt-mul_right, max, mod-eq_of_lt, mod-lt}
+use Rattle.lexical_writer.proofs.Common.{mul-le-mul_right, mul-lt-mul_of_pos_right, mul-mod_left, mul-pos, nat_le, nat_lt, nat_tests, not, number_digits_of}
+use Rattle.lexical_writer.proofs.Common.{one-le-pow, one_if, pow-add, pow-le-pow_right, pow-suc, pow-zero, raw, refl, subst, suc, sym, true, zero, ℕ, ◌%◌, ◌&&◌}
+use Rattle.lexical_writer.proofs.Common.{◌*◌, ◌+◌, ◌-◌, ◌/◌, ◌<◌, ◌^◌, ◌||◌, ◌∙◌, ◌≡◌, ◌≤◌, ◌⊎◌}
 use Rattle.std.proofs.lemmas.Grind.{div_ceil_times}
 use Rattle.std.proofs.lemmas.Int.Digits.{number_lt}
 use Rattle.std.proofs.lemmas.Nat.Bits.{bit_at-trailing_zeros}
@@ -70,18 +70,7 @@ some_left p n u b two some less = elim (eq-zero-or-pos (n * p ^ u % p ^ b)) [
 
 -- As many digits are behind the point as are needed, and as are wished.
 pub enough : (k b low least q p : ℕ) → 0 < b → q ≡ div_ceil (low - k) b → p ≡ max q least → (low ≤ k + b * p) × (least < p → k + b * p < low + b)
-enough k b low least q p some is most =
-    let it = div_ceil_times (low - k) b some in
-    let times : q * b ≡ (low - k) / b * b + min 1 ((low - k) % b) * b = ap (λ q. q * b) is ∙ omega arith in
-    let more = mul-le-mul_right b (let less : q ≤ p = omega (arith, most) in less) in (
-      omega (arith, it.0, times, more),
-      λ less. let same : q * b ≡ p * b = ap (λ q. q * b) {x = q} {y = p} (omega (arith, most, less)) in elim (cases_lt k low) [
-        | inl above ↦ omega (arith, it.1, times, same, above)
-        | inr below ↦
-            let one = mul-le-mul_right b (let one : 1 ≤ p = omega (arith, less) in one) in
-            absurd (omega (arith, it.1, times, same, below, one))
-      ],
-    )
+enough k b low least q p some is most = grind (arith, nat_tests, div_ceil_times, mul-le-mul_right)
 
 pub byte_is : (b : Bool) → bool_byte b ≡ (if b then 1 else 0)
 byte_is true = refl
@@ -89,9 +78,7 @@ byte_is false = refl
 
 -- A decimal number that is not 0 has as many digits as the powers of ten are that are not above it.
 pub decimal_first : (d power top : ℕ) → top ≡ power + (length (digits_of 10 d) - 1) → 0 < d → (10 ^ top ≤ d * 10 ^ power) × (d * 10 ^ power < 10 ^ suc top)
-decimal_first d power top at some =
-    let last = length (digits_of 10 d) - 1 in
-    (above 10 d power last top (omega arith) from (omega (arith, at)), under 10 d power last (suc top) (omega arith) less (omega (arith, at)))
+decimal_first d power top at some = grind (arith, nat_tests, above, under, from, less)
   where
     from : 10 ^ (length (digits_of 10 d) - 1) ≤ d
     from = elim (cases_lt d (10 ^ (length (digits_of 10 d) - 1))) [

@@ -388,7 +388,7 @@ fn is_within<F: Float>(value: F, decimals: Option<u8>, limits: FloatLimits) -> b
 }
 
 // Returns whether an integer of this sign and size is known to be worth itself by a kind: one that has fewer bits than the kind is.
-#[tactic(auto, using(lexical_value::proofs::KindLemmas::unsigned_keeps))]
+#[tactic(auto, using(lexical_value::proofs::KindLemmas::signed_keeps, lexical_value::proofs::KindLemmas::unsigned_keeps))]
 const fn is_kept(kind: IntegerKind, negative: bool, size: u128) -> bool
     ensures { result ≡ true → worth kind negative size ≡ Some (negative, size) }
 {

@@ -47,6 +47,7 @@ fn split_last(number: u128, radix: u32) -> (u128, u32)
 }
 
 // Writes the digits of a number to the end of a buffer, and returns them.
+#[tactic(auto, using(crate::proofs::DigitLemmas::shorter))]
 pub(crate) fn characters(buffer: &mut [u8], number: u128, radix: u32) -> &[u8]
     requires radix { IsRadix radix }
     requires room { number < 2 ^ length buffer.old }
@@ -82,6 +83,7 @@ const fn two_characters(pair: usize) -> (u8, u8)
 
 // Writes the decimal digits of a number to the end of a buffer, and returns them. Two at a time take less time.
 #[inline(always)]
+#[tactic(auto, using(crate::proofs::DigitLemmas::shorter, crate::proofs::DigitLemmas::two_shorter))]
 pub(crate) fn decimals(buffer: &mut [u8], number: u64) -> &[u8]
     requires { 20 ≤ length buffer.old }
     ensures { result.now ≡ map (character false) (digits_of 10 number) }
@@ -349,7 +351,7 @@ impl Source<'_> {
     }
 
     // Returns whether the first digit is decimal.
-    #[tactic(auto, using(crate::proofs::DigitLemmas::read_back))]
+    #[tactic(auto, using(crate::proofs::DigitLemmas::read_back, crate::proofs::DigitLemmas::as_many, crate::proofs::DigitLemmas::enough))]
     pub(crate) fn begins_decimal(&self, radix: u32) -> bool
         requires { IsRadix radix }
         ensures { result ≡ begins_decimal (values_of radix self.now) }

@@ -58,6 +58,7 @@ fn fewest(literal: &Literal, most: u8) -> (u16, Units)
 }
 
 // Returns what is before and behind the point of a number of units of the last of so many digits behind it.
+#[tactic(auto, using(crate::proofs::DecimalLemmas::ten))]
 fn split(units: u128, places: u16) -> (u128, u128)
     ensures integer { result.0 ≡ units / 10 ^ places }
     ensures fraction { result.1 ≡ units % 10 ^ places }

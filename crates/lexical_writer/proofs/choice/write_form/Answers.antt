@@ -1,13 +1,13 @@
 -- Each word before is passed.
-use Rattle.lexical_writer.proofs.Common.{IsRefused, Some, arith, length, refl, slice_index_or, subst, sym, ◌+◌, ◌∙◌}
-use Rattle.lexical_writer.proofs.OrderLemmas.{no_word, passed_first, passed_more, ways_count, word_way}
+use Rattle.lexical_writer.proofs.Common.{IsRefused, None, Some, arith, length, refl, slice_index_or, subst, sym, ◌+◌, ◌∙◌}
+use Rattle.lexical_writer.proofs.OrderLemmas.{no_word, passed_more, ways_count, word_way}
 use Rattle.lexical_writer.proofs.choice.write_form.Goals as goal
 
 pub loop-word-init : goal.loop-word-init
 loop-word-init g c = record {
   room = c.in-Err.ensures.room;
-  passed = passed_first (g.N.Writable.task c.args.number.now c.args.style) (length c.args.buffer.now) c.args.forms.now c.args.index c.args.form.now
-      c.in-Err.error c.in-Err.ensures.error (sym c.is_short.ensures ∙ c.if-is_short.false);
+  passed = passed_more (g.N.Writable.task c.args.number.now c.args.style) (length c.args.buffer.now) c.args.forms.now c.args.index c.args.form.now 0 None
+      c.in-Err.error refl c.in-Err.ensures.error (sym c.is_short.ensures ∙ c.if-is_short.false) (λ at word less there. absurd (omega (arith, less)));
 }
 
 pub returns-in-Ok-write_by-clause-text : goal.returns-in-Ok-write_by-clause-text

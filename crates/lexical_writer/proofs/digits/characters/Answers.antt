@@ -14,16 +14,6 @@ loop-left-init c =
       text = ap (λ t. text ++ t) (drop_all (length c.args.buffer.now) c.args.buffer.now (omega arith)) ∙ append-nil text;
     }
 
-pub overflow_sub-start : goal.overflow_sub-start
-overflow_sub-start c =
-    let shorter = length-digits_of_step c.args.radix c.loop-left.left c.requires.radix.0 c.loop-left-test.true in
-    omega arith
-
-pub bounds-buffer-start : goal.bounds-buffer-start
-bounds-buffer-start c =
-    let shorter = length-digits_of_step c.args.radix c.loop-left.left c.requires.radix.0 c.loop-left-test.true in
-    omega (arith, shorter)
-
 pub loop-left-preserved : goal.loop-left-preserved
 loop-left-preserved c =
     let l = c.loop-left in

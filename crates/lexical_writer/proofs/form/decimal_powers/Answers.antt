@@ -1,6 +1,6 @@
 -- The first digit of a decimal number is as many digits before the last as it has.
-use Rattle.lexical_writer.proofs.Common.{Bool, ap, arith, digits_of, false, if◌then◌else◌, inl, inr, length, raised_down, raised_up, true, ℕ, ◌*◌, ◌+◌, ◌-◌}
-use Rattle.lexical_writer.proofs.Common.{◌^◌, ◌∙◌, ◌≡◌, ◌≤◌}
+use Rattle.lexical_writer.proofs.Common.{Bool, ap, arith, false, if◌then◌else◌, nat_tests, raised_down, raised_up, true, ℕ, ◌*◌, ◌+◌, ◌-◌, ◌^◌, ◌≡◌, ◌≤◌}
+use Rattle.std.proofs.lemmas.Grind.{common_steps}
 use Rattle.lexical_writer.proofs.AmountLemmas.{powers}
 use Rattle.lexical_writer.proofs.PowerLemmas.{decimal_first}
 use Rattle.lexical_writer.proofs.form.decimal_powers.Goals as goal
@@ -30,23 +30,13 @@ invariant_of-result-clause-limits c =
     (omega (arith, few), omega (arith, few, count), omega arith)
 
 pub invariant_of-result-clause-first : goal.invariant_of-result-clause-first
-invariant_of-result-clause-first c = decimal_first c.args.decimal.digits c.raised-power.result _
-    (ap (λ n. c.raised-power.result + n) (c.saturating_sub.ensures ∙ ap (λ l. l - 1) c.requires.length))
+invariant_of-result-clause-first c = grind (arith, common_steps, nat_tests, decimal_first)
 
 pub invariant_of-result-clause-last : goal.invariant_of-result-clause-last
-invariant_of-result-clause-last c some = elim c.requires.last [
-  | inl none ↦ absurd (omega (arith, none.0, some))
-  | inr more ↦ more
-]
+invariant_of-result-clause-last c some = grind (arith, common_steps, nat_tests)
 
 pub invariant_of-result-clause-none : goal.invariant_of-result-clause-none
-invariant_of-result-clause-none c none =
-    let power : c.raised-power.result ≡ 400 = (raised c.args.decimal.digits _ _ _ c.requires.limits.1 c.raised-power.ensures).zero (elim c.requires.last [
-      | inl both ↦ both.1
-      | inr more ↦ absurd (omega (arith, more, none))
-    ]) in
-    let count : c.saturating_sub.result ≡ 0 = c.saturating_sub.ensures ∙ ap (λ l. l - 1) c.requires.length ∙ ap (λ d. length (digits_of 10 d) - 1) none in
-    (power, omega (arith, power, count))
+invariant_of-result-clause-none c none = grind (arith, common_steps, nat_tests, raised)
 
 pub returns-clause-value : goal.returns-clause-value
 returns-clause-value c = (raised c.args.decimal.digits _ _ _ c.requires.limits.1 c.raised-power.ensures).value

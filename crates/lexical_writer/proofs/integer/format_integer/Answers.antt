@@ -1,12 +1,9 @@
 -- Each integer is laid out, and its value is that of the integer.
-use Rattle.lexical_writer.proofs.Common.{Bool, Err, Grammar, HasNumber, IfErr, IfOk, IfOk-weaker, Ok, Reads, Result, Some, Style, WriteError, ap, arith, false}
-use Rattle.lexical_writer.proofs.Common.{has_point, integer_literal, is_float, laid_out, needs_exponent, notation_of, number_of_size, raw, refl}
-use Rattle.lexical_writer.proofs.Common.{refusal, subst, suc, sym, text_of, true, with_sign, zero, ℕ, ℤ, ◌&&◌, ◌<◌, ◌||◌, ◌∙◌, ◌≡◌}
-use Rattle.lexical_value.specs.Integer.{IsInteger}
+use Rattle.lexical_writer.proofs.Common.{Bool, Err, Grammar, IfErr, IfOk-weaker, Ok, Result, Some, WriteError, ap, arith, false, integer_literal, laid_out}
+use Rattle.lexical_writer.proofs.Common.{number_of_size, refl, refusal, subst, suc, true, with_sign, zero, ℕ, ℤ, ◌<◌, ◌∙◌, ◌≡◌}
 use Rattle.lexical_writer.specs.Layout.{whole, whole_refusal}
 use Rattle.lexical_writer.specs.declared.integer.WrittenInteger.{WrittenInteger}
 use Rattle.lexical_util.specs.Layout as layouts
-use Rattle.lexical_writer.proofs.LiteralLemmas.{float_if}
 use Rattle.lexical_writer.proofs.PlainLemmas.{has_value}
 use Rattle.lexical_writer.proofs.integer.format_integer.Goals as goal
 
@@ -21,18 +18,6 @@ refused : (g : Grammar) (z : ℤ) → (result : Result WrittenInteger WriteError
     → IfErr result (λ error. refusal g (whole z) ≡ Some error) → IfErr result (λ error. whole_refusal g z ≡ Some error)
 refused g z (Ok it) is = tt
 refused g z (Err error) is = grind arith
-
-integer : (g : Grammar) (style : Style) (negative : Bool) (n : ℕ) (z : ℤ) → with_sign negative n ≡ z → needs_exponent g ≡ false
-    → (result : Result WrittenInteger WriteError)
-    → IfOk result (λ it. integer_literal it ≡ laid_out g style (number_of_size negative n))
-    → IfOk result (λ it. Reads (notation_of g) (integer_literal it) (text_of (integer_literal it))
-    × HasNumber g (number_of_size negative n) (integer_literal it))
-    → IfOk result (λ it. IsInteger (raw g.word).byte (integer_literal it) z)
-integer g style negative n z is none (Err error) out has = tt
-integer g style negative n z is none (Ok it) out has =
-    let point : has_point g (number_of_size negative n) ≡ false =
-    ap (λ exponent. false || (exponent && (raw g.word).flag layouts.no_exponent_without_fraction)) none in
-    (ap is_float out ∙ float_if _ _ _ _ ∙ (λ i. point i || none i), sym is ∙ (λ i. with_sign (sym has.1.sign i) (sym has.1.integer i)))
 
 pub returns-clause-parts : goal.returns-clause-parts
 returns-clause-parts h c =

@@ -1,6 +1,7 @@
 -- What is written is the integer.
 use Rattle.lexical_writer.proofs.Common.{Kind, Literal, ap, is_minus, sym, worth, ◌∙◌}
-use Rattle.lexical_writer.proofs.ChoiceLemmas.{kept_whole, minus}
+use Rattle.lexical_writer.proofs.ChoiceLemmas.{kept_whole}
+use Rattle.lexical_writer.proofs.LiteralLemmas.{minus}
 use Rattle.lexical_writer.proofs.choice.WholeWritable.is_plain.Goals as goal
 
 pub returns-then-not-float-clause-plain : goal.returns-then-not-float-clause-plain

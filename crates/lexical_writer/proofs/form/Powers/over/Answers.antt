@@ -1,6 +1,7 @@
 -- Zeros come behind the digits, and the last one is not a zero, unless it is wished.
-use Rattle.lexical_writer.proofs.Common.{ap, arith, cases_lt, div-eq_of_lt, eq-zero-or-pos, inl, inr, mod-eq_of_lt, mod-lt, mul-le-mul_left, pow-zero, subst}
-use Rattle.lexical_writer.proofs.Common.{sym, ◌%◌, ◌*◌, ◌+◌, ◌-◌, ◌/◌, ◌<◌, ◌^◌, ◌∙◌, ◌≡◌, ◌≤◌}
+use Rattle.lexical_writer.proofs.Common.{ap, arith, cases_lt, div-eq_of_lt, eq-zero-or-pos, inl, inr, mod-eq_of_lt, mod-lt, mul-le-mul_left, nat_tests}
+use Rattle.lexical_writer.proofs.Common.{pow-zero, subst, sym, ◌%◌, ◌*◌, ◌+◌, ◌-◌, ◌/◌, ◌<◌, ◌^◌, ◌∙◌, ◌≡◌, ◌≤◌}
+use Rattle.std.proofs.lemmas.Grind.{common_steps}
 use Rattle.std.specs.Int.{div_ceil}
 use Rattle.lexical_writer.proofs.PowerLemmas.{enough, moved_exact, some_left}
 use Rattle.lexical_writer.proofs.form.Powers.over.Goals as goal
@@ -16,9 +17,7 @@ pub returns-clause-moved : goal.returns-clause-moved
 returns-clause-moved c = mod-lt _ c.args.self.now.bases.1
 
 pub returns-clause-exact : goal.returns-clause-exact
-returns-clause-exact c =
-    let it = c.args.self.now in
-    moved_exact it.base it.number it.power it.width c.max-places.result c.args.low (needed c).0
+returns-clause-exact c = grind (arith, common_steps, nat_tests, moved_exact, needed)
 
 pub returns-clause-last : goal.returns-clause-last
 returns-clause-last c =
