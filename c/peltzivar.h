@@ -447,11 +447,12 @@ enum {
 
 /* How numbers are written where a syntax leaves a choice. Zeros make no wish, and a null pointer is the same as zeros.
  * What the syntax forbids is not done, and what it requires is. `group` is how many digits a group of the integer has,
- * unless the syntax has a size. With 0, there are groups only where it has one. A fraction has none. `without_base` leaves out the base prefix and suffix. `lowercase` writes digits in lowercase.
- * `min_digits` is how many integer digits there are at least, with zeros before the others. With `has_decimals`, a
- * float is rounded in decimal floats to as many digits after the point as `decimals`, to the nearest, or to the even
- * one if two are as near, and has no exponent that neither the syntax nor the style requires. In integers alone, and in
- * another radix than 10, it has no effect. */
+ * unless the syntax has a size. With 0, there are groups only where it has one. A fraction has none. `without_base`
+ * leaves out the base prefix and suffix. `lowercase` writes digits in lowercase. `min_digits` is how many integer
+ * digits there are at least, with zeros before the others. With `has_decimals`, a float is rounded in decimal floats
+ * to as many digits after the point as `decimals`, to the nearest, or to the even one if two are as near, and has no
+ * exponent that neither the syntax nor the style requires. In integers alone, and in another radix than 10, it has no
+ * effect. */
 typedef struct {
     uint8_t group;
     bool without_base, lowercase;
@@ -542,13 +543,13 @@ typedef struct {
     uint64_t low, high;
 } peltzivar_word;
 
-/* A syntax is what texts are read by: a lawful word with an exponent character and a decimal point, or with 0 for both.
- * If both are 0, numbers are integers. The other members are conditions: that a number has the base prefix or the base
- * suffix, that its sign is not `-`, and that the digit separators of its integer, if there are any, make groups of 2 to 8
- * digits, as in `1,234`. Groups before the last have higher_group_size digits, if this is not 0, as in `12,34,567`. The last two conditions are that a number begins, after its sign, with `0`, as C's
- * `017`, or with a digit from `0` to `9`, as NASM's `0FFh`. Members that are 0 or false are no condition.
- * peltzivar_read_settings writes a syntax, and the forms of a language have some. Check your own with
- * peltzivar_check_syntax. */
+/* A syntax is what texts are read by: a lawful word with an exponent character and a decimal point, or with 0 for
+ * both. If both are 0, numbers are integers. The other members are conditions: that a number has the base prefix or
+ * the base suffix, that its sign is not `-`, and that the digit separators of its integer, if there are any, make
+ * groups of 2 to 8 digits, as in `1,234`. Groups before the last have higher_group_size digits, if this is not 0, as
+ * in `12,34,567`. The last two conditions are that a number begins, after its sign, with `0`, as C's `017`, or with a
+ * digit from `0` to `9`, as NASM's `0FFh`. Members that are 0 or false are no condition. peltzivar_read_settings
+ * writes a syntax, and the forms of a language have some. Check your own with peltzivar_check_syntax. */
 struct peltzivar_syntax {
     peltzivar_word format;
     uint8_t exponent, decimal_point;
