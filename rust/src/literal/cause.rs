@@ -292,7 +292,6 @@ impl Spot {
                 self.unmet_number(Condition::NegativeSign),
                 self.unmet_number(Condition::IntegerGroupSize),
                 self.unmet_number(Condition::HigherGroupSize),
-                self.unmet_number(Condition::FractionGroupSize),
                 self.unmet_number(Condition::LeadingZero),
                 self.unmet_number(Condition::DecimalFirstDigit),
             ],
