@@ -1,15 +1,15 @@
 -- Digits with a point, zeros around them and an exponent have the value of the literal that is written.
 use Rattle.lexical_writer.proofs.Common.{Amount, Bool, Err, Float, Grammar, HasNumber, IfOk, IsCutTo, IsFinite, IsFloatOf, IsLaidOut, IsRounded, IsShape}
-use Rattle.lexical_writer.proofs.Common.{IsWorth, Layout, List, Literal, None, Ok, Option, Power, Record, Result, Some, Style, WriteError, [], allows_exponent}
-use Rattle.lexical_writer.proofs.Common.{ap, append_assoc, arith, cond, cons_option, decimals_in, denominator, digit_of, digits_in, div-add-mod', drop}
-use Rattle.lexical_writer.proofs.Common.{dvd-mul_right, effective_exponent_base, effective_exponent_radix, eq-eqb, eq-zero-or-pos, eq_of_mul-eq-mul_right}
-use Rattle.lexical_writer.proofs.Common.{exponent, false, false≢true, filter_map-append, first_error, float_error, has, if◌then◌else◌, inl, inr, is_binary}
-use Rattle.lexical_writer.proofs.Common.{is_decimal, is_minus, is_power_of_two, is_present, is_some, is_whole, lacks_options, laid_out, le-ltb, length}
-use Rattle.lexical_writer.proofs.Common.{length-append, literal_of, low, lt-leb, mantissa, mod-eq_of_lt, mod-lt, mod-mod_of_dvd, mul-le-mul_right, mul-mod_left}
-use Rattle.lexical_writer.proofs.Common.{mul-pos, nat_lt, nat_tests, ne_eqb, nearest, not, number_after_append, number_from_digits, numerator, one-le-pow}
-use Rattle.lexical_writer.proofs.Common.{one_if, pow-add, pow-le-pow_right, pow-suc, pow-zero, prec, raised_down, raised_up, raw, refl, refusal, replicate}
-use Rattle.lexical_writer.proofs.Common.{round, round_same, rounded, scale, subst, suc, sym, take, take-append-drop, true, units_in, unwrap_or, with_minus}
-use Rattle.lexical_writer.proofs.Common.{zero, ℕ, ◌%◌, ◌&&◌, ◌*◌, ◌++◌, ◌+◌, ◌-◌, ◌/◌, ◌<◌, ◌==◌, ◌^◌, ◌||◌, ◌∙◌, ◌∷◌, ◌≡◌, ◌≢◌, ◌≤◌}
+use Rattle.lexical_writer.proofs.Common.{IsWorth, Layout, List, Literal, None, Ok, Option, Power, Record, Result, Some, Style, WriteError, [], ap, append_assoc}
+use Rattle.lexical_writer.proofs.Common.{arith, cond, cons_option, decimals_in, denominator, digit_of, digits_in, div-add-mod', drop, dvd-mul_right}
+use Rattle.lexical_writer.proofs.Common.{effective_exponent_base, effective_exponent_radix, eq-eqb, eq-zero-or-pos, eq_of_mul-eq-mul_right, exponent, false}
+use Rattle.lexical_writer.proofs.Common.{false≢true, filter_map-append, first_error, float_error, has, if◌then◌else◌, inl, inr, is_binary, is_decimal, is_far}
+use Rattle.lexical_writer.proofs.Common.{is_minus, is_power_of_two, is_present, is_shown, is_some, is_whole, lacks_options, laid_out, length, length-append}
+use Rattle.lexical_writer.proofs.Common.{literal_of, low, lt-leb, mantissa, mod-eq_of_lt, mod-lt, mod-mod_of_dvd, mul-le-mul_right, mul-mod_left, mul-pos}
+use Rattle.lexical_writer.proofs.Common.{nat_lt, nat_tests, ne_eqb, nearest, not, number_after_append, number_from_digits, numerator, one-le-pow, one_if}
+use Rattle.lexical_writer.proofs.Common.{pow-add, pow-le-pow_right, pow-zero, prec, raised_down, raised_up, raw, refl, refusal, replicate, round, round_same}
+use Rattle.lexical_writer.proofs.Common.{rounded, scale, subst, suc, sym, take, take-append-drop, true, units_in, unwrap_or, with_minus, zero, ℕ, ◌%◌, ◌&&◌}
+use Rattle.lexical_writer.proofs.Common.{◌*◌, ◌++◌, ◌+◌, ◌-◌, ◌/◌, ◌<◌, ◌==◌, ◌^◌, ◌||◌, ◌∙◌, ◌∷◌, ◌≡◌, ◌≢◌, ◌≤◌}
 use Rattle.std.proofs.Math.Nat.{div-eq_of_lt-le, div-lt_iff_lt-mul, mod-eq-sub-div-mul}
 use lib.Ieee.{Format, down, fin, hid, inf, is_nan, nan, neg, odd, of_bits, of_fields, ones, top, up}
 use lib.Ieee.Exact.{HasValue, odd_sign}
@@ -22,7 +22,7 @@ use Rattle.std.specs.Prelude.{option_map}
 use Rattle.core.proofs.dec2flt.Patterns.{neg-round}
 use Rattle.lexical_writer.specs.declared.layout.WriteError.TheVariants as errors
 use Rattle.lexical_writer.proofs.ConversionLemmas.{HasParts, no_power, pair_of, parts_of, places_of, units_of}
-use Rattle.lexical_writer.proofs.DigitLemmas.{zeros_number}
+use Rattle.lexical_writer.proofs.DigitLemmas.{one_less, zeros_number}
 use Rattle.lexical_writer.proofs.PlainLemmas.{zeros_after}
 
 -- Digits behind others, with zeros behind them.
@@ -295,8 +295,8 @@ pub not_refused : (g : Grammar) (style : Style) (amount : Amount) (fraction last
     → (fraction ≡ false → num % den ≡ 0) → 0 < den → IsShape g style num den exponent places units → is_some amount.fraction ≡ nat_lt 0 places
     → is_some amount.exponent ≡ is_some exponent → refusal g amount ≡ None
 not_refused g style amount fraction last num den places units exponent none whole some shape has_fraction has_power =
-    allowed _ _ _ (parts _ _ _ none).0 (left (lacks_options g.options) (is_some amount.fraction) no_fraction)
-    (left (lacks_options g.options || (raw g.word).flag layout.no_exponent_notation) (is_some amount.exponent) no_exponent)
+    refused _ fraction last (lacks_options g.options) _ (is_some amount.fraction) (is_some amount.exponent) (is_some exponent) places _ none has_fraction has_power
+    shape.shown no_places
   where
     R : ℕ
     R = (raw g.word).byte layout.mantissa_radix
@@ -304,40 +304,26 @@ not_refused g style amount fraction last num den places units exponent none whol
     B : ℕ
     B = effective_exponent_base (raw g.word)
 
-    parts : (sign fraction last : Bool) → first_error sign fraction last errors.Radix ≡ None → (sign ≡ false) × (fraction ≡ false)
-    parts true fraction last none = absurd (false≢true (sym (ap is_some none)))
-    parts false true last none = absurd (false≢true (sym (ap is_some none)))
-    parts false false last none = (refl, refl)
+    refused : (sign fraction last lacks forbidden point power shown : Bool) (places : ℕ) (other : Bool)
+        → first_error sign (lacks && fraction) last errors.Radix ≡ None → point ≡ nat_lt 0 places → power ≡ shown
+        → shown ≡ (not (lacks || forbidden) && other) → (lacks ≡ true → places ≡ 0)
+        → first_error sign (lacks && point) ((lacks || forbidden) && power) errors.Radix ≡ None
+    refused sign fraction last lacks forbidden point power shown places other none is same allows few = grind (arith, nat_tests)
 
-    allowed : (sign fraction last : Bool) → sign ≡ false → fraction ≡ false → last ≡ false → first_error sign fraction last errors.Radix ≡ None
-    allowed sign fraction last a b c = λ i. first_error (a i) (b i) (c i) errors.Radix
-
-    left : (a b : Bool) → (a ≡ true → b ≡ false) → (a && b) ≡ false
-    left true b is = is refl
-    left false b is = refl
-
-    never : (a b s : Bool) → s ≡ (a && b) → a ≡ false → s ≡ false
-    never a b s is off = is ∙ ap (λ a. a && b) off
-
-    hidden : (exponent : Option (Bool × ℕ)) → is_some exponent ≡ false → exponent ≡ None
-    hidden None none = refl
-    hidden (Some e) none = absurd (false≢true (sym none))
-
-    unshown : (lacks_options g.options || (raw g.word).flag layout.no_exponent_notation) ≡ true → exponent ≡ None
-    unshown it = hidden exponent (never (allows_exponent g) _ _ shape.shown (ap not it))
-
-    no_exponent : (lacks_options g.options || (raw g.word).flag layout.no_exponent_notation) ≡ true → is_some amount.exponent ≡ false
-    no_exponent it = has_power ∙ ap is_some (unshown it)
+    unshown : (exponent : Option (Bool × ℕ)) → lacks_options g.options ≡ true → is_some exponent ≡ is_shown g style (is_far (raw g.word) num den)
+        → exponent ≡ None
+    unshown None lacks is = refl
+    unshown (Some e) lacks is = absurd (let shown = is in grind arith)
 
     no_places : lacks_options g.options ≡ true → places ≡ 0
     no_places integers =
-        let none_shown = unshown (ap (λ l. l || (raw g.word).flag layout.no_exponent_notation) integers) in
+        let none_shown = unshown exponent integers shape.shown in
+        let no_fraction : fraction ≡ false = grind (arith, none) in
         elim shape.last [
           | inl same ↦ same ∙ (λ i. unwrap_or (if integers i || not (R == 10) then None else style.decimals) (one_if (not (is_some (none_shown i) || integers i))))
           | inr other ↦
-              let whole_fraction = (λ i. sym integers i && fraction) ∙ (parts _ _ _ none).1 in
               let n = num / den in
-              let number : num ≡ n * den = omega (arith, div-add-mod' num den, whole whole_fraction) in
+              let number : num ≡ n * den = omega (arith, div-add-mod' num den, whole no_fraction) in
               let exact : units * (den * B ^ 0) ≡ num * R ^ places * 1 =
               subst (λ (o : Option (Bool × ℕ)). let e = unwrap_or o (false, 0) in
               units * (den * raised_up e.0 B e.1) ≡ num * R ^ places * raised_down e.0 B e.1) none_shown (shape.exact other.0) in
@@ -351,12 +337,8 @@ not_refused g style amount fraction last num den places units exponent none whol
               elim (eq-zero-or-pos places) [
                 | inl none ↦ none
                 | inr more ↦
-                    let last : n * R ^ places ≡ n * R ^ (places - 1) * R =
-                    omega (arith, ap (λ p. n * p) (ap (λ k. R ^ k) {x = places} {y = suc (places - 1)} (omega (arith, more)) ∙ pow-suc R (places - 1))) in
+                    let last : n * R ^ places ≡ n * R ^ (places - 1) * R = omega (arith, ap (λ p. n * p) (one_less R places more)) in
                     let rest : units % R ≡ 0 = ap (λ u. u % R) (value ∙ last) ∙ mul-mod_left (n * R ^ (places - 1)) R in
                     absurd (omega (arith, other.2, rest))
               ]
         ]
-
-    no_fraction : lacks_options g.options ≡ true → is_some amount.fraction ≡ false
-    no_fraction integers = has_fraction ∙ le-ltb 0 places (let zero = no_places integers in omega (arith, zero))
