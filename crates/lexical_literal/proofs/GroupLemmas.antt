@@ -5,7 +5,7 @@ use Rattle.lexical_literal.proofs.Common.{if◌then◌else◌, inl, length}
 use Rattle.lexical_literal.proofs.Common.{higher, inr, is_grouped, is_size, most, nat_le, nat_lt, nat_tests, not, or_left, or_right, refl, separators_in}
 use Rattle.lexical_literal.proofs.Common.{subst, sym, true, unsized, with_rules, ℕ, ◌&&◌, ◌+◌, ◌==◌, ◌||◌, ◌∙◌, ◌∷◌, ◌≡◌, ◌≤◌}
 use Rattle.lexical_literal.proofs.Common.{◌<◌}
-use Rattle.lexical_literal.specs.Groups.{all_fit, group_sizes, one_more, rest_fits}
+use Rattle.lexical_literal.specs.Groups.{all_fit, group_sizes, rest_fits}
 use Rattle.lexical_util.specs.declared.feature_format.roles.Role.TheVariants as roles
 use Rattle.lexical_util.specs.declared.format_flags.Part.TheVariants as parts
 use Rattle.lexical_literal.specs.declared.syntax.Condition.TheVariants as conditions
@@ -23,47 +23,39 @@ run_fits m g (b ∷ run) = if m.separator b
     then follows m g (Some roles.Separator) && run_fits m (grown g (Some roles.Separator)) run
     else follows m g (Some roles.Digit) && run_fits m (grown g (Some roles.Digit)) run
 
--- `more n counts` is `counts` with `n` added to the first.
-abbrev more : ℕ → List ℕ → List ℕ
-more n [] = []
-more n (count ∷ counts) = (n + count) ∷ counts
-
 module _ (m : Notation) where
   -- `counted g run` is true if the groups of `run` have the right sizes, where the first of them has the digits of `g` before it.
   abbrev pub counted : Group → List ℕ → Bool
-  counted g run = if g.separated then rest_fits m (more g.digits (group_sizes m.separator run))
-      else all_fit m (more g.digits (group_sizes m.separator run))
+  counted g run = if g.separated then rest_fits m (group_sizes m.separator g.digits run)
+      else all_fit m (group_sizes m.separator g.digits run)
 
   -- No group behind a separator has more digits than the greatest.
   at_most : (count : ℕ) → (count == higher m || count == m.number conditions.IntegerGroupSize) ≡ true → count ≤ most m
   at_most count fit = grind (arith, nat_tests)
 
   -- Groups that are counted at once are those that are counted byte by byte.
-  one_more_is : (digits : ℕ) (counts : List ℕ) → more digits (one_more counts) ≡ more (digits + 1) counts
-  one_more_is digits x1 = grind arith
-
-  none_more : (counts : List ℕ) → more 0 counts ≡ counts
-  none_more x0 = grind arith
-
-  some_counts : (bytes : List ℕ) → (count : ℕ) × (counts : List ℕ) × (group_sizes m.separator bytes ≡ count ∷ counts)
-  some_counts [] = (0, [], refl)
-  some_counts (b ∷ bytes) = let rest = some_counts bytes in elim (cases_Bool (m.separator b)) [
-    | inl is ↦ (0, group_sizes m.separator bytes, rw (is) refl)
-    | inr other ↦ (rest.0 + 1, rest.1, rw (other, rest.2) refl)
+  some_counts : (n : ℕ) (bytes : List ℕ) → (count : ℕ) × (counts : List ℕ) × (group_sizes m.separator n bytes ≡ (n + count) ∷ counts)
+  some_counts n [] = let same : n ≡ n + 0 = omega arith in (0, [], ap (λ k. k ∷ []) same)
+  some_counts n (b ∷ bytes) = elim (cases_Bool (m.separator b)) [
+    | inl is ↦
+        let same : n ≡ n + 0 = omega arith in
+        let counts = group_sizes m.separator 0 bytes in (0, counts, rw (is) (ap (λ k. k ∷ counts) same))
+    | inr other ↦
+        let rest = some_counts (n + 1) bytes in let same : n + 1 + rest.0 ≡ n + (rest.0 + 1) = omega arith in
+        (rest.0 + 1, rest.1, rw (other) (rest.2 ∙ ap (λ k. k ∷ rest.1) same))
   ]
 
   -- One more digit, one more separator, and the end.
   counts_digit : (g : Group) (b : ℕ) (run : List ℕ) → m.separator b ≡ false → counted g (b ∷ run) ≡ counted (grown g (Some roles.Digit)) run
-  counts_digit g b run other = rw (other, one_more_is g.digits (group_sizes m.separator run)) refl
+  counts_digit g b run other = rw (other) refl
 
   counts_separator : (g : Group) (b : ℕ) (run : List ℕ) → m.separator b ≡ true
       → counted g (b ∷ run) ≡ (follows m g (Some roles.Separator) && counted (grown g (Some roles.Separator)) run)
-  counts_separator g b run is = let some = some_counts run in let same : g.digits + 0 ≡ g.digits = omega arith in
-      rw (is, none_more (group_sizes m.separator run), some.2, same) (either g.separated) where
-        either : (separated : Bool) → (if separated then rest_fits m (g.digits ∷ (some_counts run).0 ∷ (some_counts run).1)
-            else all_fit m (g.digits ∷ (some_counts run).0 ∷ (some_counts run).1))
+  counts_separator g b run is = let some = some_counts 0 run in rw (is, some.2) (either g.separated) where
+        either : (separated : Bool) → (if separated then rest_fits m (g.digits ∷ (0 + (some_counts 0 run).0) ∷ (some_counts 0 run).1)
+            else all_fit m (g.digits ∷ (0 + (some_counts 0 run).0) ∷ (some_counts 0 run).1))
             ≡ ((if separated then g.digits == higher m else nat_lt 0 g.digits && nat_le g.digits (higher m))
-            && rest_fits m ((some_counts run).0 ∷ (some_counts run).1))
+            && rest_fits m ((0 + (some_counts 0 run).0) ∷ (some_counts 0 run).1))
         either true = refl
         either false = grind arith
 
@@ -78,7 +70,7 @@ module _ (m : Notation) where
   ]
 
   pub counts_end : (g : Group) → follows m g None ≡ counted g []
-  counts_end g = let same : g.digits + 0 ≡ g.digits = omega arith in rw (same) (either g.separated) where
+  counts_end g = either g.separated where
     either : (separated : Bool) → (not separated || g.digits == m.number conditions.IntegerGroupSize)
         ≡ (if separated then g.digits == m.number conditions.IntegerGroupSize else true)
     either true = refl
@@ -101,12 +93,12 @@ module _ (m : Notation) where
     longer : (separated : Bool)
         → ((not separated || nat_lt g.digits (most m)) && counted (record g { separated = separated; digits = g.digits + 1 }) run)
         ≡ counted (record g { separated = separated; digits = g.digits + 1 }) run
-    longer true = let some = some_counts run in rw (some.2) (absorbed _ _ (may_grow g.digits some.0 some.1))
+    longer true = let some = some_counts (g.digits + 1) run in rw (some.2) (absorbed _ _ (may_grow g.digits some.0 some.1))
     longer false = refl
 
 -- A digit run is grouped if its bytes fit one by one.
 pub grouped_is : (m : Notation) (run : List ℕ) → is_grouped m run ≡ run_fits m (group parts.Integer false 0) run
-grouped_is m run = ap (all_fit m) (sym (none_more m (group_sizes m.separator run))) ∙ sym (sizes_fit m (group parts.Integer false 0) run)
+grouped_is m run = sym (sizes_fit m (group parts.Integer false 0) run)
 
 -- No group of several is empty.
 pub not_empty : (m : Notation) → HasSizes m → has_sizes m ≡ true → (0 < higher m) × (0 < m.number conditions.IntegerGroupSize)

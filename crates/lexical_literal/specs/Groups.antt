@@ -4,15 +4,10 @@ use Rattle.lexical_util.specs.Ascii.{ByteSet}
 use Rattle.lexical_literal.specs.Notation.{Notation}
 use Rattle.lexical_literal.specs.declared.syntax.Condition.TheVariants as conditions
 
--- `one_more counts` is `counts` with 1 added to the first.
-abbrev pub one_more : List ℕ → List ℕ
-one_more [] = []
-one_more (count ∷ counts) = (count + 1) ∷ counts
-
--- `group_sizes S bytes` lists how many of `bytes` are before, between and behind those that are in `S`.
-abbrev pub group_sizes : ByteSet → List ℕ → List ℕ
-group_sizes S [] = 0 ∷ []
-group_sizes S (byte ∷ bytes) = if S byte then 0 ∷ group_sizes S bytes else one_more (group_sizes S bytes)
+-- `group_sizes S n bytes` lists how many of `bytes` are before, between and behind those that are in `S`, with `n` added to the first number.
+abbrev pub group_sizes : ByteSet → ℕ → List ℕ → List ℕ
+group_sizes S n [] = n ∷ []
+group_sizes S n (byte ∷ bytes) = if S byte then n ∷ group_sizes S 0 bytes else group_sizes S (n + 1) bytes
 
 -- `higher m` is the number of digits of a group before the last one.
 abbrev pub higher : Notation → ℕ
@@ -31,4 +26,4 @@ all_fit m _ = true
 
 -- `is_grouped m run` is true if `run` has no separators, or has them between groups of the right sizes.
 abbrev pub is_grouped : Notation → List ℕ → Bool
-is_grouped m run = all_fit m (group_sizes m.separator run)
+is_grouped m run = all_fit m (group_sizes m.separator 0 run)

@@ -3,7 +3,8 @@ use Rattle.lexical_writer.proofs.Common.{AllBelowBase, Bool, ByteSet, List, Nota
 use Rattle.lexical_writer.proofs.Common.{at_least, byte_value, cases_lt, character, digits_of, div-add-mod, ends_group, false, false≢true, first_digits_of}
 use Rattle.lexical_writer.proofs.Common.{get_or, grouped, has_leading_zero, inl, inr, is_grouped, length, mod-mul-add, nat_tests, refl, separators_in, subst}
 use Rattle.lexical_writer.proofs.Common.{suc, sym, true, zero, ℕ, ◌%◌, ◌*◌, ◌+◌, ◌-◌, ◌/◌, ◌<◌, ◌==◌, ◌∙◌, ◌∷◌, ◌≡◌, ◌≤◌}
-use Rattle.lexical_literal.specs.Groups.{all_fit, group_sizes, higher, one_more, rest_fits}
+use Rattle.lexical_writer.proofs.Common.{eq-eqb, if◌then◌else◌, le-leb, lt-ltb, nat_le, nat_lt, ◌&&◌}
+use Rattle.lexical_literal.specs.Groups.{all_fit, group_sizes, higher, rest_fits}
 use Rattle.lexical_literal.specs.declared.syntax.Condition.TheVariants as conditions
 use Rattle.lexical_literal.proofs.RunLemmas.{is_rest}
 use Rattle.lexical_writer.proofs.DigitLemmas.{character_value, enough}
@@ -35,14 +36,28 @@ module _ (m : Notation) (part : Part) (radix : ℕ) (pattern : Pattern)
       (λ ends. let has = between (grind (arith, nat_tests)) in
       (has.0, has.2, grouped_rest digits true true all.1 (λ is. (refl, grind (arith, nat_tests), has.1))))
 
+-- `one_more counts` is `counts` with 1 added to the first.
+abbrev one_more : List ℕ → List ℕ
+one_more [] = []
+one_more (count ∷ counts) = (count + 1) ∷ counts
+
+more_first : (S : ByteSet) (n : ℕ) (bytes : List ℕ) → group_sizes S (n + 1) bytes ≡ one_more (group_sizes S n bytes)
+more_first S n [] = refl
+more_first S n (b ∷ bytes) = go (S b) (more_first S (n + 1) bytes) where
+  go : (t : Bool) → group_sizes S (n + 1 + 1) bytes ≡ one_more (group_sizes S (n + 1) bytes)
+      → (if t then (n + 1) ∷ group_sizes S 0 bytes else group_sizes S (n + 1 + 1) bytes)
+      ≡ one_more (if t then n ∷ group_sizes S 0 bytes else group_sizes S (n + 1) bytes)
+  go true rest = refl
+  go false rest = rest
+
 module _ (m : Notation) (radix : ℕ) (pattern : Pattern) (digit : (d : ℕ) → d < radix → m.separator (character pattern.lowercase d) ≡ false) where
   -- `sizes digits` are the sizes of the groups in which `digits` are written.
   abbrev sizes : List ℕ → List ℕ
-  sizes digits = group_sizes m.separator (grouped pattern digits)
+  sizes digits = group_sizes m.separator 0 (grouped pattern digits)
 
   -- One more digit is in the first group, or in a new one where that ends.
   next_inside : (d : ℕ) (digits : List ℕ) → d < radix → ends_group pattern (length digits) ≡ false → sizes (d ∷ digits) ≡ one_more (sizes digits)
-  next_inside d digits below inside = let is = digit d below in rw (is, inside) refl
+  next_inside d digits below inside = let is = digit d below in rw (is, inside) (more_first m.separator 0 (grouped pattern digits))
 
   -- Without groups, there is one.
   pub single : (digits : List ℕ) → AllBelowBase radix digits → pattern.higher ≡ 0 → sizes digits ≡ length digits ∷ []
@@ -117,8 +132,8 @@ module _ (m : Notation) (radix : ℕ) (pattern : Pattern) (digit : (d : ℕ) →
     fit : (n : ℕ) (counts : List ℕ) → State n counts → all_fit m counts ≡ true
     fit n [] is = absurd is
     fit n (count ∷ []) is = refl
-    fit n (count ∷ next ∷ counts) is = and_from _ _ (lt-ltb 0 count is.within.0)
-        (and_from _ _ (le-leb count (higher m) (omega (arith, is.within.1, is_higher))) is.rest)
+    fit n (count ∷ next ∷ counts) is = and_from (nat_lt 0 count && nat_le count (higher m)) (rest_fits m (next ∷ counts))
+        (and_from (nat_lt 0 count) _ (lt-ltb 0 count is.within.0) (le-leb count (higher m) (omega (arith, is.within.1, is_higher)))) is.rest
 
     -- Digits in groups of the required sizes are in groups.
     pub right_groups : (digits : List ℕ) → AllBelowBase radix digits → is_grouped m (grouped pattern digits) ≡ true
