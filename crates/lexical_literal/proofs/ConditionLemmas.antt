@@ -123,16 +123,14 @@ module _ (m : Notation) (h : HasRoles m) where
   -- Such a digit is one that each of the conditions allows.
   begins_by : (c : Condition) (text : List ℕ) → C c ≡ true → begins_with fits_first text ≡ true
       → begins_with (λ b. m.digit parts.Integer b && may_begin c b) text ≡ true
-  begins_by c [] set is = absurd (false≢true is)
-  begins_by c (b ∷ text) set is = grind arith
+  begins_by c text set is = grind arith
 
   -- A literal that is as both conditions require begins with such a digit.
   begins_both : (text : List ℕ)
       → (C conditions.LeadingZero ≡ true → begins_with (λ b. m.digit parts.Integer b && may_begin conditions.LeadingZero b) text ≡ true)
       → (C conditions.DecimalFirstDigit ≡ true → begins_with (λ b. m.digit parts.Integer b && may_begin conditions.DecimalFirstDigit b) text ≡ true)
       → needs_first m ≡ true → begins_with fits_first text ≡ true
-  begins_both [] zero decimal needs = absurd (grind arith)
-  begins_both (b ∷ text) zero decimal needs = grind arith
+  begins_both text zero decimal needs = grind arith
 
   -- What is accepted is a literal.
   pub literal_from : has_sizes m ≡ false → (text : List ℕ) → Accepts C m (Some start) text → (l : Literal) × Reads m l text

@@ -161,9 +161,7 @@ module _ (m : Notation) where
       ] where
         next : (digit next : Bool) → digit ≡ true → u.flag (separators_in (part_of s.stage)).trailing ≡ false
             → is_open u (part_of s.stage) digit next ≡ true → next ≡ true
-        next true true seen none is = refl
-        next true false seen none is = absurd (grind arith)
-        next false more seen none is = absurd (false≢true seen)
+        next digit more seen none is = grind arith
 
       admitted : (b : ℕ) (r : Role) → (roles.Sign ≡ r → ⊥) → admits u.condition s b r ≡ true
       admitted b r other = admits_settled u s b r opened.settled other

@@ -134,8 +134,7 @@ module _ (m : Notation) where
       ] where
         plus : (part : Part) → (C conditions.NegativeSign && is_negative part false roles.Sign) ≡ true → is_signed m part stage ≡ false
             → takes_in m part stage gap true roles.Sign ≡ true
-        plus parts.Exponent forbidden needs = absurd (grind arith)
-        plus _ forbidden needs = let some = ready.some_sign in grind arith
+        plus part forbidden needs = grind arith
 
     part_completed : (stage : Stage) (gap : Bool) → is_settled stage ≡ true → CanGoOn m (reading stage gap) → Finishes (part_of stage)
         → Completed (reading stage gap)

@@ -24,8 +24,7 @@ passes_role C s byte (Some role) = admits C s byte role
 
 split_role : (n : Notation) (s : Summary) (b : ℕ) (o : Option Role)
     → is_some (move_by n.condition n s b o) ≡ (is_some (move_by no_condition n s b o) && passes_role n.condition s b o)
-split_role n s b None = refl
-split_role n s b (Some role) = grind arith
+split_role n s b o = grind arith
 
 moved : (n : Notation) (s : Summary) (ended : Bool) (b : ℕ) (o : Option Role)
     → is_some (move_by no_condition n (record s { ended = ended }) b o) ≡ (not ended && taken n (part_of s.stage) s.stage s.gap (b == 43) o)
