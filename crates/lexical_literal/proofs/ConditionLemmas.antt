@@ -158,7 +158,8 @@ module _ (m : Notation) (h : HasRoles m) where
         each l text whole spelled is lengths met conditions.LeadingZero set =
             begins_by conditions.LeadingZero (text_of (record l { sign = [] })) set (first l text whole spelled is lengths (or_left _ _ set))
         each l text whole spelled is lengths met conditions.DecimalFirstDigit set =
-            begins_by conditions.DecimalFirstDigit (text_of (record l { sign = [] })) set (first l text whole spelled is lengths (or_right (C conditions.LeadingZero) _ set))
+            begins_by conditions.DecimalFirstDigit (text_of (record l { sign = [] })) set
+            (first l text whole spelled is lengths (or_right (C conditions.LeadingZero) _ set))
         each l text whole spelled is lengths met _ set = absurd (grind arith)
 
   -- A LITERAL IS ACCEPTED

@@ -69,7 +69,8 @@ module _ (m : Notation) (text : List ℕ) where
   -- The sign and the digits of the exponent.
   pub exponent_at : (s : Reading) (size sign end : ℕ) (first stage : Stage) (at : Stopped) → first ≡ behind_sign parts.Exponent sign → at ≡ at_stage end stage
       → IsAt m text (at_stage size stages.Mark) (cuts_of (counts_of s 1 0 0 0)) → IsSign m text parts.Exponent size sign
-      → IsReadOn m text (at_stage (size + sign) first) pieces.Exponent (at_stage end stage) → IsAt m text at (cuts_of (counts_of s 1 sign (end - (size + sign)) 0))
+      → IsReadOn m text (at_stage (size + sign) first) pieces.Exponent (at_stage end stage)
+      → IsAt m text at (cuts_of (counts_of s 1 sign (end - (size + sign)) 0))
   exponent_at s size sign end first stage at same last is signed on =
       rw (last) (at_more _ _ pieces.Exponent (counts_of s 1 sign 0 0) (end - (size + sign)) refl refl refl (rw (same) at on)
       (at_more (at_stage size stages.Mark) _ pieces.ExponentSign (counts_of s 1 0 0 0) sign (omega arith) refl refl signed.on is))

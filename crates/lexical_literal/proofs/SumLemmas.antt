@@ -80,7 +80,8 @@ module _ (m : Notation) (radix : ℕ) (text : List ℕ) (part : Part) where
       → next ≡ (value * radix % 2 ^ 64 + v) % 2 ^ 64 → let run = up_to begun size separators value in IsRunOn m radix text part begun run
       → IsRunOn m radix text part run (pushed radix run v bytes) → IsRunOn m radix text part begun (up_to begun (size + bytes) more next)
   one_more begun size separators value v bytes more next within one is on digit =
-      let digits : begun.sum.digits + (size - begun.size - separators) + 1 ≡ begun.sum.digits + (size + bytes - begun.size - more) = omega (arith, within, one) in
+      let digits : begun.sum.digits + (size - begun.size - separators) + 1 ≡ begun.sum.digits + (size + bytes - begun.size - more) =
+      omega (arith, within, one) in
       subst (IsRunOn m radix text part begun) (λ j. record begun { size = size + bytes; sum = record { digits = digits j; value = sym is j } })
       (both_runs begun (up_to begun size separators value) _ on digit)
 
@@ -104,7 +105,8 @@ module _ (g : Grammar) (text : List ℕ) (part : Part) (run : Reading) (v : ℕ)
   radix = radix_of (raw g.word) part
 
   pub more_digit : IsDigitAt radix text run.size v → IsRunOn m radix text part run (pushed radix run v 1)
-  more_digit digit = grind (arith, byte_between, read_digit m text h part run.size run.stage in_part is digit.0 (is_digit radix (get_or text run.size 0) v digit.1))
+  more_digit digit =
+      grind (arith, byte_between, read_digit m text h part run.size run.stage in_part is digit.0 (is_digit radix (get_or text run.size 0) v digit.1))
 
   pub more_separated : IsSeparated m radix text part run.size v → IsRunOn m radix text part run (pushed radix run v 2)
   more_separated separated =
