@@ -1,7 +1,7 @@
 -- The names that most proofs of this crate cite, passed on from one place. Declares nothing.
 pub use Rattle.lexical_forms.specs.Additions.Forms.{AreFalse, ArePassed, GoesTo, GoesWithin, IsExcluded, IsFoundForm, IsFoundFrontForm, IsFrontIn, IsInside}
-pub use Rattle.lexical_forms.specs.Additions.Forms.{IsLed, IsLongestPast, IsLow, IsOpened, IsOpenedTo, IsPassed, IsPast, IsRefusedAt, IsSilentAt, IsSpare}
-pub use Rattle.lexical_forms.specs.Additions.Forms.{IsStoppedBefore, IsStoppedBehind, IsStranger, LacksLetter, LacksZero, Leads, NoFrontPast, NonePast}
+pub use Rattle.lexical_forms.specs.Additions.Forms.{IsLed, IsLongestPast, IsLow, IsOpened, IsOpenedTo, IsPassed, IsPast, IsRefusedAt, IsSilent, IsSpare}
+pub use Rattle.lexical_forms.specs.Additions.Forms.{IsStoppedBefore, IsStoppedBehind, IsStranger, LacksZero, Leads, NoFrontPast, NonePast}
 pub use Rattle.lexical_forms.specs.Additions.Forms.{PlaysNoRole, behind, further, special_separator, spells}
 pub use Rattle.lexical_forms.specs.Additions.Token.{AreBare, Counts, HasNoWord, HasSumsOf, IsAsked, IsCounted, IsEnd, IsEnded, IsFirstYet, IsMade, IsOverFrom}
 pub use Rattle.lexical_forms.specs.Additions.Token.{IsOwn, IsPicked, IsWinner, IsYet, NoCandidate, NoOwn, NoneLonger, go_on_with, goes_on, has_float}

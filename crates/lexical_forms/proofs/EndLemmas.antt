@@ -88,17 +88,17 @@ no_sign byte on = (grind (arith, nat_tests), grind (arith, nat_tests))
 
 -- It plays no role in a grammar none of whose bytes ends a number.
 pub plays_none : (a : Inside) (g : Grammar) → AreFields a → worded a ≡ g → IsSyntax g
-    → list_any is_end (a.separator ∷ a.prefix ∷ a.suffix ∷ a.exponent ∷ a.point ∷ []) ≡ false
+    → list_any is_end (a.separator ∷ a.prefix ∷ a.suffix ∷ a.exponent ∷ []) ≡ false → is_end a.point ≡ false
     → (byte : ℕ) → is_end byte ≡ true → PlaysNoRole (notation_of g) byte
-plays_none a g fields same syntax none byte on =
+plays_none a g fields same syntax none no_point byte on =
     let p = no_one (is_end a.separator) _ none in let q = no_one (is_end a.prefix) _ p.1 in let r = no_one (is_end a.suffix) _ q.1 in
-    let s = no_one (is_end a.exponent) _ r.1 in let t = no_one (is_end a.point) _ s.1 in
+    let s = no_one (is_end a.exponent) _ r.1 in
     let no_digit = λ (part : Part). below_radix (byte_value byte) _ (no_value byte on) (radix_fits g part _ refl syntax).1 in
     silent_of g byte byte (no_sign byte on).0
     (spare_of g byte byte (no_digit parts.Integer) (no_digit parts.Exponent) (no_sign byte on).1
     (subst (λ own. cased true own byte ≡ false) (byte_is a g fields same layout.digit_separator) (apart true a.separator byte p.0 on))
     (sym (suffix_is a g fields same byte) ∙ apart _ a.suffix byte r.0 on)
-    (sym (point_is a g fields same byte) ∙ ap (λ is. is && not (byte == 0)) (untested byte a.point (λ is. false≢true (sym t.0 ∙ ap is_end (sym is) ∙ on))))
+    (sym (point_is a g fields same byte) ∙ ap (λ is. is && not (byte == 0)) (untested byte a.point (λ is. false≢true (sym no_point ∙ ap is_end (sym is) ∙ on))))
     (sym (exponent_is a g fields same byte) ∙ apart _ a.exponent byte s.0 on))
     (sym (prefix_is a g fields same byte) ∙ apart _ a.prefix byte q.0 on)
 

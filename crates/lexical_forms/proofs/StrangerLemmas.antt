@@ -1,6 +1,6 @@
 -- A stranger: a byte that plays no role behind the base prefix, and its other case neither.
-use Rattle.lexical_forms.proofs.Common.{All, All-get_or, AreFalse, Bool, ByteSet, Grammar, IsExcluded, IsFront, IsSilentAt, IsSpare, IsStranger, IsTrue}
-use Rattle.lexical_forms.proofs.Common.{IsValidUpTo, IsWithin, LacksLetter, LacksZero, List, NoLiteral, Notation, PlaysNoRole, Reads, Role, [], ap, arith}
+use Rattle.lexical_forms.proofs.Common.{All, All-get_or, AreFalse, Bool, ByteSet, Grammar, IsExcluded, IsFront, IsSilent, IsSpare, IsStranger, IsTrue}
+use Rattle.lexical_forms.proofs.Common.{IsValidUpTo, IsWithin, LacksZero, List, NoLiteral, Notation, PlaysNoRole, Reads, Role, [], ap, arith}
 use Rattle.lexical_forms.proofs.Common.{cases_lt, false, false≢true, get_or, inl, inr, is_in, is_none_or_one, is_none_or_prefix, is_other_prefix, le_antisymm}
 use Rattle.lexical_forms.proofs.Common.{length, nat_lt, nat_tests, not, notation_of, other_case, position, radix_of, raw, reach, refl, set_of_role, sign_size}
 use Rattle.lexical_forms.proofs.Common.{signs, slice_get, slice_get-get_or, subst, sym, take, take_all, text_of, true, unwrap_or, ℕ, ◌&&◌, ◌++◌, ◌+◌, ◌<◌}
@@ -102,8 +102,8 @@ module _ (m : Notation) (text : List ℕ) where
     sign_within (byte ∷ text) = grind arith
 
   -- a byte that plays no role, and its other case neither,
-  pub silent_out : (i : ℕ) → IsSilentAt m text i → IsExcluded m text i
-  silent_out i (below, (own, other)) = record {
+  pub silent_out : (i : ℕ) → i < length text → IsSilent m (get_or text i 0) → IsExcluded m text i
+  silent_out i below (own, other) = record {
     inside = omega (arith, below);
     none = no_role_excludes m text i below own;
     within = λ more past inside front. let low = near_no_role m text more inside front i own in omega (arith, past, low);
@@ -112,13 +112,14 @@ module _ (m : Notation) (text : List ℕ) where
   }
 
   -- a letter that is not that of the prefix,
-  pub letter_out : IsTrue (m.condition conditions.BasePrefix) → LacksLetter m text (sign_size text + 1) → IsExcluded m text (sign_size text + 1)
-  letter_out required lacks = record {
-    inside = let inside = lacks.inside in omega (arith, inside);
-    none = λ l reads. false≢true (sym lacks.other.0 ∙ (prefix_begins m l text reads required).prefix);
-    within = λ more past inside front. let low = near_letter m text more inside front required lacks.other.0 in omega (arith, past, low);
-    there = reach_other (sign_size text + 1) (ap (is_in (is_other_prefix m)) (slice_get-get_or text (sign_size text + 1) 0 lacks.inside)
-        ∙ no_other (get_or text (sign_size text + 1) 0) lacks.other.1);
+  pub letter_out : IsTrue (m.condition conditions.BasePrefix) → sign_size text + 1 < length text
+      → AreFalse m.prefix (get_or text (sign_size text + 1) 0) → IsExcluded m text (sign_size text + 1)
+  letter_out required below lacks = record {
+    inside = omega (arith, below);
+    none = λ l reads. false≢true (sym lacks.0 ∙ (prefix_begins m l text reads required).prefix);
+    within = λ more past inside front. let low = near_letter m text more inside front required lacks.0 in omega (arith, past, low);
+    there = reach_other (sign_size text + 1) (ap (is_in (is_other_prefix m)) (slice_get-get_or text (sign_size text + 1) 0 below)
+        ∙ no_other (get_or text (sign_size text + 1) 0) lacks.1);
   }
 
   -- a stranger behind the place of the prefix,

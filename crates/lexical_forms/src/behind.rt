@@ -24,7 +24,7 @@ impl Form {
         ensures inside { IfOk result (λ it. IsInside self.now text.now it.now) }
         ensures passed { IfErr result (IsPassed self.now text.now) }
     {
-        if self.opening.is_empty() {
+        if self.opening.size == 0 {
             return self.begins_behind(0, text, reach);
         }
         let opened = self.opening.opened(text);
@@ -87,8 +87,9 @@ impl Form {
         let syntax = &self.syntax;
         let begun = syntax.begin(false, inside, false);
         if begun.covers(syntax, inside) {
-            let literal = syntax.literal(inside, begun.counts, begun.sums);
-            return Ok(literal.with_kind(self.kind).behind(self.opening.size));
+            let grammar = syntax.grammar();
+            let literal = grammar.literal(inside, begun.counts, begun.sums, self.kind);
+            return Ok(literal.behind(self.opening.size));
         }
         match begun.lengths(syntax, inside) {
             Ok(counts) => {

@@ -28,6 +28,7 @@ use crate::suffix::{
     more_of, suffix_size, suffix_words, word_size,
 };
 use crate::token::{Token, TokenError, is_decimal_point, is_float, larger};
+use lexical_literal::kind::Kind;
 use lexical_literal::literal::{Literal, Sums};
 use lexical_literal::stop::{Begun, Found, byte_at};
 use lexical_literal::syntax::Syntax;
@@ -516,7 +517,9 @@ impl Form {
     {
         match sums {
             None => self.syntax.summed(text, counts),
-            Some(sums) => self.syntax.literal(text, counts, sums),
+            Some(sums) => {
+                self.syntax.grammar().literal(text, counts, sums, Kind::EXACT)
+            }
         }
     }
 

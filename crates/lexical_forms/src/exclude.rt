@@ -1,8 +1,8 @@
 //! What excludes that a text is a literal of a form: its first bytes, or a byte that plays no role in the form.
 
-ghost use Rattle.std.specs.Prelude.{◌≡◌, ◌+◌, ◌<◌, ◌≤◌, ◌==◌, ◌&&◌, Bool, IfSome, IsTrue, get_or, length, not};
+ghost use Rattle.std.specs.Prelude.{◌≡◌, ◌+◌, ◌<◌, ◌≤◌, ◌==◌, ◌&&◌, ◌∷◌, Bool, IfSome, IsTrue, [], false, length, not};
 ghost use Rattle.std.specs.List.{list_any};
-ghost use Rattle.lexical_forms.specs.Additions.Forms.{AreFalse, IsExcluded, IsSilent, IsSilentAt, IsStranger, LacksLetter, LacksZero};
+ghost use Rattle.lexical_forms.specs.Additions.Forms.{AreFalse, IsExcluded, IsSilent, IsStranger};
 ghost use Rattle.lexical_forms.specs.Additions.Forms.{LetsEnd, NoFrontPast, PlaysNoRole, ends_at, is_end};
 ghost use Rattle.lexical_forms.specs.Forms.{is_other_prefix, reach, sign_size};
 ghost use Rattle.lexical_literal.specs.Cause.{is_in};
@@ -11,6 +11,7 @@ ghost use Rattle.lexical_literal.specs.Additions.Stop.{IsWithin};
 ghost use Rattle.lexical_literal.specs.Front.{NoFront};
 ghost use Rattle.lexical_util.specs.Roles.{cased, other_case};
 ghost use Rattle.lexical_literal.specs.Notation.{notation_of};
+ghost use Rattle.lexical_literal.specs.declared.syntax.Condition.TheVariants as conditions;
 
 use crate::form::Form;
 use crate::opening::Opening;
@@ -27,65 +28,33 @@ pub(crate) const fn excludes(grammar: Grammar, text: &[u8], reach: usize) -> Opt
     ensures { IfSome result (IsExcluded (notation_of grammar) text.now) }
 {
     let sign = sign_size(text);
-    if lacks_zero(grammar, text, sign) || is_silent_at(grammar, text, sign) {
+    if sign < text.len()
+        && text[sign] != b'0'
+        && (grammar.conditions().has(Condition::BasePrefix)
+            || grammar.conditions().has(Condition::LeadingZero)
+            || is_silent(grammar, text[sign]))
+    {
         Some(sign)
-    } else if lacks_second(grammar, text, sign) {
+    } else if sign + 1 < text.len() && is_excluded_second(grammar, text[sign + 1]) {
         Some(sign + 1)
-    } else if sign + 1 < reach && is_stranger_at(grammar, text, reach) {
+    } else if sign + 1 < reach && reach < text.len() && is_stranger(grammar, text[reach]) {
         Some(reach)
     } else {
         None
     }
 }
 
-// Returns whether a zero is required behind the sign, which has this length, and another byte is there.
+// Returns whether `byte` is not the letter of a required prefix, in either case, or, where none is required, plays no role.
 #[inline(always)]
-const fn lacks_zero(grammar: Grammar, text: &[u8], sign: usize) -> bool
-    requires { sign ≡ sign_size text.now }
-    ensures { IsTrue result → LacksZero (notation_of grammar) text.now }
-{
-    (grammar.conditions().has(Condition::BasePrefix)
-        || grammar.conditions().has(Condition::LeadingZero))
-        && sign < text.len()
-        && text[sign] != b'0'
-}
-
-// Returns whether the second byte behind the sign, which has this length, is not the letter of a required prefix, in either case, or, where
-// none is required, plays no role.
-#[inline(always)]
-const fn lacks_second(grammar: Grammar, text: &[u8], sign: usize) -> bool
-    requires { sign ≡ sign_size text.now }
-    ensures { IsTrue result → IsExcluded (notation_of grammar) text.now (sign_size text.now + 1) }
+const fn is_excluded_second(grammar: Grammar, byte: u8) -> bool
+    ensures letter { IsTrue result → IsTrue ((notation_of grammar).condition conditions.BasePrefix) → AreFalse (notation_of grammar).prefix byte }
+    ensures silent { IsTrue result → (notation_of grammar).condition conditions.BasePrefix ≡ false → IsSilent (notation_of grammar) byte }
 {
     if grammar.conditions().has(Condition::BasePrefix) {
-        lacks_letter(grammar, text, sign + 1)
+        is_apart(grammar.prefix, byte, other_case(byte))
     } else {
-        is_silent_at(grammar, text, sign + 1)
+        is_silent(grammar, byte)
     }
-}
-
-// Returns whether a byte is at `index` that is not the letter of a prefix, in either case.
-#[inline(always)]
-const fn lacks_letter(grammar: Grammar, text: &[u8], index: usize) -> bool
-    ensures { IsTrue result → LacksLetter (notation_of grammar) text.now index }
-{
-    index < text.len() && is_apart(grammar.prefix, text[index], other_case(text[index]))
-}
-
-// Returns whether a byte is at `index` that plays no role, and its other case neither.
-#[inline(always)]
-const fn is_silent_at(grammar: Grammar, text: &[u8], index: usize) -> bool
-    ensures { IsTrue result → IsSilentAt (notation_of grammar) text.now index }
-{
-    index < text.len() && is_silent(grammar, text[index])
-}
-
-// Returns whether a byte is at `index` that plays no role behind the base prefix, and its other case neither.
-#[inline(always)]
-const fn is_stranger_at(grammar: Grammar, text: &[u8], index: usize) -> bool
-    ensures { IsTrue result → (index < length text.now) × IsStranger (notation_of grammar) (get_or text.now index 0) }
-{
-    index < text.len() && is_stranger(grammar, text[index])
 }
 
 // Returns whether `byte` plays no role, and its other case neither. Bytes up to `9` are said to play one: most are digits, and a prefix
@@ -242,15 +211,23 @@ pub(crate) const fn lets_end(form: &Form) -> bool
     ensures { IsTrue result → LetsEnd form.now }
 {
     let it = form.syntax.grammar();
-    let own = [it.separator, it.prefix, it.suffix, it.exponent, it.point];
-    !(have_end(&own) || has_end(&form.opening) || have_end(more_of(form.suffixes)))
+    let ends = any_end(it.separator, it.prefix, it.suffix, it.exponent);
+    !(ends || is_end(it.point) || has_end(&form.opening) || have_end(more_of(form.suffixes)))
 }
 
 // Returns whether an opening that is not empty has a byte that ends a number.
 const fn has_end(opening: &Opening) -> bool
     ensures { result ≡ (not (opening.now.size == 0) && list_any is_end opening.now.bytes) }
 {
-    opening.size != 0 && have_end(&opening.bytes)
+    let [a, b, c, d, e, f, g, h] = opening.bytes;
+    opening.size != 0 && (any_end(a, b, c, d) || any_end(e, f, g, h))
+}
+
+// Returns whether one of four bytes ends a number.
+const fn any_end(a: u8, b: u8, c: u8, d: u8) -> bool
+    ensures { result ≡ list_any is_end (a ∷ b ∷ c ∷ d ∷ []) }
+{
+    is_end(a) || is_end(b) || is_end(c) || is_end(d)
 }
 
 // Returns whether one of `bytes` ends a number.

@@ -13,7 +13,7 @@ use crate::form::Form;
 use crate::opening::Opening;
 use crate::specials::{Special, Specials};
 use crate::suffix::is_wide;
-use crate::token::{Token, larger};
+use crate::token::Token;
 use lexical_literal::cause::ReadError;
 use lexical_literal::literal::Literal;
 use lexical_literal::stop::{Found, Stopped};
@@ -389,8 +389,12 @@ impl<'a> Forms<'a> {
         }
         while form < self.forms.len() {
             let it = &self.forms[form];
-            match it.begins(text, reach_of(furthest)) {
-                Err(size) => bound = larger(bound, size),
+            let reach = match furthest {
+                None => 0,
+                Some(best) => best.reach,
+            };
+            match it.begins(text, reach) {
+                Err(size) => bound = if bound < size { size } else { bound },
                 Ok(inside) => match it.read(text, inside) {
                     Ok(literal) => return Ok((form, literal)),
                     Err(stop) => furthest = Some(self.further(text, furthest, form, stop)),
@@ -547,15 +551,6 @@ const fn let_end(forms: &[Form]) -> bool
     match forms {
         [] => true,
         [form, rest @ ..] => lets_end(form) && let_end(rest),
-    }
-}
-
-// Returns how far the form goes that goes furthest, if there is one.
-#[inline(always)]
-const fn reach_of(furthest: Option<Furthest>) -> usize {
-    match furthest {
-        None => 0,
-        Some(best) => best.reach,
     }
 }
 

@@ -14,7 +14,7 @@ impl Form {
     // opening, the sign, the first two bytes behind it, or the byte at `reach`.
     #[cfg_attr(not(peltzivar_small), inline(always))]
     pub(crate) const fn begins<'t>(&self, text: &'t [u8], reach: usize) -> Result<&'t [u8], usize> {
-        if self.opening.is_empty() {
+        if self.opening.size == 0 {
             return self.begins_behind(0, text, reach);
         }
         let opened = self.opening.opened(text);
@@ -58,8 +58,9 @@ impl Form {
         let syntax = &self.syntax;
         let begun = syntax.begin_small(inside, false);
         if begun.covers(inside) {
-            let literal = syntax.literal(inside, begun.counts, begun.sums);
-            return Ok(literal.with_kind(self.kind).behind(self.opening.size));
+            let grammar = syntax.as_grammar();
+            let literal = grammar.literal(inside, begun.counts, begun.sums, self.kind);
+            return Ok(literal.behind(self.opening.size));
         }
         match begun.lengths(syntax, inside) {
             Ok(counts) => {

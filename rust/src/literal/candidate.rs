@@ -4,6 +4,7 @@
 
 use crate::literal::exclude::{ends_at, has_letter_behind_zero, is_over};
 use crate::literal::form::Form;
+use crate::literal::kind::Kind;
 use crate::literal::list::{Forms, PointsBack, Tokens};
 use crate::literal::literal::{Literal, Sums};
 use crate::literal::stop::{byte_at, Begun, Found};
@@ -363,7 +364,7 @@ impl Form {
     const fn literal_of<'t>(&self, text: &'t [u8], counts: [usize; 9], sums: Option<Sums>) -> Literal<'t> {
         match sums {
             None => self.syntax.summed(text, counts),
-            Some(sums) => self.syntax.literal(text, counts, sums),
+            Some(sums) => self.syntax.as_grammar().literal(text, counts, sums, Kind::EXACT),
         }
     }
 

@@ -15,52 +15,30 @@ use crate::word::Part;
 #[cfg_attr(not(peltzivar_small), inline(always))]
 pub(crate) const fn excludes(grammar: &Grammar, text: &[u8], reach: usize) -> Option<usize> {
     let sign = sign_size(text);
-    if lacks_zero(grammar, text, sign) || is_silent_at(grammar, text, sign) {
+    if sign < text.len()
+        && text[sign] != b'0'
+        && (grammar.conditions().has(Condition::BasePrefix)
+            || grammar.conditions().has(Condition::LeadingZero)
+            || is_silent(grammar, text[sign]))
+    {
         Some(sign)
-    } else if lacks_second(grammar, text, sign) {
+    } else if sign + 1 < text.len() && is_excluded_second(grammar, text[sign + 1]) {
         Some(sign + 1)
-    } else if sign + 1 < reach && is_stranger_at(grammar, text, reach) {
+    } else if sign + 1 < reach && reach < text.len() && is_stranger(grammar, text[reach]) {
         Some(reach)
     } else {
         None
     }
 }
 
-// Returns whether a zero is required behind the sign, which has this length, and another byte is there.
+// Returns whether `byte` is not the letter of a required prefix, in either case, or, where none is required, plays no role.
 #[inline(always)]
-const fn lacks_zero(grammar: &Grammar, text: &[u8], sign: usize) -> bool {
-    (grammar.conditions().has(Condition::BasePrefix) || grammar.conditions().has(Condition::LeadingZero))
-        && sign < text.len()
-        && text[sign] != b'0'
-}
-
-// Returns whether the second byte behind the sign, which has this length, is not the letter of a required prefix, in either case, or, where
-// none is required, plays no role.
-#[inline(always)]
-const fn lacks_second(grammar: &Grammar, text: &[u8], sign: usize) -> bool {
+const fn is_excluded_second(grammar: &Grammar, byte: u8) -> bool {
     if grammar.conditions().has(Condition::BasePrefix) {
-        lacks_letter(grammar, text, sign + 1)
+        is_apart(grammar.prefix, byte, other_case(byte))
     } else {
-        is_silent_at(grammar, text, sign + 1)
+        is_silent(grammar, byte)
     }
-}
-
-// Returns whether a byte is at `index` that is not the letter of a prefix, in either case.
-#[inline(always)]
-const fn lacks_letter(grammar: &Grammar, text: &[u8], index: usize) -> bool {
-    index < text.len() && is_apart(grammar.prefix, text[index], other_case(text[index]))
-}
-
-// Returns whether a byte is at `index` that plays no role, and its other case neither.
-#[inline(always)]
-const fn is_silent_at(grammar: &Grammar, text: &[u8], index: usize) -> bool {
-    index < text.len() && is_silent(grammar, text[index])
-}
-
-// Returns whether a byte is at `index` that plays no role behind the base prefix, and its other case neither.
-#[inline(always)]
-const fn is_stranger_at(grammar: &Grammar, text: &[u8], index: usize) -> bool {
-    index < text.len() && is_stranger(grammar, text[index])
 }
 
 // Returns whether `byte` plays no role, and its other case neither. Bytes up to `9` are said to play one: most are digits, and a prefix
@@ -172,13 +150,19 @@ const fn is_end(byte: u8) -> bool {
 // Returns whether the form goes on with no byte that ends a number. Such bytes are neither digits nor signs.
 pub(crate) const fn lets_end(form: &Form) -> bool {
     let it = form.syntax.as_grammar();
-    let own = [it.separator, it.prefix, it.suffix, it.exponent, it.point];
-    !(have_end(&own) || has_end(&form.opening) || have_end(more_of(form.suffixes)))
+    let ends = any_end(it.separator, it.prefix, it.suffix, it.exponent);
+    !(ends || is_end(it.point) || has_end(&form.opening) || have_end(more_of(form.suffixes)))
 }
 
 // Returns whether an opening that is not empty has a byte that ends a number.
 const fn has_end(opening: &Opening) -> bool {
-    opening.size != 0 && have_end(&opening.bytes)
+    let [a, b, c, d, e, f, g, h] = opening.bytes;
+    opening.size != 0 && (any_end(a, b, c, d) || any_end(e, f, g, h))
+}
+
+// Returns whether one of four bytes ends a number.
+const fn any_end(a: u8, b: u8, c: u8, d: u8) -> bool {
+    is_end(a) || is_end(b) || is_end(c) || is_end(d)
 }
 
 // Returns whether one of `bytes` ends a number.

@@ -60,10 +60,15 @@ impl<'a> Forms<'a> {
         }
     }
 
-    // Returns whether the first form is tried before the list is asked: it seldom reads texts such as `0x1F`.
+    // Returns whether the first form is tried before the list is asked: unless it has an opening, or the text begins with a letter, or with a
+    // zero and a letter.
     #[inline(always)]
     fn may_be_first(&self, text: &[u8]) -> bool {
-        self.forms[0].opening.is_empty() && may_be_decimal(text)
+        let is_decimal = match text {
+            [b'0', byte, ..] | [byte, ..] => *byte <= b'9',
+            [] => true,
+        };
+        is_decimal && self.forms[0].opening.size == 0
     }
 
     // Returns whether it is tried where one number is read. The library for C and the explorer, which set
@@ -137,7 +142,10 @@ impl<'a> Forms<'a> {
     #[inline(never)]
     fn parse_behind<T: FromLiteral>(&self, text: &[u8], stop: Option<Stopped>) -> Result<T, ParseError> {
         let (value, kind) = match self.find_behind(text, stop) {
-            Ok((_, literal)) => (T::from_literal(literal), literal.integer_kind()),
+            Ok((_, literal)) => match T::from_literal(literal) {
+                Ok(value) => return Ok(value),
+                Err(error) => (Err(error), literal.integer_kind()),
+            },
             Err(furthest) => match self.special(text) {
                 Some(special) => (T::from_special(special), IntegerKind::Exact),
                 None => return Err(self.parse_error(text, furthest)),
@@ -190,15 +198,6 @@ impl<'a> Forms<'a> {
 /// Returns the rest of a text behind a literal, of which each byte is ASCII.
 pub(crate) fn rest_of<'t>(text: &'t str, rest: &[u8]) -> &'t str {
     text.get(text.len() - rest.len()..).unwrap_or_default()
-}
-
-// Returns whether the first byte is not a letter, nor the second behind a zero.
-#[inline(always)]
-const fn may_be_decimal(text: &[u8]) -> bool {
-    match text {
-        [b'0', byte, ..] | [byte, ..] => *byte <= b'9',
-        [] => true,
-    }
 }
 
 impl Specials<'_> {

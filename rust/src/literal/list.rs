@@ -10,7 +10,7 @@ use crate::literal::opening::Opening;
 use crate::literal::specials::{Special, Specials};
 use crate::literal::stop::{Found, Stopped};
 use crate::literal::suffix::is_wide;
-use crate::literal::token::{larger, Token};
+use crate::literal::token::Token;
 
 // What a point at the end of a number is given back to: nothing, another point or a word, or a letter.
 #[derive(Debug, Clone, Copy, PartialEq, Eq, Hash)]
@@ -290,8 +290,12 @@ impl<'a> Forms<'a> {
         }
         while form < self.forms.len() {
             let it = &self.forms[form];
-            match it.begins(text, reach_of(furthest)) {
-                Err(size) => bound = larger(bound, size),
+            let reach = match furthest {
+                None => 0,
+                Some(best) => best.reach,
+            };
+            match it.begins(text, reach) {
+                Err(size) => bound = if bound < size { size } else { bound },
                 Ok(inside) => match it.read(inside) {
                     Ok(literal) => return Ok((form, literal)),
                     Err(stop) => furthest = Some(self.further(text, furthest, form, stop)),
@@ -411,15 +415,6 @@ const fn let_end(forms: &[Form]) -> bool {
     match forms {
         [] => true,
         [form, rest @ ..] => lets_end(form) && let_end(rest),
-    }
-}
-
-// Returns how far the form goes that goes furthest, if there is one.
-#[inline(always)]
-const fn reach_of(furthest: Option<Furthest>) -> usize {
-    match furthest {
-        None => 0,
-        Some(best) => best.reach,
     }
 }
 

@@ -100,17 +100,9 @@ pub record LacksZero (m : Notation) (text : List ℕ) : Type 0 where
   pub required : IsTrue (m.condition conditions.BasePrefix) ⊎ IsTrue (m.condition conditions.LeadingZero)
   pub other : get_or text (sign_size text) 0 ≡ 48 → ⊥
 
--- `LacksLetter m text index` holds if the byte with this index is not the letter of the base prefix in either case.
-pub record LacksLetter (m : Notation) (text : List ℕ) (index : ℕ) : Type 0 where
-  pub inside : index < length text
-  pub other : AreFalse m.prefix (get_or text index 0)
-
--- `IsSilent m byte` holds if `byte` plays no role, and its other case neither, and `IsSilentAt m text index` if the byte of `text` with this index is so.
+-- `IsSilent m byte` holds if `byte` plays no role, and its other case neither.
 abbrev pub IsSilent : Notation → ℕ → Type 0
 IsSilent m byte = PlaysNoRole m byte × PlaysNoRole m (other_case byte)
-
-abbrev pub IsSilentAt : Notation → List ℕ → ℕ → Type 0
-IsSilentAt m text index = (index < length text) × IsSilent m (get_or text index 0)
 
 -- `IsExcluded m text size` holds if `text` is not a literal, and the syntax goes up to `size` at most.
 pub record IsExcluded (m : Notation) (text : List ℕ) (size : ℕ) : Type 0 where

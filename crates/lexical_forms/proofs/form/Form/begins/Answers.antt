@@ -1,15 +1,14 @@
 -- What is behind the opening, if it is there.
-use Rattle.lexical_forms.proofs.Common.{arith, nat_tests, refl}
+use Rattle.lexical_forms.proofs.Common.{arith, refl, sym}
 use Rattle.lexical_forms.proofs.BehindLemmas.{opening_is, passed_before}
 use Rattle.lexical_forms.proofs.OpeningLemmas.{no_opening}
 use Rattle.lexical_forms.proofs.form.Form.begins.Goals as goal
 
 pub begins_behind-requires-clause-size : goal.begins_behind-requires-clause-size
-begins_behind-requires-clause-size c = let none = c.is_empty.ensures in let empty = c.if-is_empty.true in grind (arith, nat_tests)
+begins_behind-requires-clause-size c = sym c.if-self-eq0.true
 
 pub begins_behind-requires-clause-opened : goal.begins_behind-requires-clause-opened
-begins_behind-requires-clause-opened c = no_opening c.args.self.now.opening c.args.text.now
-    (let none = c.is_empty.ensures in let empty = c.if-is_empty.true in grind (arith, nat_tests))
+begins_behind-requires-clause-opened c = no_opening c.args.self.now.opening c.args.text.now c.if-self-eq0.true
 
 pub returns-then-opened-size-clause-passed : goal.returns-then-opened-size-clause-passed
 returns-then-opened-size-clause-passed c = passed_before c.args.self.now c.args.text.now c.opened-opened.result c.opened-opened.ensures

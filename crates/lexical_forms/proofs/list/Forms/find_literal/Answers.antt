@@ -1,12 +1,12 @@
 -- The first form that reads the text, or the form whose error is that of the list.
 use Rattle.lexical_forms.proofs.Common.{All-more, ArePassed, FormList, Furthest, IfSome, IsLed, IsRefusedAt, IsSomeAnd, Leads, List, NoForm}
 use Rattle.lexical_forms.proofs.Common.{None, NoneBy, Option, Reaches}
-use Rattle.lexical_forms.proofs.Common.{ReadsIn, Stopped, arith, get_or, length, length-take-le, nat_tests, refl, slice_get, subst, sym, take, ℕ, ◌+◌, ◌≡◌, ◌≤◌}
+use Rattle.lexical_forms.proofs.Common.{ReadsIn, Stopped, arith, get_or, length, length-take-le, nat_tests, refl, slice_get, subst, sym, take, ℕ, ◌+◌, ◌∙◌, ◌≡◌, ◌≤◌}
 use Rattle.lexical_forms.proofs.BehindLemmas.{none_in}
 use Rattle.lexical_forms.proofs.FormLemmas.{all_passed, all_tried, at_index, first_none, found_is, leads_first, leads_past}
 use Rattle.lexical_forms.proofs.FormLemmas.{led_past}
 use Rattle.lexical_forms.proofs.list.Forms.find_literal.Goals as goal
-use Rattle.lexical_forms.proofs.list.Forms.find_literal.Goals.{in-Some, in_default, in-Err, in-Ok+in-Err-read}
+use Rattle.lexical_forms.proofs.list.Forms.find_literal.Goals.{in-None, in-Some-furthest, in-Some, in_default, in-Err+then-bound-size, in-Err+else-bound-size, in-Ok+in-Err-read}
 
 no_form : (list self : FormList) (text : List ℕ) (i : ℕ) → list ≡ self → length list.forms ≤ i → NoForm (take i list.forms) text → NoForm self.forms text
 no_form list self text i same end none =
@@ -50,14 +50,24 @@ further-requires c =
 pub loop-form-preserved : goal.loop-form-preserved
 loop-form-preserved c =
     let forms = c.self.inside.forms.now in let text = c.args.text.now in let i = c.loop-form.form in let d = c.index-self-form.result in
-    let inside = c.loop-form-test.true in let old = c.loop-form.invariant in let furthest = c.loop-form.furthest in let bound = c.loop-form.bound in
+    let inside = c.loop-form-test.true in let old = c.loop-form.invariant in let furthest = c.match-furthest.furthest in let bound = c.loop-form.bound in
+    let same : furthest ≡ c.loop-form.furthest = elim c.match-furthest.branch [ in-None v ↦ v.furthest-is | in-Some-furthest v ↦ v.furthest-is ∙ sym v.in-Some-furthest.is ] in
+    let led = subst (IsLed forms text i (bound + 1)) (sym same) old.1 in
     elim c.match-begins.branch [
-      | in-Err w ↦ (
+      | in-Err+then-bound-size w ↦ (
         All-more (λ g. NoneBy (ReadsIn g) text) forms i d inside old.0 w.in-Err.ensures.passed.none,
         subst (λ o. IsLed forms text (i + 1) (c.match-begins.bound + 1) o) (sym w.furthest-is)
             (subst (λ b. IsLed forms text (i + 1) (b + 1) furthest) (sym w.bound-is)
-            (led_past forms text i (bound + 1) (w.larger-bound.result + 1) w.in-Err.size d furthest inside old.1
-            (let less = w.larger-bound.ensures.one in omega (arith, less)) (let less = w.larger-bound.ensures.other in omega (arith, less))
+            (led_past forms text i (bound + 1) (w.in-Err.size + 1) w.in-Err.size d furthest inside led
+            (omega (arith, w.if-bound-size.true)) (omega arith)
+            w.in-Err.ensures.passed)),
+      )
+      | in-Err+else-bound-size w ↦ (
+        All-more (λ g. NoneBy (ReadsIn g) text) forms i d inside old.0 w.in-Err.ensures.passed.none,
+        subst (λ o. IsLed forms text (i + 1) (c.match-begins.bound + 1) o) (sym w.furthest-is)
+            (subst (λ b. IsLed forms text (i + 1) (b + 1) furthest) (sym w.bound-is)
+            (led_past forms text i (bound + 1) (bound + 1) w.in-Err.size d furthest inside led
+            (omega arith) (omega (arith, w.if-bound-size.false))
             w.in-Err.ensures.passed)),
       )
       | in-Ok+in-Err-read w ↦ (
@@ -65,7 +75,7 @@ loop-form-preserved c =
         subst (λ o. IsLed forms text (i + 1) (c.match-begins.bound + 1) o) (sym w.furthest-is)
             (subst (λ b. Leads forms text (i + 1) (b + 1) w.further.result) (sym w.bound-is)
             (subst (λ (l : FormList). Leads l.forms text (i + 1) (bound + 1) w.further.result) (sym c.self.view_is)
-            (w.further.ensures (bound + 1) (subst (λ (l : FormList). IsLed l.forms text i (bound + 1) furthest) c.self.view_is old.1)))),
+            (w.further.ensures (bound + 1) (subst (λ (l : FormList). IsLed l.forms text i (bound + 1) furthest) c.self.view_is led)))),
       )
     ]
 
@@ -74,24 +84,24 @@ at_once-requires-clause-none c = no_form _ _ _ _ c.self.view_is c.loop-form-test
 
 pub at_once-requires-clause-passed : goal.at_once-requires-clause-passed
 at_once-requires-clause-passed c = subst (λ (l : FormList). ArePassed l.forms c.args.text.now (length l.forms) 1) c.self.view_is
-    (all_passed c.self.inside.forms.now c.args.text.now c.loop-form.form c.loop-form.bound c.loop-form.furthest c.loop-form-test.false c.in-None.is
+    (all_passed c.self.inside.forms.now c.args.text.now c.loop-form.form c.loop-form.bound c.loop-form.furthest c.loop-form-test.false c.in-None-furthest.is
     (let zero = c.if-bound-eq0.true in grind (arith, nat_tests)) c.loop-form.invariant.1)
 
 pub furthest-requires : goal.furthest-requires
 furthest-requires c = no_form _ _ _ _ c.self.view_is c.loop-form-test.false c.loop-form.invariant.0
 
-pub returns-in-Some-furthest : goal.returns-in-Some-furthest
-returns-in-Some-furthest c =
+pub returns-in-Some-furthest-2 : goal.returns-in-Some-furthest-2
+returns-in-Some-furthest-2 c =
     let forms = c.self.inside.forms.now in let text = c.args.text.now in let i = c.loop-form.form in let bound = c.loop-form.bound in
     rw (← c.self.view_is) (record {
       found = tt;
       none = λ _. all_tried forms text i c.loop-form-test.false (λ g. NoneBy (ReadsIn g) text) c.loop-form.invariant.0;
-      furthest = leads_past forms text i bound c.loop-form-test.false c.in-Some-furthest.best (c.is_past.ensures c.if-is_past.true)
-          (subst (IsLed forms text i (bound + 1)) c.in-Some-furthest.is c.loop-form.invariant.1);
+      furthest = leads_past forms text i bound c.loop-form-test.false c.in-Some-furthest-2.best (c.is_past.ensures c.if-is_past.true)
+          (subst (IsLed forms text i (bound + 1)) c.in-Some-furthest-2.is c.loop-form.invariant.1);
     })
 
-pub returns-in-None : goal.returns-in-None
-returns-in-None c = record {
+pub returns-in-None-furthest : goal.returns-in-None-furthest
+returns-in-None-furthest c = record {
   found = tt;
   none = λ _. no_form _ _ _ _ c.self.view_is c.loop-form-test.false c.loop-form.invariant.0;
   furthest = c.at_once.ensures;
