@@ -394,8 +394,7 @@ fn possible(word: u128, required: u128) -> u128 {
     let separates = |flag| is_set(word, flag) && has_byte(64);
     let (has_groups, may_lead) = (is_set(required, GROUPS), !is_set(word, 12) && !is_set(word, 13));
     let (prefix, suffix, higher) = (has_byte(88), has_byte(96), separates(32) && has_groups);
-    let fits: [bool; CONDITIONS.len()] =
-        [prefix, suffix, true, separates(32), higher, may_lead, may_lead];
+    let fits: [bool; CONDITIONS.len()] = [prefix, suffix, true, separates(32), higher, may_lead, may_lead];
     required & mask(iter::zip(CONDITIONS, fits).filter(|it| it.1).map(|it| it.0), |_| true)
 }
 
