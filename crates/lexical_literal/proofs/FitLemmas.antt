@@ -1,7 +1,7 @@
 -- What some literal of a notation with sizes of groups begins with: what one without begins with, if its groups fit byte by byte.
 use Rattle.std.proofs.Common.{rules}
 use Rattle.lexical_literal.proofs.Common.{Bool, Group, HasRoles, HasSizes, IsFront, IsReady, List, Literal, None, Notation, Option, Part, Reads, Role, Some}
-use Rattle.lexical_literal.proofs.Common.{Stage, Summary, [], admits, after, after_mark, and_from, and_parts, ap, append_assoc, arith, cases_Bool}
+use Rattle.lexical_literal.proofs.Common.{Stage, Summary, [], admits, after, and_from, and_parts, ap, append_assoc, arith, cases_Bool}
 use Rattle.lexical_literal.proofs.Common.{false, false≢true, first_group, follows, gap_fits, group_after, group_allows, grow, grown, has_digit}
 use Rattle.lexical_literal.proofs.Common.{has_size, has_sizes, higher, if◌then◌else◌, inl, inr, is_open, is_place, is_run, is_signed, lacks_prefix}
 use Rattle.lexical_literal.proofs.Common.{list_any}

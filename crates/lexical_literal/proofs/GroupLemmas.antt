@@ -52,12 +52,12 @@ module _ (m : Notation) where
   counts_separator : (g : Group) (b : ℕ) (run : List ℕ) → m.separator b ≡ true
       → counted g (b ∷ run) ≡ (follows m g (Some roles.Separator) && counted (grown g (Some roles.Separator)) run)
   counts_separator g b run is = let some = some_counts 0 run in rw (is, some.2) (either g.separated) where
-        either : (separated : Bool) → (if separated then rest_fits m (g.digits ∷ (0 + (some_counts 0 run).0) ∷ (some_counts 0 run).1)
-            else all_fit m (g.digits ∷ (0 + (some_counts 0 run).0) ∷ (some_counts 0 run).1))
-            ≡ ((if separated then g.digits == higher m else nat_lt 0 g.digits && nat_le g.digits (higher m))
-            && rest_fits m ((0 + (some_counts 0 run).0) ∷ (some_counts 0 run).1))
-        either true = refl
-        either false = grind arith
+    either : (separated : Bool) → (if separated then rest_fits m (g.digits ∷ (0 + (some_counts 0 run).0) ∷ (some_counts 0 run).1)
+        else all_fit m (g.digits ∷ (0 + (some_counts 0 run).0) ∷ (some_counts 0 run).1))
+        ≡ ((if separated then g.digits == higher m else nat_lt 0 g.digits && nat_le g.digits (higher m))
+        && rest_fits m ((0 + (some_counts 0 run).0) ∷ (some_counts 0 run).1))
+    either true = refl
+    either false = grind arith
 
   -- The first of some bytes is counted.
   pub counts_first : (g : Group) (text : List ℕ) → 1 ≤ length text → counted g text ≡ (if m.separator (get_or text 0 0)

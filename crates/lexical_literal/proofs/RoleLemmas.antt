@@ -1,9 +1,9 @@
 -- In a syntax, no byte plays two roles.
-use Rattle.lexical_literal.proofs.Common.{AllByRecursion, Bool, ByteSet, Condition, Conditions, Flag, Grammar, HasRoles, HasSizes, IsReady, IsTrue, List, None}
-use Rattle.lexical_literal.proofs.Common.{Option, Options, Part, Record, Role, Some, [], all_conditions, allowed_ascii, and_from, ap, arith, cases_Bool}
-use Rattle.lexical_literal.proofs.Common.{contradiction, exponent_character_of, false, false≢true, first_fault, has, has_size, inl, inr}
+use Rattle.lexical_literal.proofs.Common.{AllByRecursion, Bool, ByteSet, Condition, Conditions, Grammar, HasRoles, HasSizes, IsReady, IsTrue, List, None}
+use Rattle.lexical_literal.proofs.Common.{Option, Options, Part, Record, Role, Some, [], all_conditions, allowed_ascii, and_from, arith}
+use Rattle.lexical_literal.proofs.Common.{contradiction, exponent_character_of, false, false≢true, first_fault, has}
 use Rattle.lexical_literal.proofs.Common.{lacks_options, lt-ltb, nat_le, nat_lt, nat_tests, not, notation_of, number_of, option_map, option_or, point_of}
-use Rattle.lexical_literal.proofs.Common.{radix_of, raw, refl, separators_in, set_of_role, steps_of, sym, true, ℕ, ◌<◌, ◌==◌, ◌||◌, ◌↔◌, ◌∙◌, ◌∷◌, ◌≡◌}
+use Rattle.lexical_literal.proofs.Common.{radix_of, raw, refl, set_of_role, steps_of, sym, true, ℕ, ◌<◌, ◌==◌, ◌↔◌, ◌∷◌, ◌≡◌}
 use Rattle.lexical_flags.specs.Rules.{Meets, shape_of}
 use Rattle.lexical_flags.specs.declared.format_flags.rule.Rule.{Rule}
 use Rattle.lexical_flags.specs.Record.{separator_allowed}
@@ -11,7 +11,6 @@ use Rattle.lexical_util.specs.Options.{OptionsFit, OptionsHaveOneRole}
 use Rattle.lexical_literal.specs.Additions.Fields.{exponent_in, point_in}
 use Rattle.lexical_util.specs.Unfoldable.{Disjoint, Holds, Lawful, byte_value, cased}
 use Rattle.lexical_literal.specs.declared.syntax.ConditionsError.{ConditionsError}
-use Rattle.lexical_literal.specs.declared.syntax.ConditionsErrorKind.{ConditionsErrorKind}
 use Rattle.lexical_literal.specs.Syntax.{FitIfAny, IsSyntax, fault, missing}
 use Rattle.lexical_flags.proofs.RuleLemmas.{Holds-from_lawful}
 use Rattle.lexical_flags.specs.declared.format_flags.rule.Rule.TheVariants as rules
@@ -20,7 +19,6 @@ use Rattle.lexical_util.specs.Layout as layout
 use Rattle.lexical_util.specs.Roles as sets
 use Rattle.lexical_util.specs.declared.format_flags.Part.TheVariants as parts
 use Rattle.lexical_util.proofs.ByteRoleLemmas.{AreApart, apart_from, one_role}
-use Rattle.lexical_literal.specs.declared.syntax.ConditionsErrorKind.TheVariants as faults
 use Rattle.lexical_literal.specs.declared.syntax.Condition.TheVariants as conditions
 use Rattle.lexical_literal.proofs.RefusalLemmas.{other_roles}
 

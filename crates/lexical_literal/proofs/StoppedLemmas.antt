@@ -3,15 +3,13 @@ use Rattle.lexical_literal.proofs.Common.{Allows, Bool, Found, Group, HasBegun, 
 use Rattle.lexical_literal.proofs.Common.{IsFronted, IsLiteral, IsLongest, IsMeasured, IsNone, IsReady, IsRefused, IsStopped, IsTrue, IsUnderway, IsValidUpTo}
 use Rattle.lexical_literal.proofs.Common.{IsWithin, List, Literal, NoFront, NoLiteral, None, Notation, Option, Reads, Role, Some, Stopped, Summary, []}
 use Rattle.lexical_literal.proofs.Common.{and_parts, ap, append-nil, append_assoc, arith, cases_Bool, cases_lt, common_steps, count, cuts_of, drop, false}
-use Rattle.lexical_literal.proofs.Common.{false_from_ne_true, false≢true, first_group, get_or, goes, group_after, group_allows, grow, grown, has_size}
+use Rattle.lexical_literal.proofs.Common.{false_from_ne_true, false≢true, first_group, get_or, goes, group_after, group_allows, grow, grown}
 use Rattle.lexical_literal.proofs.Common.{has_sizes, if◌then◌else◌, inl, inr, is_accepted, is_complete, is_grouped, is_some, length, length-take-le, no_cuts}
-use Rattle.lexical_literal.proofs.Common.{not, or_parts, part_of, refl, replicate, role_at, slice_get, slice_get-get_or, start, step, subst, sym, take}
+use Rattle.lexical_literal.proofs.Common.{not, part_of, refl, replicate, role_at, slice_get, slice_get-get_or, start, step, subst, sym, take}
 use Rattle.lexical_literal.proofs.Common.{take-append-drop, take-take, take_all, take_more, tally, true, unsized, ℕ, ◌++◌, ◌+◌, ◌<◌, ◌||◌, ◌↔◌, ◌∙◌, ◌∷◌, ◌≡◌}
 use Rattle.lexical_literal.proofs.Common.{◌≤◌, ◌⊎◌}
 use Rattle.std.proofs.lemmas.Option.{slice_get_past}
 use Rattle.lexical_literal.specs.declared.stop.Begun.{Begun}
-use Rattle.lexical_literal.specs.declared.syntax.Condition.TheVariants as conditions
-use Rattle.lexical_util.specs.declared.format_flags.Part.TheVariants as parts
 use Rattle.lexical_literal.proofs.WalkLemmas.{walk_append, tally_append}
 use Rattle.lexical_literal.proofs.ConditionLemmas.{has_lengths, literal_from, literal_arrives}
 use Rattle.lexical_literal.proofs.LiteralLemmas.{all_cuts}

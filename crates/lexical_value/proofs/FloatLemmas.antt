@@ -2,7 +2,7 @@
 use Rattle.std.proofs.Common.{rules}
 use Rattle.lexical_value.proofs.Common.{Bool, Leads, Literal, Record, ap, denominator, effective_exponent_base, effective_exponent_radix, false, is_decimal}
 use Rattle.lexical_value.proofs.Common.{is_minus, mantissa, not, number, numerator, places, raised_down, raised_up, refl, round, subst, suc, sym, true, zero, ℕ}
-use Rattle.lexical_value.proofs.Common.{◌*◌, ◌+◌, ◌==◌, ◌^◌, ◌∙◌, ◌≡◌}
+use Rattle.lexical_value.proofs.Common.{◌*◌, ◌==◌, ◌^◌, ◌∙◌, ◌≡◌}
 use lib.Ieee.{Float, Format, emax, inf, is_nan, low, odd, prec, units}
 use lib.Ieee.Fits.{round_is}
 use Rattle.std.proofs.lemmas.Bool.{and_parts, eqb-true}

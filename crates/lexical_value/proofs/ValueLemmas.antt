@@ -1,8 +1,8 @@
 -- On what the value of a literal does not depend.
 use Rattle.std.proofs.Common.{rules, IsFalse, IsTrue, List, None, [], append-nil, nat_lt, ◌∷◌}
 use Rattle.lexical_value.proofs.Common.{Literal, Reads, Record, SameDigits, SameValue, Some, ap, arith, cond, denominator, digits_in, effective_exponent_base}
-use Rattle.lexical_value.proofs.Common.{effective_exponent_radix, if◌then◌else◌, integer_size, is_float, mantissa, nat_tests, number, numerator, position}
-use Rattle.lexical_value.proofs.Common.{pow-zero, power, refl, scale, spelled, sym, unwrap_or, ℕ, ◌*◌, ◌++◌, ◌<◌, ◌==◌, ◌^◌, ◌∙◌, ◌≡◌}
+use Rattle.lexical_value.proofs.Common.{effective_exponent_radix, integer_size, is_float, mantissa, nat_tests, number, numerator, position}
+use Rattle.lexical_value.proofs.Common.{pow-zero, power, refl, scale, spelled, sym, unwrap_or, ℕ, ◌++◌, ◌<◌, ◌==◌, ◌^◌, ◌∙◌, ◌≡◌}
 use Rattle.std.proofs.lemmas.List.Elements.{filter_map-append}
 use Rattle.std.specs.Int.Digits.{number_from_digits}
 use Rattle.lexical_util.specs.Digits.{byte_value, digit_characters, digit_of, uppercase}

@@ -1,5 +1,5 @@
 -- The exponent, and its sign.
-use Rattle.lexical_literal.proofs.Common.{steps_of, subst, sym, ◌+◌, ◌-◌, List, Notation, arith, may_read, nat_tests, true, ℕ, ◌≡◌}
+use Rattle.lexical_literal.proofs.Common.{steps_of, subst, sym, ◌+◌, List, Notation, arith, may_read, nat_tests, true, ℕ, ◌≡◌}
 use Rattle.lexical_literal.specs.Additions.Scan.{behind_sign}
 use Rattle.lexical_util.specs.declared.format_flags.Part.TheVariants as parts
 use Rattle.lexical_literal.proofs.JoinLemmas.{exponent_at}

@@ -1,8 +1,7 @@
 -- A byte that is not absent misses nothing.
-use Rattle.lexical_literal.proofs.Common.{Bool, None, Some, ap, if◌then◌else◌, raw, sym, true, ◌==◌, ◌∙◌, ◌≡◌}
+use Rattle.lexical_literal.proofs.Common.{ap, raw, sym, ◌∙◌}
 use Rattle.lexical_util.specs.Layout as layout
 use Rattle.lexical_literal.specs.Syntax.{missing}
-use Rattle.lexical_literal.specs.declared.syntax.ConditionsErrorKind.TheVariants as faults
 use Rattle.lexical_literal.proofs.FieldLemmas.{byte_is, none_if}
 use Rattle.lexical_literal.proofs.syntax.missing.Goals as goal
 
