@@ -1,10 +1,10 @@
 -- What is written of a literal has its value.
-use Rattle.lexical_writer.proofs.Common.{Amount, Bool, Grammar, HasNumber, List, Literal, None, Parts, Power, Record, SameFraction, Some, Source, [], allows_exponent}
-use Rattle.lexical_writer.proofs.Common.{and_parts, ap, arith, at_least, denominator, digits_in, digits_of, effective_exponent_base, effective_exponent_radix, exponent}
-use Rattle.lexical_writer.proofs.Common.{eqb-true, false, filter_map-append, given_fraction, given_power, if◌then◌else◌, is_minus, is_present, length, mantissa}
-use Rattle.lexical_writer.proofs.Common.{nat_tests, not, number, number_after_append, number_digits_of, number_from_digits, number_from_digits_after}
-use Rattle.lexical_writer.proofs.Common.{numerator, one_if, own_amount, pow-suc, pow-zero, raised_down, raised_up, raw, refl, scale, size_of, sym, true, unwrap_or}
-use Rattle.lexical_writer.proofs.Common.{values_of, ℕ, ◌&&◌, ◌*◌, ◌++◌, ◌==◌, ◌^◌, ◌||◌, ◌∙◌, ◌∷◌, ◌≡◌, ◌≤◌}
+use Rattle.lexical_writer.proofs.Common.{Amount, Bool, Grammar, HasNumber, List, Literal, None, Parts, Power, Record, SameFraction, Some, Source, []}
+use Rattle.lexical_writer.proofs.Common.{allows_exponent, and_parts, ap, arith, at_least, denominator, digits_in, digits_of, effective_exponent_base}
+use Rattle.lexical_writer.proofs.Common.{effective_exponent_radix, eqb-true, exponent, false, filter_map-append, given_fraction, given_power, if◌then◌else◌}
+use Rattle.lexical_writer.proofs.Common.{is_minus, is_present, length, mantissa, nat_tests, not, number, number_after_append, number_digits_of}
+use Rattle.lexical_writer.proofs.Common.{number_from_digits, number_from_digits_after, numerator, one_if, own_amount, pow-suc, pow-zero, raised_down, raised_up}
+use Rattle.lexical_writer.proofs.Common.{raw, refl, scale, size_of, sym, true, unwrap_or, values_of, ℕ, ◌&&◌, ◌*◌, ◌++◌, ◌==◌, ◌^◌, ◌||◌, ◌∙◌, ◌∷◌, ◌≡◌, ◌≤◌}
 use Rattle.std.specs.Borrow.{Bor}
 use Rattle.lexical_literal.specs.Parts.{literal_of}
 use Rattle.lexical_util.specs.Layout as layout
@@ -111,24 +111,8 @@ module _ (r s : Record) (parts : Parts) where
       → (not power || (effective_exponent_base r == effective_exponent_base s && effective_exponent_radix r == effective_exponent_radix s)) ≡ true
       → (raised_up own.negative (effective_exponent_base s) (size_of (effective_exponent_radix s) own.source) ≡ raised_up minus (effective_exponent_base r) e)
       × (raised_down own.negative (effective_exponent_base s) (size_of (effective_exponent_radix s) own.source) ≡ raised_down minus (effective_exponent_base r) e)
-  own_powers true some same =
-      let both = and_parts _ _ same in
-      let base = sym (eqb-true _ _ both.0) in
-      let radix = sym (eqb-true _ _ both.1) in
-      let given : own ≡ record { negative = minus; source = sources.Bytes parts.exponent } =
-      ap (λ some. unwrap_or (if some then Some (record { negative = minus; source = sources.Bytes parts.exponent }) else None) no_power) some in (
-        (λ j. raised_up (given j).negative (base j) (size_of (radix j) (given j).source)),
-        (λ j. raised_down (given j).negative (base j) (size_of (radix j) (given j).source)),
-      )
-  own_powers false none same =
-      let given : own ≡ no_power =
-      ap (λ some. unwrap_or (if some then Some (record { negative = minus; source = sources.Bytes parts.exponent }) else None) no_power) none in
-      let zero : e ≡ 0 = no_number (effective_exponent_radix r) parts.exponent.now (is_present parts.exponent_character.now) none in
-      let one = ap (λ k. effective_exponent_base r ^ k) zero ∙ pow-zero (effective_exponent_base r) in
-      let other = pow-zero (effective_exponent_base s) in (
-        (λ j. raised_up (given j).negative (effective_exponent_base s) (size_of (effective_exponent_radix s) (given j).source)) ∙ up minus one other,
-        (λ j. raised_down (given j).negative (effective_exponent_base s) (size_of (effective_exponent_radix s) (given j).source)) ∙ down minus one other,
-      )
+  own_powers true some same = grind (arith, and_parts, eqb-true)
+  own_powers false none same = grind (arith, no_number, pow-zero, up, down)
     where
       up : (minus : Bool) → effective_exponent_base r ^ e ≡ 1 → effective_exponent_base s ^ 0 ≡ 1
           → raised_up false (effective_exponent_base s) 0 ≡ raised_up minus (effective_exponent_base r) e

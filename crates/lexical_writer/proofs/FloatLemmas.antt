@@ -177,8 +177,7 @@ pub error_of : (g : Grammar) (x : Float) (negative : Bool) (num den : ℕ) → H
     (not (is_decimal (bytes_of g.word) || is_binary (bytes_of g.word))) errors.Radix
 error_of g nan negative num den value = absurd value
 error_of g (inf t) negative num den value = absurd value
-error_of g (fin t m e) negative num den value = ap (λ s. first_error (s && has g.conditions conditions.NegativeSign)
-    (lacks_options g.options && not (is_whole (fin t m e))) (not (is_decimal (bytes_of g.word) || is_binary (bytes_of g.word))) errors.Radix) value.0
+error_of g (fin t m e) negative num den value = cc
 
 pub special_error : (g : Grammar) (x : Float) → ((negative : Bool) → IsFinite x negative → ⊥) → float_error g x ≡ Some errors.Special
 special_error g nan none = refl
@@ -200,8 +199,7 @@ at_field f s x t test is = ap (λ test. cond test (cond (eqb t 0) (inf s) nan) (
 
 pub finite : (f : Format) (b : ℕ) → b % top f < ones f * hid f → IsFinite (of_bits f b) (leb (top f) b)
 unfolding of_bits of_fields
-finite f b less =
-    go (b % top f / hid f) ((div-lt_iff_lt-mul {k = hid f} {x = b % top f} {y = ones f} (one-le-pow (prec f - 1) 2 (omega arith))).1 less)
+finite f b less = grind (arith, go, div-lt_iff_lt-mul, one-le-pow)
   where
     go : (field : ℕ) → field < ones f → IsFinite (of_fields f (leb (top f) b) field (b % hid f)) (leb (top f) b)
     go zero below = (b % hid f * 2 ^ 0, 2 ^ low f, odd_sign (prec f) (leb (top f) b) (b % hid f) 0 (low f))
@@ -278,12 +276,7 @@ minus_whole (fin t m e) true = refl
 
 pub minus_worth : (f : Format) (x : Float) (g : Grammar) (style : Style) (s : Bool) (num den : ℕ) → IsWorth f x g style false num den
     → IsWorth f (with_minus s x) g style s num den
-minus_worth f x g style s num den it = record {
-  some = it.some;
-  near = λ plain. near s (it.near plain);
-  exact = elim it.exact [ inl value ↦ inl (minus_value x s num den value) | inr other ↦ inr other ];
-  whole = λ is. it.whole (sym (minus_whole x s) ∙ is);
-}
+minus_worth f x g style s num den it = grind (arith, near, minus_value, minus_whole)
   where
     near : (s : Bool) → x ≡ round f false num den → with_minus s x ≡ round f s num den
     near true is = ap neg is ∙ neg-round f num den
@@ -294,9 +287,7 @@ pub not_refused : (g : Grammar) (style : Style) (amount : Amount) (fraction last
     → first_error (amount.negative && has g.conditions conditions.NegativeSign) (lacks_options g.options && fraction) last errors.Radix ≡ None
     → (fraction ≡ false → num % den ≡ 0) → 0 < den → IsShape g style num den exponent places units → is_some amount.fraction ≡ nat_lt 0 places
     → is_some amount.exponent ≡ is_some exponent → refusal g amount ≡ None
-not_refused g style amount fraction last num den places units exponent none whole some shape has_fraction has_power =
-    refused _ fraction last (lacks_options g.options) _ (is_some amount.fraction) (is_some amount.exponent) (is_some exponent) places _ none has_fraction has_power
-    shape.shown no_places
+not_refused g style amount fraction last num den places units exponent none whole some shape has_fraction has_power = grind (arith, refused, no_places)
   where
     R : ℕ
     R = (raw g.word).byte layout.mantissa_radix
