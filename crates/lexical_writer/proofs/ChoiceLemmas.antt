@@ -1,8 +1,8 @@
 -- What a list reads is the number that a form has written.
 use Rattle.lexical_writer.proofs.Common.{Bool, Form, Grammar, IsFirst, IsWhole, Kind, List, Literal, NoForm, None, Ok, Option, Read, Reads, Record, Some, Task}
-use Rattle.lexical_writer.proofs.Common.{ap, arith, eqb-true, exact, false, float_worth, if◌then◌else◌, integer_worth, is_binary, is_decimal, is_exact}
-use Rattle.lexical_writer.proofs.Common.{is_float, is_minus, is_some, length-take-le, mantissa, nat_tests, nearest, negsuc, notation_of, pos, raw, refl}
-use Rattle.lexical_writer.proofs.Common.{slice_get, subst, suc, sym, text_of, true, whole_of, with_sign, within, worth, zero, ℕ, ℤ, ◌<◌, ◌==◌, ◌||◌, ◌∙◌, ◌≡◌}
+use Rattle.lexical_writer.proofs.Common.{arith, eqb-true, exact, false, float_worth, integer_worth, is_binary, is_decimal, is_exact, is_float, is_minus}
+use Rattle.lexical_writer.proofs.Common.{length-take-le, mantissa, nat_tests, nearest, negsuc, notation_of, pos, raw, refl, slice_get, subst, suc, sym, text_of}
+use Rattle.lexical_writer.proofs.Common.{true, whole_of, with_sign, within, worth, zero, ℕ, ℤ, ◌<◌, ◌==◌, ◌||◌, ◌≡◌}
 use Rattle.std.proofs.lemmas.Option.{get_or_from_slice_get, slice_get_within}
 use Rattle.std.specs.Float.{Float, Format}
 use Rattle.lexical_forms.specs.FormList.{FormList}
@@ -87,19 +87,10 @@ above (Some w) A B all = absurd (omega (arith, (all w.1).1))
 -- What is worth no integer of any type, as an error says, is worth none.
 pub never_whole : (read : Read) (error : ValueErrorKind)
     → ((least largest : ℕ) → IsNotWorth read.kind.integers least largest (raw read.format).byte read.literal error) → whole_of read ≡ None
-never_whole read kinds.Float none =
-    ap (λ float. if float then None else integer_worth read.kind.integers (raw read.format).byte read.literal) (none 0 0)
+never_whole read kinds.Float none = let float = none 0 0 in cc
 never_whole read kinds.TooLarge none = whole_is read None (none 0 0).0 (above _ _ (λ w. w.0 ≡ false) (λ most. (none 0 most).1))
 never_whole read kinds.TooSmall none = whole_is read None (none 0 0).0 (above _ _ (λ w. w.0 ≡ true) (λ most. (none most 0).1))
-never_whole read kinds.Zero none = absurd (none 0 0)
-never_whole read kinds.Vanishes none = absurd (none 0 0)
-never_whole read kinds.UnsupportedRadix none = absurd (none 0 0)
-never_whole read kinds.Special none = absurd (none 0 0)
-never_whole read kinds.NotWhole none = absurd (none 0 0)
-never_whole read kinds.TooLong none = absurd (none 0 0)
-
-worth_whole : (read : Read) → is_float read.literal ≡ false → has_worth read ≡ is_some (whole_of read)
-worth_whole read whole = cc
+never_whole read other none = absurd (none 0 0)
 
 -- A literal without a decimal point and an exponent has a worth if it is worth an integer.
 pub worth_is : (read : Read) (result : Result Numeral ValueErrorKind) → is_float read.literal ≡ false
@@ -107,8 +98,8 @@ pub worth_is : (read : Read) (result : Result Numeral ValueErrorKind) → is_flo
     × (integer_worth read.kind.integers (raw read.format).byte read.literal ≡ Some (own.negative, size_of own)))
     (λ error. (least largest : ℕ) → IsNotWorth read.kind.integers least largest (raw read.format).byte read.literal error)
     → is_ok result ≡ has_worth read
-worth_is read (Ok own) whole is = sym (worth_whole read whole ∙ ap is_some (whole_is read _ whole is.1))
-worth_is read (Err error) whole is = sym (worth_whole read whole ∙ ap is_some (never_whole read error is))
+worth_is read (Ok own) whole is = let worth = is.1 in cc
+worth_is read (Err error) whole is = let none = never_whole read error is in cc
 
 -- What is a literal of a form of a list is not a literal of none.
 pub none_at : (forms : List Form) (form : Form) (text : List ℕ) (index : ℕ) (l : Literal) → slice_get forms index ≡ Some form

@@ -1,15 +1,15 @@
 -- Digits with a point, zeros around them and an exponent have the value of the literal that is written.
 use Rattle.lexical_writer.proofs.Common.{Amount, Bool, Err, Float, Grammar, HasNumber, IfOk, IsCutTo, IsFinite, IsFloatOf, IsLaidOut, IsRounded, IsShape}
-use Rattle.lexical_writer.proofs.Common.{IsWorth, Layout, List, Literal, None, Ok, Option, Power, Record, Result, Some, Style, WriteError, [], ap, append_assoc}
-use Rattle.lexical_writer.proofs.Common.{arith, cond, cons_option, decimals_in, denominator, digit_of, digits_in, div-add-mod', drop, dvd-mul_right}
-use Rattle.lexical_writer.proofs.Common.{effective_exponent_base, effective_exponent_radix, eq-eqb, eq-zero-or-pos, eq_of_mul-eq-mul_right, exponent, false}
-use Rattle.lexical_writer.proofs.Common.{false≢true, filter_map-append, first_error, float_error, has, if◌then◌else◌, inl, inr, is_binary, is_decimal, is_far}
-use Rattle.lexical_writer.proofs.Common.{is_minus, is_power_of_two, is_present, is_shown, is_some, is_whole, lacks_options, laid_out, length, length-append}
-use Rattle.lexical_writer.proofs.Common.{literal_of, low, lt-leb, mantissa, mod-eq_of_lt, mod-lt, mod-mod_of_dvd, mul-le-mul_right, mul-mod_left, mul-pos}
-use Rattle.lexical_writer.proofs.Common.{nat_lt, nat_tests, ne_eqb, nearest, not, number_after_append, number_from_digits, numerator, one-le-pow, one_if}
-use Rattle.lexical_writer.proofs.Common.{pow-add, pow-le-pow_right, pow-zero, prec, raised_down, raised_up, raw, refl, refusal, replicate, round, round_same}
-use Rattle.lexical_writer.proofs.Common.{rounded, scale, subst, suc, sym, take, take-append-drop, true, units_in, unwrap_or, with_minus, zero, ℕ, ◌%◌, ◌&&◌}
-use Rattle.lexical_writer.proofs.Common.{◌*◌, ◌++◌, ◌+◌, ◌-◌, ◌/◌, ◌<◌, ◌==◌, ◌^◌, ◌||◌, ◌∙◌, ◌∷◌, ◌≡◌, ◌≢◌, ◌≤◌}
+use Rattle.lexical_writer.proofs.Common.{IsWorth, Layout, List, Literal, None, Ok, Option, Record, Result, Some, Style, WriteError, [], ap, append_assoc, arith}
+use Rattle.lexical_writer.proofs.Common.{cond, decimals_in, denominator, digits_in, div-add-mod', drop, dvd-mul_right, effective_exponent_base}
+use Rattle.lexical_writer.proofs.Common.{effective_exponent_radix, eq-eqb, eq-zero-or-pos, eq_of_mul-eq-mul_right, exponent, false, false≢true}
+use Rattle.lexical_writer.proofs.Common.{filter_map-append, first_error, float_error, has, if◌then◌else◌, inl, inr, is_binary, is_decimal, is_far, is_minus}
+use Rattle.lexical_writer.proofs.Common.{is_power_of_two, is_present, is_shown, is_some, is_whole, lacks_options, laid_out, length, length-append, literal_of}
+use Rattle.lexical_writer.proofs.Common.{low, lt-leb, mantissa, mod-eq_of_lt, mod-lt, mod-mod_of_dvd, mul-le-mul_right, mul-mod_left, mul-pos, nat_lt}
+use Rattle.lexical_writer.proofs.Common.{nat_tests, ne_eqb, nearest, not, number_after_append, number_from_digits, numerator, one-le-pow, one_if, pow-add}
+use Rattle.lexical_writer.proofs.Common.{pow-le-pow_right, pow-zero, prec, raised_down, raised_up, raw, refl, refusal, replicate, round, round_same, rounded}
+use Rattle.lexical_writer.proofs.Common.{scale, subst, suc, sym, take, take-append-drop, true, units_in, unwrap_or, with_minus, zero, ℕ, ◌%◌, ◌&&◌, ◌*◌, ◌++◌}
+use Rattle.lexical_writer.proofs.Common.{◌+◌, ◌-◌, ◌/◌, ◌<◌, ◌==◌, ◌^◌, ◌||◌, ◌∙◌, ◌∷◌, ◌≡◌, ◌≢◌, ◌≤◌}
 use Rattle.std.proofs.Math.Nat.{div-eq_of_lt-le, div-lt_iff_lt-mul, mod-eq-sub-div-mul}
 use lib.Ieee.{Format, down, fin, hid, inf, is_nan, nan, neg, odd, of_bits, of_fields, ones, top, up}
 use lib.Ieee.Exact.{HasValue, odd_sign}
@@ -21,7 +21,7 @@ use Rattle.lexical_literal.specs.declared.syntax.Condition.TheVariants as condit
 use Rattle.std.specs.Prelude.{option_map}
 use Rattle.core.proofs.dec2flt.Patterns.{neg-round}
 use Rattle.lexical_writer.specs.declared.layout.WriteError.TheVariants as errors
-use Rattle.lexical_writer.proofs.ConversionLemmas.{HasParts, no_power, pair_of, parts_of, places_of, units_of}
+use Rattle.lexical_writer.proofs.ConversionLemmas.{HasParts, pair_of, parts_of, places_of, units_of}
 use Rattle.lexical_writer.proofs.DigitLemmas.{one_less, zeros_number}
 use Rattle.lexical_writer.proofs.PlainLemmas.{zeros_after}
 
@@ -46,11 +46,7 @@ cut_digits radix k bytes = sym (filter_map-append _ (take k bytes) (drop k bytes
 
 fewer : (radix : ℕ) (bytes : List ℕ) → length (digits_in radix bytes) ≤ length bytes
 fewer radix [] = omega arith
-fewer radix (byte ∷ bytes) = one (digit_of byte radix) (digits_in radix bytes) (length bytes) (fewer radix bytes)
-  where
-    one : (digit : Option ℕ) (digits : List ℕ) (n : ℕ) → length digits ≤ n → length (cons_option digit digits) ≤ suc n
-    one None digits n most = omega (arith, most)
-    one (Some d) digits n most = omega (arith, most)
+fewer radix (byte ∷ bytes) = grind (arith, fewer radix bytes)
 
 -- If all bytes are digits, so are those up to an index, and those from there on.
 pub all_digits : (radix k : ℕ) (bytes : List ℕ) → length (digits_in radix bytes) ≡ length bytes
@@ -58,9 +54,7 @@ pub all_digits : (radix k : ℕ) (bytes : List ℕ) → length (digits_in radix 
 all_digits radix k bytes all =
     let digits = sym (ap length (cut_digits radix k bytes)) ∙ length-append (digits_in radix (take k bytes)) (digits_in radix (drop k bytes)) in
     let whole = sym (ap length (take-append-drop k bytes)) ∙ length-append (take k bytes) (drop k bytes) in
-    let first = fewer radix (take k bytes) in
-    let second = fewer radix (drop k bytes) in
-    (omega (arith, all, digits, whole, first, second), omega (arith, all, digits, whole, first, second))
+    grind (arith, fewer radix (take k bytes), fewer radix (drop k bytes))
 
 pub present : (digits : List ℕ) → 0 < length digits → is_present digits ≡ true
 present [] some = absurd (omega (arith, some))
@@ -117,12 +111,7 @@ exponent_of r amount = option_map (pair_of (effective_exponent_radix r)) amount.
 shape_parts : (g : Grammar) (amount : Amount) (l : Literal) → 2 ≤ (raw g.word).byte layout.mantissa_radix → HasNumber g amount l
     → HasParts (raw g.word) l (units_of ((raw g.word).byte layout.mantissa_radix) amount) (places_of ((raw g.word).byte layout.mantissa_radix) amount)
     (unwrap_or (exponent_of (raw g.word) amount) (false, 0))
-shape_parts g amount l two has = subst (HasParts (raw g.word) l _ _) (same amount.exponent) (parts_of g amount l two has)
-  where
-    same : (power : Option Power) → let radix = effective_exponent_radix (raw g.word) in
-        pair_of radix (unwrap_or power no_power) ≡ unwrap_or (option_map (pair_of radix) power) (false, 0)
-    same (Some p) = refl
-    same None = refl
+shape_parts g amount l two has = grind (arith, parts_of)
 
 -- A literal that is written for a float that is not rounded is read as this float.
 pub amount_nearest : (f : Format) (x : Float) (g : Grammar) (style : Style) (l : Literal) → (is_decimal (raw g.word).byte || is_binary (raw g.word).byte) ≡ true
@@ -195,7 +184,7 @@ if_numbered g style amount P (Err error) is has follows = tt
 at_field : (f : Format) (s : Bool) (x t : ℕ) (test : Bool) → eqb (suc x) (ones f) ≡ test
     → of_fields f s (suc x) t ≡ cond test (cond (eqb t 0) (inf s) nan) (odd (prec f) s (hid f + t) x (low f))
 unfolding of_fields
-at_field f s x t test is = ap (λ test. cond test (cond (eqb t 0) (inf s) nan) (odd (prec f) s (hid f + t) x (low f))) is
+at_field f s x t test is = cc
 
 pub finite : (f : Format) (b : ℕ) → b % top f < ones f * hid f → IsFinite (of_bits f b) (leb (top f) b)
 unfolding of_bits of_fields
@@ -263,24 +252,15 @@ of_sign f b = signed (leb (top f) b) (b % top f / hid f) (b % hid f) ∙ sym (ap
 pub minus_value : (x : Float) (s : Bool) (num den : ℕ) → HasValue x false num den → HasValue (with_minus s x) s num den
 unfolding neg
 minus_value x false num den value = value
-minus_value nan true num den value = value
-minus_value (inf t) true num den value = value
-minus_value (fin t m e) true num den value = (ap not value.0, value.1)
+minus_value x true num den value = grind arith
 
 pub minus_whole : (x : Float) (s : Bool) → is_whole (with_minus s x) ≡ is_whole x
 unfolding neg
-minus_whole x false = refl
-minus_whole nan true = refl
-minus_whole (inf t) true = refl
-minus_whole (fin t m e) true = refl
+minus_whole x s = grind arith
 
 pub minus_worth : (f : Format) (x : Float) (g : Grammar) (style : Style) (s : Bool) (num den : ℕ) → IsWorth f x g style false num den
     → IsWorth f (with_minus s x) g style s num den
-minus_worth f x g style s num den it = grind (arith, near, minus_value, minus_whole)
-  where
-    near : (s : Bool) → x ≡ round f false num den → with_minus s x ≡ round f s num den
-    near true is = ap neg is ∙ neg-round f num den
-    near false is = is
+minus_worth f x g style s num den it = grind (arith, neg-round, minus_value, minus_whole)
 
 -- A float that is not refused has no sign, no fraction and no exponent that is refused.
 pub not_refused : (g : Grammar) (style : Style) (amount : Amount) (fraction last : Bool) (num den places units : ℕ) (exponent : Option (Bool × ℕ))

@@ -1,7 +1,7 @@
 -- The order in which forms are asked.
-use Rattle.lexical_writer.proofs.Common.{AreBefore, ArePassed, Bool, Form, IsRefused, IsSearched, IsSomeAnd, List, None, Option, Some, Task, WriteError, [], ap}
-use Rattle.lexical_writer.proofs.Common.{arith, cases_lt, false, false≢true, if◌then◌else◌, inl, inr, is_short, is_some, length, nat_tests, refl, slice_get}
-use Rattle.lexical_writer.proofs.Common.{slice_index_or, subst, sym, true, unwrap_or, ways, words_of, ℕ, ◌+◌, ◌<◌, ◌∙◌, ◌≡◌, ◌≤◌}
+use Rattle.lexical_writer.proofs.Common.{AreBefore, ArePassed, Bool, Form, IsRefused, IsSearched, List, Option, Some, Task, WriteError, [], arith, cases_lt}
+use Rattle.lexical_writer.proofs.Common.{false, if◌then◌else◌, inl, inr, is_short, length, nat_tests, slice_get, slice_index_or, true, unwrap_or, ways}
+use Rattle.lexical_writer.proofs.Common.{words_of, ℕ, ◌+◌, ◌<◌, ◌≡◌, ◌≤◌}
 use Rattle.std.specs.Borrow.{Bor}
 use Rattle.std.proofs.lemmas.List.{length-map}
 use Rattle.std.proofs.lemmas.Option.{slice_get-map, slice_get-get_or, slice_get_within}
@@ -35,24 +35,7 @@ module _ (P : ℕ → Form → WriteError → Type 0) (asked : ℕ → Form → 
       -- The first error is that of the list.
       pub searched_more : (error : WriteError) → asked step form ≡ true → P index form error
           → IsSearched P asked forms step (index + 1) (Some (unwrap_or reason error))
-      searched_more error now holds = go reason refl
-        where
-          go : (it : Option WriteError) → reason ≡ it → IsSearched P asked forms step (index + 1) (Some (unwrap_or it error))
-          go None same = record {
-            passed = before_more form here (λ _. (error, holds)) old.passed;
-            none = λ some. absurd (false≢true (sym (ap is_some some)));
-            first = λ other is. (
-              step,
-              index,
-              old.none same,
-              subst (λ o. IsSomeAnd o (λ form. (asked step form ≡ true) × P index form other)) (sym here) (now, subst (P index form) (cc is) holds),
-            );
-          }
-          go (Some it) same = record {
-            passed = before_more form here (λ _. (error, holds)) old.passed;
-            none = λ some. absurd (false≢true (sym (ap is_some some)));
-            first = λ other is. old.first other (same ∙ is);
-          }
+      searched_more error now holds = grind (arith, nat_tests, before_more {P = λ index form. (error : WriteError) × P index form error})
 
 -- The ways in which a form is asked to write a number, in their order.
 module _ (task : Task) (room : ℕ) (list : FormList) (index : ℕ) (form : Form) where
@@ -62,11 +45,7 @@ module _ (task : Task) (room : ℕ) (list : FormList) (index : ℕ) (form : Form
       → ArePassed task room list index form (n + 1)
   passed_more n word error here refused fits old at it less there = elim (cases_lt at n) [
     | inl earlier ↦ old at it earlier there
-    | inr least ↦
-        let same : n ≡ at = omega (arith, less, least) in
-        let one : word ≡ it = ap (λ o. unwrap_or o word) (sym here ∙ ap (slice_get (ways task.own.integer form)) same ∙ there) in
-        subst (λ word. (error : WriteError) × IsRefused task room list index form word error × (is_short error ≡ false)) one
-        (error, refused, fits)
+    | inr least ↦ grind arith
   ]
 
 -- `words integer form` are the words with which a form writes a number.
