@@ -1,8 +1,8 @@
 -- What is not refused is supported and laid out, and what is written of a float has its value.
-use Rattle.lexical_writer.proofs.Common.{Amount, Bool, Err, Float, Grammar, HasNumber, IfErr, IfOk, IfOk-weaker, IsFinite, IsFloatOf, IsLaidOut, IsShape, IsWorth}
-use Rattle.lexical_writer.proofs.Common.{Layout, None, Ok, Option, Power, Result, Some, WriteError, ap, arith, effective_exponent_radix, false≢true, first_error, float_error, format_of, from_bits, has}
-use Rattle.lexical_writer.proofs.Common.{is_binary, is_decimal, is_some, is_whole, lacks_options, literal_of, not, raw, refl, refusal, subst, sym, true, with_minus}
-use Rattle.lexical_writer.proofs.Common.{ℕ, ◌&&◌, ◌||◌, ◌∙◌, ◌≡◌}
+use Rattle.lexical_writer.proofs.Common.{Amount, Bool, Float, Grammar, HasNumber, IfErr, IfOk, IfOk-weaker, IsFinite, IsFloatOf, IsLaidOut, IsShape, IsWorth}
+use Rattle.lexical_writer.proofs.Common.{Layout, None, Option, Power, Result, WriteError, ap, arith, effective_exponent_radix, first_error, float_error}
+use Rattle.lexical_writer.proofs.Common.{format_of, from_bits, has, is_binary, is_decimal, is_some, is_whole, lacks_options, literal_of, not, raw, refusal}
+use Rattle.lexical_writer.proofs.Common.{subst, sym, true, with_minus, ℕ, ◌&&◌, ◌||◌, ◌∙◌, ◌≡◌}
 use Rattle.std.proofs.lemmas.Bool.{not-false}
 use Rattle.std.specs.Prelude.{nat_lt, option_map}
 use lib.Ieee.{Format}
@@ -95,13 +95,11 @@ returns-clause-some g c =
 -- A float with digits is laid out.
 laid : (g : Grammar) (style : Style) (amount : Amount) (result : Result Layout WriteError) (Q : WriteError → Type 0) → IsLaidOut g style amount result
     → refusal g amount ≡ None → IfErr result Q
-laid g style amount (Ok layout) Q is none = tt
-laid g style amount (Err error) Q is none = absurd (false≢true (ap is_some (sym none ∙ is)))
+laid g style amount result Q is none = grind arith
 
 -- An exponent in digits is some if it is some.
 some_same : (power : Option Power) → is_some power ≡ is_some (option_map (pair_of 10) power)
-some_same None = refl
-some_same (Some p) = refl
+some_same power = grind arith
 
 pub returns-clause-error : goal.returns-clause-error
 returns-clause-error g c =
