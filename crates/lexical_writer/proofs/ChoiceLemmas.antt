@@ -2,7 +2,7 @@
 use Rattle.lexical_writer.proofs.Common.{Bool, Form, Grammar, IsFirst, IsWhole, Kind, List, Literal, NoForm, None, Ok, Option, Read, Reads, Record, Some, Task}
 use Rattle.lexical_writer.proofs.Common.{arith, eqb-true, exact, false, float_worth, integer_worth, is_binary, is_decimal, is_exact, is_float, is_minus}
 use Rattle.lexical_writer.proofs.Common.{length-take-le, mantissa, nat_tests, nearest, negsuc, notation_of, pos, raw, refl, slice_get, subst, suc, sym, text_of}
-use Rattle.lexical_writer.proofs.Common.{true, whole_of, with_sign, within, worth, zero, ℕ, ℤ, ◌<◌, ◌==◌, ◌||◌, ◌≡◌}
+use Rattle.lexical_writer.proofs.Common.{true, whole_of, with_sign, within, worth, ℕ, ℤ, ◌<◌, ◌==◌, ◌||◌, ◌≡◌}
 use Rattle.std.proofs.lemmas.Option.{get_or_from_slice_get, slice_get_within}
 use Rattle.std.specs.Float.{Float, Format}
 use Rattle.lexical_forms.specs.FormList.{FormList}
@@ -56,9 +56,7 @@ size_without (pos n) = n
 size_without (negsuc n) = suc n
 
 size_with : (a : Bool) (n : ℕ) → size_without (with_sign a n) ≡ n
-size_with false n = refl
-size_with true zero = refl
-size_with true (suc n) = refl
+size_with a n = grind arith
 
 -- An integer literal that is written for an integer is worth it by a kind that keeps its size.
 pub kept_whole : (negative : Bool) (size : ℕ) (g : Grammar) (read : Read) → read.format ≡ g.word → is_float read.literal ≡ false

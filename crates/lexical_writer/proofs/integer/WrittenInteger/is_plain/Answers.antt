@@ -10,14 +10,9 @@ use Rattle.lexical_writer.proofs.ConversionLemmas.{no_power}
 use Rattle.lexical_writer.proofs.integer.WrittenInteger.is_plain.Goals as goal
 
 -- Groups without a last one are none.
-ungrouped : (none : Bool) (last higher separator : ℕ) (lowercase : Bool) → (none ≡ false → (last == 0) ≡ false)
-    → (if none then no_groups lowercase else record { last = last; higher = higher; separator = separator; lowercase = lowercase }).last ≡ 0
-    → (if none then no_groups lowercase else record { last = last; higher = higher; separator = separator; lowercase = lowercase }) ≡ no_groups lowercase
-ungrouped none last higher separator lowercase some is = grind arith
-
 pattern_is : (r : Record) (allowed lowercase : Bool) (last higher : ℕ) → (pattern_of r allowed last higher lowercase).last ≡ 0
     → pattern_of r allowed last higher lowercase ≡ no_groups lowercase
-pattern_is r allowed lowercase last higher is = ungrouped _ last higher _ lowercase (λ none. grind arith) is
+pattern_is r allowed lowercase last higher is = grind arith
 
 -- One digit is written at least.
 one : (led wish : ℕ) (takes : Bool) → led ≡ 1 → wish ≤ 1 → max led (if takes then wish else 0) ≡ 1
