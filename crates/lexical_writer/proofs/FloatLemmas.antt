@@ -1,7 +1,7 @@
 -- Digits with a point, zeros around them and an exponent have the value of the literal that is written.
-use Rattle.lexical_writer.proofs.Common.{Amount, Bool, Err, Float, Grammar, HasNumber, IfOk, IsCutTo, IsFinite, IsFloatOf, IsLaidOut, IsRounded, IsShape}
-use Rattle.lexical_writer.proofs.Common.{IsWorth, Layout, List, Literal, None, Ok, Option, Record, Result, Some, Style, WriteError, [], ap, append_assoc, arith}
-use Rattle.lexical_writer.proofs.Common.{cond, decimals_in, denominator, digits_in, div-add-mod', drop, dvd-mul_right, effective_exponent_base}
+use Rattle.lexical_writer.proofs.Common.{Amount, Bool, Float, Grammar, HasNumber, IfOk, IsCutTo, IsFinite, IsFloatOf, IsLaidOut, IsRounded, IsShape, IsWorth}
+use Rattle.lexical_writer.proofs.Common.{Layout, List, Literal, None, Option, Record, Result, Some, Style, WriteError, [], ap, append_assoc, arith, cond}
+use Rattle.lexical_writer.proofs.Common.{decimals_in, denominator, digits_in, div-add-mod', drop, dvd-mul_right, effective_exponent_base}
 use Rattle.lexical_writer.proofs.Common.{effective_exponent_radix, eq-eqb, eq-zero-or-pos, eq_of_mul-eq-mul_right, exponent, false, false≢true}
 use Rattle.lexical_writer.proofs.Common.{filter_map-append, first_error, float_error, has, if◌then◌else◌, inl, inr, is_binary, is_decimal, is_far, is_minus}
 use Rattle.lexical_writer.proofs.Common.{is_power_of_two, is_present, is_shown, is_some, is_whole, lacks_options, laid_out, length, length-append, literal_of}
@@ -100,8 +100,7 @@ pub base_ten : (r : Record) → (is_decimal r.byte || is_binary r.byte) ≡ true
 base_ten r is ten = grind (arith, nat_tests, is, ten)
 
 pub some_down : (negative : Bool) (b e : ℕ) → 0 < b → 0 < raised_down negative b e
-some_down true b e some = one-le-pow e b some
-some_down false b e some = omega arith
+some_down negative b e some = grind (arith, one-le-pow)
 
 -- `exponent_of r amount` is the sign and the size of the exponent, if there is one.
 abbrev pub exponent_of : Record → Amount → Option (Bool × ℕ)
@@ -164,9 +163,7 @@ amount_rounded f x g style n l supported wished it has =
 pub error_of : (g : Grammar) (x : Float) (negative : Bool) (num den : ℕ) → HasValue x negative num den
     → float_error g x ≡ first_error (negative && has g.conditions conditions.NegativeSign) (lacks_options g.options && not (is_whole x))
     (not (is_decimal (bytes_of g.word) || is_binary (bytes_of g.word))) errors.Radix
-error_of g nan negative num den value = absurd value
-error_of g (inf t) negative num den value = absurd value
-error_of g (fin t m e) negative num den value = cc
+error_of g x negative num den value = grind arith
 
 pub special_error : (g : Grammar) (x : Float) → ((negative : Bool) → IsFinite x negative → ⊥) → float_error g x ≡ Some errors.Special
 special_error g nan none = refl
@@ -177,8 +174,7 @@ special_error g (fin t m e) none = absurd (none t (m * up e, down e, (refl, refl
 pub if_numbered : (g : Grammar) (style : Style) (amount : Amount) (P : Layout → Type 0) (result : Result Layout WriteError)
     → IsLaidOut g style amount result → IfOk result (λ layout. HasNumber g amount (literal_of layout))
     → ((layout : Layout) → literal_of layout ≡ laid_out g style amount → HasNumber g amount (literal_of layout) → P layout) → IfOk result P
-if_numbered g style amount P (Ok layout) is has follows = follows layout is.1 has
-if_numbered g style amount P (Err error) is has follows = tt
+if_numbered g style amount P result is has follows = grind arith
 
 -- The float with some bits is finite if those of its size are below infinity, and otherwise has no value.
 at_field : (f : Format) (s : Bool) (x t : ℕ) (test : Bool) → eqb (suc x) (ones f) ≡ test
@@ -216,9 +212,7 @@ special f b most negative is = go (b % top f / hid f) field_is is
 
 pub not_number : (x : Float) → is_nan x ≡ true → (negative : Bool) → IsFinite x negative → ⊥
 unfolding is_nan
-not_number nan is negative it = it.2
-not_number (inf t) is negative it = it.2
-not_number (fin t m e) is negative it = false≢true is
+not_number x is negative it = grind arith
 
 -- The float with some bits is that of its size, with its sign.
 pub of_sign : (f : Format) (b : ℕ) → of_bits f b ≡ with_minus (leb (top f) b) (of_bits f (b % top f))
@@ -251,8 +245,7 @@ of_sign f b = signed (leb (top f) b) (b % top f / hid f) (b % hid f) ∙ sym (ap
 -- What holds of a float without its sign holds with it.
 pub minus_value : (x : Float) (s : Bool) (num den : ℕ) → HasValue x false num den → HasValue (with_minus s x) s num den
 unfolding neg
-minus_value x false num den value = value
-minus_value x true num den value = grind arith
+minus_value x s num den value = grind arith
 
 pub minus_whole : (x : Float) (s : Bool) → is_whole (with_minus s x) ≡ is_whole x
 unfolding neg

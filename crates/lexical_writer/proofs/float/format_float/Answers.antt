@@ -79,9 +79,7 @@ returns-clause-rounded g c n wished =
 refusal_is : (x y : Float) (g : Grammar) (negative : Bool) (error : Option WriteError) → y ≡ with_minus negative x → IsFinite y negative
     → error ≡ first_error (negative && has g.conditions conditions.NegativeSign) (lacks_options g.options && not (is_whole x))
     (not (is_decimal (bytes_of g.word) || is_binary (bytes_of g.word))) errors.Radix → float_error g y ≡ error
-refusal_is x y g negative error is it refused = error_of g y negative it.0 it.1 it.2 ∙ ap (λ w. first_error
-    (negative && has g.conditions conditions.NegativeSign) (lacks_options g.options && not w)
-    (not (is_decimal (bytes_of g.word) || is_binary (bytes_of g.word))) errors.Radix) (ap is_whole is ∙ minus_whole x negative) ∙ sym refused
+refusal_is x y g negative error is it refused = grind (arith, error_of g y negative it.0 it.1 it.2, minus_whole x negative)
 
 pub returns-clause-some : goal.returns-clause-some
 returns-clause-some g c =
