@@ -1,7 +1,7 @@
 -- Texts in buffers.
-use Rattle.lexical_writer.proofs.Common.{[], Form, IsIn, IsPut, IsTaken, List, Literal, None, ap, append-nil, append_assoc, arith, drop, length, length-append}
-use Rattle.lexical_writer.proofs.Common.{length-drop, length-take, min, refl, sym, take, take-append-drop, text_by, text_of, ℕ, ◌++◌, ◌+◌, ◌-◌, ◌<◌, ◌^◌}
-use Rattle.lexical_writer.proofs.Common.{◌∙◌, ◌≡◌, ◌≤◌}
+use Rattle.lexical_writer.proofs.Common.{Form, IsIn, IsPut, IsTaken, List, Literal, None, [], ap, append-nil, append_assoc, arith, drop, length, length-append}
+use Rattle.lexical_writer.proofs.Common.{length-drop, length-take, min, refl, sym, take, take-append-drop, text_by, text_of, ℕ, ◌++◌, ◌+◌, ◌-◌, ◌<◌, ◌^◌, ◌∙◌}
+use Rattle.lexical_writer.proofs.Common.{◌≡◌, ◌≤◌}
 use Rattle.std.proofs.Math.Seq.{take-append_seam}
 use Rattle.lexical_writer.specs.declared.sink.Window.{Window}
 
@@ -12,12 +12,6 @@ unused window none = (refl, record { counted = none; long = refl; begins = λ sh
 -- Before the first byte, nothing has been put.
 pub put_none : (bytes : List ℕ) → IsPut [] bytes 0
 put_none bytes = record { counted = refl; begins = λ _. refl }
-
--- The buffer has the whole text.
-pub put_whole : (text bytes : List ℕ) (size : ℕ) → IsPut text bytes size → size ≤ length bytes → (size ≡ 2 ^ 64 - 1 → ⊥) → text ≡ take size bytes
-put_whole text bytes size is fits short =
-    let count : size ≡ length text = omega (arith, is.counted, short) in
-    sym (ap (λ n. take n bytes) count ∙ is.begins (omega (arith, count, fits)))
 
 -- What is put behind a text is put behind it.
 pub put_behind : (a b part old tail : List ℕ) (n m k s : ℕ) → n < 2 ^ 64 - 1 → k ≡ min n (length old) → s ≡ min (n + m) (2 ^ 64 - 1)
@@ -46,10 +40,7 @@ put_behind a b part old tail n m k s small least sum room first last =
 
 -- What is behind an index is as long as the rest.
 pub part_size : (k : ℕ) (old : List ℕ) → length (take (length old - k) (drop k old)) ≡ length old - k
-part_size k old =
-    let size = length-take (length old - k) (drop k old) in
-    let behind = length-drop k old in
-    omega (arith, size, behind)
+part_size k old = grind (arith, length-take {A = ℕ}, length-drop {A = ℕ})
 
 -- In a form without an opening, the text is that of the literal.
 pub plain_by : (form : Form) (l : Literal) → form.opening.size ≡ 0 → text_by form None l ≡ text_of l

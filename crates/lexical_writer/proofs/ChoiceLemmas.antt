@@ -1,11 +1,10 @@
 -- What a list reads is the number that a form has written.
-use Rattle.lexical_writer.proofs.Common.{Bool, Form, Grammar, IsFirst, IsSomeAnd, IsWhole, Kind, List, Literal, NoForm, None, Ok, Option, Read, Reads}
-use Rattle.lexical_writer.proofs.Common.{ReadsForm, Record, Some, Task, ap, arith, eqb-true, exact, false, float_worth, format_by, if◌then◌else◌, inl, inr}
-use Rattle.lexical_writer.proofs.Common.{integer_worth, is_binary, is_decimal, is_exact, is_float, is_minus, is_some, length-take-le, mantissa, nearest, negsuc}
-use Rattle.lexical_writer.proofs.Common.{not, notation_of, pos, raw, refl, slice_get, subst, suc, sym, take, text_of, true, whole_of, with_sign, within, worth}
-use Rattle.lexical_writer.proofs.Common.{zero, ℕ, ℤ, ◌<◌, ◌==◌, ◌||◌, ◌∙◌, ◌≡◌}
+use Rattle.lexical_writer.proofs.Common.{Bool, Form, Grammar, IsFirst, IsWhole, Kind, List, Literal, NoForm, None, Ok, Option, Read, Reads, Record, Some, Task}
+use Rattle.lexical_writer.proofs.Common.{arith, eqb-true, exact, false, float_worth, integer_worth, is_binary, is_decimal, is_exact, is_float, is_minus}
+use Rattle.lexical_writer.proofs.Common.{length-take-le, mantissa, nat_tests, nearest, negsuc, notation_of, pos, raw, refl, slice_get, subst, suc, sym, text_of}
+use Rattle.lexical_writer.proofs.Common.{true, whole_of, with_sign, within, worth, ℕ, ℤ, ◌<◌, ◌==◌, ◌||◌, ◌≡◌}
 use Rattle.std.proofs.lemmas.Option.{get_or_from_slice_get, slice_get_within}
-use Rattle.std.specs.Float.{Float, Format, binary64}
+use Rattle.std.specs.Float.{Float, Format}
 use Rattle.lexical_forms.specs.FormList.{FormList}
 use Rattle.lexical_forms.specs.Forms.{ReadsIn}
 use Rattle.lexical_literal.specs.Front.{NoneBy}
@@ -16,25 +15,20 @@ use Rattle.lexical_value.specs.Integer.{integer_size}
 use Rattle.lexical_value.specs.Kind.{IsNotWorth}
 use Rattle.lexical_value.specs.declared.integer.ValueErrorKind.{ValueErrorKind}
 use Rattle.lexical_value.specs.declared.integer.ValueErrorKind.TheVariants as kinds
-use Rattle.lexical_writer.specs.Choice.{IsAmount, IsReadWith, IsReal, has_floats, has_worth}
+use Rattle.lexical_writer.specs.Choice.{IsAmount, IsReadWith, IsReal, has_worth}
 use Rattle.lexical_forms.proofs.BehindLemmas.{plain_in, plain_of}
 use Rattle.lexical_value.proofs.KindLemmas.{exact_float, limited_worth}
 use Rattle.lexical_literal.specs.declared.kind.FloatKind.TheVariants as floats
 
 -- A literal of the exact kind is worth the float that is nearest to it.
 nearest_is : (f : Format) (x : Float) (read : Read) → read.kind ≡ exact → IsReal f x read → x ≡ nearest f (raw read.format).byte read.literal
-nearest_is f x read kind real = elim real [
-  | inl worth ↦ exact_float f (raw read.format) read.literal x
-      (subst (λ k. float_worth k f (raw read.format).byte read.literal ≡ Ok x) kind worth)
-  | inr near ↦ near.1
-]
+nearest_is f x read kind real = grind (arith, exact_float)
 
 -- Within the limits, a float, or an integer of the exact kind, is worth the float that is nearest to it.
 worth_nearest : (f : Format) (kind : Kind) (r : Record) (l : Literal) → (is_decimal r.byte || is_binary r.byte) ≡ true → kind.floats ≡ floats.Nearest
     → within kind.limits (is_minus l.sign) (mantissa r.byte l) (nearest f r.byte l) ≡ Ok (nearest f r.byte l)
     → (is_exact kind.integers || is_float l) ≡ true → float_worth kind f r.byte l ≡ Ok (nearest f r.byte l)
-worth_nearest f kind r l known near fits plain = limited_worth f kind r l (Ok (nearest f r.byte l)) known plain
-    ((λ i. within kind.limits (is_minus l.sign) (mantissa r.byte l) (nearest (format_by (near i) f) r.byte l)) ∙ fits)
+worth_nearest f kind r l known near fits plain = grind (arith, limited_worth)
 
 -- What is worth the float that is nearest to a literal that is written for a float is this float in the style.
 amount_is : (f : Format) (x : Float) (decimals : Option ℕ) (g : Grammar) (l : Literal) (read : Read)
@@ -48,9 +42,7 @@ pub plain_real : (f : Format) (x : Float) (decimals : Option ℕ) (g : Grammar) 
     → ((negative : Bool) → (n : ℕ) → (y : Float) → (decimals ≡ None → x ≡ y) → within read.kind.limits negative n y ≡ Ok y)
     → (is_exact read.kind.integers || is_float read.literal) ≡ true → (decimals ≡ None → x ≡ nearest f (raw g.word).byte read.literal)
     → IsAmount f x decimals g read.literal read
-plain_real f x decimals g read word known near fits plain has = amount_is f x decimals g read.literal read has
-    (inl (subst (λ w. float_worth read.kind f (raw w).byte read.literal ≡ Ok (nearest f (raw g.word).byte read.literal)) (sym word)
-    (worth_nearest f read.kind (raw g.word) read.literal known near (fits _ _ _ has) plain)))
+plain_real f x decimals g read word known near fits plain has = grind (arith, amount_is, worth_nearest)
 
 -- What is worth the same float as a literal of the exact kind that is written for a float is this float in the style.
 pub same_real : (f : Format) (x : Float) (decimals : Option ℕ) (g : Grammar) (own read : Read) → own.kind ≡ exact → own.format ≡ g.word
@@ -64,9 +56,7 @@ size_without (pos n) = n
 size_without (negsuc n) = suc n
 
 size_with : (a : Bool) (n : ℕ) → size_without (with_sign a n) ≡ n
-size_with false n = refl
-size_with true zero = refl
-size_with true (suc n) = refl
+size_with a n = grind arith
 
 -- An integer literal that is written for an integer is worth it by a kind that keeps its size.
 pub kept_whole : (negative : Bool) (size : ℕ) (g : Grammar) (read : Read) → read.format ≡ g.word → is_float read.literal ≡ false
@@ -74,32 +64,18 @@ pub kept_whole : (negative : Bool) (size : ℕ) (g : Grammar) (read : Read) → 
     → is_minus read.literal.sign ≡ negative
     → with_sign negative size ≡ with_sign (is_minus read.literal.sign) (integer_size (raw g.word).byte read.literal)
     → IsWhole (with_sign negative size) read
-kept_whole negative size g read word whole kept sign has =
-    let is : with_sign negative size ≡ with_sign (is_minus read.literal.sign) (integer_size (raw read.format).byte read.literal) =
-    subst (λ w. with_sign negative size ≡ with_sign (is_minus read.literal.sign) (integer_size (raw w).byte read.literal)) (sym word) has in
-    let same = sym (size_with negative size) ∙ ap size_without is ∙ size_with (is_minus read.literal.sign) (integer_size (raw read.format).byte read.literal) in
-    inl (
-      whole,
-      subst (λ o. IsSomeAnd o (λ w. with_sign negative size ≡ with_sign w.0 w.1))
-          (sym (subst (λ n. worth read.kind.integers (is_minus read.literal.sign) n ≡ Some (is_minus read.literal.sign, n)) same
-          (subst (λ b. worth read.kind.integers b size ≡ Some (b, size)) (sym sign) kept))) is,
-    )
+kept_whole negative size g read word whole kept sign has = grind (arith, size_with)
 
 -- What is written by the first form of a list is its first literal.
 pub first_reads : (forms : List Form) (form : Form) (text : List ℕ) (l : Literal) (index : ℕ) → slice_get forms index ≡ Some form → index ≡ 0
     → form.opening.size ≡ 0 → Reads (notation_of form.syntax) l text
     → IsFirst forms text index (record { format = form.syntax.word; literal = l; kind = form.kind; opened = 0 })
-first_reads forms form text l index here first none reads =
-    let read : Read = record { format = form.syntax.word; literal = l; kind = form.kind; opened = 0 } in record {
-      reads = subst (λ o. IsSomeAnd o (ReadsForm text read)) (sym here) (refl, refl, plain_in form text none l reads);
-      before = subst (λ n. NoForm (take n forms) text) (sym first) (λ k d below. absurd (omega (arith, below, length-take-le 0 forms (omega arith))));
-    }
+first_reads forms form text l index here first none reads = grind (arith, plain_in, length-take-le)
 
 -- An integer literal is worth what its kind says.
 pub whole_is : (read : Read) (o : Option (Bool × ℕ)) → is_float read.literal ≡ false
     → integer_worth read.kind.integers (raw read.format).byte read.literal ≡ o → whole_of read ≡ o
-whole_is read o whole is =
-    ap (λ float. if float then None else integer_worth read.kind.integers (raw read.format).byte read.literal) whole ∙ is
+whole_is read o whole is = cc
 
 -- What is above each number is none.
 above : (o : Option (Bool × ℕ)) (A : Type 0) (B : Bool × ℕ → Type 0) → ((most : ℕ) → MatchOption o A (λ w. B w × (most < w.1))) → o ≡ None
@@ -109,21 +85,10 @@ above (Some w) A B all = absurd (omega (arith, (all w.1).1))
 -- What is worth no integer of any type, as an error says, is worth none.
 pub never_whole : (read : Read) (error : ValueErrorKind)
     → ((least largest : ℕ) → IsNotWorth read.kind.integers least largest (raw read.format).byte read.literal error) → whole_of read ≡ None
-never_whole read kinds.Float none =
-    ap (λ float. if float then None else integer_worth read.kind.integers (raw read.format).byte read.literal) (none 0 0)
+never_whole read kinds.Float none = let float = none 0 0 in cc
 never_whole read kinds.TooLarge none = whole_is read None (none 0 0).0 (above _ _ (λ w. w.0 ≡ false) (λ most. (none 0 most).1))
 never_whole read kinds.TooSmall none = whole_is read None (none 0 0).0 (above _ _ (λ w. w.0 ≡ true) (λ most. (none most 0).1))
-never_whole read kinds.Zero none = absurd (none 0 0)
-never_whole read kinds.Vanishes none = absurd (none 0 0)
-never_whole read kinds.UnsupportedRadix none = absurd (none 0 0)
-never_whole read kinds.Special none = absurd (none 0 0)
-never_whole read kinds.NotWhole none = absurd (none 0 0)
-never_whole read kinds.TooLong none = absurd (none 0 0)
-
-worth_whole : (read : Read) → is_float read.literal ≡ false → has_worth read ≡ is_some (whole_of read)
-worth_whole read whole =
-    ap (λ float. if float then not (has_floats read.format) || is_ok (float_worth read.kind binary64 (raw read.format).byte read.literal)
-    else is_some (whole_of read)) whole
+never_whole read other none = absurd (none 0 0)
 
 -- A literal without a decimal point and an exponent has a worth if it is worth an integer.
 pub worth_is : (read : Read) (result : Result Numeral ValueErrorKind) → is_float read.literal ≡ false
@@ -131,8 +96,8 @@ pub worth_is : (read : Read) (result : Result Numeral ValueErrorKind) → is_flo
     × (integer_worth read.kind.integers (raw read.format).byte read.literal ≡ Some (own.negative, size_of own)))
     (λ error. (least largest : ℕ) → IsNotWorth read.kind.integers least largest (raw read.format).byte read.literal error)
     → is_ok result ≡ has_worth read
-worth_is read (Ok own) whole is = sym (worth_whole read whole ∙ ap is_some (whole_is read _ whole is.1))
-worth_is read (Err error) whole is = sym (worth_whole read whole ∙ ap is_some (never_whole read error is))
+worth_is read (Ok own) whole is = let worth = is.1 in cc
+worth_is read (Err error) whole is = let none = never_whole read error is in cc
 
 -- What is a literal of a form of a list is not a literal of none.
 pub none_at : (forms : List Form) (form : Form) (text : List ℕ) (index : ℕ) (l : Literal) → slice_get forms index ≡ Some form
@@ -145,18 +110,11 @@ none_at forms form text index l here none reads never = subst (λ (f : Form). No
 pub own_read : (forms : List Form) (form : Form) (text : List ℕ) (at index : ℕ) (read : Read) → (at == index) ≡ true → IsFirst forms text at read
     → slice_get forms index ≡ Some form → form.opening.size ≡ 0
     → (read.format ≡ form.syntax.word) × (read.kind ≡ form.kind) × Reads (notation_of form.syntax) read.literal text
-own_read forms form text at index read same first here none =
-    let by : ReadsForm text read form = subst (λ o. IsSomeAnd o (ReadsForm text read)) (ap (slice_get forms) (eqb-true at index same) ∙ here) first.reads in
-    (by.0, by.1, plain_of form text none read.literal by.2)
+own_read forms form text at index read same first here none = grind (arith, eqb-true, plain_of)
 
 -- What a form writes as `l`, and a list reads as what this is, is read as the number.
 pub read_as : (task : Task) (list : FormList) (form : Form) (text : List ℕ) (syntax : Grammar) (l own : Literal) (read : Read) (index : ℕ)
     → syntax ≡ form.syntax → l ≡ own → Reads (notation_of form.syntax) l text → task.writes form.syntax (Ok l) → IsFirst list.forms text index read
     → (task.writes syntax (Ok own) → task.is syntax own read)
     → (l : Literal) × task.writes form.syntax (Ok l) × (text ≡ text_of l) × IsReadWith list None text (task.is form.syntax l)
-read_as task list form text syntax l own read index same one reads has first is = (
-  l,
-  has,
-  reads.whole,
-  (read, index, first, subst (λ (it : Grammar × Literal). task.writes it.0 (Ok it.1) → task.is it.0 it.1 read) (λ i. (same i, sym one i)) is has),
-)
+read_as task list form text syntax l own read index same one reads has first is = grind (arith, nat_tests)

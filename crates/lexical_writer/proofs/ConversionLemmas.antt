@@ -1,9 +1,9 @@
 -- What is written of a literal has its value.
-use Rattle.lexical_writer.proofs.Common.{Amount, Bool, Grammar, HasNumber, List, Literal, None, Parts, Power, Record, SameFraction, Some, Source, [], allows_exponent}
-use Rattle.lexical_writer.proofs.Common.{and_parts, ap, arith, at_least, denominator, digits_in, digits_of, effective_exponent_base, effective_exponent_radix, exponent}
-use Rattle.lexical_writer.proofs.Common.{eqb-true, false, filter_map-append, given_fraction, given_power, if◌then◌else◌, is_minus, is_present, length, mantissa}
-use Rattle.lexical_writer.proofs.Common.{nat_tests, not, number, number_after_append, number_digits_of, number_from_digits, number_from_digits_after}
-use Rattle.lexical_writer.proofs.Common.{numerator, one_if, own_amount, pow-suc, pow-zero, raised_down, raised_up, raw, refl, scale, size_of, sym, true, unwrap_or}
+use Rattle.lexical_writer.proofs.Common.{Amount, Bool, Grammar, HasNumber, List, Literal, None, Parts, Power, Record, SameFraction, Some, Source, [], and_parts}
+use Rattle.lexical_writer.proofs.Common.{ap, arith, at_least, denominator, digits_in, digits_of, effective_exponent_base, effective_exponent_radix, eqb-true}
+use Rattle.lexical_writer.proofs.Common.{exponent, false, filter_map-append, given_fraction, given_power, if◌then◌else◌, is_minus, is_present, length, mantissa}
+use Rattle.lexical_writer.proofs.Common.{nat_tests, not, number, number_after_append, number_digits_of, number_from_digits, number_from_digits_after, numerator}
+use Rattle.lexical_writer.proofs.Common.{one_if, own_amount, pow-suc, pow-zero, raised_down, raised_up, raw, refl, scale, size_of, sym, true, unwrap_or}
 use Rattle.lexical_writer.proofs.Common.{values_of, ℕ, ◌&&◌, ◌*◌, ◌++◌, ◌==◌, ◌^◌, ◌||◌, ◌∙◌, ◌∷◌, ◌≡◌, ◌≤◌}
 use Rattle.std.specs.Borrow.{Bor}
 use Rattle.lexical_literal.specs.Parts.{literal_of}
@@ -54,6 +54,7 @@ pub record HasParts (r : Record) (l : Literal) (n places : ℕ) (e : Bool × ℕ
   pub down : raised_down (is_minus l.exponent_sign) (effective_exponent_base r) (exponent r.byte l) ≡ raised_down e.0 (effective_exponent_base r) e.1
 
 -- The parts of a literal that is written for an amount.
+
 pub parts_of : (g : Grammar) (amount : Amount) (l : Literal) → 2 ≤ (raw g.word).byte layout.mantissa_radix → HasNumber g amount l
     → HasParts (raw g.word) l (units_of ((raw g.word).byte layout.mantissa_radix) amount) (places_of ((raw g.word).byte layout.mantissa_radix) amount)
     (pair_of (effective_exponent_radix (raw g.word)) (given_power amount))
@@ -66,11 +67,8 @@ parts_of g amount l two has =
     let integer : number radix l.integer ≡ number_from_digits radix front = has.integer ∙ size_values radix amount.integer two in
     record {
       factor = factor.0;
-      mantissa = ap (number_from_digits radix) (filter_map-append _ l.integer l.fraction)
-          ∙ number_after_append radix 0 (digits_in radix l.integer) (digits_in radix l.fraction)
-          ∙ (λ j. number_from_digits_after radix (integer j) (has.fraction j)) ∙ factor.1
-          ∙ ap (λ m. m * factor.0) (sym (number_after_append radix 0 front (values_of radix (given_fraction amount))));
-      scale = ap (λ (ds : List ℕ). radix ^ length ds) has.fraction ∙ factor.2;
+      mantissa = grind (arith, filter_map-append, number_after_append);
+      scale = grind arith;
       up = λ j. raised_up (has.exponent_sign j) b (has.exponent j);
       down = λ j. raised_down (has.exponent_sign j) b (has.exponent j);
     }
@@ -111,32 +109,7 @@ module _ (r s : Record) (parts : Parts) where
       → (not power || (effective_exponent_base r == effective_exponent_base s && effective_exponent_radix r == effective_exponent_radix s)) ≡ true
       → (raised_up own.negative (effective_exponent_base s) (size_of (effective_exponent_radix s) own.source) ≡ raised_up minus (effective_exponent_base r) e)
       × (raised_down own.negative (effective_exponent_base s) (size_of (effective_exponent_radix s) own.source) ≡ raised_down minus (effective_exponent_base r) e)
-  own_powers true some same =
-      let both = and_parts _ _ same in
-      let base = sym (eqb-true _ _ both.0) in
-      let radix = sym (eqb-true _ _ both.1) in
-      let given : own ≡ record { negative = minus; source = sources.Bytes parts.exponent } =
-      ap (λ some. unwrap_or (if some then Some (record { negative = minus; source = sources.Bytes parts.exponent }) else None) no_power) some in (
-        (λ j. raised_up (given j).negative (base j) (size_of (radix j) (given j).source)),
-        (λ j. raised_down (given j).negative (base j) (size_of (radix j) (given j).source)),
-      )
-  own_powers false none same =
-      let given : own ≡ no_power =
-      ap (λ some. unwrap_or (if some then Some (record { negative = minus; source = sources.Bytes parts.exponent }) else None) no_power) none in
-      let zero : e ≡ 0 = no_number (effective_exponent_radix r) parts.exponent.now (is_present parts.exponent_character.now) none in
-      let one = ap (λ k. effective_exponent_base r ^ k) zero ∙ pow-zero (effective_exponent_base r) in
-      let other = pow-zero (effective_exponent_base s) in (
-        (λ j. raised_up (given j).negative (effective_exponent_base s) (size_of (effective_exponent_radix s) (given j).source)) ∙ up minus one other,
-        (λ j. raised_down (given j).negative (effective_exponent_base s) (size_of (effective_exponent_radix s) (given j).source)) ∙ down minus one other,
-      )
-    where
-      up : (minus : Bool) → effective_exponent_base r ^ e ≡ 1 → effective_exponent_base s ^ 0 ≡ 1
-          → raised_up false (effective_exponent_base s) 0 ≡ raised_up minus (effective_exponent_base r) e
-      up minus one other = grind arith
-
-      down : (minus : Bool) → effective_exponent_base r ^ e ≡ 1 → effective_exponent_base s ^ 0 ≡ 1
-          → raised_down false (effective_exponent_base s) 0 ≡ raised_down minus (effective_exponent_base r) e
-      down minus one other = grind arith
+  own_powers power some same = grind (arith, and_parts, eqb-true, no_number, pow-zero)
 
 -- What has the own digits of a literal has its value.
 pub same_own : (r : Record) (parts : Parts) (g : Grammar) → keeps r parts g ≡ true → 2 ≤ (raw g.word).byte layout.mantissa_radix
@@ -146,22 +119,9 @@ same_own r parts g keep two l has =
     let radix = s.byte layout.mantissa_radix in
     let all = and_parts _ _ keep in
     let same : r.byte layout.mantissa_radix ≡ radix = eqb-true _ _ (and_parts _ _ all.1).0 in
-    let powers = own_powers r s parts (has_power parts) refl (kept (has_power parts) (allows_exponent g) _ all.0) in
-    let fraction = fraction_is radix (is_present parts.point.now) parts.fraction in
-    let mantissa_is : mantissa r.byte (literal_of parts)
-    ≡ number_from_digits radix (digits_in radix parts.integer.now ++ values_of radix (given_fraction (own_amount parts))) =
-    ap (λ b. number b (parts.integer.now ++ parts.fraction.now)) same ∙ ap (number_from_digits radix) (filter_map-append _ parts.integer.now parts.fraction.now)
-    ∙ sym (λ j. number_from_digits radix (digits_in radix parts.integer.now ++ fraction j)) in
-    let scale_is : scale r.byte (literal_of parts) ≡ radix ^ length (values_of radix (given_fraction (own_amount parts))) =
-    ap (λ b. b ^ length (digits_in b parts.fraction.now)) same ∙ sym (ap (λ (ds : List ℕ). radix ^ length ds) fraction) in
+    let powers = own_powers r s parts (has_power parts) refl (grind (arith, and_parts)) in
     record {
       sign = sym has.sign;
       fraction = same_value g (own_amount parts) l (numerator r.byte (literal_of parts)) (denominator r.byte (literal_of parts)) two has _ _
-          powers.0 powers.1
-          (λ j. (sym mantissa_is j * raised_up (is_minus parts.exponent_sign.now) (effective_exponent_base r)
-          (number (effective_exponent_radix r) parts.exponent.now))
-          * (scale_is j * raised_down (is_minus parts.exponent_sign.now) (effective_exponent_base r) (number (effective_exponent_radix r) parts.exponent.now)));
+          powers.0 powers.1 (grind (arith, fraction_is, filter_map-append));
     }
-  where
-    kept : (power allowed same : Bool) → (not power || (allowed && same)) ≡ true → (not power || same) ≡ true
-    kept power allowed same is = grind arith

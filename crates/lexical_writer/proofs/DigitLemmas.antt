@@ -60,8 +60,7 @@ followed radix n (d ∷ digits) two some all = after radix n d digits two (more 
 
 -- A number has digits if and only if it is not 0.
 pub some_number : (radix n : ℕ) → 0 < length (digits_of radix n) → 0 < n
-some_number radix zero some = absurd (omega (arith, some))
-some_number radix (suc n) some = omega arith
+some_number radix n some = grind arith
 
 pub no_number : (radix n : ℕ) → 2 ≤ radix → length (digits_of radix n) ≤ 0 → n ≡ 0
 no_number radix n two none = grind (arith, nat_tests, more, length-digits_of_step)

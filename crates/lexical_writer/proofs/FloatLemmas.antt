@@ -1,15 +1,15 @@
 -- Digits with a point, zeros around them and an exponent have the value of the literal that is written.
-use Rattle.lexical_writer.proofs.Common.{Amount, Bool, Err, Float, Grammar, HasNumber, IfOk, IsCutTo, IsFinite, IsFloatOf, IsLaidOut, IsRounded, IsShape}
-use Rattle.lexical_writer.proofs.Common.{IsWorth, Layout, List, Literal, None, Ok, Option, Power, Record, Result, Some, Style, WriteError, [], ap, append_assoc}
-use Rattle.lexical_writer.proofs.Common.{arith, cond, cons_option, decimals_in, denominator, digit_of, digits_in, div-add-mod', drop, dvd-mul_right}
-use Rattle.lexical_writer.proofs.Common.{effective_exponent_base, effective_exponent_radix, eq-eqb, eq-zero-or-pos, eq_of_mul-eq-mul_right, exponent, false}
-use Rattle.lexical_writer.proofs.Common.{false≢true, filter_map-append, first_error, float_error, has, if◌then◌else◌, inl, inr, is_binary, is_decimal, is_far}
-use Rattle.lexical_writer.proofs.Common.{is_minus, is_power_of_two, is_present, is_shown, is_some, is_whole, lacks_options, laid_out, length, length-append}
-use Rattle.lexical_writer.proofs.Common.{literal_of, low, lt-leb, mantissa, mod-eq_of_lt, mod-lt, mod-mod_of_dvd, mul-le-mul_right, mul-mod_left, mul-pos}
-use Rattle.lexical_writer.proofs.Common.{nat_lt, nat_tests, ne_eqb, nearest, not, number_after_append, number_from_digits, numerator, one-le-pow, one_if}
-use Rattle.lexical_writer.proofs.Common.{pow-add, pow-le-pow_right, pow-zero, prec, raised_down, raised_up, raw, refl, refusal, replicate, round, round_same}
-use Rattle.lexical_writer.proofs.Common.{rounded, scale, subst, suc, sym, take, take-append-drop, true, units_in, unwrap_or, with_minus, zero, ℕ, ◌%◌, ◌&&◌}
-use Rattle.lexical_writer.proofs.Common.{◌*◌, ◌++◌, ◌+◌, ◌-◌, ◌/◌, ◌<◌, ◌==◌, ◌^◌, ◌||◌, ◌∙◌, ◌∷◌, ◌≡◌, ◌≢◌, ◌≤◌}
+use Rattle.lexical_writer.proofs.Common.{Amount, Bool, Float, Grammar, HasNumber, IfOk, IsCutTo, IsFinite, IsFloatOf, IsLaidOut, IsRounded, IsShape, IsWorth}
+use Rattle.lexical_writer.proofs.Common.{Layout, List, Literal, None, Option, Record, Result, Some, Style, WriteError, [], ap, append_assoc, arith, cond}
+use Rattle.lexical_writer.proofs.Common.{decimals_in, denominator, digits_in, div-add-mod', drop, dvd-mul_right, effective_exponent_base}
+use Rattle.lexical_writer.proofs.Common.{effective_exponent_radix, eq-eqb, eq-zero-or-pos, eq_of_mul-eq-mul_right, exponent, false, false≢true}
+use Rattle.lexical_writer.proofs.Common.{filter_map-append, first_error, float_error, has, if◌then◌else◌, inl, inr, is_binary, is_decimal, is_far, is_minus}
+use Rattle.lexical_writer.proofs.Common.{is_power_of_two, is_present, is_shown, is_some, is_whole, lacks_options, laid_out, length, length-append, literal_of}
+use Rattle.lexical_writer.proofs.Common.{low, lt-leb, mantissa, mod-eq_of_lt, mod-lt, mod-mod_of_dvd, mul-le-mul_right, mul-mod_left, mul-pos, nat_lt}
+use Rattle.lexical_writer.proofs.Common.{nat_tests, ne_eqb, nearest, not, number_after_append, number_from_digits, numerator, one-le-pow, one_if, pow-add}
+use Rattle.lexical_writer.proofs.Common.{pow-le-pow_right, pow-zero, prec, raised_down, raised_up, raw, refl, refusal, replicate, round, round_same, rounded}
+use Rattle.lexical_writer.proofs.Common.{scale, subst, suc, sym, take, take-append-drop, true, units_in, unwrap_or, with_minus, zero, ℕ, ◌%◌, ◌&&◌, ◌*◌, ◌++◌}
+use Rattle.lexical_writer.proofs.Common.{◌+◌, ◌-◌, ◌/◌, ◌<◌, ◌==◌, ◌^◌, ◌||◌, ◌∙◌, ◌∷◌, ◌≡◌, ◌≢◌, ◌≤◌}
 use Rattle.std.proofs.Math.Nat.{div-eq_of_lt-le, div-lt_iff_lt-mul, mod-eq-sub-div-mul}
 use lib.Ieee.{Format, down, fin, hid, inf, is_nan, nan, neg, odd, of_bits, of_fields, ones, top, up}
 use lib.Ieee.Exact.{HasValue, odd_sign}
@@ -21,7 +21,7 @@ use Rattle.lexical_literal.specs.declared.syntax.Condition.TheVariants as condit
 use Rattle.std.specs.Prelude.{option_map}
 use Rattle.core.proofs.dec2flt.Patterns.{neg-round}
 use Rattle.lexical_writer.specs.declared.layout.WriteError.TheVariants as errors
-use Rattle.lexical_writer.proofs.ConversionLemmas.{HasParts, no_power, pair_of, parts_of, places_of, units_of}
+use Rattle.lexical_writer.proofs.ConversionLemmas.{HasParts, pair_of, parts_of, places_of, units_of}
 use Rattle.lexical_writer.proofs.DigitLemmas.{one_less, zeros_number}
 use Rattle.lexical_writer.proofs.PlainLemmas.{zeros_after}
 
@@ -46,11 +46,7 @@ cut_digits radix k bytes = sym (filter_map-append _ (take k bytes) (drop k bytes
 
 fewer : (radix : ℕ) (bytes : List ℕ) → length (digits_in radix bytes) ≤ length bytes
 fewer radix [] = omega arith
-fewer radix (byte ∷ bytes) = one (digit_of byte radix) (digits_in radix bytes) (length bytes) (fewer radix bytes)
-  where
-    one : (digit : Option ℕ) (digits : List ℕ) (n : ℕ) → length digits ≤ n → length (cons_option digit digits) ≤ suc n
-    one None digits n most = omega (arith, most)
-    one (Some d) digits n most = omega (arith, most)
+fewer radix (byte ∷ bytes) = grind (arith, fewer radix bytes)
 
 -- If all bytes are digits, so are those up to an index, and those from there on.
 pub all_digits : (radix k : ℕ) (bytes : List ℕ) → length (digits_in radix bytes) ≡ length bytes
@@ -58,9 +54,7 @@ pub all_digits : (radix k : ℕ) (bytes : List ℕ) → length (digits_in radix 
 all_digits radix k bytes all =
     let digits = sym (ap length (cut_digits radix k bytes)) ∙ length-append (digits_in radix (take k bytes)) (digits_in radix (drop k bytes)) in
     let whole = sym (ap length (take-append-drop k bytes)) ∙ length-append (take k bytes) (drop k bytes) in
-    let first = fewer radix (take k bytes) in
-    let second = fewer radix (drop k bytes) in
-    (omega (arith, all, digits, whole, first, second), omega (arith, all, digits, whole, first, second))
+    grind (arith, fewer radix (take k bytes), fewer radix (drop k bytes))
 
 pub present : (digits : List ℕ) → 0 < length digits → is_present digits ≡ true
 present [] some = absurd (omega (arith, some))
@@ -106,8 +100,7 @@ pub base_ten : (r : Record) → (is_decimal r.byte || is_binary r.byte) ≡ true
 base_ten r is ten = grind (arith, nat_tests, is, ten)
 
 pub some_down : (negative : Bool) (b e : ℕ) → 0 < b → 0 < raised_down negative b e
-some_down true b e some = one-le-pow e b some
-some_down false b e some = omega arith
+some_down negative b e some = grind (arith, one-le-pow)
 
 -- `exponent_of r amount` is the sign and the size of the exponent, if there is one.
 abbrev pub exponent_of : Record → Amount → Option (Bool × ℕ)
@@ -117,12 +110,7 @@ exponent_of r amount = option_map (pair_of (effective_exponent_radix r)) amount.
 shape_parts : (g : Grammar) (amount : Amount) (l : Literal) → 2 ≤ (raw g.word).byte layout.mantissa_radix → HasNumber g amount l
     → HasParts (raw g.word) l (units_of ((raw g.word).byte layout.mantissa_radix) amount) (places_of ((raw g.word).byte layout.mantissa_radix) amount)
     (unwrap_or (exponent_of (raw g.word) amount) (false, 0))
-shape_parts g amount l two has = subst (HasParts (raw g.word) l _ _) (same amount.exponent) (parts_of g amount l two has)
-  where
-    same : (power : Option Power) → let radix = effective_exponent_radix (raw g.word) in
-        pair_of radix (unwrap_or power no_power) ≡ unwrap_or (option_map (pair_of radix) power) (false, 0)
-    same (Some p) = refl
-    same None = refl
+shape_parts g amount l two has = grind (arith, parts_of)
 
 -- A literal that is written for a float that is not rounded is read as this float.
 pub amount_nearest : (f : Format) (x : Float) (g : Grammar) (style : Style) (l : Literal) → (is_decimal (raw g.word).byte || is_binary (raw g.word).byte) ≡ true
@@ -175,10 +163,7 @@ amount_rounded f x g style n l supported wished it has =
 pub error_of : (g : Grammar) (x : Float) (negative : Bool) (num den : ℕ) → HasValue x negative num den
     → float_error g x ≡ first_error (negative && has g.conditions conditions.NegativeSign) (lacks_options g.options && not (is_whole x))
     (not (is_decimal (bytes_of g.word) || is_binary (bytes_of g.word))) errors.Radix
-error_of g nan negative num den value = absurd value
-error_of g (inf t) negative num den value = absurd value
-error_of g (fin t m e) negative num den value = ap (λ s. first_error (s && has g.conditions conditions.NegativeSign)
-    (lacks_options g.options && not (is_whole (fin t m e))) (not (is_decimal (bytes_of g.word) || is_binary (bytes_of g.word))) errors.Radix) value.0
+error_of g x negative num den value = grind arith
 
 pub special_error : (g : Grammar) (x : Float) → ((negative : Bool) → IsFinite x negative → ⊥) → float_error g x ≡ Some errors.Special
 special_error g nan none = refl
@@ -189,19 +174,17 @@ special_error g (fin t m e) none = absurd (none t (m * up e, down e, (refl, refl
 pub if_numbered : (g : Grammar) (style : Style) (amount : Amount) (P : Layout → Type 0) (result : Result Layout WriteError)
     → IsLaidOut g style amount result → IfOk result (λ layout. HasNumber g amount (literal_of layout))
     → ((layout : Layout) → literal_of layout ≡ laid_out g style amount → HasNumber g amount (literal_of layout) → P layout) → IfOk result P
-if_numbered g style amount P (Ok layout) is has follows = follows layout is.1 has
-if_numbered g style amount P (Err error) is has follows = tt
+if_numbered g style amount P result is has follows = grind arith
 
 -- The float with some bits is finite if those of its size are below infinity, and otherwise has no value.
 at_field : (f : Format) (s : Bool) (x t : ℕ) (test : Bool) → eqb (suc x) (ones f) ≡ test
     → of_fields f s (suc x) t ≡ cond test (cond (eqb t 0) (inf s) nan) (odd (prec f) s (hid f + t) x (low f))
 unfolding of_fields
-at_field f s x t test is = ap (λ test. cond test (cond (eqb t 0) (inf s) nan) (odd (prec f) s (hid f + t) x (low f))) is
+at_field f s x t test is = cc
 
 pub finite : (f : Format) (b : ℕ) → b % top f < ones f * hid f → IsFinite (of_bits f b) (leb (top f) b)
 unfolding of_bits of_fields
-finite f b less =
-    go (b % top f / hid f) ((div-lt_iff_lt-mul {k = hid f} {x = b % top f} {y = ones f} (one-le-pow (prec f - 1) 2 (omega arith))).1 less)
+finite f b less = grind (arith, go, div-lt_iff_lt-mul, one-le-pow)
   where
     go : (field : ℕ) → field < ones f → IsFinite (of_fields f (leb (top f) b) field (b % hid f)) (leb (top f) b)
     go zero below = (b % hid f * 2 ^ 0, 2 ^ low f, odd_sign (prec f) (leb (top f) b) (b % hid f) 0 (low f))
@@ -229,9 +212,7 @@ special f b most negative is = go (b % top f / hid f) field_is is
 
 pub not_number : (x : Float) → is_nan x ≡ true → (negative : Bool) → IsFinite x negative → ⊥
 unfolding is_nan
-not_number nan is negative it = it.2
-not_number (inf t) is negative it = it.2
-not_number (fin t m e) is negative it = false≢true is
+not_number x is negative it = grind arith
 
 -- The float with some bits is that of its size, with its sign.
 pub of_sign : (f : Format) (b : ℕ) → of_bits f b ≡ with_minus (leb (top f) b) (of_bits f (b % top f))
@@ -264,39 +245,22 @@ of_sign f b = signed (leb (top f) b) (b % top f / hid f) (b % hid f) ∙ sym (ap
 -- What holds of a float without its sign holds with it.
 pub minus_value : (x : Float) (s : Bool) (num den : ℕ) → HasValue x false num den → HasValue (with_minus s x) s num den
 unfolding neg
-minus_value x false num den value = value
-minus_value nan true num den value = value
-minus_value (inf t) true num den value = value
-minus_value (fin t m e) true num den value = (ap not value.0, value.1)
+minus_value x s num den value = grind arith
 
 pub minus_whole : (x : Float) (s : Bool) → is_whole (with_minus s x) ≡ is_whole x
 unfolding neg
-minus_whole x false = refl
-minus_whole nan true = refl
-minus_whole (inf t) true = refl
-minus_whole (fin t m e) true = refl
+minus_whole x s = grind arith
 
 pub minus_worth : (f : Format) (x : Float) (g : Grammar) (style : Style) (s : Bool) (num den : ℕ) → IsWorth f x g style false num den
     → IsWorth f (with_minus s x) g style s num den
-minus_worth f x g style s num den it = record {
-  some = it.some;
-  near = λ plain. near s (it.near plain);
-  exact = elim it.exact [ inl value ↦ inl (minus_value x s num den value) | inr other ↦ inr other ];
-  whole = λ is. it.whole (sym (minus_whole x s) ∙ is);
-}
-  where
-    near : (s : Bool) → x ≡ round f false num den → with_minus s x ≡ round f s num den
-    near true is = ap neg is ∙ neg-round f num den
-    near false is = is
+minus_worth f x g style s num den it = grind (arith, neg-round, minus_value, minus_whole)
 
 -- A float that is not refused has no sign, no fraction and no exponent that is refused.
 pub not_refused : (g : Grammar) (style : Style) (amount : Amount) (fraction last : Bool) (num den places units : ℕ) (exponent : Option (Bool × ℕ))
     → first_error (amount.negative && has g.conditions conditions.NegativeSign) (lacks_options g.options && fraction) last errors.Radix ≡ None
     → (fraction ≡ false → num % den ≡ 0) → 0 < den → IsShape g style num den exponent places units → is_some amount.fraction ≡ nat_lt 0 places
     → is_some amount.exponent ≡ is_some exponent → refusal g amount ≡ None
-not_refused g style amount fraction last num den places units exponent none whole some shape has_fraction has_power =
-    refused _ fraction last (lacks_options g.options) _ (is_some amount.fraction) (is_some amount.exponent) (is_some exponent) places _ none has_fraction has_power
-    shape.shown no_places
+not_refused g style amount fraction last num den places units exponent none whole some shape has_fraction has_power = grind (arith, refused, no_places)
   where
     R : ℕ
     R = (raw g.word).byte layout.mantissa_radix

@@ -8,7 +8,7 @@ use Rattle.lexical_writer.proofs.Common.{is_none_or_one, is_present, is_some, la
 use Rattle.lexical_writer.proofs.Common.{nat_tests, no_groups, not, notation_of, number, number_digits_of, one_if, only_if, option_to_list, point_of, raw, refl}
 use Rattle.lexical_writer.proofs.Common.{refusal, separators_in, size_of, subst, sym, text_of, true, unwrap_or, values_of, ℕ, ◌%◌, ◌&&◌, ◌*◌, ◌++◌, ◌+◌, ◌-◌}
 use Rattle.lexical_writer.proofs.Common.{◌<◌, ◌==◌, ◌||◌, ◌∙◌, ◌∷◌, ◌≡◌, ◌≤◌, ◌⊎◌}
-use Rattle.std.proofs.lemmas.Bool.{agree_below_at, false_from_ne_true, not-false, or_left}
+use Rattle.std.proofs.lemmas.Bool.{false_from_ne_true, not-false, or_left}
 use Rattle.std.specs.List.{AllByRecursion}
 use Rattle.std.specs.Option.{option_or}
 use Rattle.lexical_literal.specs.Literal.{IsSpelled, begins, condition, is_none_or_prefix, is_zero_led, may_begin, requirement}
@@ -127,8 +127,7 @@ minus negative required = grind arith
 -- The radixes of a lawful format are between 2 and 36.
 pub radixes : (word : ℕ) → Lawful word → (part : Part) → (2 ≤ radix_of (raw word) part) × (radix_of (raw word) part ≤ 36)
 unfolding Lawful
-radixes word lawful parts.Exponent = lawful.exponent_radix
-radixes word lawful _ = lawful.mantissa_radix
+radixes word lawful part = grind arith
 
 -- A byte that is not 0 plays the role for which it is chosen.
 own : (counts : Bool) (byte : ℕ) → (byte == 0) ≡ false → cased counts byte byte ≡ true
@@ -173,19 +172,14 @@ begins_behind A None integer rest zero first = begins_more A integer rest (first
 begins_behind A (Some byte) integer rest zero first = zero
 
 zero_character : (lowercase : Bool) → character lowercase 0 ≡ 48
-zero_character true = refl
-zero_character false = refl
+zero_character lowercase = grind arith
 
 decimal_character : (lowercase : Bool) (d : ℕ) → d < 10 → nat_le (character lowercase d) 57 ≡ true
-decimal_character true d below = agree_below_at (λ d. nat_le (character true d) 57) (λ _. true) 10 d refl below
-decimal_character false d below = agree_below_at (λ d. nat_le (character false d) 57) (λ _. true) 10 d refl below
+decimal_character lowercase d below = grind arith
 
 decimal_least : (zero decimal begins : Bool) (n b : ℕ) → decimal ≡ true
     → (n < max (if not false && (zero || (decimal && not begins)) then n + 1 else 1) b) ⊎ (begins ≡ true)
-decimal_least true decimal begins n b set = inl (omega arith)
-decimal_least false true true n b set = inr refl
-decimal_least false true false n b set = inl (omega arith)
-decimal_least false false begins n b set = absurd (false≢true set)
+decimal_least zero decimal begins n b set = grind arith
 
 zero_led : (D : ByteSet) (prefix : Option ℕ) (run : List ℕ) → (is_some prefix ≡ false → has_leading_zero D run ≡ false)
     → not (is_absent (after_zero prefix) && has_leading_zero D run) ≡ true
@@ -193,8 +187,7 @@ zero_led D None run none = ap not (none refl)
 zero_led D (Some byte) run none = refl
 
 by_kind : (kind led : Bool) → (kind ≡ false → not led ≡ true) → (kind || not led) ≡ true
-by_kind true led none = refl
-by_kind false led none = none refl
+by_kind kind led none = grind arith
 
 module _ (g : Grammar) (style : Style) (amount : Amount) (is : IsSyntax g)
     (apart : (byte : ℕ) → byte_value byte < (raw g.word).byte layout.mantissa_radix → IsTrue (sets.used_separator (raw g.word) byte) → ⊥)

@@ -1,45 +1,22 @@
 -- The order in which forms are asked.
+use Rattle.lexical_writer.proofs.Common.{AreBefore, ArePassed, Bool, Form, IsRefused, IsSearched, List, Option, Some, Task, WriteError, [], arith, cases_lt}
+use Rattle.lexical_writer.proofs.Common.{false, if◌then◌else◌, inl, inr, is_short, length, nat_tests, slice_get, slice_index_or, true, unwrap_or, ways}
+use Rattle.lexical_writer.proofs.Common.{words_of, ℕ, ◌+◌, ◌<◌, ◌≡◌, ◌≤◌}
 use Rattle.std.specs.Borrow.{Bor}
-use Rattle.std.specs.Option.{option_map}
 use Rattle.std.proofs.lemmas.List.{length-map}
 use Rattle.std.proofs.lemmas.Option.{slice_get-map, slice_get-get_or, slice_get_within}
 use Rattle.lexical_forms.specs.FormList.{FormList}
 use Rattle.lexical_writer.specs.declared.choice.Own.{Own}
-use Rattle.lexical_writer.proofs.Common.{AreBefore, ArePassed, Bool, Form, IsRefused, IsSearched, IsSomeAnd, List, None, Option, Some, Task, WriteError, [], ap}
-use Rattle.lexical_writer.proofs.Common.{arith, cases_lt, false, false≢true, if◌then◌else◌, inl, inr, is_short, is_some, length, refl, slice_get}
-use Rattle.lexical_writer.proofs.Common.{slice_index_or, subst, suc, sym, true, unwrap_or, ways, words_of, ℕ, ◌+◌, ◌<◌, ◌∙◌, ◌≡◌, ◌≤◌, ◌⊎◌}
 
 -- In a step, the next form is asked behind those before it.
 pub before_more : {P : ℕ → Form → Type 0} {asked : ℕ → Form → Bool} {forms : List Form} {step index : ℕ} (form : Form) → slice_get forms index ≡ Some form
     → (asked step form ≡ true → P index form) → AreBefore P asked forms step index → AreBefore P asked forms step (index + 1)
-before_more {P} {asked} {forms} {step} {index} form here new old = record {
-  each = λ before at it earlier there now. elim earlier [
-    | inl less ↦ old.each before at it (inl less) there now
-    | inr same ↦ elim (cases_lt at index) [
-      | inl less ↦ old.each before at it (inr (same.0, less)) there now
-      | inr least ↦
-          let next : index ≡ at = omega (arith, least, same.1) in
-          let one : form ≡ it = ap (λ o. unwrap_or o form) (sym here ∙ ap (slice_get forms) next ∙ there) in
-          subst (λ i. P i it) next (subst (P index) one
-          (new (subst (λ s. asked s form ≡ true) same.0 (subst (λ f. asked before f ≡ true) (sym one) now))))
-    ]
-  ];
-}
+before_more {P} {asked} {forms} {step} {index} form here new old = grind (arith, nat_tests)
 
 -- Behind the last form of a step is the first one of the next step.
 pub before_next : {P : ℕ → Form → Type 0} {asked : ℕ → Form → Bool} {forms : List Form} {step index : ℕ} → length forms ≤ index
     → AreBefore P asked forms step index → AreBefore P asked forms (step + 1) 0
-before_next {P} {asked} {forms} {step} {index} end old = record {
-  each = λ before at form earlier there now. elim earlier [
-    | inl below ↦
-        let last : (before < step) ⊎ ((before ≡ step) × (at < index)) = elim (cases_lt before step) [
-          | inl less ↦ inl less
-          | inr least ↦ inr (omega (arith, least, below), omega (arith, end, slice_get_within forms at form there))
-        ] in
-        old.each before at form last there now
-    | inr none ↦ absurd (omega (arith, none.1))
-  ];
-}
+before_next {P} {asked} {forms} {step} {index} end old = grind (arith, slice_get_within)
 
 module _ (P : ℕ → Form → WriteError → Type 0) (asked : ℕ → Form → Bool) (forms : List Form) where
   module _ (step index : ℕ) (reason : Option WriteError) (old : IsSearched P asked forms step index reason) where
@@ -58,24 +35,7 @@ module _ (P : ℕ → Form → WriteError → Type 0) (asked : ℕ → Form → 
       -- The first error is that of the list.
       pub searched_more : (error : WriteError) → asked step form ≡ true → P index form error
           → IsSearched P asked forms step (index + 1) (Some (unwrap_or reason error))
-      searched_more error now holds = go reason refl
-        where
-          go : (it : Option WriteError) → reason ≡ it → IsSearched P asked forms step (index + 1) (Some (unwrap_or it error))
-          go None same = record {
-            passed = before_more form here (λ _. (error, holds)) old.passed;
-            none = λ some. absurd (false≢true (sym (ap is_some some)));
-            first = λ other is. (
-              step,
-              index,
-              old.none same,
-              subst (λ o. IsSomeAnd o (λ form. (asked step form ≡ true) × P index form other)) (sym here) (now, subst (P index form) (cc is) holds),
-            );
-          }
-          go (Some it) same = record {
-            passed = before_more form here (λ _. (error, holds)) old.passed;
-            none = λ some. absurd (false≢true (sym (ap is_some some)));
-            first = λ other is. old.first other (same ∙ is);
-          }
+      searched_more error now holds = grind (arith, nat_tests, before_more {P = λ index form. (error : WriteError) × P index form error})
 
 -- The ways in which a form is asked to write a number, in their order.
 module _ (task : Task) (room : ℕ) (list : FormList) (index : ℕ) (form : Form) where
@@ -85,11 +45,7 @@ module _ (task : Task) (room : ℕ) (list : FormList) (index : ℕ) (form : Form
       → ArePassed task room list index form (n + 1)
   passed_more n word error here refused fits old at it less there = elim (cases_lt at n) [
     | inl earlier ↦ old at it earlier there
-    | inr least ↦
-        let same : n ≡ at = omega (arith, less, least) in
-        let one : word ≡ it = ap (λ o. unwrap_or o word) (sym here ∙ ap (slice_get (ways task.own.integer form)) same ∙ there) in
-        subst (λ word. (error : WriteError) × IsRefused task room list index form word error × (is_short error ≡ false)) one
-        (error, refused, fits)
+    | inr least ↦ grind arith
   ]
 
 -- `words integer form` are the words with which a form writes a number.
@@ -102,15 +58,8 @@ no_word = record { ref_ptr = (0, 0); now = [] }
 -- Behind the way without a word, there is one with each word.
 pub word_way : (it own : Own) (form : Form) (list : List (Bor (List ℕ))) (n : ℕ) → it ≡ own → list ≡ words it.integer form → n < length list
     → slice_get (ways own.integer form) (n + 1) ≡ Some (Some (slice_index_or list n no_word).now)
-word_way it own form list n same is below =
-    let some = option_map (λ (word : Bor (List ℕ)). Some word.now) in
-    ap (slice_get (ways own.integer form)) {x = n + 1} {y = suc n} (omega arith)
-    ∙ slice_get-map (λ (word : Bor (List ℕ)). Some word.now) (words own.integer form) n
-    ∙ ap (λ l. some (slice_get l n)) (sym (is ∙ (λ i. words (same i).integer form))) ∙ ap some (slice_get-get_or list n no_word below)
+word_way it own form list n same is below = grind (arith, slice_get-map, slice_get-get_or)
 
 pub ways_count : (it own : Own) (form : Form) (list : List (Bor (List ℕ))) → it ≡ own → list ≡ words it.integer form
     → length (ways own.integer form) ≡ length list + 1
-ways_count it own form list same is =
-    let size = length-map {B = Option (List ℕ)} (words own.integer form) (λ word. Some word.now) in
-    let all = ap length (is ∙ (λ i. words (same i).integer form)) in
-    omega (arith, size, all)
+ways_count it own form list same is = grind (arith, length-map)

@@ -1,11 +1,9 @@
 -- An amount without an exponent has the value of the literal.
-use Rattle.lexical_writer.proofs.Common.{Amount, Bool, Grammar, HasNumber, HasValue, IfOk, IsSyntax, List, Literal, None, Option, Parts, Power, Record, SameFraction}
-use Rattle.lexical_writer.proofs.Common.{Some, [], ap, append-nil, arith, at_least, denominator, digits_of, div-add-mod, effective_exponent_base}
-use Rattle.lexical_writer.proofs.Common.{effective_exponent_radix, eq-zero-or-pos, false, given_power, if◌then◌else◌, inl, inr}
-use Rattle.lexical_writer.proofs.Common.{is_minus, lacks_options, length, length-digits_of-le, mod-lt, nat_tests, not, number}
-use Rattle.lexical_writer.proofs.Common.{number_after_append, number_digits_of, number_from_digits, number_from_digits_after, number_of_size, numerator}
-use Rattle.lexical_writer.proofs.Common.{one-le-pow, pow-suc, pow-zero, power, raised_down, raised_up, raw, refl, replicate, size_of, subst, suc, sym}
-use Rattle.lexical_writer.proofs.Common.{true, unwrap_or, with_sign, zero, ℕ, ℤ, ◌%◌, ◌*◌, ◌++◌, ◌+◌, ◌/◌, ◌<◌, ◌==◌, ◌^◌, ◌||◌, ◌∙◌, ◌≡◌, ◌≤◌}
+use Rattle.lexical_writer.proofs.Common.{Amount, Bool, Grammar, HasNumber, HasValue, IfOk, IsSyntax, Literal, None, Parts, Record, SameFraction, Some, [], ap}
+use Rattle.lexical_writer.proofs.Common.{append-nil, arith, at_least, denominator, digits_of, div-add-mod, eq-zero-or-pos, if◌then◌else◌, is_minus}
+use Rattle.lexical_writer.proofs.Common.{lacks_options, length, length-digits_of-le, mod-lt, nat_tests, not, number, number_after_append, number_digits_of}
+use Rattle.lexical_writer.proofs.Common.{number_from_digits, number_from_digits_after, number_of_size, numerator, one-le-pow, pow-suc, pow-zero, power, raw}
+use Rattle.lexical_writer.proofs.Common.{refl, replicate, suc, sym, with_sign, zero, ℕ, ℤ, ◌%◌, ◌*◌, ◌++◌, ◌+◌, ◌/◌, ◌==◌, ◌^◌, ◌||◌, ◌∙◌, ◌≡◌, ◌≤◌}
 use Rattle.lexical_literal.specs.Parts.{literal_of}
 use Rattle.lexical_util.specs.Layout as layout
 use Rattle.lexical_util.specs.declared.format_flags.Part.TheVariants as part
@@ -14,7 +12,7 @@ use Rattle.lexical_writer.specs.declared.run.Source.TheVariants as sources
 use Rattle.lexical_writer.specs.declared.units.Units.{Units}
 use Rattle.lexical_writer.specs.declared.units.Units.TheVariants as found
 use Rattle.lexical_value.proofs.ValueLemmas.{whole_denominator, whole_numerator}
-use Rattle.lexical_writer.proofs.ConversionLemmas.{no_power, places_of, same_value, units_of}
+use Rattle.lexical_writer.proofs.ConversionLemmas.{places_of, same_value, units_of}
 use Rattle.lexical_writer.proofs.LiteralLemmas.{radixes}
 use Rattle.lexical_writer.proofs.DigitLemmas.{after_is, least_length, least_number}
 
@@ -34,18 +32,11 @@ pub same_worth : (g : Grammar) (amount : Amount) (up down : ℕ) → IsWorth ((r
     → amount.exponent ≡ None → 2 ≤ (raw g.word).byte layout.mantissa_radix → (l : Literal) → HasNumber g amount l
     → up * denominator (raw g.word).byte l ≡ numerator (raw g.word).byte l * down
 same_worth g amount up down worth none two l has =
-    let s = raw g.word in
-    let b = effective_exponent_base s in
-    let power : given_power amount ≡ no_power = ap (λ (power : Option Power). unwrap_or power no_power) none in
-    let size = λ (power : Power). size_of (effective_exponent_radix s) power.source in
-    same_value g amount l up down two has 1 1 (ap (λ (power : Power). raised_up power.negative b (size power)) power ∙ pow-zero b)
-    (ap (λ (power : Power). raised_down power.negative b (size power)) power) (omega arith ∙ worth ∙ omega arith)
+    same_value g amount l up down two has 1 1 (grind (arith, pow-zero)) (grind arith) (omega arith ∙ worth ∙ omega arith)
 
 -- A whole number over 1, and over what it is divided by.
 number_worth : (radix : ℕ) (negative : Bool) (n num den : ℕ) → 2 ≤ radix → n * den ≡ num → IsWorth radix (number_of_size negative n) num den
-number_worth radix negative n num den two is =
-    ap (λ n. n * den) (ap (number_from_digits radix) (append-nil (digits_of radix n)) ∙ number_digits_of radix n two)
-    ∙ omega (arith, is, ap (λ p. num * p) (pow-zero radix))
+number_worth radix negative n num den two is = grind (arith, append-nil, number_digits_of, pow-zero)
 
 -- A literal that has the number of an integer has its value.
 pub has_value : (g : Grammar) (negative : Bool) (n : ℕ) (z : ℤ) → with_sign negative n ≡ z → IsSyntax g → (l : Literal)
@@ -82,17 +73,7 @@ split_worth : (radix places units num den : ℕ) → 2 ≤ radix → units * den
     → let fraction = at_least places (digits_of radix (units % 10 ^ places)) in
     number_from_digits radix (digits_of radix (units / 10 ^ places) ++ fraction) * den ≡ num * radix ^ length fraction
 split_worth radix places units num den two is power =
-    let f = units % 10 ^ places in
-    let front = digits_of radix (units / 10 ^ places) in
-    let fraction = at_least places (digits_of radix f) in
-    let before = number_digits_of radix (units / 10 ^ places) two in
-    let behind = least_number radix places (digits_of radix f) ∙ number_digits_of radix f two in
-    let less : f < radix ^ places = subst (λ p. f < p) (sym power) (mod-lt units (one-le-pow places 10 (omega arith))) in
-    let count : length fraction ≡ places = least_length places (digits_of radix f) ∙ omega (arith, length-digits_of-le radix places f two less) in
-    let unit : radix ^ length fraction ≡ 10 ^ places = ap (λ k. radix ^ k) count ∙ power in
-    let whole : units / 10 ^ places * 10 ^ places + f ≡ units = omega (arith, div-add-mod units (10 ^ places)) in
-    ap (λ n. n * den) (number_after_append radix 0 front fraction ∙ after_is radix (number_from_digits radix front) fraction
-    ∙ (λ j. before j * unit j + behind j) ∙ whole) ∙ is ∙ sym (ap (λ p. num * p) unit)
+    grind (arith, number_digits_of, least_number, mod-lt, one-le-pow, least_length, length-digits_of-le, div-add-mod, number_after_append, after_is)
 
 -- What is known of a float is an amount with its value.
 pub units_value : (r : Record) (parts : Parts) (g : Grammar) (places : ℕ) (it : Units) → IsFewest r (literal_of parts) (most_places g) places it
@@ -111,10 +92,7 @@ units_value r parts g places (found.Whole units) few = λ l lawful has.
     radix = (raw g.word).byte layout.mantissa_radix
 
     unit : (integers : Bool) → places ≤ (if integers || not (radix == 10) then 0 else 255) → radix ^ places ≡ 10 ^ places
-    unit integers few = elim (eq-zero-or-pos places) [
-      | inl none ↦ ap (λ k. radix ^ k) none ∙ pow-zero radix ∙ sym (ap (λ k. 10 ^ k) none)
-      | inr some ↦ ap (λ r. r ^ places) {x = radix} {y = 10} (grind (arith, nat_tests))
-    ]
+    unit integers few = grind (arith, nat_tests, eq-zero-or-pos, pow-zero)
 
     -- Without digits behind the point, there is no fraction.
     go : (num den : ℕ) (integers : Bool) → places ≤ (if integers || not (radix == 10) then 0 else 255)
@@ -126,9 +104,4 @@ units_value r parts g places (found.Whole units) few = λ l lawful has.
           fraction = if integers then None else Some (sources.Least (units % 10 ^ places) places);
           exponent = None;
         }) num den
-    go num den false few is = is
-    go num den true few is =
-        let none : places ≡ 0 = omega (arith, few) in
-        let rest : units % 10 ^ 0 ≡ 0 = omega arith in
-        subst (λ (ds : List ℕ). number_from_digits radix (digits_of radix (units / 10 ^ places) ++ ds) * den ≡ num * radix ^ length ds)
-        ((λ i. at_least (none i) (digits_of radix (units % 10 ^ none i))) ∙ ap (λ f. at_least 0 (digits_of radix f)) rest) is
+    go num den integers few is = grind arith

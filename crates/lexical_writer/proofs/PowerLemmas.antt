@@ -73,8 +73,7 @@ pub enough : (k b low least q p : ℕ) → 0 < b → q ≡ div_ceil (low - k) b 
 enough k b low least q p some is most = grind (arith, nat_tests, div_ceil_times, mul-le-mul_right)
 
 pub byte_is : (b : Bool) → bool_byte b ≡ (if b then 1 else 0)
-byte_is true = refl
-byte_is false = refl
+byte_is b = grind arith
 
 -- A decimal number that is not 0 has as many digits as the powers of ten are that are not above it.
 pub decimal_first : (d power top : ℕ) → top ≡ power + (length (digits_of 10 d) - 1) → 0 < d → (10 ^ top ≤ d * 10 ^ power) × (d * 10 ^ power < 10 ^ suc top)

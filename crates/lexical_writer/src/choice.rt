@@ -199,6 +199,7 @@ impl<F: Float> Writable for Real<F> {
         }
     }
 
+    #[tactic(auto, using(crate::proofs::AmountLemmas::none_in))]
     fn write(
         &self,
         syntax: &Syntax,

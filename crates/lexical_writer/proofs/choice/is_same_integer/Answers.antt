@@ -1,11 +1,11 @@
 -- Both literals are worth the same integer: the digits are the same bytes, of the same radix.
-use Rattle.lexical_writer.proofs.Common.{Bool, IsFalse, IsSomeAnd, IsWhole, Read, Some, ap, arith, bytes_decides, inl, integer_worth, is_float, magnitude_size}
-use Rattle.lexical_writer.proofs.Common.{number, raw, refl, subst, sym, with_sign, ℕ, ℤ, ◌∙◌, ◌≡◌}
+use Rattle.lexical_writer.proofs.Common.{Bool, IsFalse, IsWhole, Read, Some, ap, arith, bytes_decides, integer_worth, is_float, magnitude_size, number, raw}
+use Rattle.lexical_writer.proofs.Common.{refl, subst, sym, with_sign, ℕ, ℤ, ◌∙◌, ◌≡◌}
 use Rattle.lexical_writer.proofs.choice.is_same_integer.Goals as goal
 
 worth_is : (read : Read) (s : Bool) (n : ℕ) (z : ℤ) → IsFalse (is_float read.literal)
     → integer_worth read.kind.integers (raw read.format).byte read.literal ≡ Some (s, n) → z ≡ with_sign s n → IsWhole z read
-worth_is read s n z whole is same = inl (whole, subst (λ o. IsSomeAnd o (λ w. z ≡ with_sign w.0 w.1)) (sym is) same)
+worth_is read s n z whole is same = grind arith
 
 pub returns-then-radix-base : goal.returns-then-radix-base
 returns-then-radix-base c equal =

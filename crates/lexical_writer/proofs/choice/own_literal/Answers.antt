@@ -1,14 +1,13 @@
 -- The only form of the list reads the text.
-use Rattle.lexical_writer.proofs.Common.{Form, Grammar, IsSomeAnd, List, Reads, ReadsForm, [], ap, notation_of, refl, slice_get, subst, suc, sym, zero, ℕ, ◌∙◌}
-use Rattle.lexical_writer.proofs.Common.{◌∷◌, ◌≡◌}
+use Rattle.lexical_writer.proofs.Common.{Form, Grammar, IsSomeAnd, List, Reads, ReadsForm, [], ap, arith, notation_of, refl, slice_get, subst, sym, ℕ, ◌∙◌, ◌∷◌}
+use Rattle.lexical_writer.proofs.Common.{◌≡◌}
 use Rattle.lexical_forms.specs.FormList.{FormList}
 use Rattle.lexical_forms.proofs.BehindLemmas.{plain_of}
 use Rattle.lexical_writer.proofs.ChoiceLemmas.{none_at}
 use Rattle.lexical_writer.proofs.choice.own_literal.Goals as goal
 
 only : (P : Form → Type 0) (form : Form) (index : ℕ) → IsSomeAnd (slice_get (form ∷ []) index) P → P form
-only P form zero here = here
-only P form (suc index) here = absurd here
+only P form index here = grind arith
 
 pub returns-in-Some-clause-some : goal.returns-in-Some-clause-some
 returns-in-Some-clause-some c =

@@ -1,5 +1,5 @@
 -- The list reads the text as the number.
-use Rattle.lexical_writer.proofs.Common.{Bool, Grammar, IsSyntax, Read, Reads, and_parts, ap, false, false≢true, is_float, notation_of, refl, rules, subst, sym}
+use Rattle.lexical_writer.proofs.Common.{Bool, Grammar, IsSyntax, Read, Reads, and_parts, ap, arith, false, is_float, notation_of, refl, rules, subst, sym}
 use Rattle.lexical_writer.proofs.Common.{true, ◌&&◌, ◌==◌, ◌∙◌, ◌≡◌}
 use Rattle.lexical_writer.proofs.ChoiceLemmas.{first_reads, none_at, own_read, read_as}
 use Rattle.lexical_writer.proofs.choice.read_written.Goals as goal
@@ -42,13 +42,11 @@ returns-then-is_read_as-clause-value g c =
     syntax same reads has c.in-Some.ensures.some (c.is_read_as.ensures.same c.if-is_read_as.true is.0 c.syntax-syntax.result is.1)
 
 and_left : (a b : Bool) → (a && b) ≡ false → b ≡ true → a ≡ false
-and_left false b none same = refl
-and_left true b none same = absurd (false≢true (sym none ∙ same))
+and_left a b none same = grind arith
 
 -- What holds of both Booleans holds of the one that there is.
 by_own : (P : Bool → Type 0) → P false → (own : Bool) → (own ≡ true → P true) → P own
-by_own P other false here = other
-by_own P other true here = here refl
+by_own P other own here = grind arith
 
 pub returns-clause-error : goal.returns-clause-error
 returns-clause-error g c =

@@ -1,9 +1,8 @@
 -- The text is in the buffer, and the list reads it or does not.
+use Rattle.lexical_writer.proofs.Common.{Form, IfErr, IsErrAnd, IsMisread, IsPut, IsRefused, List, Literal, Ok, Option, Result, Task, WriteError, arith}
+use Rattle.lexical_writer.proofs.Common.{bytes_of_word, length, take, text_by, ℕ, ◌-◌, ◌^◌, ◌≡◌, ◌≤◌}
 use Rattle.std.specs.Borrow.{Bor}
 use Rattle.lexical_forms.specs.FormList.{FormList}
-use Rattle.lexical_writer.proofs.Common.{Err, Form, IfErr, IsErrAnd, IsMisread, IsPut, IsRefused, List, Literal, Ok, Option, Result, Task, WriteError, ap}
-use Rattle.lexical_writer.proofs.Common.{arith, bytes_of_word, inr, length, length-take, subst, sym, take, text_by, ℕ, ◌-◌, ◌^◌, ◌≡◌, ◌≤◌}
-use Rattle.lexical_writer.proofs.BufferLemmas.{put_whole}
 use Rattle.lexical_writer.proofs.choice.write_by.Goals as goal
 
 -- A text in the buffer that is misread is refused.
@@ -12,13 +11,7 @@ misread : (result : Result ℕ WriteError) (task : Task) (room : ℕ) (list : Fo
     → end ≤ length buffer → (end ≡ 2 ^ 64 - 1 → ⊥) → task.writes form.syntax (Ok l) → length buffer ≡ room
     → IsMisread task list index form (bytes_of_word given) (take end buffer) error → IsErrAnd result (λ other. other ≡ error)
     → IfErr result (IsRefused task room list index form (bytes_of_word word))
-misread (Err other) task room list index form word given l buffer end error same is fits short has size it from =
-    let whole = put_whole _ _ end is fits short in
-    let read = subst (λ (p : Option (Bor (Bor (List ℕ))) × WriteError). IsMisread task list index form (bytes_of_word p.0) (take end buffer) p.1)
-    (λ i. (sym same i, sym from i)) it in
-    let text = subst (λ (text : List ℕ). IsMisread task list index form (bytes_of_word word) text other) (sym whole) read in
-    inr (l, has, inr (omega (arith, ap length whole, length-take end buffer, size), text))
-misread (Ok n) task room list index form word given l buffer end error same is fits short has size it from = tt
+misread result task room list index form word given l buffer end error same is fits short has size it from = grind arith
 
 pub returns-in_err-read_alone-in-None-clause-error : goal.returns-in_err-read_alone-in-None-clause-error
 returns-in_err-read_alone-in-None-clause-error g c =

@@ -1,8 +1,8 @@
 -- What is not refused is supported and laid out, and what is written of a float has its value.
-use Rattle.lexical_writer.proofs.Common.{Amount, Bool, Err, Float, Grammar, HasNumber, IfErr, IfOk, IfOk-weaker, IsFinite, IsFloatOf, IsLaidOut, IsShape, IsWorth}
-use Rattle.lexical_writer.proofs.Common.{Layout, None, Ok, Option, Power, Result, Some, WriteError, ap, arith, effective_exponent_radix, false≢true, first_error, float_error, format_of, from_bits, has}
-use Rattle.lexical_writer.proofs.Common.{is_binary, is_decimal, is_some, is_whole, lacks_options, literal_of, not, raw, refl, refusal, subst, sym, true, with_minus}
-use Rattle.lexical_writer.proofs.Common.{ℕ, ◌&&◌, ◌||◌, ◌∙◌, ◌≡◌}
+use Rattle.lexical_writer.proofs.Common.{Amount, Bool, Float, Grammar, HasNumber, IfErr, IfOk, IfOk-weaker, IsFinite, IsFloatOf, IsLaidOut, IsShape, IsWorth}
+use Rattle.lexical_writer.proofs.Common.{Layout, None, Option, Power, Result, WriteError, ap, arith, effective_exponent_radix, first_error, float_error}
+use Rattle.lexical_writer.proofs.Common.{format_of, from_bits, has, is_binary, is_decimal, is_some, is_whole, lacks_options, literal_of, not, raw, refusal}
+use Rattle.lexical_writer.proofs.Common.{subst, sym, true, with_minus, ℕ, ◌&&◌, ◌||◌, ◌∙◌, ◌≡◌}
 use Rattle.std.proofs.lemmas.Bool.{not-false}
 use Rattle.std.specs.Prelude.{nat_lt, option_map}
 use lib.Ieee.{Format}
@@ -79,9 +79,7 @@ returns-clause-rounded g c n wished =
 refusal_is : (x y : Float) (g : Grammar) (negative : Bool) (error : Option WriteError) → y ≡ with_minus negative x → IsFinite y negative
     → error ≡ first_error (negative && has g.conditions conditions.NegativeSign) (lacks_options g.options && not (is_whole x))
     (not (is_decimal (bytes_of g.word) || is_binary (bytes_of g.word))) errors.Radix → float_error g y ≡ error
-refusal_is x y g negative error is it refused = error_of g y negative it.0 it.1 it.2 ∙ ap (λ w. first_error
-    (negative && has g.conditions conditions.NegativeSign) (lacks_options g.options && not w)
-    (not (is_decimal (bytes_of g.word) || is_binary (bytes_of g.word))) errors.Radix) (ap is_whole is ∙ minus_whole x negative) ∙ sym refused
+refusal_is x y g negative error is it refused = grind (arith, error_of g y negative it.0 it.1 it.2, minus_whole x negative)
 
 pub returns-clause-some : goal.returns-clause-some
 returns-clause-some g c =
@@ -95,13 +93,11 @@ returns-clause-some g c =
 -- A float with digits is laid out.
 laid : (g : Grammar) (style : Style) (amount : Amount) (result : Result Layout WriteError) (Q : WriteError → Type 0) → IsLaidOut g style amount result
     → refusal g amount ≡ None → IfErr result Q
-laid g style amount (Ok layout) Q is none = tt
-laid g style amount (Err error) Q is none = absurd (false≢true (ap is_some (sym none ∙ is)))
+laid g style amount result Q is none = grind arith
 
 -- An exponent in digits is some if it is some.
 some_same : (power : Option Power) → is_some power ≡ is_some (option_map (pair_of 10) power)
-some_same None = refl
-some_same (Some p) = refl
+some_same power = grind arith
 
 pub returns-clause-error : goal.returns-clause-error
 returns-clause-error g c =

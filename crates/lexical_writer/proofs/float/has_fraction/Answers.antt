@@ -6,19 +6,13 @@ use Rattle.lexical_writer.proofs.float.has_fraction.Goals as goal
 
 broken : (n up down : ℕ) → (0 < down → (n % 2 ≡ 1) × (up ≡ 0)) → nat_lt 0 down ≡ not (n * 2 ^ up % 2 ^ down == 0)
 broken n up down odd = elim (eq-zero-or-pos down) [
-  | inl z ↦
-      let one : n * 2 ^ up % 2 ^ down ≡ 0 = ap (λ d. n * 2 ^ up % 2 ^ d) z ∙ omega arith in
-      grind (arith, nat_tests, z, one)
+  | inl z ↦ grind (arith, nat_tests)
   | inr more ↦
       let it = odd more in
       let half : 2 ^ down ≡ 2 ^ (down - 1) * 2 = ap (λ d. 2 ^ d) {x = down} {y = suc (down - 1)} (omega (arith, more)) ∙ pow-suc 2 (down - 1) in
       let number : n * 2 ^ up ≡ n = ap (λ i. n * 2 ^ i) it.1 ∙ ap (λ p. n * p) (pow-zero 2) ∙ omega arith in
       let parts = div-add-mod' (n * 2 ^ up) (2 ^ down) in
-      let some : 0 < n * 2 ^ up % 2 ^ down = elim (eq-zero-or-pos (n * 2 ^ up % 2 ^ down)) [
-        | inl none ↦ absurd (omega (arith, parts, none, number, it.0, ap (λ p. n * 2 ^ up / 2 ^ down * p) half))
-        | inr some ↦ some
-      ] in
-      grind (arith, nat_tests, more, some)
+      grind (arith, nat_tests, ap (λ p. n * 2 ^ up / 2 ^ down * p) half)
 ]
 
 pub returns : goal.returns

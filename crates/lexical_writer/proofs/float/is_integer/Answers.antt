@@ -1,6 +1,6 @@
 -- The number is the float that has its bits.
-use Rattle.lexical_writer.proofs.Common.{Bool, HasSize, and_parts, ap, arith, div-add-mod', eqb-true, false, false≢true, format_of, from_bits, mod-eq_of_lt}
-use Rattle.lexical_writer.proofs.Common.{not, one-le-pow, refl, subst, sym, true, with_minus, ◌%◌, ◌*◌, ◌/◌, ◌<◌, ◌==◌, ◌^◌, ◌∙◌, ◌≡◌}
+use Rattle.lexical_writer.proofs.Common.{Bool, HasSize, and_parts, ap, arith, div-add-mod', eqb-true, false, format_of, from_bits, mod-eq_of_lt, not}
+use Rattle.lexical_writer.proofs.Common.{one-le-pow, subst, sym, with_minus, ◌%◌, ◌*◌, ◌/◌, ◌<◌, ◌==◌, ◌^◌, ◌∙◌, ◌≡◌}
 use lib.Ieee.Exact.{HasValue}
 use mathlib.Core.Bool.{beq}
 use Rattle.lexical_number.proofs.ReadLemmas.{same_size}
@@ -8,10 +8,7 @@ use Rattle.lexical_writer.proofs.FloatLemmas.{minus_value}
 use Rattle.lexical_writer.proofs.float.is_integer.Goals as goal
 
 same_sign : (a b : Bool) → not (beq a b) ≡ false → a ≡ b
-same_sign true true is = refl
-same_sign true false is = absurd (false≢true (sym is))
-same_sign false true is = absurd (false≢true (sym is))
-same_sign false false is = refl
+same_sign a b is = grind arith
 
 pub returns : goal.returns
 returns g c same =

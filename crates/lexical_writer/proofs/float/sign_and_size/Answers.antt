@@ -1,8 +1,7 @@
 -- A float is a number if the bits of its size are below those of infinity.
-use Rattle.lexical_writer.proofs.Common.{Bool, Grammar, IsFinite, Option, Some, ap, arith, float_error, format_of, nat_le, refl, subst, sym, with_minus, ℕ, ◌%◌}
-use Rattle.lexical_writer.proofs.Common.{◌*◌, ◌<◌, ◌∙◌, ◌≡◌, ◌≤◌}
+use Rattle.lexical_writer.proofs.Common.{Bool, Grammar, IsFinite, Option, Some, ap, arith, float_error, format_of, refl, subst, sym, ℕ, ◌%◌, ◌*◌, ◌∙◌, ◌≡◌, ◌≤◌}
 use Rattle.std.specs.Prelude.{IfNone}
-use lib.Ieee.{hid, of_bits, ones, top}
+use lib.Ieee.{hid, ones, top}
 use Rattle.lexical_writer.proofs.FloatLemmas.{finite, not_number, of_sign, special, special_error}
 use Rattle.lexical_writer.specs.declared.layout.WriteError.TheVariants as errors
 use Rattle.lexical_writer.proofs.float.sign_and_size.Goals as goal
@@ -13,14 +12,7 @@ returns-in_err-bits-clause-special g c =
     (λ s. special_error s (g.F.Float.value c.args.value) (not_number (g.F.Float.value c.args.value) (c.in_err-bits.ensures.none.0 refl)))
 
 pub returns-then-size-infinity-clause-finite : goal.returns-then-size-infinity-clause-finite
-returns-then-size-infinity-clause-finite g c =
-    let f = format_of g.F.Float.DOUBLE in
-    let bits = c.in_ok-bits.bits in
-    let sign : c.sign_bit-sign.result ≡ top f = c.sign_bit-sign.ensures ∙ ap (λ d. top (format_of d)) c.DOUBLE.ensures in
-    let most = c.infinity.ensures.value ∙ ap (λ d. ones (format_of d) * hid (format_of d)) c.DOUBLE-2.ensures in
-    let less : bits % top f < ones f * hid f = subst (λ s. bits % s < ones f * hid f) sign (omega (arith, c.if-size-infinity.true, most)) in
-    subst (λ x. IsFinite x (nat_le c.sign_bit-sign.result bits)) c.in_ok-bits.ensures.value
-    (subst (λ s. IsFinite (of_bits f bits) (nat_le s bits)) (sym sign) (finite f bits less))
+returns-then-size-infinity-clause-finite g c = grind (arith, finite)
 
 pub returns-else-size-infinity-clause-special : goal.returns-else-size-infinity-clause-special
 returns-else-size-infinity-clause-special g c s =
@@ -33,8 +25,4 @@ returns-else-size-infinity-clause-special g c s =
     (λ negative is. special f bits least negative (subst (λ x. IsFinite x negative) (sym c.in_ok-bits.ensures.value) is))
 
 pub returns-then-size-infinity-clause-value : goal.returns-then-size-infinity-clause-value
-returns-then-size-infinity-clause-value g c =
-    let f = format_of g.F.Float.DOUBLE in
-    let bits = c.in_ok-bits.bits in
-    let sign : c.sign_bit-sign.result ≡ top f = c.sign_bit-sign.ensures ∙ ap (λ d. top (format_of d)) c.DOUBLE.ensures in
-    sym c.in_ok-bits.ensures.value ∙ of_sign f bits ∙ sym (ap (λ s. with_minus (nat_le s bits) (of_bits f (bits % s))) sign)
+returns-then-size-infinity-clause-value g c = grind (arith, of_sign)

@@ -1,6 +1,6 @@
 -- Each integer is laid out, and its value is that of the integer.
-use Rattle.lexical_writer.proofs.Common.{Bool, Err, Grammar, IfErr, IfOk-weaker, Ok, Result, Some, WriteError, ap, arith, false, integer_literal, laid_out}
-use Rattle.lexical_writer.proofs.Common.{number_of_size, refl, refusal, subst, suc, true, with_sign, zero, ℕ, ℤ, ◌<◌, ◌∙◌, ◌≡◌}
+use Rattle.lexical_writer.proofs.Common.{Bool, Grammar, IfErr, IfOk-weaker, Result, Some, WriteError, ap, arith, integer_literal, laid_out, number_of_size}
+use Rattle.lexical_writer.proofs.Common.{refusal, subst, true, with_sign, zero, ℕ, ℤ, ◌<◌, ◌∙◌, ◌≡◌}
 use Rattle.lexical_writer.specs.Layout.{whole, whole_refusal}
 use Rattle.lexical_writer.specs.declared.integer.WrittenInteger.{WrittenInteger}
 use Rattle.lexical_util.specs.Layout as layouts
@@ -10,14 +10,11 @@ use Rattle.lexical_writer.proofs.integer.format_integer.Goals as goal
 -- A sign and a size are those of the integer.
 amount_is : (negative : Bool) (size : ℕ) (z : ℤ) → with_sign negative size ≡ z → (negative ≡ true → 0 < size)
     → number_of_size negative size ≡ whole z
-amount_is false size z value some = ap whole value
-amount_is true zero z value some = absurd (let none = some refl in omega arith)
-amount_is true (suc n) z value some = ap whole value
+amount_is negative size z value some = grind arith
 
 refused : (g : Grammar) (z : ℤ) → (result : Result WrittenInteger WriteError)
     → IfErr result (λ error. refusal g (whole z) ≡ Some error) → IfErr result (λ error. whole_refusal g z ≡ Some error)
-refused g z (Ok it) is = tt
-refused g z (Err error) is = grind arith
+refused g z result is = grind arith
 
 pub returns-clause-parts : goal.returns-clause-parts
 returns-clause-parts h c =
