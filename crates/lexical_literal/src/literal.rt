@@ -75,7 +75,7 @@ pub(crate) const NOTHING: Sum = Sum {
 pub struct Literal<'a> {
     text: &'a [u8],
     counts: [usize; 9],
-    view: NumberFormat,
+    word: u128,
     // The numbers of the mantissa and the exponent, if there are few digits. Two `Option`s would have 14 bytes more.
     mantissa: u64,
     exponent: u64,
@@ -95,9 +95,9 @@ impl<'a> Model for Literal<'a> {
     ghost use Rattle.lexical_literal.specs.Additions.Literal.{IsMade, cut, given};
     ghost use Rattle.lexical_literal.specs.Additions.Step.{HasLengths, cuts_of};
 
-    ghost view = { λ it. record { format = it.view; literal = cut it.text.now (cuts_of it.counts); kind = it.kind; opened = it.opened } };
+    ghost view = { λ it. record { format = it.word; literal = cut it.text.now (cuts_of it.counts); kind = it.kind; opened = it.opened } };
 
-    ghost invariant = { λ it. IsMade it.view it.text.now (cuts_of it.counts) (given it.has_mantissa it.mantissa) it.places
+    ghost invariant = { λ it. IsMade it.word it.text.now (cuts_of it.counts) (given it.has_mantissa it.mantissa) it.places
         (given it.has_exponent it.exponent) };
 }
 
@@ -108,7 +108,7 @@ impl<'a> Literal<'a> {
     pub const fn format(&self) -> NumberFormat
         ensures { result ≡ self.now.format }
     {
-        self.view
+        NumberFormat::new(self.word)
     }
 
     /// Returns the kind, which decides what the literal is worth.
@@ -259,7 +259,7 @@ impl Grammar {
         Literal {
             text,
             counts,
-            view: self.view(),
+            word: self.word(),
             mantissa: mantissa.value,
             exponent: exponent.value,
             has_mantissa: are_few(
@@ -285,16 +285,6 @@ impl Grammar {
 
 #[doc(hidden)]
 impl Syntax {
-    // Returns the literal `text`, of which the parts have the lengths `counts`, and the digits these sums.
-    #[inline(always)]
-    pub fn literal<'a>(&self, text: &'a [u8], counts: [usize; 9], sums: Sums) -> Literal<'a>
-        requires cut { IsCut (notation_of self.now) text.now (cuts_of counts) }
-        requires sums { AreSums (raw self.now.word) (cut text.now (cuts_of counts)) sums }
-        ensures { result ≡ record { format = self.now.word; literal = cut text.now (cuts_of counts); kind = exact; opened = 0 } }
-    {
-        self.grammar().literal(text, counts, sums, Kind::EXACT)
-    }
-
     // Returns the literal `text`, of which the parts have the lengths `counts`.
     #[cold]
     pub fn summed<'a>(&self, text: &'a [u8], counts: [usize; 9]) -> Literal<'a>

@@ -6,6 +6,7 @@ ghost use Rattle.lexical_literal.specs.Notation.{notation_of};
 ghost use Rattle.lexical_literal.specs.Parts.{IsRead, IsReadPrefix};
 
 use crate::cause::ReadError;
+use crate::kind::Kind;
 use crate::literal::Literal;
 use crate::stop::{Found, Stopped, front_of};
 use crate::syntax::Syntax;
@@ -30,7 +31,10 @@ impl Syntax {
     {
         let begun = self.begin(self.is_decimal(), text, false);
         if begun.covers(self, text) {
-            Ok(self.literal(text, begun.counts, begun.sums))
+            Ok(
+                self.grammar()
+                    .literal(text, begun.counts, begun.sums, Kind::EXACT),
+            )
         } else if begun.refused {
             begun.at.refuse(self, text)
         } else {

@@ -4,10 +4,9 @@ ghost use Rattle.std.specs.Prelude.{◌≡◌, ◌+◌, ◌<◌, ◌≤◌, ◌^
 ghost use Rattle.std.specs.Prelude.{length, slice_get, take, IfErr, IfOk, IsErr};
 ghost use Rattle.std.specs.Option.{ForSome};
 ghost use Rattle.lexical_literal.specs.Additions.Explained.{refusal_of, tail_byte};
-ghost use Rattle.lexical_literal.specs.Additions.Scan.{IsReady};
 ghost use Rattle.lexical_literal.specs.Additions.Stop.{HasBegun, IsCountedFront, IsFronted, IsLongest, IsMeasured, IsStopped, IsUnderway, IsWithin};
-ghost use Rattle.lexical_literal.specs.Additions.GroupSize.{goes, steps_of};
-ghost use Rattle.lexical_literal.specs.Additions.Step.{HasLengths, count, cuts_of, part_of, role_at, start, step};
+ghost use Rattle.lexical_literal.specs.Additions.GroupSize.{goes};
+ghost use Rattle.lexical_literal.specs.Additions.Step.{HasLengths, count, cuts_of, part_of, role_at};
 ghost use Rattle.lexical_literal.specs.Cause.{IsRefusal, tail_of, tail_size};
 ghost use Rattle.lexical_literal.specs.Front.{NoLiteral};
 ghost use Rattle.lexical_literal.specs.Literal.{Literal, Reads};
@@ -265,9 +264,14 @@ impl Syntax {
         ensures { IsTrue result → IsWithin (notation_of self.now) text.now 0 }
     {
         let grammar = self.grammar();
-        match byte_at(text, 0) {
-            None => false,
-            Some(byte) => refuses_sign(grammar, byte),
+        if text.len() == 0 {
+            false
+        } else if text[0] == b'+' {
+            !allows_plus(grammar, Part::Integer)
+        } else if text[0] == b'-' {
+            !allows_minus(grammar, Part::Integer)
+        } else {
+            false
         }
     }
 
@@ -347,21 +351,6 @@ impl Syntax {
             None => [0; 9],
             Some(found) => found.counts,
         }
-    }
-}
-
-// Returns whether `byte` is a sign with which no literal begins.
-#[inline(always)]
-const fn refuses_sign(grammar: Grammar, byte: u8) -> bool
-    requires { IsReady (steps_of grammar) }
-    ensures { IsTrue result → step (steps_of grammar) start byte ≡ None }
-{
-    if byte == b'+' {
-        !allows_plus(grammar, Part::Integer)
-    } else if byte == b'-' {
-        !allows_minus(grammar, Part::Integer)
-    } else {
-        false
     }
 }
 

@@ -55,7 +55,7 @@ pub(crate) const NOTHING: Sum = Sum { digits: 0, value: 0 };
 pub struct Literal<'a> {
     pub(crate) text: &'a [u8],
     pub(crate) counts: [usize; 9],
-    view: FormatView,
+    word: u128,
     // The numbers of the mantissa and the exponent, if there are few digits. Two `Option`s would have 14 bytes more.
     mantissa: u64,
     exponent: u64,
@@ -72,7 +72,7 @@ impl<'a> Literal<'a> {
     #[must_use]
     #[inline(always)]
     pub(crate) const fn format(&self) -> FormatView {
-        self.view
+        FormatView::new(self.word)
     }
 
     /// Returns the kind, which decides what the literal is worth.
@@ -157,7 +157,7 @@ impl Grammar {
         Literal {
             text,
             counts,
-            view: self.view(),
+            word: self.word(),
             mantissa: mantissa.value,
             exponent: exponent.value,
             has_mantissa: are_few(radix_of(&self, Part::Integer), text, counts, Part::Integer, mantissa),
@@ -170,12 +170,6 @@ impl Grammar {
 }
 
 impl Syntax {
-    // Returns the literal `text`, of which the parts have the lengths `counts`, and the digits these sums.
-    #[inline(always)]
-    pub(crate) const fn literal<'a>(&self, text: &'a [u8], counts: [usize; 9], sums: Sums) -> Literal<'a> {
-        self.as_grammar().literal(text, counts, sums, Kind::EXACT)
-    }
-
     // Returns the literal `text`, of which the parts have the lengths `counts`.
     #[cold]
     pub(crate) const fn summed<'a>(&self, text: &'a [u8], counts: [usize; 9]) -> Literal<'a> {

@@ -101,7 +101,7 @@ impl Syntax {
     pub(crate) const fn read_generally<'t>(&self, text: &'t [u8]) -> Result<Literal<'t>, ReadError> {
         let begun = self.begin_small(text, false);
         if begun.covers(text) {
-            Ok(self.literal(text, begun.counts, begun.sums))
+            Ok(self.as_grammar().literal(text, begun.counts, begun.sums, Kind::EXACT))
         } else if begun.refused {
             begun.at.refuse(self, text)
         } else {

@@ -187,9 +187,14 @@ impl Syntax {
     #[inline(always)]
     pub(crate) const fn refuses_sign(&self, text: &[u8]) -> bool {
         let grammar = self.as_grammar();
-        match byte_at(text, 0) {
-            None => false,
-            Some(byte) => refuses_sign(grammar, byte),
+        if text.len() == 0 {
+            false
+        } else if text[0] == b'+' {
+            !allows_plus(grammar, Part::Integer)
+        } else if text[0] == b'-' {
+            !allows_minus(grammar, Part::Integer)
+        } else {
+            false
         }
     }
 
@@ -255,18 +260,6 @@ impl Syntax {
             None => [0; 9],
             Some(found) => found.counts,
         }
-    }
-}
-
-// Returns whether `byte` is a sign with which no literal begins.
-#[inline(always)]
-const fn refuses_sign(grammar: &Grammar, byte: u8) -> bool {
-    if byte == b'+' {
-        !allows_plus(grammar, Part::Integer)
-    } else if byte == b'-' {
-        !allows_minus(grammar, Part::Integer)
-    } else {
-        false
     }
 }
 

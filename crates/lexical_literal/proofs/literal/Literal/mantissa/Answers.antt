@@ -9,5 +9,5 @@ returns-clause-some c = subst (λ (read : Read). IsShort ((raw read.format).byte
 
 pub returns-clause-value : goal.returns-clause-value
 returns-clause-value c = subst (λ (read : Read). IfSome c.given.result (λ m. m ≡ mantissa (raw read.format).byte read.literal)) c.self.view_is
-    (subst (λ e. IfSome e (λ m. m ≡ mantissa (raw c.self.inside.view).byte (cut c.self.inside.text.now (cuts_of c.self.inside.counts))))
+    (subst (λ e. IfSome e (λ m. m ≡ mantissa (raw c.self.inside.word).byte (cut c.self.inside.text.now (cuts_of c.self.inside.counts))))
     (sym c.given.ensures) c.self.invariant.word_mantissa.value)

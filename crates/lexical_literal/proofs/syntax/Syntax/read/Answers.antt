@@ -1,8 +1,8 @@
 -- A text with a byte that is refused is no literal.
-use Rattle.lexical_literal.proofs.Common.{Err, Grammar, IsErrAnd, IsRead, IsRefusal, List, NoLiteral, Ok, Read, Result, arith, notation_of, ℕ}
+use Rattle.lexical_literal.proofs.Common.{Err, Grammar, IsCut, IsErrAnd, IsRead, IsRefusal, List, NoLiteral, Ok, Read, Result, arith, cuts_of, notation_of, subst, sym, ℕ, ◌≡◌}
 use Rattle.lexical_literal.specs.Cause.{Explained}
 use Rattle.lexical_literal.proofs.StoppedLemmas.{none_whole}
-use Rattle.lexical_literal.proofs.PieceLemmas.{is_read, measured_cut}
+use Rattle.lexical_literal.proofs.PieceLemmas.{is_read, measured_cut, read_as}
 use Rattle.lexical_literal.proofs.syntax.Syntax.read.Goals as goal
 
 refused : (g : Grammar) (text : List ℕ) (r : Result Read Explained) → NoLiteral (notation_of g) text
@@ -21,8 +21,11 @@ returns-then-begun c =
     c.refuse.ensures
 
 pub literal-requires-clause-cut : goal.literal-requires-clause-cut
-literal-requires-clause-cut c = measured_cut c.args.self.now c.args.text.now c.begin-begun.result.counts (c.covers.ensures.measured c.if-covers.true)
+literal-requires-clause-cut c = subst (λ (g : Grammar). IsCut (notation_of g) c.args.text.now (cuts_of c.begin-begun.result.counts))
+    (sym c.grammar.ensures.value)
+    (measured_cut c.args.self.now c.args.text.now c.begin-begun.result.counts (c.covers.ensures.measured c.if-covers.true))
 
 pub returns-then-covers : goal.returns-then-covers
 returns-then-covers c = is_read c.args.self.now c.args.text.now c.begin-begun.result.counts (c.covers.ensures.measured c.if-covers.true)
-    c.literal.result c.literal.ensures
+    c.literal.result (subst (λ (g : Grammar). c.literal.result ≡ read_as g c.args.text.now c.begin-begun.result.counts) c.grammar.ensures.value
+    c.literal.ensures)

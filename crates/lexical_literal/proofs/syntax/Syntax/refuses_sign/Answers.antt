@@ -1,16 +1,23 @@
--- Nothing is read.
-use Rattle.lexical_literal.proofs.Common.{Grammar, IsReady, ap, inl, start, step, steps_of, subst, sym, ◌∙◌}
-use Rattle.std.proofs.lemmas.Option.{get_or_from_slice_get}
+-- Nothing is read of a text that begins with a sign that is not allowed.
+use Rattle.lexical_literal.proofs.Common.{Grammar, IsReady, ap, arith, get_or, inl, nat_tests, start, step, steps_of, subst, sym, ◌∙◌}
+use Rattle.lexical_literal.proofs.ScanLemmas.{minus_refused, plus_refused}
 use Rattle.lexical_literal.proofs.StoppedLemmas.{first_counted, stops_at}
 use Rattle.lexical_literal.proofs.syntax.Syntax.refuses_sign.Goals as goal
 
-pub refuses_sign-requires : goal.refuses_sign-requires
-refuses_sign-requires c = subst (λ (g : Grammar). IsReady (steps_of g)) (sym c.grammar-grammar.ensures.value) c.grammar-grammar.ensures.ready
+pub returns-then-text-eq43 : goal.returns-then-text-eq43
+returns-then-text-eq43 c = λ is.
+    let text = c.args.text.now in let ready = c.grammar-grammar.ensures.ready in let sizes = c.grammar-grammar.ensures.sizes in
+    let same = sym c.grammar-grammar.ensures.value in
+    (stops_at _ ready sizes text _ _ (first_counted _ ready sizes text).read (λ inside. inl (
+    ap (λ (g : Grammar). step (steps_of g) start (get_or text 0 0)) same
+    ∙ plus_refused _ (subst (λ (g : Grammar). IsReady (steps_of g)) same ready).roles _ c.if-text-eq43.true
+    (let allowed = c.allows_plus.ensures in grind (arith, nat_tests))))).valid.no_longer
 
-pub returns-in-Some : goal.returns-in-Some
-returns-in-Some c = λ is.
-    let text = c.args.text.now in let byte = c.in-Some.byte in
-    let ready = c.grammar-grammar.ensures.ready in let sizes = c.grammar-grammar.ensures.sizes in
-    let first = get_or_from_slice_get text 0 byte 0 (sym c.byte_at.ensures ∙ c.in-Some.is) in
-    (stops_at _ ready sizes text _ _ (first_counted _ ready sizes text).read (λ inside. inl (ap (λ b. step (steps_of c.args.self.now) start b) first
-    ∙ ap (λ (g : Grammar). step (steps_of g) start byte) (sym c.grammar-grammar.ensures.value) ∙ c.refuses_sign.ensures is))).valid.no_longer
+pub returns-then-text-eq45 : goal.returns-then-text-eq45
+returns-then-text-eq45 c = λ is.
+    let text = c.args.text.now in let ready = c.grammar-grammar.ensures.ready in let sizes = c.grammar-grammar.ensures.sizes in
+    let same = sym c.grammar-grammar.ensures.value in
+    (stops_at _ ready sizes text _ _ (first_counted _ ready sizes text).read (λ inside. inl (
+    ap (λ (g : Grammar). step (steps_of g) start (get_or text 0 0)) same
+    ∙ minus_refused _ (subst (λ (g : Grammar). IsReady (steps_of g)) same ready).roles _ c.if-text-eq45.true
+    (let allowed = c.allows_minus.ensures in grind (arith, nat_tests))))).valid.no_longer
