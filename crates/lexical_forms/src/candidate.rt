@@ -518,7 +518,9 @@ impl Form {
         match sums {
             None => self.syntax.summed(text, counts),
             Some(sums) => {
-                self.syntax.grammar().literal(text, counts, sums, Kind::EXACT)
+                self.syntax
+                    .grammar()
+                    .literal(text, counts, sums, Kind::EXACT)
             }
         }
     }

@@ -11,13 +11,13 @@ returns-then-is_silent c =
     let m = notation_of c.args.grammar in let text = c.args.text.now in let size = c.sign_size-sign.ensures.size in
     elim c.if-has-2.branch [
       | then-has-2 w ↦ subst (IsExcluded m text) (sym size) (zero_out m text (record {
-          required = elim c.if-has.branch [
-            | then-has v ↦ inl (ap (λ k. has k conditions.BasePrefix) (sym c.conditions.ensures) ∙ sym c.has.ensures ∙ v.if-has.true)
-            | else-has v ↦ inr (ap (λ k. has k conditions.LeadingZero) (sym v.conditions-else-has.ensures) ∙ sym v.has-else-has.ensures
-                ∙ sym v.value-is ∙ w.if-has-2.true)
-          ];
-          other = subst (λ sign. get_or text sign 0 ≡ 48 → ⊥) size c.if-text-sign-ne48.true;
-        }))
+        required = elim c.if-has.branch [
+          | then-has v ↦ inl (ap (λ k. has k conditions.BasePrefix) (sym c.conditions.ensures) ∙ sym c.has.ensures ∙ v.if-has.true)
+          | else-has v ↦ inr (ap (λ k. has k conditions.LeadingZero) (sym v.conditions-else-has.ensures) ∙ sym v.has-else-has.ensures
+              ∙ sym v.value-is ∙ w.if-has-2.true)
+        ];
+        other = subst (λ sign. get_or text sign 0 ≡ 48 → ⊥) size c.if-text-sign-ne48.true;
+      }))
       | else-has-2 w ↦ silent_out m text c.sign_size-sign.result c.if-sign-text.true (w.is_silent.ensures (sym w.value-is ∙ c.if-is_silent.true))
     ]
 
