@@ -1,5 +1,5 @@
 -- What excludes that the text is a literal.
-use Rattle.lexical_forms.proofs.Common.{AreFalse, Bool, IsExcluded, IsTrue, ap, false, get_or, has, inl, inr, length, notation_of, refl, subst, sym, true}
+use Rattle.lexical_forms.proofs.Common.{AreFalse, Bool, IsExcluded, ap, false, get_or, has, inl, inr, length, notation_of, refl, subst, sym, true}
 use Rattle.lexical_forms.proofs.Common.{◌+◌, ◌<◌, ◌∙◌, ◌≡◌}
 use Rattle.lexical_literal.specs.declared.syntax.Condition.TheVariants as conditions
 use Rattle.lexical_forms.proofs.StrangerLemmas.{letter_out, silent_out, stranger_out, zero_out}
