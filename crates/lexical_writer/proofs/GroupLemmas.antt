@@ -3,7 +3,8 @@ use Rattle.lexical_writer.proofs.Common.{AllBelowBase, Bool, ByteSet, List, Nota
 use Rattle.lexical_writer.proofs.Common.{at_least, byte_value, cases_lt, character, digits_of, div-add-mod, ends_group, false, false≢true, first_digits_of}
 use Rattle.lexical_writer.proofs.Common.{get_or, grouped, has_leading_zero, inl, inr, is_grouped, length, mod-mul-add, nat_tests, refl, separators_in, subst}
 use Rattle.lexical_writer.proofs.Common.{suc, sym, true, zero, ℕ, ◌%◌, ◌*◌, ◌+◌, ◌-◌, ◌/◌, ◌<◌, ◌==◌, ◌∙◌, ◌∷◌, ◌≡◌, ◌≤◌}
-use Rattle.lexical_writer.proofs.Common.{eq-eqb, if◌then◌else◌, le-leb, lt-ltb, nat_le, nat_lt, ◌&&◌}
+use Rattle.lexical_writer.proofs.Common.{eq-eqb, if◌then◌else◌, lt-ltb, nat_le, nat_lt, ◌&&◌}
+use Rattle.std.proofs.Common.{le-leb}
 use Rattle.lexical_literal.specs.Groups.{all_fit, group_sizes, higher, rest_fits}
 use Rattle.lexical_literal.specs.declared.syntax.Condition.TheVariants as conditions
 use Rattle.lexical_literal.proofs.RunLemmas.{is_rest}
