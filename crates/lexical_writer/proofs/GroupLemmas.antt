@@ -1,8 +1,8 @@
 -- Grouped digits.
 use Rattle.lexical_writer.proofs.Common.{AllBelowBase, Bool, ByteSet, List, Notation, Part, Pattern, [], all_below_base_digits_of, and_from, ap, arith}
-use Rattle.lexical_writer.proofs.Common.{at_least, byte_value, cases_lt, character, digits_of, div-add-mod, ends_group, false, false≢true, first_digits_of}
+use Rattle.lexical_writer.proofs.Common.{at_least, byte_value, cases_lt, character, digits_of, ends_group, false, false≢true, first_digits_of}
 use Rattle.lexical_writer.proofs.Common.{get_or, grouped, has_leading_zero, inl, inr, is_grouped, length, mod-mul-add, nat_tests, refl, separators_in, subst}
-use Rattle.lexical_writer.proofs.Common.{suc, sym, true, zero, ℕ, ◌%◌, ◌*◌, ◌+◌, ◌-◌, ◌/◌, ◌<◌, ◌==◌, ◌∙◌, ◌∷◌, ◌≡◌, ◌≤◌}
+use Rattle.lexical_writer.proofs.Common.{suc, sym, true, zero, ℕ, ◌%◌, ◌*◌, ◌+◌, ◌-◌, ◌<◌, ◌==◌, ◌∙◌, ◌∷◌, ◌≡◌, ◌≤◌}
 use Rattle.lexical_writer.proofs.Common.{eq-eqb, if◌then◌else◌, lt-ltb, nat_le, nat_lt, ◌&&◌}
 use Rattle.std.proofs.Common.{le-leb}
 use Rattle.lexical_literal.specs.Groups.{all_fit, group_sizes, higher, rest_fits}

@@ -2,11 +2,11 @@
 use Rattle.lexical_writer.proofs.Common.{AllBelowBase, Amount, Bool, ByteSet, Conditions, Grammar, HasNumber, IsSyntax, IsTrue, List, Literal, None, Notation}
 use Rattle.lexical_writer.proofs.Common.{Option, Options, Part, Pattern, Reads, Record, Some, Style, [], all_below_base_digits_of, and_from, ap, arith}
 use Rattle.lexical_writer.proofs.Common.{at_least, begins_decimal, begins_with, byte_value, cases_lt, character, cond, digits_in, digits_of}
-use Rattle.lexical_writer.proofs.Common.{effective_exponent_radix, eq-eqb, exponent_character_of, false, false≢true, given_fraction, given_power, grouped, has}
+use Rattle.lexical_writer.proofs.Common.{effective_exponent_radix, exponent_character_of, false, false≢true, given_fraction, given_power, grouped, has}
 use Rattle.lexical_writer.proofs.Common.{has_exponent, has_leading_zero, has_point, if◌then◌else◌, inl, inr, is_absent, is_float, is_grouped, is_minus}
-use Rattle.lexical_writer.proofs.Common.{is_none_or_one, is_present, is_some, lacks_options, laid_out, length, lt-ltb, ltb-true, max, mod-lt, nat_le, nat_lt}
+use Rattle.lexical_writer.proofs.Common.{is_none_or_one, is_present, is_some, lacks_options, laid_out, length, lt-ltb, ltb-true, max, nat_le, nat_lt}
 use Rattle.lexical_writer.proofs.Common.{nat_tests, no_groups, not, notation_of, number, number_digits_of, one_if, only_if, option_to_list, point_of, raw, refl}
-use Rattle.lexical_writer.proofs.Common.{refusal, separators_in, size_of, subst, sym, text_of, true, unwrap_or, values_of, ℕ, ◌%◌, ◌&&◌, ◌*◌, ◌++◌, ◌+◌, ◌-◌}
+use Rattle.lexical_writer.proofs.Common.{refusal, size_of, subst, sym, text_of, true, unwrap_or, values_of, ℕ, ◌&&◌, ◌++◌, ◌+◌, ◌-◌}
 use Rattle.lexical_writer.proofs.Common.{◌<◌, ◌==◌, ◌||◌, ◌∙◌, ◌∷◌, ◌≡◌, ◌≤◌, ◌⊎◌}
 use Rattle.std.proofs.lemmas.Bool.{false_from_ne_true, not-false, or_left}
 use Rattle.std.specs.List.{AllByRecursion}

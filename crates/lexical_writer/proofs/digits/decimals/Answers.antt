@@ -1,5 +1,5 @@
 -- Two more digits are written before those that have been written.
-use Rattle.lexical_writer.proofs.Common.{ap, append-nil, arith, character, digits_of, drop_all, false, length, length-digits_of-le, map, ◌++◌, ◌-◌, ◌∙◌}
+use Rattle.lexical_writer.proofs.Common.{ap, append-nil, arith, character, digits_of, drop_all, false, length, length-digits_of-le, map, ◌++◌, ◌∙◌}
 use Rattle.lexical_writer.proofs.DigitLemmas.{two_more, two_shorter}
 use Rattle.lexical_writer.proofs.digits.decimals.Goals as goal
 

@@ -1,9 +1,8 @@
 -- Each integer is laid out, and its value is that of the integer.
 use Rattle.lexical_writer.proofs.Common.{Bool, Grammar, IfErr, IfOk-weaker, Result, Some, WriteError, ap, arith, integer_literal, laid_out, number_of_size}
-use Rattle.lexical_writer.proofs.Common.{refusal, subst, true, with_sign, zero, ℕ, ℤ, ◌<◌, ◌∙◌, ◌≡◌}
+use Rattle.lexical_writer.proofs.Common.{refusal, subst, true, with_sign, ℕ, ℤ, ◌<◌, ◌∙◌, ◌≡◌}
 use Rattle.lexical_writer.specs.Layout.{whole, whole_refusal}
 use Rattle.lexical_writer.specs.declared.integer.WrittenInteger.{WrittenInteger}
-use Rattle.lexical_util.specs.Layout as layouts
 use Rattle.lexical_writer.proofs.PlainLemmas.{has_value}
 use Rattle.lexical_writer.proofs.integer.format_integer.Goals as goal
 
