@@ -1,12 +1,14 @@
 -- The first form that reads the text, or the form whose error is that of the list.
 use Rattle.lexical_forms.proofs.Common.{All-more, ArePassed, FormList, Furthest, IfSome, IsLed, IsRefusedAt, IsSomeAnd, Leads, List, NoForm}
 use Rattle.lexical_forms.proofs.Common.{None, NoneBy, Option, Reaches}
-use Rattle.lexical_forms.proofs.Common.{ReadsIn, Stopped, arith, get_or, length, length-take-le, nat_tests, refl, slice_get, subst, sym, take, ℕ, ◌+◌, ◌∙◌, ◌≡◌, ◌≤◌}
+use Rattle.lexical_forms.proofs.Common.{ReadsIn, Stopped, arith, get_or, length, length-take-le, nat_tests, refl, slice_get}
+use Rattle.lexical_forms.proofs.Common.{subst, sym, take, ℕ, ◌+◌, ◌∙◌, ◌≡◌, ◌≤◌}
 use Rattle.lexical_forms.proofs.BehindLemmas.{none_in}
 use Rattle.lexical_forms.proofs.FormLemmas.{all_passed, all_tried, at_index, first_none, found_is, leads_first, leads_past}
 use Rattle.lexical_forms.proofs.FormLemmas.{led_past}
 use Rattle.lexical_forms.proofs.list.Forms.find_literal.Goals as goal
-use Rattle.lexical_forms.proofs.list.Forms.find_literal.Goals.{in-None, in-Some-furthest, in-Some, in_default, in-Err+then-bound-size, in-Err+else-bound-size, in-Ok+in-Err-read}
+use Rattle.lexical_forms.proofs.list.Forms.find_literal.Goals.{in-None, in-Some-furthest, in-Some, in_default}
+use Rattle.lexical_forms.proofs.list.Forms.find_literal.Goals.{in-Err+then-bound-size, in-Err+else-bound-size, in-Ok+in-Err-read}
 
 no_form : (list self : FormList) (text : List ℕ) (i : ℕ) → list ≡ self → length list.forms ≤ i → NoForm (take i list.forms) text → NoForm self.forms text
 no_form list self text i same end none =
@@ -51,7 +53,8 @@ pub loop-form-preserved : goal.loop-form-preserved
 loop-form-preserved c =
     let forms = c.self.inside.forms.now in let text = c.args.text.now in let i = c.loop-form.form in let d = c.index-self-form.result in
     let inside = c.loop-form-test.true in let old = c.loop-form.invariant in let furthest = c.match-furthest.furthest in let bound = c.loop-form.bound in
-    let same : furthest ≡ c.loop-form.furthest = elim c.match-furthest.branch [ in-None v ↦ v.furthest-is | in-Some-furthest v ↦ v.furthest-is ∙ sym v.in-Some-furthest.is ] in
+    let same : furthest ≡ c.loop-form.furthest =
+    elim c.match-furthest.branch [ in-None v ↦ v.furthest-is | in-Some-furthest v ↦ v.furthest-is ∙ sym v.in-Some-furthest.is ] in
     let led = subst (IsLed forms text i (bound + 1)) (sym same) old.1 in
     elim c.match-begins.branch [
       | in-Err+then-bound-size w ↦ (

@@ -1,5 +1,6 @@
 -- A text with a byte that is refused is no literal.
-use Rattle.lexical_literal.proofs.Common.{Err, Grammar, IsCut, IsErrAnd, IsRead, IsRefusal, List, NoLiteral, Ok, Read, Result, arith, cuts_of, notation_of, subst, sym, ℕ, ◌≡◌}
+use Rattle.lexical_literal.proofs.Common.{Err, Grammar, IsCut, IsErrAnd, IsRead, IsRefusal, List, NoLiteral, Ok}
+use Rattle.lexical_literal.proofs.Common.{Read, Result, arith, cuts_of, notation_of, subst, sym, ℕ, ◌≡◌}
 use Rattle.lexical_literal.specs.Cause.{Explained}
 use Rattle.lexical_literal.proofs.StoppedLemmas.{none_whole}
 use Rattle.lexical_literal.proofs.PieceLemmas.{is_read, measured_cut, read_as}
